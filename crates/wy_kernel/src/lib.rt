@@ -2,4 +2,5 @@
 //! Nothing here reads a text or writes one.
 #![tactic(auto)]
 
+pub mod form;
 pub mod operator;
