@@ -1,0 +1,29 @@
+//! The tokens of a text (JLS 3.5 to 3.12).
+
+/// A token.
+#[derive(Debug, Drop)]
+pub enum Token {
+    /// An identifier.
+    Word(String),
+    /// A keyword, `true`, `false` or `null`.
+    Key(String),
+    /// An int literal by its 32 bits. It is decimal if it is `0` or begins with 1 to 9.
+    Int { value: u32, decimal: bool },
+    /// A long literal by its 64 bits.
+    Long { value: u64, decimal: bool },
+    /// A character literal, one 16-bit unit.
+    Char(u16),
+    /// A string literal, its 16-bit units.
+    Text(Vec<u16>),
+    /// A separator or an operator, as it is written.
+    Sign(String),
+}
+
+/// A token with the bytes that it stands at, from `start` up to `end`, and its line, from 1.
+#[derive(Debug, Drop)]
+pub struct Spanned {
+    pub token: Token,
+    pub start: u32,
+    pub end: u32,
+    pub line: u32,
+}
