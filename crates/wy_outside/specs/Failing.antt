@@ -1,5 +1,5 @@
 -- Calls that fail by their number, counted from 1.
-use Rattle.std.specs.Prelude.{◌≡◌, ℕ, ◌==◌, Bool, true, false, MatchBool, Result, Ok, Err, IsTrue, not}
+use Rattle.std.specs.Prelude.{◌≡◌, ◌==◌, Bool, false, Result, Ok, Err}
 use Rattle.std.specs.List.{list_any}
 use Rattle.wy_outside.specs.Counts.{count_after}
 use Rattle.wy_outside.specs.declared.failing.FailingCalls.{FailingCalls}

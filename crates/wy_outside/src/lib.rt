@@ -11,3 +11,5 @@ pub mod real;
 pub mod shelf;
 pub mod sink;
 pub mod source;
+#[cfg(test)]
+mod tests;

@@ -1,12 +1,12 @@
+ghost use Rattle.std.specs.Prelude.{IfOk};
+ghost use Rattle.wy_outside.specs.Shelf.{AreDistinct};
+
 use crate::memory::{MemoryShelf, MemorySink, MemorySource};
 use crate::shelf::{Shelf, ShelfError};
 use crate::sink::{Sink, SinkError};
 use crate::source::{Source, SourceError};
 use std::alloc::{AllocError, Global};
 use std::test::Fail;
-
-ghost use Rattle.std.specs.Prelude.{IfOk};
-ghost use Rattle.wy_outside.specs.Shelf.{AreDistinct};
 
 fn two_files(alloc: Global) -> Result<Vec<(String, Vec<u8>)>, AllocError>
     ensures { IfOk result (λ files. AreDistinct files.items) }

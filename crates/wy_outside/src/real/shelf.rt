@@ -1,5 +1,5 @@
 //! The files of the system, by their paths. It tells nothing of what they hold.
-ghost use Rattle.std.specs.Prelude.{◌≡◌, ◌≤◌, None, IfOk, vec_len};
+ghost use Rattle.std.specs.Prelude.{◌≡◌, ◌≤◌, take, None, IfOk, IfSome, vec_len};
 
 use crate::count::ShelfCounts;
 use crate::shelf::{Shelf, ShelfError};
@@ -59,9 +59,10 @@ fn read_file<R: Files>(rt: &R, alloc: Global, path: &str, max: u32) -> Result<Ve
 /// How much of a file is asked for at once.
 const PIECE: usize = 8192;
 
-/// The first `max` bytes, or all of them if there are fewer.
+/// The first `max` bytes of what a file has left, or all of them if there are fewer.
 pub fn read_front<T: Read>(file: &mut T, alloc: Global, max: u32) -> Result<Vec<u8>, ShelfError>
-    ensures { IfOk result (λ bytes. vec_len bytes ≤ max) }
+    ensures content { IfOk result (λ bytes. IfSome (T.remaining file.old) (λ left. bytes.items ≡ take max left)) }
+    ensures bound { IfOk result (λ bytes. vec_len bytes ≤ max) }
 {
     let mut bytes = Vec::new(alloc);
     let mut piece = [0u8; PIECE];

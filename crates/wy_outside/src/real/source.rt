@@ -1,5 +1,6 @@
 //! Standard input. It tells nothing of what is left.
-ghost use Rattle.std.specs.Prelude.{◌≡◌, ◌≤◌, None, IfOk, vec_len};
+ghost use Rattle.std.specs.Prelude.{◌≡◌, ◌≤◌, None, IfOk, OnErr, vec_len};
+ghost use Rattle.std.specs.Io.KnownBytes.{Consumes, IsAtEnd, Keeps};
 
 use crate::count::SourceCounts;
 use crate::source::{Source, SourceError};
@@ -42,9 +43,13 @@ impl<R: Input> Source for StdinSource<R> {
 /// How much of the input is asked for at most.
 const PIECE: usize = 8192;
 
-/// One read. Its room is found first, so that no byte is taken without it.
+/// The next bytes that a reader has. Their room is found first, so that none is taken without it.
 pub fn read_some<T: Read>(reader: &mut T, alloc: Global, max: u32) -> Result<Vec<u8>, SourceError>
-    ensures { IfOk result (λ bytes. vec_len bytes ≤ max) }
+    requires { 1 ≤ max }
+    ensures content { IfOk result (λ bytes. Consumes (T.remaining reader.old) (T.remaining reader.new) bytes.items) }
+    ensures end { IfOk result (λ bytes. vec_len bytes ≡ 0 → IsAtEnd (T.remaining reader.new)) }
+    ensures untaken { OnErr result (Keeps (T.remaining reader.old) (T.remaining reader.new)) }
+    ensures bound { IfOk result (λ bytes. vec_len bytes ≤ max) }
 {
     let room = PIECE.min(max as usize);
     let mut bytes = vec![in alloc; 0u8; room].map_err(|_| SourceError::NoMemory)?;

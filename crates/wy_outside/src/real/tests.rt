@@ -7,10 +7,9 @@ use crate::source::{Source, SourceError};
 use std::alloc::Allocator;
 use std::cell::Cell;
 use std::fmt::Display;
-use std::fs;
-use std::io;
 use std::io::{BufRead, ErrorKind, Input, Lines, Print, Read};
 use std::test::Fail;
+use std::{fs, io};
 
 const FOLDER: &str = "wy_outside_test";
 
@@ -98,8 +97,14 @@ fn an_interrupted_read_goes_on_and_a_failing_one_is_no_end(rt: HostRuntime) -> R
         interrupted_at: 1,
         failing_at: 3,
     };
-    assert_eq!(rt; read_some(&mut input, rt.alloc(), 9)?.as_slice(), b"a".as_slice());
-    assert_eq!(rt; read_some(&mut input, rt.alloc(), 9).err(), Some(SourceError::Failed));
+    assert_eq!(rt;
+        read_some(&mut input, rt.alloc(), 9)?.as_slice(),
+        b"a".as_slice()
+    );
+    assert_eq!(rt;
+        read_some(&mut input, rt.alloc(), 9).err(),
+        Some(SourceError::Failed)
+    );
     assert!(rt; read_some(&mut input, rt.alloc(), 9)?.is_empty());
     Ok(())
 }
