@@ -1,8 +1,13 @@
 -- Calls that fail by their number, counted from 1.
-use Rattle.std.specs.Prelude.{◌≡◌, ◌==◌, Bool, false, Result, Ok, Err}
+use Rattle.std.specs.Prelude.{◌≡◌, ℕ, ◌==◌, Bool, false, Result, Ok, Err, Vec}
+use Rattle.std.specs.declared.alloc.Global.{Global}
 use Rattle.std.specs.List.{list_any}
 use Rattle.wy_outside.specs.Counts.{count_after}
 use Rattle.wy_outside.specs.declared.failing.FailingCalls.{FailingCalls}
+
+-- the script of these numbers before any call
+abbrev pub uncalled : Vec ℕ Global → FailingCalls
+uncalled numbers = record { numbers = numbers; calls = 0 }
 
 -- whether the next call is one of those that fail
 abbrev pub fails_next : FailingCalls → Bool

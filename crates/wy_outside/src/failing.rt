@@ -1,6 +1,6 @@
 //! The script of a form in memory: which of its calls fail, by number. It is not what makes a real form fail.
 ghost use Rattle.std.specs.Prelude.{◌≡◌};
-ghost use Rattle.wy_outside.specs.Failing.{fails_next, after_call};
+ghost use Rattle.wy_outside.specs.Failing.{uncalled, fails_next, after_call};
 
 use crate::count::raised;
 
@@ -13,7 +13,7 @@ pub struct FailingCalls {
 
 impl FailingCalls {
     pub fn new(numbers: Vec<u32>) -> Self
-        ensures { result ≡ record { numbers = numbers; calls = 0 } }
+        ensures { result ≡ uncalled numbers }
     {
         FailingCalls { numbers, calls: 0 }
     }

@@ -2,7 +2,7 @@
 ghost use Rattle.std.specs.Prelude.{◌≡◌, ◌≤◌, Some, false, IfOk, vec_len};
 ghost use Rattle.std.specs.Option.{option_copied};
 ghost use Rattle.wy_outside.specs.Counts.{count_after, RoseAt};
-ghost use Rattle.wy_outside.specs.Failing.{fails_next, after_call, FailsExactly};
+ghost use Rattle.wy_outside.specs.Failing.{uncalled, fails_next, after_call, FailsExactly};
 ghost use Rattle.wy_outside.specs.Shelf.{files_of, AreDistinct, is_failed, is_absent, ReadsFile, RoseWhenFull};
 
 use crate::count::ShelfCounts;
@@ -24,8 +24,11 @@ impl MemoryShelf {
     pub fn new(files: Vec<(String, Vec<u8>)>, fails: Vec<u32>) -> Self
         requires { AreDistinct files.items }
         ensures held { ⟦<MemoryShelf as Shelf>⟧.held result ≡ Some (files_of files.items) }
-        ensures script { result.script ≡ record { numbers = fails; calls = 0 } }
-        ensures counts { result.counts ≡ record { faults = 0; misses = 0; fulls = 0; gets = 0 } }
+        ensures script { result.script ≡ uncalled fails }
+        ensures faults { ⟦<MemoryShelf as Shelf>⟧.faults result ≡ 0 }
+        ensures misses { ⟦<MemoryShelf as Shelf>⟧.misses result ≡ 0 }
+        ensures fulls { ⟦<MemoryShelf as Shelf>⟧.fulls result ≡ 0 }
+        ensures gets { ⟦<MemoryShelf as Shelf>⟧.gets result ≡ 0 }
     {
         MemoryShelf {
             files,

@@ -1,7 +1,7 @@
 //! A sink in memory: it tells what was written, and exactly the listed calls fail.
 ghost use Rattle.std.specs.Prelude.{◌≡◌, ◌≤◌, [], Some};
 ghost use Rattle.wy_outside.specs.Counts.{RoseAt};
-ghost use Rattle.wy_outside.specs.Failing.{fails_next, after_call, FailsExactly};
+ghost use Rattle.wy_outside.specs.Failing.{uncalled, fails_next, after_call, FailsExactly};
 ghost use Rattle.wy_outside.specs.Sink.{is_failed, Appends};
 
 use crate::count::raised;
@@ -21,8 +21,8 @@ impl MemorySink {
     /// An empty output, and the numbers of the calls that fail, counted from 1.
     pub fn new(alloc: Global, fails: Vec<u32>) -> Self
         ensures written { ⟦<MemorySink as Sink>⟧.written result ≡ Some [] }
-        ensures script { result.script ≡ record { numbers = fails; calls = 0 } }
-        ensures faults { result.faults ≡ 0 }
+        ensures script { result.script ≡ uncalled fails }
+        ensures faults { ⟦<MemorySink as Sink>⟧.faults result ≡ 0 }
     {
         MemorySink {
             written: Vec::new(alloc),

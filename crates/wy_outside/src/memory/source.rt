@@ -1,5 +1,8 @@
 //! A source in memory: it tells what is left, and exactly the listed calls fail.
 ghost use Rattle.std.specs.Prelude.{◌≡◌, ◌≤◌, drop, take, Some, IfOk, vec_len};
+ghost use Rattle.wy_outside.specs.Counts.{RoseAt};
+ghost use Rattle.wy_outside.specs.Failing.{uncalled, fails_next, after_call, FailsExactly};
+ghost use Rattle.wy_outside.specs.Source.{is_failed, Takes, EndsExactly, CountsTaken};
 
 use crate::count::SourceCounts;
 use crate::failing::FailingCalls;
@@ -21,8 +24,9 @@ impl MemorySource {
     /// The input, and the numbers of the calls that fail, counted from 1.
     pub fn new(bytes: Vec<u8>, fails: Vec<u32>) -> Self
         ensures left { ⟦<MemorySource as Source>⟧.left result ≡ Some bytes.items }
-        ensures script { result.script ≡ record { numbers = fails; calls = 0 } }
-        ensures counts { result.counts ≡ record { faults = 0; taken = 0 } }
+        ensures script { result.script ≡ uncalled fails }
+        ensures faults { ⟦<MemorySource as Source>⟧.faults result ≡ 0 }
+        ensures taken { ⟦<MemorySource as Source>⟧.taken result ≡ 0 }
     {
         MemorySource {
             bytes,
@@ -41,10 +45,6 @@ impl MemorySource {
 }
 
 impl Source for MemorySource {
-    ghost use Rattle.wy_outside.specs.Counts.{RoseAt};
-    ghost use Rattle.wy_outside.specs.Failing.{fails_next, after_call, FailsExactly};
-    ghost use Rattle.wy_outside.specs.Source.{is_failed, Takes, EndsExactly, CountsTaken};
-
     ghost left = { λ s. Some (drop s.at s.bytes.items) };
 
     ghost faults = { λ s. s.counts.faults };

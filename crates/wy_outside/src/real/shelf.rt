@@ -19,7 +19,10 @@ pub struct FileShelf<R> {
 impl<R: Files> FileShelf<R> {
     pub fn new(rt: R) -> Self
         ensures untold { ⟦<FileShelf<R> as Shelf>⟧.held result ≡ None }
-        ensures counts { result.counts ≡ record { faults = 0; misses = 0; fulls = 0; gets = 0 } }
+        ensures faults { ⟦<FileShelf<R> as Shelf>⟧.faults result ≡ 0 }
+        ensures misses { ⟦<FileShelf<R> as Shelf>⟧.misses result ≡ 0 }
+        ensures fulls { ⟦<FileShelf<R> as Shelf>⟧.fulls result ≡ 0 }
+        ensures gets { ⟦<FileShelf<R> as Shelf>⟧.gets result ≡ 0 }
     {
         FileShelf {
             rt,

@@ -18,7 +18,7 @@ pub struct StdoutSink<R> {
 impl<R: Print> StdoutSink<R> {
     pub fn new(rt: R) -> Self
         ensures untold { ⟦<StdoutSink<R> as Sink>⟧.written result ≡ None }
-        ensures faults { result.faults ≡ 0 }
+        ensures faults { ⟦<StdoutSink<R> as Sink>⟧.faults result ≡ 0 }
     {
         StdoutSink { rt, faults: 0 }
     }

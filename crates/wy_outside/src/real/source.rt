@@ -17,7 +17,8 @@ pub struct StdinSource<R> {
 impl<R: Input> StdinSource<R> {
     pub fn new(rt: R) -> Self
         ensures untold { ⟦<StdinSource<R> as Source>⟧.left result ≡ None }
-        ensures counts { result.counts ≡ record { faults = 0; taken = 0 } }
+        ensures faults { ⟦<StdinSource<R> as Source>⟧.faults result ≡ 0 }
+        ensures taken { ⟦<StdinSource<R> as Source>⟧.taken result ≡ 0 }
     {
         StdinSource {
             rt,
