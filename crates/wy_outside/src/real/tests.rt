@@ -1,4 +1,5 @@
 use super::shelf::read_front;
+use super::sink::write_whole;
 use super::source::read_some;
 use crate::real::{FileShelf, StdinSource, StdoutSink};
 use crate::shelf::{Shelf, ShelfError};
@@ -36,6 +37,17 @@ fn a_file_is_read_by_its_path(rt: HostRuntime) -> Result<(), Fail> {
             (Err(error), Err(wanted)) => assert_eq!(rt; *error, wanted, "{name} {max}"),
             _ => panic!(rt; "{name} {max}: {got:?}"),
         }
+    }
+    let long = vec![in rt.alloc(); b'x'; 20_000]?;
+    fs::write(&rt, FIVE, long.as_slice())?;
+    for (max, count) in [
+        (8_192, 8_192),
+        (16_385, 16_385),
+        (20_000, 20_000),
+        (20_001, 20_000),
+    ] {
+        let got = shelf.read(rt.alloc(), FIVE, max)?;
+        assert_eq!(rt; got.as_slice(), long.get(..count).unwrap_or(&[]), "{max}");
     }
     fs::remove_dir_all(&rt, FOLDER)?;
     Ok(())
@@ -174,7 +186,9 @@ impl Print for FlakyPrint {
 }
 
 #[test]
-fn standard_output_fails_in_the_call_that_the_system_refuses(rt: HostRuntime) {
+fn standard_output_fails_in_the_call_that_the_system_refuses(rt: HostRuntime) -> Result<(), Fail> {
+    let mut full_device = fs::OpenOptions::new().write(true).open(&rt, "/dev/full")?;
+    assert!(rt; !write_whole(&mut full_device, b"1"));
     for (failing_at, want, taken) in [(9, Ok(()), 5), (4, Err(SinkError::Failed), 4)] {
         let out = FlakyPrint {
             calls: Cell::new(0),
@@ -186,4 +200,5 @@ fn standard_output_fails_in_the_call_that_the_system_refuses(rt: HostRuntime) {
         assert_eq!(rt; out.taken.get(), taken);
     }
     assert_eq!(rt; StdoutSink::new(rt).write(b""), Ok(()));
+    Ok(())
 }

@@ -8,7 +8,7 @@ pub loop-preserved : goal.loop-preserved
 loop-preserved g c = elim c.match-write.branch [
   | in-Ok w ↦ record {
     within = grind (arith, w.in-Ok.ensures.bound);
-    front = front_grown _ _ _ c.loop.at w.in-Ok.count _ _ c.loop.invariant.front w.in-Ok.ensures.bytes w.at-is;
+    front = front_grown _ _ _ c.loop.at w.in-Ok.count _ _ c.loop.invariant.front w.in-Ok.ensures.bytes (omega (arith, w.at-is));
   }
   | in-Err w ↦ record {
     within = grind arith;
