@@ -1,4 +1,4 @@
-//! The script of a form in memory: which of its calls fail, by number. It is not what makes a real form fail.
+//! The script of a form in memory: which of its calls fail, by number. Nothing here fails a real form.
 ghost use Rattle.std.specs.Prelude.{◌≡◌};
 ghost use Rattle.wy_outside.specs.Failing.{uncalled, fails_next, after_call};
 

@@ -30,8 +30,8 @@ pub trait Source {
     /// The bytes that were given.
     ghost taken: { Self → ℕ };
 
-    /// The next bytes: at least one of them, or none at the end. After an error a later call goes on
-    /// where the input stood.
+    /// The next bytes: at least one of them, or none at the end. A call after an error goes on where
+    /// the input stood.
     fn read(&mut self, alloc: Global, max: u32) -> Result<Vec<u8>, SourceError>
         requires { 1 ≤ max }
         ensures content { Takes (left self.old) (left self.new) result }

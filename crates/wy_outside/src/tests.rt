@@ -26,8 +26,9 @@ fn copy<S: Shelf, O: Sink>(
     max: u32,
     out: &mut O,
 ) -> Copied
-    ensures whole { result ≡ Copied.Whole → (files : Files) (content : List ℕ) → S.held shelf.old ≡ Some files
-        → files name.now ≡ Some content → O.written out.new ≡ appended (O.written out.old) (take max content) }
+    ensures whole { result ≡ Copied.Whole → (files : Files) (content : List ℕ)
+        → S.held shelf.old ≡ Some files → files name.now ≡ Some content
+        → O.written out.new ≡ appended (O.written out.old) (take max content) }
     ensures absent { result ≡ Copied.Absent → Rose (S.misses shelf.old) (S.misses shelf.new) }
     ensures absent_told { result ≡ Copied.Absent → (files : Files) → S.held shelf.old ≡ Some files
         → files name.now ≡ None }

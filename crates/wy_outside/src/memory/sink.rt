@@ -9,7 +9,8 @@ use crate::failing::FailingCalls;
 use crate::sink::{Sink, SinkError};
 use std::alloc::Global;
 
-/// An output in memory. A call that fails appends the first half of its bytes, if there is memory for them.
+/// An output in memory. A call that fails appends the first half of its bytes, if there is memory
+/// for them.
 #[derive(Drop)]
 pub struct MemorySink {
     written: Vec<u8>,
@@ -47,7 +48,8 @@ impl Sink for MemorySink {
     fn write(&mut self, bytes: &[u8]) -> Result<(), SinkError>
         ensures fails { FailsExactly is_failed (fails_next self.old.script) result }
         ensures script { self.new.script ≡ after_call self.old.script }
-        ensures content { Appends (Some self.old.written.items) (Some self.new.written.items) bytes.now result }
+        ensures content { Appends (Some self.old.written.items) (Some self.new.written.items)
+            bytes.now result }
         ensures failed { RoseAt is_failed result self.old.faults self.new.faults }
         ensures faults_kept { self.old.faults ≤ self.new.faults }
     {

@@ -1,5 +1,5 @@
 //! A source in memory: it tells what is left, and exactly the listed calls fail.
-ghost use Rattle.std.specs.Prelude.{◌≡◌, ◌≤◌, drop, take, Some, IfOk, vec_len};
+ghost use Rattle.std.specs.Prelude.{◌≡◌, ◌≤◌, take, Some, IfOk, vec_len};
 ghost use Rattle.wy_outside.specs.Counts.{RoseAt};
 ghost use Rattle.wy_outside.specs.Failing.{uncalled, fails_next, after_call, FailsExactly};
 ghost use Rattle.wy_outside.specs.Source.{is_failed, Takes, EndsExactly, CountsTaken};
@@ -45,7 +45,9 @@ impl MemorySource {
 }
 
 impl Source for MemorySource {
-    ghost left = { λ s. Some (drop s.at s.bytes.items) };
+    ghost use Rattle.wy_outside.specs.Memory.{left_of};
+
+    ghost left = { λ s. Some (left_of s) };
 
     ghost faults = { λ s. s.counts.faults };
 
@@ -57,9 +59,9 @@ impl Source for MemorySource {
         requires { 1 ≤ max }
         ensures fails { FailsExactly is_failed (fails_next self.old.script) result }
         ensures script { self.new.script ≡ after_call self.old.script }
-        ensures piece { IfOk result (λ bytes. bytes.items ≡ take max (drop self.old.at self.old.bytes.items)) }
-        ensures content { Takes (Some (drop self.old.at self.old.bytes.items)) (Some (drop self.new.at self.new.bytes.items)) result }
-        ensures end { EndsExactly (Some (drop self.old.at self.old.bytes.items)) result }
+        ensures piece { IfOk result (λ bytes. bytes.items ≡ take max (left_of self.old)) }
+        ensures content { Takes (Some (left_of self.old)) (Some (left_of self.new)) result }
+        ensures end { EndsExactly (Some (left_of self.old)) result }
         ensures bound { IfOk result (λ bytes. vec_len bytes ≤ max) }
         ensures count { CountsTaken self.old.counts.taken self.new.counts.taken result }
         ensures failed { RoseAt is_failed result self.old.counts.faults self.new.counts.faults }

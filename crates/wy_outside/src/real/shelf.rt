@@ -64,7 +64,8 @@ const PIECE: usize = 8192;
 
 /// The first `max` bytes of what a file has left, or all of them if there are fewer.
 pub fn read_front<T: Read>(file: &mut T, alloc: Global, max: u32) -> Result<Vec<u8>, ShelfError>
-    ensures content { IfOk result (λ bytes. IfSome (T.remaining file.old) (λ left. bytes.items ≡ take max left)) }
+    ensures content { IfSome (T.remaining file.old)
+        (λ left. IfOk result (λ bytes. bytes.items ≡ take max left)) }
     ensures bound { IfOk result (λ bytes. vec_len bytes ≤ max) }
 {
     let mut bytes = Vec::new(alloc);

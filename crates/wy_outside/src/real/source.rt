@@ -47,7 +47,8 @@ const PIECE: usize = 8192;
 /// The next bytes that a reader has. Their room is found first, so that none is taken without it.
 pub fn read_some<T: Read>(reader: &mut T, alloc: Global, max: u32) -> Result<Vec<u8>, SourceError>
     requires { 1 ≤ max }
-    ensures content { IfOk result (λ bytes. Consumes (T.remaining reader.old) (T.remaining reader.new) bytes.items) }
+    ensures content { IfOk result
+        (λ bytes. Consumes (T.remaining reader.old) (T.remaining reader.new) bytes.items) }
     ensures end { IfOk result (λ bytes. vec_len bytes ≡ 0 → IsAtEnd (T.remaining reader.new)) }
     ensures untaken { OnErr result (Keeps (T.remaining reader.old) (T.remaining reader.new)) }
     ensures bound { IfOk result (λ bytes. vec_len bytes ≤ max) }
