@@ -1,1 +1,5 @@
 pub mod Views
+pub mod Runs
+pub mod Wrapped
+pub mod MoreSteps
+mod Examples
