@@ -1,5 +1,6 @@
 pub mod Views
 pub mod Runs
+pub mod Equations
 pub mod Wrapped
 pub mod MoreSteps
 mod Examples

@@ -70,7 +70,7 @@ ticked s m h = below_bind s.left s.left (tick s) (λ _. m) (tick_spends s) (λ _
 then_keeps : {A B : Type 0} (m : Run A) (f : A → Run B) → Keeps m → ((a : A) → Keeps (f a)) → Keeps (m >>= f)
 then_keeps m f h g s = below_bind (suc s.left) (suc s.left) (m s) f (h s) (λ a t lt. below_weaker (suc t.left) (suc s.left) _ (omega arith) (g a t))
 
-spends_keeps : {A : Type 0} (m : Run A) → Spends m → Keeps m
+pub spends_keeps : {A : Type 0} (m : Run A) → Spends m → Keeps m
 spends_keeps m h s = below_weaker s.left (suc s.left) (m s) (omega arith) (h s)
 
 read_keeps : (p : _) → Keeps (read p)
