@@ -3,4 +3,5 @@ pub mod Runs
 pub mod Equations
 pub mod Wrapped
 pub mod MoreSteps
+pub mod Limit
 mod Examples

@@ -17,3 +17,9 @@ pub fn more_steps_only_go_on()
     ensures printed { (p : Whole) (few many : ℕ) → few ≤ many → Continues (run_of p few).output (run_of p many).output }
     ensures ended { (p : Whole) (few many : ℕ) → few ≤ many → (run_of p few).stop ≡ 0 → run_of p many ≡ run_of p few }
 {}
+
+/// A run takes no more steps than it may, and it takes them all where it stops at the step limit.
+pub fn the_step_limit_is_the_budget()
+    ensures within { (p : Whole) (steps : ℕ) → (run_of p steps).steps ≤ steps }
+    ensures all { (p : Whole) (steps : ℕ) → (run_of p steps).stop ≡ 2 → (run_of p steps).steps ≡ steps }
+{}
