@@ -1,5 +1,5 @@
 -- What a form says, at each variant.
-use Rattle.std.proofs.Common.{◌≡◌, ap, sym, ◌∙◌, List, map, Option, Some, None}
+use Rattle.std.proofs.Common.{◌≡◌, ap, sym, ◌∙◌, Some, None}
 use Rattle.std.specs.declared.alloc.Global.{Global}
 use Rattle.std.specs.declared.boxed.Box.{Box}
 use Rattle.std.specs.declared.vec.Vec.{Vec}
@@ -14,7 +14,7 @@ use Rattle.wy_kernel.specs.declared.form.Stmt.{Stmt}
 use Rattle.wy_kernel.specs.declared.form.Stmt.TheOpen as stmt_layer
 use Rattle.wy_kernel.specs.declared.form.Stmt.TheVariants as stmt_form
 use Rattle.wy_kernel.specs.declared.form.Stmt.TheFolds.{fold-roll-Stmt}
-use Rattle.wy_kernel.specs.Kernel.{Expression, Constant, Read, Set, Binary, Statement, Block, Eval, If, IfElse, While, Print, expression, expression_step, statement, statements, statement_step, row, if_of}
+use Rattle.wy_kernel.specs.Kernel.{Expression, Constant, Read, Set, Binary, Statement, Block, Eval, If, IfElse, While, Print, expression, expression_step, statement, statements, statement_step}
 
 pub view_const : (v : Const) → expression (form.Const v) ≡ Constant v
 unfolding expression

@@ -1,7 +1,6 @@
 -- What a run of a program is: a recursion on its forms, with the steps that are left (JLS 14.2, 14.8, 14.9, 14.12, 15.7, 15.26).
 use Rattle.std.specs.Prelude.{ℕ, zero, suc, ◌-◌, Bool, true, false, List, [], ◌∷◌, ◌++◌, codes, slice_index_or, slice_set, replicate, if◌then◌else◌}
 use Rattle.std.specs.Fmt.{signed_decimal}
-use Rattle.wy_kernel.specs.declared.operator.BinOp.{BinOp}
 use Rattle.wy_kernel.specs.declared.form.Const.{Const}
 use Rattle.wy_kernel.specs.declared.form.Const.TheVariants.{Bool as Truth, Int as Number}
 use Rattle.wy_kernel.specs.declared.form.Place.{Place}

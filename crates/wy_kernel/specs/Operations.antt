@@ -1,5 +1,5 @@
 -- What the operators on int give: the exact whole number, brought into the range of int (JLS 4.2.2, 15.17, 15.18, 15.20, 15.21).
-use Rattle.std.specs.Prelude.{◌≡◌, ℤ, pos, ◌+ℤ◌, ◌-ℤ◌, ◌*ℤ◌, ◌^◌, Bool, not, int_lt, FitsSigned}
+use Rattle.std.specs.Prelude.{◌≡◌, ℤ, pos, ◌+ℤ◌, ◌-ℤ◌, ◌*ℤ◌, ◌^◌, not, int_lt, FitsSigned}
 use Rattle.std.specs.Ordering.{int_eq}
 use Rattle.std.specs.Int.{w32, int_wrap}
 use Rattle.wy_kernel.specs.declared.operator.BinOp.{BinOp}

@@ -3,4 +3,5 @@
 #![tactic(auto)]
 
 pub mod form;
+pub mod laws;
 pub mod operator;

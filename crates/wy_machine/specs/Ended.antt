@@ -1,0 +1,6 @@
+-- An ending as the definition has it.
+use Rattle.wy_kernel.specs.Meaning.{Ending}
+use Rattle.wy_machine.specs.declared.Ended.{Ended}
+
+abbrev pub ending_of : Ended → Ending
+ending_of e = record { output = e.output.items; stop = e.stop; steps = e.steps }
