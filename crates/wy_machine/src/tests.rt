@@ -1,3 +1,5 @@
+//! Small programs built by hand, with what they print and the steps that they take: one for the start of each form.
+
 use super::*;
 use std::test::Fail;
 use wy_kernel::form::{Body, Expr, Place, Stmt};
