@@ -2,7 +2,7 @@
 
 /// A primitive type.
 #[derive(Clone, Copy, Debug, PartialEq, Eq)]
-pub enum Prim {
+pub enum Primitive {
     Bool,
     Byte,
     Short,
