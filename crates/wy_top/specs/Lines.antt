@@ -1,0 +1,39 @@
+-- The lines that a command writes. Each ends with a line feed.
+use Rattle.std.specs.Prelude.{ℕ, List, [], ◌∷◌, ◌++◌, ◌==◌, Bool, true, codes, if◌then◌else◌}
+use Rattle.wy_kernel.specs.Meaning.{Ending}
+
+abbrev pub line_of : List ℕ → List ℕ
+line_of text = text ++ 10 ∷ []
+
+abbrev pub usage_line : List ℕ
+usage_line = line_of (codes "usage: whyline run SRC")
+
+abbrev pub absent_line : List ℕ → List ℕ
+absent_line name = line_of (codes "absent: " ++ name)
+
+abbrev pub not_yet_line : List ℕ
+not_yet_line = line_of (codes "program: NotYet")
+
+abbrev pub shelf_fault_line : List ℕ
+shelf_fault_line = line_of (codes "fault: shelf")
+
+abbrev pub too_long_line : List ℕ → List ℕ
+too_long_line name = line_of (codes "too long: " ++ name)
+
+-- how a run ended, by the number of its stop: 2 is the step limit
+abbrev pub stop_line : ℕ → List ℕ
+stop_line stop = if stop == 2 then line_of (codes "-- step limit") else line_of (codes "-- finished")
+
+-- nothing, or a text whose last byte is a line feed
+abbrev pub ends_its_line : List ℕ → Bool
+ends_its_line [] = true
+ends_its_line (b ∷ []) = b == 10
+ends_its_line (b ∷ c ∷ rest) = ends_its_line (c ∷ rest)
+
+-- what was printed, with a line feed where its last line has none
+abbrev pub whole_lines : List ℕ → List ℕ
+whole_lines output = if ends_its_line output then output else line_of output
+
+-- what is written of a run
+abbrev pub report : Ending → List ℕ
+report ending = whole_lines ending.output ++ stop_line ending.stop

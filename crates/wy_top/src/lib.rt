@@ -1,0 +1,14 @@
+//! The whole program: from the words and the files to the bytes that are written and the status.
+//! The real files and streams are handed in by the caller; nothing here opens one.
+#![tactic(auto)]
+
+mod answer;
+pub mod laws;
+mod lines;
+pub mod status;
+#[cfg(test)]
+mod tests;
+pub mod top;
+mod words;
+
+pub use top::whyline;

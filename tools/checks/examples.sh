@@ -1,0 +1,61 @@
+#!/usr/bin/env bash
+# Runs each example through ./whyline and compares what it writes and its status with the stored ones,
+# and then one call for each other status. Ends with a failure if one differs.
+set -u
+cd "$(dirname "$0")/../.." || exit 1
+passed=0
+failed=0
+scratch=$(mktemp -d) || exit 1
+trap 'rm -rf "$scratch"' EXIT
+
+report() { # NAME OK
+  if [ "$2" = 1 ]; then
+    passed=$((passed + 1))
+  else
+    failed=$((failed + 1))
+    echo "differs: $1"
+  fi
+}
+
+expect() { # NAME STATUS FILE WORD..: the call writes what the file holds, and has this status
+  local name=$1 status=$2 wanted=$3 same=1
+  shift 3
+  ./whyline "$@" >"$scratch/out" 2>"$scratch/err"
+  [ $? = "$status" ] || same=0
+  cmp -s "$scratch/out" "$wanted" || same=0
+  report "$name" "$same"
+}
+
+expect_line() { # NAME STATUS LINE WORD..
+  local name=$1 status=$2
+  printf '%s\n' "$3" >"$scratch/wanted"
+  shift 3
+  expect "$name" "$status" "$scratch/wanted" "$@"
+}
+
+for source in examples/*.java; do
+  expect "$source" 0 "${source%.java}.out" run "$source"
+done
+
+printf 'class Main { public static void main(String[] a) { while (1 < 2) { } } }' >"$scratch/endless.java"
+printf 'class Main { public static void main(String[] a) { int x = y; } }' >"$scratch/unknown.java"
+head -c 1048577 /dev/zero | tr '\0' ' ' >"$scratch/long.java"
+
+expect_line "the step limit" 0 '-- step limit' run "$scratch/endless.java"
+expect_line "no words" 2 'usage: whyline run SRC'
+expect_line "a word too many" 2 'usage: whyline run SRC' run examples/first.java more
+expect_line "a name that begins with a minus sign" 2 'usage: whyline run SRC' run -x
+expect_line "a word that isn't UTF-8" 2 'usage: whyline run SRC' run "$(printf '\377')"
+expect_line "no such file" 3 "absent: $scratch/none.java" run "$scratch/none.java"
+expect_line "a name without a declaration" 4 'program: NotYet' run "$scratch/unknown.java"
+expect_line "a folder in place of a file" 7 'fault: shelf' run examples
+expect_line "a file of a byte too many" 8 "too long: $scratch/long.java" run "$scratch/long.java"
+
+./whyline run examples/first.java >/dev/full 2>/dev/null
+[ $? = 7 ] && report "an output that is full" 1 || report "an output that is full" 0
+
+(cd "$scratch" && "$OLDPWD/whyline" run endless.java >here 2>/dev/null)
+printf -- '-- step limit\n' | cmp -s - "$scratch/here" && report "the caller's folder" 1 || report "the caller's folder" 0
+
+echo "examples: $passed passed, $failed failed"
+[ "$failed" = 0 ]
