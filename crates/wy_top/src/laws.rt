@@ -4,7 +4,7 @@ ghost use Rattle.std.specs.Prelude.{◌≡◌, ℕ, List, Option};
 ghost use Rattle.wy_outside.specs.Shelf.{Files};
 ghost use Rattle.wy_top.specs.Due.{Due};
 
-use wy_small::reader::a_text_has_one_program;
+use wy_small::laws::a_text_has_one_program;
 
 /// For the same words and files one status and one text are due.
 pub fn one_answer_is_due()
