@@ -1,4 +1,4 @@
--- Texts of 16-bit units as UTF-8 (Unicode D91, D92; JLS 3.1).
+-- Texts of 16-bit units as UTF-8 (the Unicode Standard, 3.9; JLS 3.1).
 use Rattle.std.specs.Prelude.{ℕ, List, map, ◌&&◌, if◌then◌else◌, unwrap_or, encode_utf8_all, Option, Some, None}
 use Rattle.std.specs.Char.Utf16.{utf16_chars, is_high_surrogate, is_low_surrogate, surrogate_pair_char}
 

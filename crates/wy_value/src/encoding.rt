@@ -1,4 +1,4 @@
-//! A text's units as UTF-8 (Unicode D91 and D92). Nothing is read from UTF-8 here.
+//! A text's units as UTF-8 (the Unicode Standard, 3.9). Nothing is read from UTF-8 here.
 ghost use Rattle.std.specs.Prelude.{◌≡◌, ◌≤◌, ◌∷◌, length, unwrap_or, IfOk};
 ghost use Rattle.std.specs.Char.Utf16.{lone_unit_char};
 ghost use Rattle.wy_value.specs.Encoding.{code_points, utf8_of, pair_of};
