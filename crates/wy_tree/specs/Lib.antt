@@ -1,0 +1,13 @@
+pub mod Seen
+pub mod Kinds
+pub mod Ast
+pub mod Conditions
+pub mod Grammar
+pub mod Bytes
+pub mod Words
+pub mod Numbers
+pub mod Literals
+pub mod Pieces
+pub mod Tokens
+pub mod TokenLaws
+pub mod Lines

@@ -2,5 +2,10 @@
 //! Nothing here reads a text.
 #![tactic(auto)]
 
+pub mod grammar;
+pub mod kind;
+pub mod laws;
+pub mod line;
+pub mod measure;
 pub mod token;
 pub mod tree;

@@ -1,5 +1,10 @@
 //! The tokens of a text (JLS 3.5 to 3.12).
 
+ghost use Rattle.std.specs.Prelude.{◌≡◌, IfOk};
+ghost use Rattle.wy_tree.specs.Seen.{seen};
+
+use std::alloc::AllocError;
+
 /// A token.
 #[derive(Debug, Drop)]
 pub enum Token {
@@ -26,4 +31,25 @@ pub struct Spanned {
     pub start: u32,
     pub end: u32,
     pub line: u32,
+}
+
+/// The same token again.
+pub fn copied(token: &Token) -> Result<Token, AllocError>
+    ensures { IfOk result (λ t. seen t ≡ seen token.now) }
+{
+    match token {
+        Token::Word(text) => Ok(Token::Word(text.clone()?)),
+        Token::Key(text) => Ok(Token::Key(text.clone()?)),
+        Token::Int { value, decimal } => Ok(Token::Int {
+            value: *value,
+            decimal: *decimal,
+        }),
+        Token::Long { value, decimal } => Ok(Token::Long {
+            value: *value,
+            decimal: *decimal,
+        }),
+        Token::Char(unit) => Ok(Token::Char(*unit)),
+        Token::Text(units) => Ok(Token::Text(units.clone()?)),
+        Token::Sign(text) => Ok(Token::Sign(text.clone()?)),
+    }
 }

@@ -1,5 +1,9 @@
 //! Trees over tokens, one form for each production of the grammar (JLS 18, restated).
 
+ghost use Rattle.std.specs.Prelude.{◌≡◌};
+ghost use Rattle.wy_tree.specs.Ast.{Leaf, Node, view, views};
+ghost use Rattle.wy_tree.specs.Seen.{seen};
+
 use crate::token::Token;
 
 /// A tree. A token is a leaf. A production that has a single part in a text makes no node of its own.
@@ -40,4 +44,18 @@ pub enum Form {
     Primary,
     New,
     Args,
+}
+
+/// The leaf of a token.
+pub fn leaf(token: Token) -> Tree
+    ensures { view result ≡ Leaf (seen token) }
+{
+    Tree::Leaf(token)
+}
+
+/// The node of these parts.
+pub fn node(form: Form, parts: Vec<Tree>) -> Tree
+    ensures { view result ≡ Node form (views parts.items) }
+{
+    Tree::Node { form, parts }
 }

@@ -1,0 +1,12 @@
+pub mod Ascii
+pub mod Numbers
+pub mod Comments
+pub mod Fronts
+pub mod Signs
+pub mod Units
+pub mod Shorter
+pub mod Longest
+pub mod Found
+pub mod Readings
+pub mod Exactly
+pub mod Local

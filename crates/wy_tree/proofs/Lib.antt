@@ -1,0 +1,5 @@
+pub mod Tags
+pub mod Views
+pub mod Pending
+pub mod Once
+pub mod Order
