@@ -1,0 +1,10 @@
+use Rattle.std.proofs.Common.{◌≡◌, ◌≤◌, ◌+◌, length}
+use Rattle.wy_tree.specs.Ast.{views}
+use Rattle.wy_tree.specs.Conditions.{pairs}
+use Rattle.wy_parser.proofs.condition.pairs.Given as goal
+
+abbrev pub invariant-loop-left : goal.invariant-loop-left
+invariant-loop-left l = (l.count + pairs (views l.left) ≡ pairs (views l.initial.left)) × (l.count + length l.left ≤ length l.initial.left)
+
+abbrev pub decreases-loop-left : goal.decreases-loop-left
+decreases-loop-left l = length l.left

@@ -1,0 +1,289 @@
+-- The way that a text takes at each choice of the grammar, by its next tokens.
+use Rattle.std.specs.Prelude.{Bool, true, false, not, ◌&&◌, ◌||◌, if◌then◌else◌, List, [], ◌∷◌, Option, Some, None}
+use Rattle.wy_tree.specs.Seen.{Tok}
+use Rattle.wy_tree.specs.Kinds.{kind_of, same}
+use Rattle.wy_tree.specs.Conditions.{is_name}
+use Rattle.wy_tree.specs.Grammar.{a, name, tighter, operates, is_own, is_modifying, is_setting, is_prefixing}
+use Rattle.wy_tree.specs.declared.kind.Kind.{Kind}
+use Rattle.wy_tree.specs.declared.kind.Kind.TheVariants as kinds
+use Rattle.wy_tree.specs.declared.grammar.Class.TheVariants.{Element, Modifying, Setting, Prefixing, Own}
+use Rattle.wy_tree.specs.declared.grammar.Sort.{Sort}
+use Rattle.wy_tree.specs.declared.grammar.Sort.TheVariants as sorts
+use Rattle.wy_tree.specs.declared.grammar.Row.{Row}
+use Rattle.wy_tree.specs.declared.grammar.Row.TheVariants as rows
+use Rattle.wy_tree.specs.declared.grammar.Item.{Item}
+use Rattle.wy_tree.specs.declared.grammar.Item.TheVariants.{One, Part, Parts}
+
+-- the kind of the first, the second and the third token
+abbrev pub front : List Tok → Kind
+front [] = kinds.Nothing
+front (o ∷ s) = kind_of o
+
+abbrev pub rest : List Tok → List Tok
+rest [] = []
+rest (o ∷ s) = s
+
+abbrev pub second : List Tok → Kind
+second s = front (rest s)
+
+abbrev pub third : List Tok → Kind
+third s = front (rest (rest s))
+
+-- what stands in modifiers
+abbrev pub modifies : Kind → Bool
+modifies k = is_modifying k || (same k kinds.At || same k kinds.Override)
+
+abbrev pub is_bracket : Kind → Bool
+is_bracket k = same k kinds.OpenBracket || same k kinds.CloseBracket
+
+-- the tokens from the first one on that is not so
+unfoldable pub past : (Kind → Bool) → List Tok → List Tok
+past p [] = []
+past p (o ∷ s) = if p (kind_of o) then past p s else o ∷ s
+
+-- a parameter list behind a type and a name, or void
+unfoldable pub heads_method : List Tok → Bool
+heads_method s = same (front s) kinds.Void || same (second (past is_bracket (rest s))) kinds.OpenParen
+
+unfoldable pub heads_interface : List Tok → Bool
+heads_interface s = same (front (past modifies s)) kinds.Interface
+
+unfoldable pub declares : List Tok → Bool
+declares s =
+    (same (front s) kinds.Final || same (front s) kinds.Prim)
+    || (is_name (front s) && (is_name (second s) || (same (second s) kinds.OpenBracket && same (third s) kinds.CloseBracket)))
+
+-- what the operand of a cast to a name begins with (JLS 15.16)
+abbrev pub begins_operand : Kind → Bool
+begins_operand kinds.Word = true
+begins_operand kinds.Override = true
+begins_operand kinds.Literal = true
+begins_operand kinds.This = true
+begins_operand kinds.Super = true
+begins_operand kinds.New = true
+begins_operand kinds.OpenParen = true
+begins_operand kinds.Flip = true
+begins_operand _ = false
+
+unfoldable pub casts_to_name : List Tok → Bool
+casts_to_name s = (same (front s) kinds.OpenBracket && same (second s) kinds.CloseBracket) || (same (front s) kinds.CloseParen && begins_operand (second s))
+
+-- `(` and a primitive type, or a name in brackets, or a name and `)` before an operand
+unfoldable pub casts : List Tok → Bool
+casts s = same (front s) kinds.OpenParen && (same (second s) kinds.Prim || (is_name (second s) && casts_to_name (rest (rest s))))
+
+-- whether one more comes
+abbrev pub comes : Sort → Kind → Bool
+comes sorts.Declaration k = not (same k kinds.Nothing)
+comes sorts.Mod k = is_modifying k || same k kinds.At
+comes sorts.Catch k = same k kinds.Catch
+comes _ k = not (same k kinds.CloseBrace)
+
+-- whether it is there
+abbrev pub is_there : Sort → Kind → Bool
+is_there sorts.Throws k = same k kinds.Throws
+is_there sorts.Args k = same k kinds.OpenParen
+is_there _ k = not (same k kinds.Semicolon)
+
+-- a row that is there exactly where its first token is
+abbrev pub begun : Bool → List Item → List Item
+begun b items = if b then items else []
+
+unfoldable pub choose_list : Row → List Tok → List Item
+choose_list (rows.Any x) s = begun (comes x (front s)) (Part x ∷ Parts (rows.Any x) ∷ [])
+choose_list (rows.Maybe x) s = begun (is_there x (front s)) (Part x ∷ [])
+choose_list (rows.Series x) s = begun (not (same (front s) kinds.CloseParen)) (Part x ∷ Parts (rows.Further x) ∷ [])
+choose_list (rows.Further x) s = begun (same (front s) kinds.Comma) (a kinds.Comma ∷ Part x ∷ Parts (rows.Further x) ∷ [])
+choose_list rows.Names s = begun (same (front s) kinds.Comma) (a kinds.Comma ∷ name ∷ Parts rows.Names ∷ [])
+choose_list rows.Brackets s = begun (same (front s) kinds.OpenBracket) (a kinds.OpenBracket ∷ a kinds.CloseBracket ∷ Parts rows.Brackets ∷ [])
+choose_list _ s = begun (same (front s) kinds.Final) (a kinds.Final ∷ [])
+
+unfoldable pub choose_method : List Tok → List Item
+choose_method s =
+    if same (front s) kinds.CloseBrace then [] else
+    (if same (front s) kinds.Semicolon then a kinds.Semicolon ∷ Parts rows.Methods ∷ [] else
+    Parts (rows.Any sorts.Mod) ∷ Part sorts.Result ∷ name ∷ Part sorts.Params ∷ Parts (rows.Maybe sorts.Throws) ∷ a kinds.Semicolon ∷ Parts rows.Methods ∷ [])
+
+unfoldable pub choose_declared : List Tok → List Item
+choose_declared s =
+    if same (front s) kinds.Semicolon then a kinds.Semicolon ∷ [] else
+    (if heads_interface s then Part sorts.Interface ∷ [] else Part sorts.Class ∷ [])
+
+unfoldable pub choose_declaration : Row → List Tok → List Item
+choose_declaration rows.Declared s = choose_declared s
+choose_declaration rows.Superclass s = begun (same (front s) kinds.Extends) (a kinds.Extends ∷ name ∷ [])
+choose_declaration rows.Interfaces s = begun (same (front s) kinds.Implements) (a kinds.Implements ∷ name ∷ Parts rows.Names ∷ [])
+choose_declaration rows.Supers s = begun (same (front s) kinds.Extends) (a kinds.Extends ∷ name ∷ Parts rows.Names ∷ [])
+choose_declaration rows.Methods s = choose_method s
+choose_declaration _ s = if same (front s) kinds.At then a kinds.At ∷ a kinds.Override ∷ [] else One Modifying ∷ []
+
+unfoldable pub choose_member_form : List Tok → List Item
+choose_member_form s =
+    if same (front s) kinds.Semicolon then a kinds.Semicolon ∷ [] else
+    (if same (front s) kinds.OpenBrace then Part sorts.Block ∷ [] else
+    (if same (front s) kinds.Static && same (second s) kinds.OpenBrace then a kinds.Static ∷ Part sorts.Block ∷ [] else
+    Parts (rows.Any sorts.Mod) ∷ Parts rows.MemberTail ∷ []))
+
+unfoldable pub choose_member_tail : List Tok → List Item
+choose_member_tail s =
+    if is_name (front s) && same (second s) kinds.OpenParen then
+    name ∷ Part sorts.Params ∷ Parts (rows.Maybe sorts.Throws) ∷ a kinds.OpenBrace ∷ Parts rows.OwnCall ∷ Parts (rows.Any sorts.Local) ∷ a kinds.CloseBrace ∷ [] else
+    (if heads_method s then Part sorts.Result ∷ name ∷ Part sorts.Params ∷ Parts (rows.Maybe sorts.Throws) ∷ Parts rows.MethodBody ∷ [] else
+    Part sorts.Type ∷ Part sorts.Decls ∷ a kinds.Semicolon ∷ [])
+
+unfoldable pub choose_member : Row → List Tok → List Item
+choose_member rows.MemberForm s = choose_member_form s
+choose_member rows.MemberTail s = choose_member_tail s
+choose_member rows.MethodBody s = if same (front s) kinds.Semicolon then a kinds.Semicolon ∷ [] else Part sorts.Block ∷ []
+choose_member rows.OwnCall s = begun (is_own (front s) && same (second s) kinds.OpenParen) (One Own ∷ Part sorts.Args ∷ a kinds.Semicolon ∷ [])
+choose_member _ s = if same (front s) kinds.Void then a kinds.Void ∷ [] else Part sorts.Type ∷ []
+
+unfoldable pub choose_elements : List Tok → List Item
+choose_elements s =
+    if same (front s) kinds.CloseBrace then [] else
+    (if same (front s) kinds.Comma then a kinds.Comma ∷ [] else Part sorts.Init ∷ Parts rows.MoreElements ∷ [])
+
+unfoldable pub choose_initial : Row → List Tok → List Item
+choose_initial rows.Initial s = begun (same (front s) kinds.Assign) (a kinds.Assign ∷ Part sorts.Init ∷ [])
+choose_initial rows.InitForm s = if same (front s) kinds.OpenBrace then a kinds.OpenBrace ∷ Parts rows.Elements ∷ a kinds.CloseBrace ∷ [] else Part sorts.Expr ∷ []
+choose_initial rows.Elements s = choose_elements s
+choose_initial rows.MoreElements s = begun (same (front s) kinds.Comma) (a kinds.Comma ∷ Parts rows.AfterComma ∷ [])
+choose_initial _ s = begun (not (same (front s) kinds.CloseBrace)) (Part sorts.Init ∷ Parts rows.MoreElements ∷ [])
+
+unfoldable pub choose_leaving : List Tok → List Item
+choose_leaving s =
+    if same (front s) kinds.Break then a kinds.Break ∷ Parts rows.Label ∷ a kinds.Semicolon ∷ [] else
+    (if same (front s) kinds.Continue then a kinds.Continue ∷ Parts rows.Label ∷ a kinds.Semicolon ∷ [] else
+    (if same (front s) kinds.Return then a kinds.Return ∷ Parts (rows.Maybe sorts.Expr) ∷ a kinds.Semicolon ∷ [] else
+    (if same (front s) kinds.Throw then a kinds.Throw ∷ Part sorts.Expr ∷ a kinds.Semicolon ∷ [] else
+    (if is_name (front s) && same (second s) kinds.Colon then name ∷ a kinds.Colon ∷ Part sorts.Stmt ∷ [] else
+    Part sorts.Effect ∷ a kinds.Semicolon ∷ []))))
+
+unfoldable pub choose_looping : List Tok → List Item
+choose_looping s =
+    if same (front s) kinds.While then a kinds.While ∷ a kinds.OpenParen ∷ Part sorts.Expr ∷ a kinds.CloseParen ∷ Part sorts.Stmt ∷ [] else
+    (if same (front s) kinds.Do then a kinds.Do ∷ Part sorts.Stmt ∷ a kinds.While ∷ a kinds.OpenParen ∷ Part sorts.Expr ∷ a kinds.CloseParen ∷ a kinds.Semicolon ∷ [] else
+    (if same (front s) kinds.For then
+    a kinds.For ∷ a kinds.OpenParen ∷ Parts (rows.Maybe sorts.ForInit) ∷ a kinds.Semicolon ∷ Parts (rows.Maybe sorts.Expr) ∷ a kinds.Semicolon
+    ∷ Parts (rows.Series sorts.Effect) ∷ a kinds.CloseParen ∷ Part sorts.Stmt ∷ [] else
+    choose_leaving s))
+
+unfoldable pub choose_statement_form : List Tok → List Item
+choose_statement_form s =
+    if same (front s) kinds.OpenBrace then Part sorts.Block ∷ [] else
+    (if same (front s) kinds.Semicolon then a kinds.Semicolon ∷ [] else
+    (if same (front s) kinds.If then a kinds.If ∷ a kinds.OpenParen ∷ Part sorts.Expr ∷ a kinds.CloseParen ∷ Part sorts.Stmt ∷ Parts rows.Otherwise ∷ [] else
+    (if same (front s) kinds.Try then a kinds.Try ∷ Part sorts.Block ∷ Parts rows.Handlers ∷ [] else
+    choose_looping s)))
+
+unfoldable pub choose_statement : Row → List Tok → List Item
+choose_statement rows.LocalForm s = if declares s then Parts rows.MaybeFinal ∷ Part sorts.Type ∷ Part sorts.Decls ∷ a kinds.Semicolon ∷ [] else Part sorts.Stmt ∷ []
+choose_statement rows.StmtForm s = choose_statement_form s
+choose_statement rows.Otherwise s = begun (same (front s) kinds.Else) (a kinds.Else ∷ Part sorts.Stmt ∷ [])
+choose_statement rows.Label s = begun (is_name (front s)) (name ∷ [])
+choose_statement rows.Handlers s =
+    if same (front s) kinds.Catch then Part sorts.Catch ∷ Parts (rows.Any sorts.Catch) ∷ Parts rows.Finally ∷ [] else a kinds.Finally ∷ Part sorts.Block ∷ []
+choose_statement rows.Finally s = begun (same (front s) kinds.Finally) (a kinds.Finally ∷ Part sorts.Block ∷ [])
+choose_statement _ s =
+    if declares s then Parts rows.MaybeFinal ∷ Part sorts.Type ∷ Part sorts.Decls ∷ [] else Part sorts.Effect ∷ Parts (rows.Further sorts.Effect) ∷ []
+
+unfoldable pub choose_unary : List Tok → List Item
+choose_unary s =
+    if same (front s) kinds.Minus then a kinds.Minus ∷ Parts rows.Negated ∷ [] else
+    (if is_prefixing (front s) then One Prefixing ∷ Part sorts.Unary ∷ [] else
+    (if casts s then Part sorts.Cast ∷ [] else Part sorts.Postfix ∷ []))
+
+unfoldable pub choose_operator : Row → List Tok → List Item
+choose_operator rows.Assigned s = begun (is_setting (front s)) (One Setting ∷ Part sorts.Expr ∷ [])
+choose_operator rows.Choice s = begun (same (front s) kinds.Question) (a kinds.Question ∷ Part sorts.Expr ∷ a kinds.Colon ∷ Part sorts.Cond ∷ [])
+choose_operator rows.UnaryForm s = choose_unary s
+choose_operator rows.Negated s = if same (front s) kinds.Big then a kinds.Big ∷ [] else Part sorts.Unary ∷ []
+choose_operator rows.CastForm s =
+    if same (front s) kinds.Prim && same (second s) kinds.CloseParen then a kinds.Prim ∷ a kinds.CloseParen ∷ Part sorts.Unary ∷ []
+    else Part sorts.RefType ∷ a kinds.CloseParen ∷ Part sorts.Operand ∷ []
+choose_operator _ s = begun (same (front s) kinds.Step) (a kinds.Step ∷ Parts rows.Steps ∷ [])
+
+unfoldable pub choose_primary : List Tok → List Item
+choose_primary s =
+    if same (front s) kinds.Literal then a kinds.Literal ∷ [] else
+    (if same (front s) kinds.This then a kinds.This ∷ [] else
+    (if same (front s) kinds.OpenParen then a kinds.OpenParen ∷ Part sorts.Expr ∷ a kinds.CloseParen ∷ [] else
+    (if same (front s) kinds.New then Part sorts.New ∷ [] else
+    (if same (front s) kinds.Super then a kinds.Super ∷ a kinds.Dot ∷ name ∷ Parts (rows.Maybe sorts.Args) ∷ [] else
+    name ∷ Parts (rows.Maybe sorts.Args) ∷ []))))
+
+unfoldable pub choose_new : List Tok → List Item
+choose_new s =
+    if same (second s) kinds.OpenParen then name ∷ Part sorts.Args ∷ [] else
+    (if same (third s) kinds.CloseBracket then
+    One Element ∷ a kinds.OpenBracket ∷ a kinds.CloseBracket ∷ Parts rows.Brackets ∷ a kinds.OpenBrace ∷ Parts rows.Elements ∷ a kinds.CloseBrace ∷ [] else
+    One Element ∷ a kinds.OpenBracket ∷ Part sorts.Expr ∷ a kinds.CloseBracket ∷ Parts rows.Dimensions ∷ [])
+
+unfoldable pub choose_dimension : List Tok → List Item
+choose_dimension s =
+    if same (front s) kinds.OpenBracket then
+    (if same (second s) kinds.CloseBracket then a kinds.OpenBracket ∷ a kinds.CloseBracket ∷ Parts rows.Brackets ∷ []
+    else a kinds.OpenBracket ∷ Part sorts.Expr ∷ a kinds.CloseBracket ∷ Parts rows.Dimensions ∷ [])
+    else []
+
+-- the alternative of a row that the text takes, if it is a text
+abbrev pub choose : Row → List Tok → List Item
+choose (rows.Any x) s = choose_list (rows.Any x) s
+choose (rows.Maybe x) s = choose_list (rows.Maybe x) s
+choose (rows.Series x) s = choose_list (rows.Series x) s
+choose (rows.Further x) s = choose_list (rows.Further x) s
+choose rows.Names s = choose_list rows.Names s
+choose rows.Brackets s = choose_list rows.Brackets s
+choose rows.MaybeFinal s = choose_list rows.MaybeFinal s
+choose rows.Declared s = choose_declaration rows.Declared s
+choose rows.Superclass s = choose_declaration rows.Superclass s
+choose rows.Interfaces s = choose_declaration rows.Interfaces s
+choose rows.Supers s = choose_declaration rows.Supers s
+choose rows.Methods s = choose_declaration rows.Methods s
+choose rows.ModForm s = choose_declaration rows.ModForm s
+choose rows.MemberForm s = choose_member rows.MemberForm s
+choose rows.MemberTail s = choose_member rows.MemberTail s
+choose rows.MethodBody s = choose_member rows.MethodBody s
+choose rows.OwnCall s = choose_member rows.OwnCall s
+choose rows.ResultForm s = choose_member rows.ResultForm s
+choose rows.Initial s = choose_initial rows.Initial s
+choose rows.InitForm s = choose_initial rows.InitForm s
+choose rows.Elements s = choose_initial rows.Elements s
+choose rows.MoreElements s = choose_initial rows.MoreElements s
+choose rows.AfterComma s = choose_initial rows.AfterComma s
+choose rows.LocalForm s = choose_statement rows.LocalForm s
+choose rows.StmtForm s = choose_statement rows.StmtForm s
+choose rows.Otherwise s = choose_statement rows.Otherwise s
+choose rows.Label s = choose_statement rows.Label s
+choose rows.Handlers s = choose_statement rows.Handlers s
+choose rows.Finally s = choose_statement rows.Finally s
+choose rows.ForInitForm s = choose_statement rows.ForInitForm s
+choose rows.Assigned s = choose_operator rows.Assigned s
+choose rows.Choice s = choose_operator rows.Choice s
+choose rows.UnaryForm s = choose_operator rows.UnaryForm s
+choose rows.Negated s = choose_operator rows.Negated s
+choose rows.CastForm s = choose_operator rows.CastForm s
+choose rows.Steps s = choose_operator rows.Steps s
+choose rows.PrimaryForm s = choose_primary s
+choose rows.NewForm s = choose_new s
+choose rows.Dimensions s = choose_dimension s
+
+-- what goes on with a tree of a sort
+unfoldable pub continued_level : Sort → Kind → Option (List Item)
+continued_level x k = if operates x k then Some (a k ∷ Part (tighter x) ∷ []) else None
+
+unfoldable pub continued_primary : Kind → Option (List Item)
+continued_primary k =
+    if same k kinds.Dot then Some (a kinds.Dot ∷ name ∷ Parts (rows.Maybe sorts.Args) ∷ []) else
+    (if same k kinds.OpenBracket then Some (a kinds.OpenBracket ∷ Part sorts.Expr ∷ a kinds.CloseBracket ∷ []) else None)
+
+unfoldable pub continued_relation : Kind → Option (List Item)
+continued_relation k = if same k kinds.Instanceof then Some (a kinds.Instanceof ∷ Part sorts.RefType ∷ []) else continued_level sorts.Relation k
+
+abbrev pub continued_by : Sort → Kind → Option (List Item)
+continued_by sorts.Relation k = continued_relation k
+continued_by sorts.Primary k = continued_primary k
+continued_by x k = continued_level x k
+
+abbrev pub continued : Sort → List Tok → Option (List Item)
+continued x s = continued_by x (front s)

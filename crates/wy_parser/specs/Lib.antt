@@ -1,0 +1,5 @@
+pub mod Choosing
+pub mod Reading
+pub mod Symbols
+pub mod Rules
+pub mod Parsed
