@@ -1,0 +1,46 @@
+-- A record of an event as contracts see it: a number that is NONE in memory is absent, and lists are without capacities.
+use Rattle.std.specs.Prelude.{ℕ, Bool, false, ◌&&◌, ◌==◌, nat_eq, if◌then◌else◌, List, Option, Some}
+use Rattle.std.specs.Prelude.{None as Absent}
+use Rattle.wy_value.specs.declared.value.Value.{Value}
+use Rattle.wy_event.specs.declared.record.Kind.{Kind}
+use Rattle.wy_event.specs.declared.record.Slot.{Slot}
+use Rattle.wy_event.specs.declared.record.Slot.TheVariants.{Local, Static, Field, Elem}
+use Rattle.wy_event.specs.declared.record.Use.{Use}
+use Rattle.wy_event.specs.declared.record.Event.{Event}
+
+pub record Recorded : Type 0 where
+  pub kind : Kind
+  pub site : ℕ
+  pub frame : Option ℕ
+  pub control : Option ℕ
+  pub what : Option ℕ
+  pub slot : Slot
+  pub value : Value
+  pub units : List ℕ
+  pub uses : List Use
+
+abbrev pub NONE : ℕ
+NONE = 4294967295
+
+unfoldable pub present : ℕ → Option ℕ
+present n = if n == NONE then Absent else Some n
+
+unfoldable pub recorded : Event → Recorded
+recorded e = record {
+  kind = e.kind;
+  site = e.site;
+  frame = present e.frame;
+  control = present e.control;
+  what = present e.what;
+  slot = e.slot;
+  value = e.value;
+  units = e.units.items;
+  uses = e.uses.items;
+}
+
+unfoldable pub same_slot : Slot → Slot → Bool
+same_slot (Local f x) (Local g y) = nat_eq f g && nat_eq x y
+same_slot (Static f) (Static g) = nat_eq f g
+same_slot (Field o f) (Field q g) = nat_eq o q && nat_eq f g
+same_slot (Elem a i) (Elem b j) = nat_eq a b && nat_eq i j
+same_slot _ _ = false

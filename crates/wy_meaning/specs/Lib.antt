@@ -1,0 +1,9 @@
+pub mod World
+pub mod Place
+pub mod Text
+pub mod Call
+pub mod Array
+pub mod Library
+pub mod Expression
+pub mod Statement
+pub mod Run

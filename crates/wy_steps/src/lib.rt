@@ -1,0 +1,2 @@
+//! The state of a run and the steps that it is made of. Definitions alone: what a form does with these steps stands above.
+#![tactic(auto)]
