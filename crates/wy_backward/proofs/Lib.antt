@@ -1,0 +1,8 @@
+pub mod Sets
+pub mod Closures
+pub mod Fits
+pub mod Rules
+pub mod Forms
+pub mod Wholes
+pub mod Programs
+pub mod Theorem
