@@ -40,7 +40,7 @@ data_of_uses owner records us = union_of (data_closure owner records) (source_ev
 abbrev pub all_of_uses : Owners → List Recorded → List Use → Numbers
 all_of_uses owner records us = union_of (closure owner records) (source_events true (use_sources owner records us))
 
--- what the operands of an event carried is what the records give for its uses: operands with equal uses carried equal sets
+-- what was carried to an event is what the records give for its uses, and in all also for its control parent
 abbrev pub UsesDetermineSets : Program → List ℕ → ℕ → Type 0
 UsesDetermineSets p input budget =
     (n : ℕ) (e : Noted numbers) → slice_get (history numbers p input budget) n ≡ Some e → (k : ℕ) →

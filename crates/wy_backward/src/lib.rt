@@ -12,8 +12,8 @@ pub fn backward_is_forward()
     ensures stored { (p : Program) (input : List ℕ) (budget : ℕ) → StoredIsLastWrite p input budget }
 {}
 
-/// What the operands of an event carried is determined by its uses and the records: operands with equal uses carry
-/// equal sets.
+/// What was carried to an event, by data and in all, is determined by its uses, its control parent and the records.
+/// It says nothing of a value that no event has used.
 pub fn uses_determine_sets()
     ensures { (p : Program) (input : List ℕ) (budget : ℕ) → UsesDetermineSets p input budget }
 {}
