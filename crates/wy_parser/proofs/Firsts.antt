@@ -4,7 +4,7 @@ use Rattle.wy_tree.specs.Seen.{Tok}
 use Rattle.wy_tree.specs.Kinds.{same}
 use Rattle.wy_tree.specs.Ast.{Ast, Asts, none, more, node, tokens, tokens_all}
 use Rattle.wy_tree.specs.Grammar as grammar
-use Rattle.wy_tree.specs.Grammar.{a, name, tighter, allows, form_of, rule, Alternative, Is, made, grown, Match, done, token, part, chosen}
+use Rattle.wy_tree.specs.Grammar.{a, name, allows, form_of, rule, Alternative, Is, made, grown, Match, done, token, part, chosen}
 use Rattle.wy_tree.specs.declared.tree.Form.{Form}
 use Rattle.wy_tree.specs.declared.kind.Kind.{Kind}
 use Rattle.wy_tree.specs.declared.kind.Kind.TheVariants as kinds
@@ -16,6 +16,7 @@ use Rattle.wy_tree.specs.declared.grammar.Row.TheVariants as rows
 use Rattle.wy_tree.specs.declared.grammar.Item.{Item}
 use Rattle.wy_tree.specs.declared.grammar.Item.TheVariants.{One, Part, Parts}
 use Rattle.wy_parser.specs.Choosing.{front}
+use Rattle.wy_parser.proofs.Truth.{and_left, and_right, or_left, or_right}
 
 -- one of these kinds
 abbrev pub within : List Kind → Kind → Bool
@@ -338,14 +339,6 @@ holds p (k ∷ ks) = p k && holds p ks
 unfoldable pub every : (Kind → Bool) → Bool
 every p = holds p (kinds.Word ∷ kinds.Override ∷ kinds.Literal ∷ kinds.Big ∷ kinds.Prim ∷ kinds.Modifier ∷ kinds.Static ∷ kinds.Final ∷ kinds.At ∷ kinds.Class ∷ kinds.Interface ∷ kinds.Extends ∷ kinds.Implements ∷ kinds.Throws ∷ kinds.Void ∷ kinds.This ∷ kinds.Super ∷ kinds.New ∷ kinds.If ∷ kinds.Else ∷ kinds.While ∷ kinds.Do ∷ kinds.For ∷ kinds.Break ∷ kinds.Continue ∷ kinds.Return ∷ kinds.Throw ∷ kinds.Try ∷ kinds.Catch ∷ kinds.Finally ∷ kinds.Instanceof ∷ kinds.OpenParen ∷ kinds.CloseParen ∷ kinds.OpenBrace ∷ kinds.CloseBrace ∷ kinds.OpenBracket ∷ kinds.CloseBracket ∷ kinds.Semicolon ∷ kinds.Comma ∷ kinds.Dot ∷ kinds.Assign ∷ kinds.OpAssign ∷ kinds.Question ∷ kinds.Colon ∷ kinds.OrElse ∷ kinds.AndAlso ∷ kinds.Or ∷ kinds.Xor ∷ kinds.And ∷ kinds.Equality ∷ kinds.Relation ∷ kinds.Shift ∷ kinds.Plus ∷ kinds.Minus ∷ kinds.Times ∷ kinds.Flip ∷ kinds.Step ∷ kinds.Other ∷ kinds.Nothing ∷ [])
 
-and_left : (b c : Bool) → (b && c) ≡ true → b ≡ true
-and_left true c e = refl
-and_left false c e = e
-
-and_right : (b c : Bool) → (b && c) ≡ true → c ≡ true
-and_right true c e = e
-and_right false c e = absurd (cc)
-
 holds_at : (p : Kind → Bool) (ks : List Kind) (n : ℕ) → holds p ks ≡ true → n < length ks → p (get_or ks n kinds.Other) ≡ true
 holds_at p [] n e lt = absurd (omega (arith, lt))
 holds_at p (k ∷ ks) zero e lt = and_left (p k) (holds p ks) e
@@ -365,14 +358,6 @@ implies_ok false c e f = absurd (cc)
 
 pub implied : (p q : Kind → Bool) → every (λ k. implies (p k) (q k)) ≡ true → (k : Kind) → p k ≡ true → q k ≡ true
 implied p q e k f = implies_ok (p k) (q k) (every_ok (λ k. implies (p k) (q k)) e k) f
-
-or_left : (b c : Bool) → b ≡ true → (b || c) ≡ true
-or_left true c e = refl
-or_left false c e = absurd (cc)
-
-or_right : (b c : Bool) → c ≡ true → (b || c) ≡ true
-or_right true c e = refl
-or_right false c e = e
 
 first_const : (items : List Item) (F : Kind → Bool) (k : Kind) (b : Bool) → F k ≡ b → first_in items F k ≡ first_in items (λ _. b) k
 first_const [] F k b e = e
@@ -396,387 +381,8 @@ by_table way p e t0 t1 F k f =
     ] in
     by (F k) refl
 
-first_no_names : (F : Kind → Bool) (k : Kind) → first_in [] F k ≡ true → (row_begins rows.Names k || (true && F k)) ≡ true
-unfolding every
-first_no_names F k f = by_table [] (row_begins rows.Names) true refl refl F k f
-
-first_names : (F : Kind → Bool) (k : Kind) → first_in (a kinds.Comma ∷ name ∷ Parts rows.Names ∷ []) F k ≡ true → (row_begins rows.Names k || (true && F k)) ≡ true
-unfolding every
-first_names F k f = by_table (a kinds.Comma ∷ name ∷ Parts rows.Names ∷ []) (row_begins rows.Names) true refl refl F k f
-
-first_no_brackets : (F : Kind → Bool) (k : Kind) → first_in [] F k ≡ true → (row_begins rows.Brackets k || (true && F k)) ≡ true
-unfolding every
-first_no_brackets F k f = by_table [] (row_begins rows.Brackets) true refl refl F k f
-
-first_brackets : (F : Kind → Bool) (k : Kind) → first_in (a kinds.OpenBracket ∷ a kinds.CloseBracket ∷ Parts rows.Brackets ∷ []) F k ≡ true → (row_begins rows.Brackets k || (true && F k)) ≡ true
-unfolding every
-first_brackets F k f = by_table (a kinds.OpenBracket ∷ a kinds.CloseBracket ∷ Parts rows.Brackets ∷ []) (row_begins rows.Brackets) true refl refl F k f
-
-first_not_final : (F : Kind → Bool) (k : Kind) → first_in [] F k ≡ true → (row_begins rows.MaybeFinal k || (true && F k)) ≡ true
-unfolding every
-first_not_final F k f = by_table [] (row_begins rows.MaybeFinal) true refl refl F k f
-
-first_is_final : (F : Kind → Bool) (k : Kind) → first_in (a kinds.Final ∷ []) F k ≡ true → (row_begins rows.MaybeFinal k || (true && F k)) ≡ true
-unfolding every
-first_is_final F k f = by_table (a kinds.Final ∷ []) (row_begins rows.MaybeFinal) true refl refl F k f
-
-first_a_class : (F : Kind → Bool) (k : Kind) → first_in (Part sorts.Class ∷ []) F k ≡ true → (row_begins rows.Declared k || (false && F k)) ≡ true
-unfolding every
-first_a_class F k f = by_table (Part sorts.Class ∷ []) (row_begins rows.Declared) false refl refl F k f
-
-first_an_interface : (F : Kind → Bool) (k : Kind) → first_in (Part sorts.Interface ∷ []) F k ≡ true → (row_begins rows.Declared k || (false && F k)) ≡ true
-unfolding every
-first_an_interface F k f = by_table (Part sorts.Interface ∷ []) (row_begins rows.Declared) false refl refl F k f
-
-first_nothing : (F : Kind → Bool) (k : Kind) → first_in (a kinds.Semicolon ∷ []) F k ≡ true → (row_begins rows.Declared k || (false && F k)) ≡ true
-unfolding every
-first_nothing F k f = by_table (a kinds.Semicolon ∷ []) (row_begins rows.Declared) false refl refl F k f
-
-first_no_superclass : (F : Kind → Bool) (k : Kind) → first_in [] F k ≡ true → (row_begins rows.Superclass k || (true && F k)) ≡ true
-unfolding every
-first_no_superclass F k f = by_table [] (row_begins rows.Superclass) true refl refl F k f
-
-first_superclass : (F : Kind → Bool) (k : Kind) → first_in (a kinds.Extends ∷ name ∷ []) F k ≡ true → (row_begins rows.Superclass k || (true && F k)) ≡ true
-unfolding every
-first_superclass F k f = by_table (a kinds.Extends ∷ name ∷ []) (row_begins rows.Superclass) true refl refl F k f
-
-first_no_interfaces : (F : Kind → Bool) (k : Kind) → first_in [] F k ≡ true → (row_begins rows.Interfaces k || (true && F k)) ≡ true
-unfolding every
-first_no_interfaces F k f = by_table [] (row_begins rows.Interfaces) true refl refl F k f
-
-first_interfaces : (F : Kind → Bool) (k : Kind) → first_in (a kinds.Implements ∷ name ∷ Parts rows.Names ∷ []) F k ≡ true → (row_begins rows.Interfaces k || (true && F k)) ≡ true
-unfolding every
-first_interfaces F k f = by_table (a kinds.Implements ∷ name ∷ Parts rows.Names ∷ []) (row_begins rows.Interfaces) true refl refl F k f
-
-first_no_supers : (F : Kind → Bool) (k : Kind) → first_in [] F k ≡ true → (row_begins rows.Supers k || (true && F k)) ≡ true
-unfolding every
-first_no_supers F k f = by_table [] (row_begins rows.Supers) true refl refl F k f
-
-first_supers : (F : Kind → Bool) (k : Kind) → first_in (a kinds.Extends ∷ name ∷ Parts rows.Names ∷ []) F k ≡ true → (row_begins rows.Supers k || (true && F k)) ≡ true
-unfolding every
-first_supers F k f = by_table (a kinds.Extends ∷ name ∷ Parts rows.Names ∷ []) (row_begins rows.Supers) true refl refl F k f
-
-first_no_methods : (F : Kind → Bool) (k : Kind) → first_in [] F k ≡ true → (row_begins rows.Methods k || (true && F k)) ≡ true
-unfolding every
-first_no_methods F k f = by_table [] (row_begins rows.Methods) true refl refl F k f
-
-first_no_method : (F : Kind → Bool) (k : Kind) → first_in (a kinds.Semicolon ∷ Parts rows.Methods ∷ []) F k ≡ true → (row_begins rows.Methods k || (true && F k)) ≡ true
-unfolding every
-first_no_method F k f = by_table (a kinds.Semicolon ∷ Parts rows.Methods ∷ []) (row_begins rows.Methods) true refl refl F k f
-
-first_method : (F : Kind → Bool) (k : Kind) → first_in (Parts (rows.Any sorts.Mod) ∷ Part sorts.Result ∷ name ∷ Part sorts.Params ∷ Parts (rows.Maybe sorts.Throws) ∷ a kinds.Semicolon ∷ Parts rows.Methods ∷ []) F k ≡ true → (row_begins rows.Methods k || (true && F k)) ≡ true
-unfolding every
-first_method F k f = by_table (Parts (rows.Any sorts.Mod) ∷ Part sorts.Result ∷ name ∷ Part sorts.Params ∷ Parts (rows.Maybe sorts.Throws) ∷ a kinds.Semicolon ∷ Parts rows.Methods ∷ []) (row_begins rows.Methods) true refl refl F k f
-
-first_modifier : (F : Kind → Bool) (k : Kind) → first_in (One Modifying ∷ []) F k ≡ true → (row_begins rows.ModForm k || (false && F k)) ≡ true
-unfolding every
-first_modifier F k f = by_table (One Modifying ∷ []) (row_begins rows.ModForm) false refl refl F k f
-
-first_annotation : (F : Kind → Bool) (k : Kind) → first_in (a kinds.At ∷ a kinds.Override ∷ []) F k ≡ true → (row_begins rows.ModForm k || (false && F k)) ≡ true
-unfolding every
-first_annotation F k f = by_table (a kinds.At ∷ a kinds.Override ∷ []) (row_begins rows.ModForm) false refl refl F k f
-
-first_no_member : (F : Kind → Bool) (k : Kind) → first_in (a kinds.Semicolon ∷ []) F k ≡ true → (row_begins rows.MemberForm k || (false && F k)) ≡ true
-unfolding every
-first_no_member F k f = by_table (a kinds.Semicolon ∷ []) (row_begins rows.MemberForm) false refl refl F k f
-
-first_initializer : (F : Kind → Bool) (k : Kind) → first_in (Part sorts.Block ∷ []) F k ≡ true → (row_begins rows.MemberForm k || (false && F k)) ≡ true
-unfolding every
-first_initializer F k f = by_table (Part sorts.Block ∷ []) (row_begins rows.MemberForm) false refl refl F k f
-
-first_static_initializer : (F : Kind → Bool) (k : Kind) → first_in (a kinds.Static ∷ Part sorts.Block ∷ []) F k ≡ true → (row_begins rows.MemberForm k || (false && F k)) ≡ true
-unfolding every
-first_static_initializer F k f = by_table (a kinds.Static ∷ Part sorts.Block ∷ []) (row_begins rows.MemberForm) false refl refl F k f
-
-first_a_member : (F : Kind → Bool) (k : Kind) → first_in (Parts (rows.Any sorts.Mod) ∷ Parts rows.MemberTail ∷ []) F k ≡ true → (row_begins rows.MemberForm k || (false && F k)) ≡ true
-unfolding every
-first_a_member F k f = by_table (Parts (rows.Any sorts.Mod) ∷ Parts rows.MemberTail ∷ []) (row_begins rows.MemberForm) false refl refl F k f
-
-first_fields : (F : Kind → Bool) (k : Kind) → first_in (Part sorts.Type ∷ Part sorts.Decls ∷ a kinds.Semicolon ∷ []) F k ≡ true → (row_begins rows.MemberTail k || (false && F k)) ≡ true
-unfolding every
-first_fields F k f = by_table (Part sorts.Type ∷ Part sorts.Decls ∷ a kinds.Semicolon ∷ []) (row_begins rows.MemberTail) false refl refl F k f
-
-first_a_method : (F : Kind → Bool) (k : Kind) → first_in (Part sorts.Result ∷ name ∷ Part sorts.Params ∷ Parts (rows.Maybe sorts.Throws) ∷ Parts rows.MethodBody ∷ []) F k ≡ true → (row_begins rows.MemberTail k || (false && F k)) ≡ true
-unfolding every
-first_a_method F k f = by_table (Part sorts.Result ∷ name ∷ Part sorts.Params ∷ Parts (rows.Maybe sorts.Throws) ∷ Parts rows.MethodBody ∷ []) (row_begins rows.MemberTail) false refl refl F k f
-
-first_a_constructor : (F : Kind → Bool) (k : Kind) → first_in (name ∷ Part sorts.Params ∷ Parts (rows.Maybe sorts.Throws) ∷ a kinds.OpenBrace ∷ Parts rows.OwnCall ∷ Parts (rows.Any sorts.Local) ∷ a kinds.CloseBrace ∷ []) F k ≡ true → (row_begins rows.MemberTail k || (false && F k)) ≡ true
-unfolding every
-first_a_constructor F k f = by_table (name ∷ Part sorts.Params ∷ Parts (rows.Maybe sorts.Throws) ∷ a kinds.OpenBrace ∷ Parts rows.OwnCall ∷ Parts (rows.Any sorts.Local) ∷ a kinds.CloseBrace ∷ []) (row_begins rows.MemberTail) false refl refl F k f
-
-first_with_body : (F : Kind → Bool) (k : Kind) → first_in (Part sorts.Block ∷ []) F k ≡ true → (row_begins rows.MethodBody k || (false && F k)) ≡ true
-unfolding every
-first_with_body F k f = by_table (Part sorts.Block ∷ []) (row_begins rows.MethodBody) false refl refl F k f
-
-first_without_body : (F : Kind → Bool) (k : Kind) → first_in (a kinds.Semicolon ∷ []) F k ≡ true → (row_begins rows.MethodBody k || (false && F k)) ≡ true
-unfolding every
-first_without_body F k f = by_table (a kinds.Semicolon ∷ []) (row_begins rows.MethodBody) false refl refl F k f
-
-first_no_own_call : (F : Kind → Bool) (k : Kind) → first_in [] F k ≡ true → (row_begins rows.OwnCall k || (true && F k)) ≡ true
-unfolding every
-first_no_own_call F k f = by_table [] (row_begins rows.OwnCall) true refl refl F k f
-
-first_own_call : (F : Kind → Bool) (k : Kind) → first_in (One Own ∷ Part sorts.Args ∷ a kinds.Semicolon ∷ []) F k ≡ true → (row_begins rows.OwnCall k || (true && F k)) ≡ true
-unfolding every
-first_own_call F k f = by_table (One Own ∷ Part sorts.Args ∷ a kinds.Semicolon ∷ []) (row_begins rows.OwnCall) true refl refl F k f
-
-first_no_result : (F : Kind → Bool) (k : Kind) → first_in (a kinds.Void ∷ []) F k ≡ true → (row_begins rows.ResultForm k || (false && F k)) ≡ true
-unfolding every
-first_no_result F k f = by_table (a kinds.Void ∷ []) (row_begins rows.ResultForm) false refl refl F k f
-
-first_a_result : (F : Kind → Bool) (k : Kind) → first_in (Part sorts.Type ∷ []) F k ≡ true → (row_begins rows.ResultForm k || (false && F k)) ≡ true
-unfolding every
-first_a_result F k f = by_table (Part sorts.Type ∷ []) (row_begins rows.ResultForm) false refl refl F k f
-
-first_no_initial : (F : Kind → Bool) (k : Kind) → first_in [] F k ≡ true → (row_begins rows.Initial k || (true && F k)) ≡ true
-unfolding every
-first_no_initial F k f = by_table [] (row_begins rows.Initial) true refl refl F k f
-
-first_initial : (F : Kind → Bool) (k : Kind) → first_in (a kinds.Assign ∷ Part sorts.Init ∷ []) F k ≡ true → (row_begins rows.Initial k || (true && F k)) ≡ true
-unfolding every
-first_initial F k f = by_table (a kinds.Assign ∷ Part sorts.Init ∷ []) (row_begins rows.Initial) true refl refl F k f
-
-first_a_value : (F : Kind → Bool) (k : Kind) → first_in (Part sorts.Expr ∷ []) F k ≡ true → (row_begins rows.InitForm k || (false && F k)) ≡ true
-unfolding every
-first_a_value F k f = by_table (Part sorts.Expr ∷ []) (row_begins rows.InitForm) false refl refl F k f
-
-first_an_array : (F : Kind → Bool) (k : Kind) → first_in (a kinds.OpenBrace ∷ Parts rows.Elements ∷ a kinds.CloseBrace ∷ []) F k ≡ true → (row_begins rows.InitForm k || (false && F k)) ≡ true
-unfolding every
-first_an_array F k f = by_table (a kinds.OpenBrace ∷ Parts rows.Elements ∷ a kinds.CloseBrace ∷ []) (row_begins rows.InitForm) false refl refl F k f
-
-first_no_elements : (F : Kind → Bool) (k : Kind) → first_in [] F k ≡ true → (row_begins rows.Elements k || (true && F k)) ≡ true
-unfolding every
-first_no_elements F k f = by_table [] (row_begins rows.Elements) true refl refl F k f
-
-first_comma_alone : (F : Kind → Bool) (k : Kind) → first_in (a kinds.Comma ∷ []) F k ≡ true → (row_begins rows.Elements k || (true && F k)) ≡ true
-unfolding every
-first_comma_alone F k f = by_table (a kinds.Comma ∷ []) (row_begins rows.Elements) true refl refl F k f
-
-first_elements : (F : Kind → Bool) (k : Kind) → first_in (Part sorts.Init ∷ Parts rows.MoreElements ∷ []) F k ≡ true → (row_begins rows.Elements k || (true && F k)) ≡ true
-unfolding every
-first_elements F k f = by_table (Part sorts.Init ∷ Parts rows.MoreElements ∷ []) (row_begins rows.Elements) true refl refl F k f
-
-first_no_more_elements : (F : Kind → Bool) (k : Kind) → first_in [] F k ≡ true → (row_begins rows.MoreElements k || (true && F k)) ≡ true
-unfolding every
-first_no_more_elements F k f = by_table [] (row_begins rows.MoreElements) true refl refl F k f
-
-first_more_elements : (F : Kind → Bool) (k : Kind) → first_in (a kinds.Comma ∷ Parts rows.AfterComma ∷ []) F k ≡ true → (row_begins rows.MoreElements k || (true && F k)) ≡ true
-unfolding every
-first_more_elements F k f = by_table (a kinds.Comma ∷ Parts rows.AfterComma ∷ []) (row_begins rows.MoreElements) true refl refl F k f
-
-first_comma_last : (F : Kind → Bool) (k : Kind) → first_in [] F k ≡ true → (row_begins rows.AfterComma k || (true && F k)) ≡ true
-unfolding every
-first_comma_last F k f = by_table [] (row_begins rows.AfterComma) true refl refl F k f
-
-first_comma_between : (F : Kind → Bool) (k : Kind) → first_in (Part sorts.Init ∷ Parts rows.MoreElements ∷ []) F k ≡ true → (row_begins rows.AfterComma k || (true && F k)) ≡ true
-unfolding every
-first_comma_between F k f = by_table (Part sorts.Init ∷ Parts rows.MoreElements ∷ []) (row_begins rows.AfterComma) true refl refl F k f
-
-first_a_declaration : (F : Kind → Bool) (k : Kind) → first_in (Parts rows.MaybeFinal ∷ Part sorts.Type ∷ Part sorts.Decls ∷ a kinds.Semicolon ∷ []) F k ≡ true → (row_begins rows.LocalForm k || (false && F k)) ≡ true
-unfolding every
-first_a_declaration F k f = by_table (Parts rows.MaybeFinal ∷ Part sorts.Type ∷ Part sorts.Decls ∷ a kinds.Semicolon ∷ []) (row_begins rows.LocalForm) false refl refl F k f
-
-first_a_statement : (F : Kind → Bool) (k : Kind) → first_in (Part sorts.Stmt ∷ []) F k ≡ true → (row_begins rows.LocalForm k || (false && F k)) ≡ true
-unfolding every
-first_a_statement F k f = by_table (Part sorts.Stmt ∷ []) (row_begins rows.LocalForm) false refl refl F k f
-
-first_a_block : (F : Kind → Bool) (k : Kind) → first_in (Part sorts.Block ∷ []) F k ≡ true → (row_begins rows.StmtForm k || (false && F k)) ≡ true
-unfolding every
-first_a_block F k f = by_table (Part sorts.Block ∷ []) (row_begins rows.StmtForm) false refl refl F k f
-
-first_empty : (F : Kind → Bool) (k : Kind) → first_in (a kinds.Semicolon ∷ []) F k ≡ true → (row_begins rows.StmtForm k || (false && F k)) ≡ true
-unfolding every
-first_empty F k f = by_table (a kinds.Semicolon ∷ []) (row_begins rows.StmtForm) false refl refl F k f
-
-first_an_effect : (F : Kind → Bool) (k : Kind) → first_in (Part sorts.Effect ∷ a kinds.Semicolon ∷ []) F k ≡ true → (row_begins rows.StmtForm k || (false && F k)) ≡ true
-unfolding every
-first_an_effect F k f = by_table (Part sorts.Effect ∷ a kinds.Semicolon ∷ []) (row_begins rows.StmtForm) false refl refl F k f
-
-first_an_if : (F : Kind → Bool) (k : Kind) → first_in (a kinds.If ∷ a kinds.OpenParen ∷ Part sorts.Expr ∷ a kinds.CloseParen ∷ Part sorts.Stmt ∷ Parts rows.Otherwise ∷ []) F k ≡ true → (row_begins rows.StmtForm k || (false && F k)) ≡ true
-unfolding every
-first_an_if F k f = by_table (a kinds.If ∷ a kinds.OpenParen ∷ Part sorts.Expr ∷ a kinds.CloseParen ∷ Part sorts.Stmt ∷ Parts rows.Otherwise ∷ []) (row_begins rows.StmtForm) false refl refl F k f
-
-first_a_while : (F : Kind → Bool) (k : Kind) → first_in (a kinds.While ∷ a kinds.OpenParen ∷ Part sorts.Expr ∷ a kinds.CloseParen ∷ Part sorts.Stmt ∷ []) F k ≡ true → (row_begins rows.StmtForm k || (false && F k)) ≡ true
-unfolding every
-first_a_while F k f = by_table (a kinds.While ∷ a kinds.OpenParen ∷ Part sorts.Expr ∷ a kinds.CloseParen ∷ Part sorts.Stmt ∷ []) (row_begins rows.StmtForm) false refl refl F k f
-
-first_a_do : (F : Kind → Bool) (k : Kind) → first_in (a kinds.Do ∷ Part sorts.Stmt ∷ a kinds.While ∷ a kinds.OpenParen ∷ Part sorts.Expr ∷ a kinds.CloseParen ∷ a kinds.Semicolon ∷ []) F k ≡ true → (row_begins rows.StmtForm k || (false && F k)) ≡ true
-unfolding every
-first_a_do F k f = by_table (a kinds.Do ∷ Part sorts.Stmt ∷ a kinds.While ∷ a kinds.OpenParen ∷ Part sorts.Expr ∷ a kinds.CloseParen ∷ a kinds.Semicolon ∷ []) (row_begins rows.StmtForm) false refl refl F k f
-
-first_a_for : (F : Kind → Bool) (k : Kind) → first_in (a kinds.For ∷ a kinds.OpenParen ∷ Parts (rows.Maybe sorts.ForInit) ∷ a kinds.Semicolon ∷ Parts (rows.Maybe sorts.Expr) ∷ a kinds.Semicolon ∷ Parts (rows.Series sorts.Effect) ∷ a kinds.CloseParen ∷ Part sorts.Stmt ∷ []) F k ≡ true → (row_begins rows.StmtForm k || (false && F k)) ≡ true
-unfolding every
-first_a_for F k f = by_table (a kinds.For ∷ a kinds.OpenParen ∷ Parts (rows.Maybe sorts.ForInit) ∷ a kinds.Semicolon ∷ Parts (rows.Maybe sorts.Expr) ∷ a kinds.Semicolon ∷ Parts (rows.Series sorts.Effect) ∷ a kinds.CloseParen ∷ Part sorts.Stmt ∷ []) (row_begins rows.StmtForm) false refl refl F k f
-
-first_labelled : (F : Kind → Bool) (k : Kind) → first_in (name ∷ a kinds.Colon ∷ Part sorts.Stmt ∷ []) F k ≡ true → (row_begins rows.StmtForm k || (false && F k)) ≡ true
-unfolding every
-first_labelled F k f = by_table (name ∷ a kinds.Colon ∷ Part sorts.Stmt ∷ []) (row_begins rows.StmtForm) false refl refl F k f
-
-first_a_break : (F : Kind → Bool) (k : Kind) → first_in (a kinds.Break ∷ Parts rows.Label ∷ a kinds.Semicolon ∷ []) F k ≡ true → (row_begins rows.StmtForm k || (false && F k)) ≡ true
-unfolding every
-first_a_break F k f = by_table (a kinds.Break ∷ Parts rows.Label ∷ a kinds.Semicolon ∷ []) (row_begins rows.StmtForm) false refl refl F k f
-
-first_a_continue : (F : Kind → Bool) (k : Kind) → first_in (a kinds.Continue ∷ Parts rows.Label ∷ a kinds.Semicolon ∷ []) F k ≡ true → (row_begins rows.StmtForm k || (false && F k)) ≡ true
-unfolding every
-first_a_continue F k f = by_table (a kinds.Continue ∷ Parts rows.Label ∷ a kinds.Semicolon ∷ []) (row_begins rows.StmtForm) false refl refl F k f
-
-first_a_return : (F : Kind → Bool) (k : Kind) → first_in (a kinds.Return ∷ Parts (rows.Maybe sorts.Expr) ∷ a kinds.Semicolon ∷ []) F k ≡ true → (row_begins rows.StmtForm k || (false && F k)) ≡ true
-unfolding every
-first_a_return F k f = by_table (a kinds.Return ∷ Parts (rows.Maybe sorts.Expr) ∷ a kinds.Semicolon ∷ []) (row_begins rows.StmtForm) false refl refl F k f
-
-first_a_throw : (F : Kind → Bool) (k : Kind) → first_in (a kinds.Throw ∷ Part sorts.Expr ∷ a kinds.Semicolon ∷ []) F k ≡ true → (row_begins rows.StmtForm k || (false && F k)) ≡ true
-unfolding every
-first_a_throw F k f = by_table (a kinds.Throw ∷ Part sorts.Expr ∷ a kinds.Semicolon ∷ []) (row_begins rows.StmtForm) false refl refl F k f
-
-first_a_try : (F : Kind → Bool) (k : Kind) → first_in (a kinds.Try ∷ Part sorts.Block ∷ Parts rows.Handlers ∷ []) F k ≡ true → (row_begins rows.StmtForm k || (false && F k)) ≡ true
-unfolding every
-first_a_try F k f = by_table (a kinds.Try ∷ Part sorts.Block ∷ Parts rows.Handlers ∷ []) (row_begins rows.StmtForm) false refl refl F k f
-
-first_no_else : (F : Kind → Bool) (k : Kind) → first_in [] F k ≡ true → (row_begins rows.Otherwise k || (true && F k)) ≡ true
-unfolding every
-first_no_else F k f = by_table [] (row_begins rows.Otherwise) true refl refl F k f
-
-first_an_else : (F : Kind → Bool) (k : Kind) → first_in (a kinds.Else ∷ Part sorts.Stmt ∷ []) F k ≡ true → (row_begins rows.Otherwise k || (true && F k)) ≡ true
-unfolding every
-first_an_else F k f = by_table (a kinds.Else ∷ Part sorts.Stmt ∷ []) (row_begins rows.Otherwise) true refl refl F k f
-
-first_no_label : (F : Kind → Bool) (k : Kind) → first_in [] F k ≡ true → (row_begins rows.Label k || (true && F k)) ≡ true
-unfolding every
-first_no_label F k f = by_table [] (row_begins rows.Label) true refl refl F k f
-
-first_label : (F : Kind → Bool) (k : Kind) → first_in (name ∷ []) F k ≡ true → (row_begins rows.Label k || (true && F k)) ≡ true
-unfolding every
-first_label F k f = by_table (name ∷ []) (row_begins rows.Label) true refl refl F k f
-
-first_catches : (F : Kind → Bool) (k : Kind) → first_in (Part sorts.Catch ∷ Parts (rows.Any sorts.Catch) ∷ Parts rows.Finally ∷ []) F k ≡ true → (row_begins rows.Handlers k || (false && F k)) ≡ true
-unfolding every
-first_catches F k f = by_table (Part sorts.Catch ∷ Parts (rows.Any sorts.Catch) ∷ Parts rows.Finally ∷ []) (row_begins rows.Handlers) false refl refl F k f
-
-first_only_finally : (F : Kind → Bool) (k : Kind) → first_in (a kinds.Finally ∷ Part sorts.Block ∷ []) F k ≡ true → (row_begins rows.Handlers k || (false && F k)) ≡ true
-unfolding every
-first_only_finally F k f = by_table (a kinds.Finally ∷ Part sorts.Block ∷ []) (row_begins rows.Handlers) false refl refl F k f
-
-first_no_finally : (F : Kind → Bool) (k : Kind) → first_in [] F k ≡ true → (row_begins rows.Finally k || (true && F k)) ≡ true
-unfolding every
-first_no_finally F k f = by_table [] (row_begins rows.Finally) true refl refl F k f
-
-first_finally : (F : Kind → Bool) (k : Kind) → first_in (a kinds.Finally ∷ Part sorts.Block ∷ []) F k ≡ true → (row_begins rows.Finally k || (true && F k)) ≡ true
-unfolding every
-first_finally F k f = by_table (a kinds.Finally ∷ Part sorts.Block ∷ []) (row_begins rows.Finally) true refl refl F k f
-
-first_for_declaration : (F : Kind → Bool) (k : Kind) → first_in (Parts rows.MaybeFinal ∷ Part sorts.Type ∷ Part sorts.Decls ∷ []) F k ≡ true → (row_begins rows.ForInitForm k || (false && F k)) ≡ true
-unfolding every
-first_for_declaration F k f = by_table (Parts rows.MaybeFinal ∷ Part sorts.Type ∷ Part sorts.Decls ∷ []) (row_begins rows.ForInitForm) false refl refl F k f
-
-first_for_effects : (F : Kind → Bool) (k : Kind) → first_in (Part sorts.Effect ∷ Parts (rows.Further sorts.Effect) ∷ []) F k ≡ true → (row_begins rows.ForInitForm k || (false && F k)) ≡ true
-unfolding every
-first_for_effects F k f = by_table (Part sorts.Effect ∷ Parts (rows.Further sorts.Effect) ∷ []) (row_begins rows.ForInitForm) false refl refl F k f
-
-first_not_assigned : (F : Kind → Bool) (k : Kind) → first_in [] F k ≡ true → (row_begins rows.Assigned k || (true && F k)) ≡ true
-unfolding every
-first_not_assigned F k f = by_table [] (row_begins rows.Assigned) true refl refl F k f
-
-first_assigned : (F : Kind → Bool) (k : Kind) → first_in (One Setting ∷ Part sorts.Expr ∷ []) F k ≡ true → (row_begins rows.Assigned k || (true && F k)) ≡ true
-unfolding every
-first_assigned F k f = by_table (One Setting ∷ Part sorts.Expr ∷ []) (row_begins rows.Assigned) true refl refl F k f
-
-first_no_choice : (F : Kind → Bool) (k : Kind) → first_in [] F k ≡ true → (row_begins rows.Choice k || (true && F k)) ≡ true
-unfolding every
-first_no_choice F k f = by_table [] (row_begins rows.Choice) true refl refl F k f
-
-first_choice : (F : Kind → Bool) (k : Kind) → first_in (a kinds.Question ∷ Part sorts.Expr ∷ a kinds.Colon ∷ Part sorts.Cond ∷ []) F k ≡ true → (row_begins rows.Choice k || (true && F k)) ≡ true
-unfolding every
-first_choice F k f = by_table (a kinds.Question ∷ Part sorts.Expr ∷ a kinds.Colon ∷ Part sorts.Cond ∷ []) (row_begins rows.Choice) true refl refl F k f
-
-first_negated : (F : Kind → Bool) (k : Kind) → first_in (a kinds.Minus ∷ Parts rows.Negated ∷ []) F k ≡ true → (row_begins rows.UnaryForm k || (false && F k)) ≡ true
-unfolding every
-first_negated F k f = by_table (a kinds.Minus ∷ Parts rows.Negated ∷ []) (row_begins rows.UnaryForm) false refl refl F k f
-
-first_prefixed : (F : Kind → Bool) (k : Kind) → first_in (One Prefixing ∷ Part sorts.Unary ∷ []) F k ≡ true → (row_begins rows.UnaryForm k || (false && F k)) ≡ true
-unfolding every
-first_prefixed F k f = by_table (One Prefixing ∷ Part sorts.Unary ∷ []) (row_begins rows.UnaryForm) false refl refl F k f
-
-first_a_cast : (F : Kind → Bool) (k : Kind) → first_in (Part sorts.Cast ∷ []) F k ≡ true → (row_begins rows.UnaryForm k || (false && F k)) ≡ true
-unfolding every
-first_a_cast F k f = by_table (Part sorts.Cast ∷ []) (row_begins rows.UnaryForm) false refl refl F k f
-
-first_a_postfix : (F : Kind → Bool) (k : Kind) → first_in (Part sorts.Postfix ∷ []) F k ≡ true → (row_begins rows.UnaryForm k || (false && F k)) ≡ true
-unfolding every
-first_a_postfix F k f = by_table (Part sorts.Postfix ∷ []) (row_begins rows.UnaryForm) false refl refl F k f
-
-first_big : (F : Kind → Bool) (k : Kind) → first_in (a kinds.Big ∷ []) F k ≡ true → (row_begins rows.Negated k || (false && F k)) ≡ true
-unfolding every
-first_big F k f = by_table (a kinds.Big ∷ []) (row_begins rows.Negated) false refl refl F k f
-
-first_small : (F : Kind → Bool) (k : Kind) → first_in (Part sorts.Unary ∷ []) F k ≡ true → (row_begins rows.Negated k || (false && F k)) ≡ true
-unfolding every
-first_small F k f = by_table (Part sorts.Unary ∷ []) (row_begins rows.Negated) false refl refl F k f
-
-first_to_primitive : (F : Kind → Bool) (k : Kind) → first_in (a kinds.Prim ∷ a kinds.CloseParen ∷ Part sorts.Unary ∷ []) F k ≡ true → (row_begins rows.CastForm k || (false && F k)) ≡ true
-unfolding every
-first_to_primitive F k f = by_table (a kinds.Prim ∷ a kinds.CloseParen ∷ Part sorts.Unary ∷ []) (row_begins rows.CastForm) false refl refl F k f
-
-first_to_reference : (F : Kind → Bool) (k : Kind) → first_in (Part sorts.RefType ∷ a kinds.CloseParen ∷ Part sorts.Operand ∷ []) F k ≡ true → (row_begins rows.CastForm k || (false && F k)) ≡ true
-unfolding every
-first_to_reference F k f = by_table (Part sorts.RefType ∷ a kinds.CloseParen ∷ Part sorts.Operand ∷ []) (row_begins rows.CastForm) false refl refl F k f
-
-first_no_steps : (F : Kind → Bool) (k : Kind) → first_in [] F k ≡ true → (row_begins rows.Steps k || (true && F k)) ≡ true
-unfolding every
-first_no_steps F k f = by_table [] (row_begins rows.Steps) true refl refl F k f
-
-first_steps : (F : Kind → Bool) (k : Kind) → first_in (a kinds.Step ∷ Parts rows.Steps ∷ []) F k ≡ true → (row_begins rows.Steps k || (true && F k)) ≡ true
-unfolding every
-first_steps F k f = by_table (a kinds.Step ∷ Parts rows.Steps ∷ []) (row_begins rows.Steps) true refl refl F k f
-
-first_literal : (F : Kind → Bool) (k : Kind) → first_in (a kinds.Literal ∷ []) F k ≡ true → (row_begins rows.PrimaryForm k || (false && F k)) ≡ true
-unfolding every
-first_literal F k f = by_table (a kinds.Literal ∷ []) (row_begins rows.PrimaryForm) false refl refl F k f
-
-first_this : (F : Kind → Bool) (k : Kind) → first_in (a kinds.This ∷ []) F k ≡ true → (row_begins rows.PrimaryForm k || (false && F k)) ≡ true
-unfolding every
-first_this F k f = by_table (a kinds.This ∷ []) (row_begins rows.PrimaryForm) false refl refl F k f
-
-first_named : (F : Kind → Bool) (k : Kind) → first_in (name ∷ Parts (rows.Maybe sorts.Args) ∷ []) F k ≡ true → (row_begins rows.PrimaryForm k || (false && F k)) ≡ true
-unfolding every
-first_named F k f = by_table (name ∷ Parts (rows.Maybe sorts.Args) ∷ []) (row_begins rows.PrimaryForm) false refl refl F k f
-
-first_grouped : (F : Kind → Bool) (k : Kind) → first_in (a kinds.OpenParen ∷ Part sorts.Expr ∷ a kinds.CloseParen ∷ []) F k ≡ true → (row_begins rows.PrimaryForm k || (false && F k)) ≡ true
-unfolding every
-first_grouped F k f = by_table (a kinds.OpenParen ∷ Part sorts.Expr ∷ a kinds.CloseParen ∷ []) (row_begins rows.PrimaryForm) false refl refl F k f
-
-first_created : (F : Kind → Bool) (k : Kind) → first_in (Part sorts.New ∷ []) F k ≡ true → (row_begins rows.PrimaryForm k || (false && F k)) ≡ true
-unfolding every
-first_created F k f = by_table (Part sorts.New ∷ []) (row_begins rows.PrimaryForm) false refl refl F k f
-
-first_inherited : (F : Kind → Bool) (k : Kind) → first_in (a kinds.Super ∷ a kinds.Dot ∷ name ∷ Parts (rows.Maybe sorts.Args) ∷ []) F k ≡ true → (row_begins rows.PrimaryForm k || (false && F k)) ≡ true
-unfolding every
-first_inherited F k f = by_table (a kinds.Super ∷ a kinds.Dot ∷ name ∷ Parts (rows.Maybe sorts.Args) ∷ []) (row_begins rows.PrimaryForm) false refl refl F k f
-
-first_an_object : (F : Kind → Bool) (k : Kind) → first_in (name ∷ Part sorts.Args ∷ []) F k ≡ true → (row_begins rows.NewForm k || (false && F k)) ≡ true
-unfolding every
-first_an_object F k f = by_table (name ∷ Part sorts.Args ∷ []) (row_begins rows.NewForm) false refl refl F k f
-
-first_sized : (F : Kind → Bool) (k : Kind) → first_in (One Element ∷ a kinds.OpenBracket ∷ Part sorts.Expr ∷ a kinds.CloseBracket ∷ Parts rows.Dimensions ∷ []) F k ≡ true → (row_begins rows.NewForm k || (false && F k)) ≡ true
-unfolding every
-first_sized F k f = by_table (One Element ∷ a kinds.OpenBracket ∷ Part sorts.Expr ∷ a kinds.CloseBracket ∷ Parts rows.Dimensions ∷ []) (row_begins rows.NewForm) false refl refl F k f
-
-first_listed : (F : Kind → Bool) (k : Kind) → first_in (One Element ∷ a kinds.OpenBracket ∷ a kinds.CloseBracket ∷ Parts rows.Brackets ∷ a kinds.OpenBrace ∷ Parts rows.Elements ∷ a kinds.CloseBrace ∷ []) F k ≡ true → (row_begins rows.NewForm k || (false && F k)) ≡ true
-unfolding every
-first_listed F k f = by_table (One Element ∷ a kinds.OpenBracket ∷ a kinds.CloseBracket ∷ Parts rows.Brackets ∷ a kinds.OpenBrace ∷ Parts rows.Elements ∷ a kinds.CloseBrace ∷ []) (row_begins rows.NewForm) false refl refl F k f
-
-first_no_dimensions : (F : Kind → Bool) (k : Kind) → first_in [] F k ≡ true → (row_begins rows.Dimensions k || (true && F k)) ≡ true
-unfolding every
-first_no_dimensions F k f = by_table [] (row_begins rows.Dimensions) true refl refl F k f
-
-first_dimension : (F : Kind → Bool) (k : Kind) → first_in (a kinds.OpenBracket ∷ Part sorts.Expr ∷ a kinds.CloseBracket ∷ Parts rows.Dimensions ∷ []) F k ≡ true → (row_begins rows.Dimensions k || (true && F k)) ≡ true
-unfolding every
-first_dimension F k f = by_table (a kinds.OpenBracket ∷ Part sorts.Expr ∷ a kinds.CloseBracket ∷ Parts rows.Dimensions ∷ []) (row_begins rows.Dimensions) true refl refl F k f
-
-first_unsized : (F : Kind → Bool) (k : Kind) → first_in (a kinds.OpenBracket ∷ a kinds.CloseBracket ∷ Parts rows.Brackets ∷ []) F k ≡ true → (row_begins rows.Dimensions k || (true && F k)) ≡ true
-unfolding every
-first_unsized F k f = by_table (a kinds.OpenBracket ∷ a kinds.CloseBracket ∷ Parts rows.Brackets ∷ []) (row_begins rows.Dimensions) true refl refl F k f
-
 pub way_first : {row : Row} {way : List Item} → Alternative row way → (F : Kind → Bool) (k : Kind) → first_in way F k ≡ true → (row_begins row k || (row_empty row && F k)) ≡ true
+unfolding every
 way_first (grammar.none_of {x}) F k f = or_right (row_begins (rows.Any x) k) (F k) f
 way_first (grammar.some_of {x}) F k f = or_left (row_begins (rows.Any x) k) (F k) f
 way_first (grammar.absent {x}) F k f = or_right (row_begins (rows.Maybe x) k) (F k) f
@@ -785,299 +391,144 @@ way_first (grammar.no_series {x}) F k f = or_right (row_begins (rows.Series x) k
 way_first (grammar.series {x}) F k f = or_left (row_begins (rows.Series x) k) (F k) f
 way_first (grammar.no_further {x}) F k f = or_right (row_begins (rows.Further x) k) (F k) f
 way_first (grammar.further {x}) F k f = or_left (row_begins (rows.Further x) k) (F k) f
-way_first grammar.no_names F k f = first_no_names F k f
-way_first grammar.names F k f = first_names F k f
-way_first grammar.no_brackets F k f = first_no_brackets F k f
-way_first grammar.brackets F k f = first_brackets F k f
-way_first grammar.not_final F k f = first_not_final F k f
-way_first grammar.is_final F k f = first_is_final F k f
-way_first grammar.a_class F k f = first_a_class F k f
-way_first grammar.an_interface F k f = first_an_interface F k f
-way_first grammar.nothing F k f = first_nothing F k f
-way_first grammar.no_superclass F k f = first_no_superclass F k f
-way_first grammar.superclass F k f = first_superclass F k f
-way_first grammar.no_interfaces F k f = first_no_interfaces F k f
-way_first grammar.interfaces F k f = first_interfaces F k f
-way_first grammar.no_supers F k f = first_no_supers F k f
-way_first grammar.supers F k f = first_supers F k f
-way_first grammar.no_methods F k f = first_no_methods F k f
-way_first grammar.no_method F k f = first_no_method F k f
-way_first grammar.method F k f = first_method F k f
-way_first grammar.modifier F k f = first_modifier F k f
-way_first grammar.annotation F k f = first_annotation F k f
-way_first grammar.no_member F k f = first_no_member F k f
-way_first grammar.initializer F k f = first_initializer F k f
-way_first grammar.static_initializer F k f = first_static_initializer F k f
-way_first grammar.a_member F k f = first_a_member F k f
-way_first grammar.fields F k f = first_fields F k f
-way_first grammar.a_method F k f = first_a_method F k f
-way_first grammar.a_constructor F k f = first_a_constructor F k f
-way_first grammar.with_body F k f = first_with_body F k f
-way_first grammar.without_body F k f = first_without_body F k f
-way_first grammar.no_own_call F k f = first_no_own_call F k f
-way_first grammar.own_call F k f = first_own_call F k f
-way_first grammar.no_result F k f = first_no_result F k f
-way_first grammar.a_result F k f = first_a_result F k f
-way_first grammar.no_initial F k f = first_no_initial F k f
-way_first grammar.initial F k f = first_initial F k f
-way_first grammar.a_value F k f = first_a_value F k f
-way_first grammar.an_array F k f = first_an_array F k f
-way_first grammar.no_elements F k f = first_no_elements F k f
-way_first grammar.comma_alone F k f = first_comma_alone F k f
-way_first grammar.elements F k f = first_elements F k f
-way_first grammar.no_more_elements F k f = first_no_more_elements F k f
-way_first grammar.more_elements F k f = first_more_elements F k f
-way_first grammar.comma_last F k f = first_comma_last F k f
-way_first grammar.comma_between F k f = first_comma_between F k f
-way_first grammar.a_declaration F k f = first_a_declaration F k f
-way_first grammar.a_statement F k f = first_a_statement F k f
-way_first grammar.a_block F k f = first_a_block F k f
-way_first grammar.empty F k f = first_empty F k f
-way_first grammar.an_effect F k f = first_an_effect F k f
-way_first grammar.an_if F k f = first_an_if F k f
-way_first grammar.a_while F k f = first_a_while F k f
-way_first grammar.a_do F k f = first_a_do F k f
-way_first grammar.a_for F k f = first_a_for F k f
-way_first grammar.labelled F k f = first_labelled F k f
-way_first grammar.a_break F k f = first_a_break F k f
-way_first grammar.a_continue F k f = first_a_continue F k f
-way_first grammar.a_return F k f = first_a_return F k f
-way_first grammar.a_throw F k f = first_a_throw F k f
-way_first grammar.a_try F k f = first_a_try F k f
-way_first grammar.no_else F k f = first_no_else F k f
-way_first grammar.an_else F k f = first_an_else F k f
-way_first grammar.no_label F k f = first_no_label F k f
-way_first grammar.label F k f = first_label F k f
-way_first grammar.catches F k f = first_catches F k f
-way_first grammar.only_finally F k f = first_only_finally F k f
-way_first grammar.no_finally F k f = first_no_finally F k f
-way_first grammar.finally F k f = first_finally F k f
-way_first grammar.for_declaration F k f = first_for_declaration F k f
-way_first grammar.for_effects F k f = first_for_effects F k f
-way_first grammar.not_assigned F k f = first_not_assigned F k f
-way_first grammar.assigned F k f = first_assigned F k f
-way_first grammar.no_choice F k f = first_no_choice F k f
-way_first grammar.choice F k f = first_choice F k f
-way_first grammar.negated F k f = first_negated F k f
-way_first grammar.prefixed F k f = first_prefixed F k f
-way_first grammar.a_cast F k f = first_a_cast F k f
-way_first grammar.a_postfix F k f = first_a_postfix F k f
-way_first grammar.big F k f = first_big F k f
-way_first grammar.small F k f = first_small F k f
-way_first grammar.to_primitive F k f = first_to_primitive F k f
-way_first grammar.to_reference F k f = first_to_reference F k f
-way_first grammar.no_steps F k f = first_no_steps F k f
-way_first grammar.steps F k f = first_steps F k f
-way_first grammar.literal F k f = first_literal F k f
-way_first grammar.this F k f = first_this F k f
-way_first grammar.named F k f = first_named F k f
-way_first grammar.grouped F k f = first_grouped F k f
-way_first grammar.created F k f = first_created F k f
-way_first grammar.inherited F k f = first_inherited F k f
-way_first grammar.an_object F k f = first_an_object F k f
-way_first grammar.sized F k f = first_sized F k f
-way_first grammar.listed F k f = first_listed F k f
-way_first grammar.no_dimensions F k f = first_no_dimensions F k f
-way_first grammar.dimension F k f = first_dimension F k f
-way_first grammar.unsized F k f = first_unsized F k f
-
-begins_Declaration : (k : Kind) → first_in (rule sorts.Declaration) (λ _. true) k ≡ true → begins sorts.Declaration k ≡ true
-unfolding every
-begins_Declaration k f = implied (first_in (rule sorts.Declaration) (λ _. true)) (begins sorts.Declaration) refl k f
-
-begins_Class : (k : Kind) → first_in (rule sorts.Class) (λ _. true) k ≡ true → begins sorts.Class k ≡ true
-unfolding every
-begins_Class k f = implied (first_in (rule sorts.Class) (λ _. true)) (begins sorts.Class) refl k f
-
-begins_Interface : (k : Kind) → first_in (rule sorts.Interface) (λ _. true) k ≡ true → begins sorts.Interface k ≡ true
-unfolding every
-begins_Interface k f = implied (first_in (rule sorts.Interface) (λ _. true)) (begins sorts.Interface) refl k f
-
-begins_Mod : (k : Kind) → first_in (rule sorts.Mod) (λ _. true) k ≡ true → begins sorts.Mod k ≡ true
-unfolding every
-begins_Mod k f = implied (first_in (rule sorts.Mod) (λ _. true)) (begins sorts.Mod) refl k f
-
-begins_Member : (k : Kind) → first_in (rule sorts.Member) (λ _. true) k ≡ true → begins sorts.Member k ≡ true
-unfolding every
-begins_Member k f = implied (first_in (rule sorts.Member) (λ _. true)) (begins sorts.Member) refl k f
-
-begins_Params : (k : Kind) → first_in (rule sorts.Params) (λ _. true) k ≡ true → begins sorts.Params k ≡ true
-unfolding every
-begins_Params k f = implied (first_in (rule sorts.Params) (λ _. true)) (begins sorts.Params) refl k f
-
-begins_Param : (k : Kind) → first_in (rule sorts.Param) (λ _. true) k ≡ true → begins sorts.Param k ≡ true
-unfolding every
-begins_Param k f = implied (first_in (rule sorts.Param) (λ _. true)) (begins sorts.Param) refl k f
-
-begins_Throws : (k : Kind) → first_in (rule sorts.Throws) (λ _. true) k ≡ true → begins sorts.Throws k ≡ true
-unfolding every
-begins_Throws k f = implied (first_in (rule sorts.Throws) (λ _. true)) (begins sorts.Throws) refl k f
-
-begins_Result : (k : Kind) → first_in (rule sorts.Result) (λ _. true) k ≡ true → begins sorts.Result k ≡ true
-unfolding every
-begins_Result k f = implied (first_in (rule sorts.Result) (λ _. true)) (begins sorts.Result) refl k f
-
-begins_Type : (k : Kind) → first_in (rule sorts.Type) (λ _. true) k ≡ true → begins sorts.Type k ≡ true
-unfolding every
-begins_Type k f = implied (first_in (rule sorts.Type) (λ _. true)) (begins sorts.Type) refl k f
-
-begins_RefType : (k : Kind) → first_in (rule sorts.RefType) (λ _. true) k ≡ true → begins sorts.RefType k ≡ true
-unfolding every
-begins_RefType k f = implied (first_in (rule sorts.RefType) (λ _. true)) (begins sorts.RefType) refl k f
-
-begins_Decls : (k : Kind) → first_in (rule sorts.Decls) (λ _. true) k ≡ true → begins sorts.Decls k ≡ true
-unfolding every
-begins_Decls k f = implied (first_in (rule sorts.Decls) (λ _. true)) (begins sorts.Decls) refl k f
-
-begins_Decl : (k : Kind) → first_in (rule sorts.Decl) (λ _. true) k ≡ true → begins sorts.Decl k ≡ true
-unfolding every
-begins_Decl k f = implied (first_in (rule sorts.Decl) (λ _. true)) (begins sorts.Decl) refl k f
-
-begins_Init : (k : Kind) → first_in (rule sorts.Init) (λ _. true) k ≡ true → begins sorts.Init k ≡ true
-unfolding every
-begins_Init k f = implied (first_in (rule sorts.Init) (λ _. true)) (begins sorts.Init) refl k f
-
-begins_Block : (k : Kind) → first_in (rule sorts.Block) (λ _. true) k ≡ true → begins sorts.Block k ≡ true
-unfolding every
-begins_Block k f = implied (first_in (rule sorts.Block) (λ _. true)) (begins sorts.Block) refl k f
-
-begins_Local : (k : Kind) → first_in (rule sorts.Local) (λ _. true) k ≡ true → begins sorts.Local k ≡ true
-unfolding every
-begins_Local k f = implied (first_in (rule sorts.Local) (λ _. true)) (begins sorts.Local) refl k f
-
-begins_Stmt : (k : Kind) → first_in (rule sorts.Stmt) (λ _. true) k ≡ true → begins sorts.Stmt k ≡ true
-unfolding every
-begins_Stmt k f = implied (first_in (rule sorts.Stmt) (λ _. true)) (begins sorts.Stmt) refl k f
-
-begins_ForInit : (k : Kind) → first_in (rule sorts.ForInit) (λ _. true) k ≡ true → begins sorts.ForInit k ≡ true
-unfolding every
-begins_ForInit k f = implied (first_in (rule sorts.ForInit) (λ _. true)) (begins sorts.ForInit) refl k f
-
-begins_Catch : (k : Kind) → first_in (rule sorts.Catch) (λ _. true) k ≡ true → begins sorts.Catch k ≡ true
-unfolding every
-begins_Catch k f = implied (first_in (rule sorts.Catch) (λ _. true)) (begins sorts.Catch) refl k f
-
-begins_Expr : (k : Kind) → first_in (rule sorts.Expr) (λ _. true) k ≡ true → begins sorts.Expr k ≡ true
-unfolding every
-begins_Expr k f = implied (first_in (rule sorts.Expr) (λ _. true)) (begins sorts.Expr) refl k f
-
-begins_Effect : (k : Kind) → first_in (rule sorts.Effect) (λ _. true) k ≡ true → begins sorts.Effect k ≡ true
-unfolding every
-begins_Effect k f = implied (first_in (rule sorts.Effect) (λ _. true)) (begins sorts.Effect) refl k f
-
-begins_Cond : (k : Kind) → first_in (rule sorts.Cond) (λ _. true) k ≡ true → begins sorts.Cond k ≡ true
-unfolding every
-begins_Cond k f = implied (first_in (rule sorts.Cond) (λ _. true)) (begins sorts.Cond) refl k f
-
-begins_OrElse : (k : Kind) → first_in (rule sorts.OrElse) (λ _. true) k ≡ true → begins sorts.OrElse k ≡ true
-unfolding every
-begins_OrElse k f = implied (first_in (rule sorts.OrElse) (λ _. true)) (begins sorts.OrElse) refl k f
-
-begins_AndAlso : (k : Kind) → first_in (rule sorts.AndAlso) (λ _. true) k ≡ true → begins sorts.AndAlso k ≡ true
-unfolding every
-begins_AndAlso k f = implied (first_in (rule sorts.AndAlso) (λ _. true)) (begins sorts.AndAlso) refl k f
-
-begins_Or : (k : Kind) → first_in (rule sorts.Or) (λ _. true) k ≡ true → begins sorts.Or k ≡ true
-unfolding every
-begins_Or k f = implied (first_in (rule sorts.Or) (λ _. true)) (begins sorts.Or) refl k f
-
-begins_Xor : (k : Kind) → first_in (rule sorts.Xor) (λ _. true) k ≡ true → begins sorts.Xor k ≡ true
-unfolding every
-begins_Xor k f = implied (first_in (rule sorts.Xor) (λ _. true)) (begins sorts.Xor) refl k f
-
-begins_And : (k : Kind) → first_in (rule sorts.And) (λ _. true) k ≡ true → begins sorts.And k ≡ true
-unfolding every
-begins_And k f = implied (first_in (rule sorts.And) (λ _. true)) (begins sorts.And) refl k f
-
-begins_Equality : (k : Kind) → first_in (rule sorts.Equality) (λ _. true) k ≡ true → begins sorts.Equality k ≡ true
-unfolding every
-begins_Equality k f = implied (first_in (rule sorts.Equality) (λ _. true)) (begins sorts.Equality) refl k f
-
-begins_Relation : (k : Kind) → first_in (rule sorts.Relation) (λ _. true) k ≡ true → begins sorts.Relation k ≡ true
-unfolding every
-begins_Relation k f = implied (first_in (rule sorts.Relation) (λ _. true)) (begins sorts.Relation) refl k f
-
-begins_Shift : (k : Kind) → first_in (rule sorts.Shift) (λ _. true) k ≡ true → begins sorts.Shift k ≡ true
-unfolding every
-begins_Shift k f = implied (first_in (rule sorts.Shift) (λ _. true)) (begins sorts.Shift) refl k f
-
-begins_Sum : (k : Kind) → first_in (rule sorts.Sum) (λ _. true) k ≡ true → begins sorts.Sum k ≡ true
-unfolding every
-begins_Sum k f = implied (first_in (rule sorts.Sum) (λ _. true)) (begins sorts.Sum) refl k f
-
-begins_Product : (k : Kind) → first_in (rule sorts.Product) (λ _. true) k ≡ true → begins sorts.Product k ≡ true
-unfolding every
-begins_Product k f = implied (first_in (rule sorts.Product) (λ _. true)) (begins sorts.Product) refl k f
-
-begins_Unary : (k : Kind) → first_in (rule sorts.Unary) (λ _. true) k ≡ true → begins sorts.Unary k ≡ true
-unfolding every
-begins_Unary k f = implied (first_in (rule sorts.Unary) (λ _. true)) (begins sorts.Unary) refl k f
-
-begins_Cast : (k : Kind) → first_in (rule sorts.Cast) (λ _. true) k ≡ true → begins sorts.Cast k ≡ true
-unfolding every
-begins_Cast k f = implied (first_in (rule sorts.Cast) (λ _. true)) (begins sorts.Cast) refl k f
-
-begins_Operand : (k : Kind) → first_in (rule sorts.Operand) (λ _. true) k ≡ true → begins sorts.Operand k ≡ true
-unfolding every
-begins_Operand k f = implied (first_in (rule sorts.Operand) (λ _. true)) (begins sorts.Operand) refl k f
-
-begins_Postfix : (k : Kind) → first_in (rule sorts.Postfix) (λ _. true) k ≡ true → begins sorts.Postfix k ≡ true
-unfolding every
-begins_Postfix k f = implied (first_in (rule sorts.Postfix) (λ _. true)) (begins sorts.Postfix) refl k f
-
-begins_Primary : (k : Kind) → first_in (rule sorts.Primary) (λ _. true) k ≡ true → begins sorts.Primary k ≡ true
-unfolding every
-begins_Primary k f = implied (first_in (rule sorts.Primary) (λ _. true)) (begins sorts.Primary) refl k f
-
-begins_New : (k : Kind) → first_in (rule sorts.New) (λ _. true) k ≡ true → begins sorts.New k ≡ true
-unfolding every
-begins_New k f = implied (first_in (rule sorts.New) (λ _. true)) (begins sorts.New) refl k f
-
-begins_Args : (k : Kind) → first_in (rule sorts.Args) (λ _. true) k ≡ true → begins sorts.Args k ≡ true
-unfolding every
-begins_Args k f = implied (first_in (rule sorts.Args) (λ _. true)) (begins sorts.Args) refl k f
+way_first grammar.no_names F k f = by_table [] (row_begins rows.Names) true refl refl F k f
+way_first grammar.names F k f = by_table (a kinds.Comma ∷ name ∷ Parts rows.Names ∷ []) (row_begins rows.Names) true refl refl F k f
+way_first grammar.no_brackets F k f = by_table [] (row_begins rows.Brackets) true refl refl F k f
+way_first grammar.brackets F k f = by_table (a kinds.OpenBracket ∷ a kinds.CloseBracket ∷ Parts rows.Brackets ∷ []) (row_begins rows.Brackets) true refl refl F k f
+way_first grammar.not_final F k f = by_table [] (row_begins rows.MaybeFinal) true refl refl F k f
+way_first grammar.is_final F k f = by_table (a kinds.Final ∷ []) (row_begins rows.MaybeFinal) true refl refl F k f
+way_first grammar.a_class F k f = by_table (Part sorts.Class ∷ []) (row_begins rows.Declared) false refl refl F k f
+way_first grammar.an_interface F k f = by_table (Part sorts.Interface ∷ []) (row_begins rows.Declared) false refl refl F k f
+way_first grammar.nothing F k f = by_table (a kinds.Semicolon ∷ []) (row_begins rows.Declared) false refl refl F k f
+way_first grammar.no_superclass F k f = by_table [] (row_begins rows.Superclass) true refl refl F k f
+way_first grammar.superclass F k f = by_table (a kinds.Extends ∷ name ∷ []) (row_begins rows.Superclass) true refl refl F k f
+way_first grammar.no_interfaces F k f = by_table [] (row_begins rows.Interfaces) true refl refl F k f
+way_first grammar.interfaces F k f = by_table (a kinds.Implements ∷ name ∷ Parts rows.Names ∷ []) (row_begins rows.Interfaces) true refl refl F k f
+way_first grammar.no_supers F k f = by_table [] (row_begins rows.Supers) true refl refl F k f
+way_first grammar.supers F k f = by_table (a kinds.Extends ∷ name ∷ Parts rows.Names ∷ []) (row_begins rows.Supers) true refl refl F k f
+way_first grammar.no_methods F k f = by_table [] (row_begins rows.Methods) true refl refl F k f
+way_first grammar.no_method F k f = by_table (a kinds.Semicolon ∷ Parts rows.Methods ∷ []) (row_begins rows.Methods) true refl refl F k f
+way_first grammar.method F k f = by_table (Parts (rows.Any sorts.Mod) ∷ Part sorts.Result ∷ name ∷ Part sorts.Params ∷ Parts (rows.Maybe sorts.Throws) ∷ a kinds.Semicolon ∷ Parts rows.Methods ∷ []) (row_begins rows.Methods) true refl refl F k f
+way_first grammar.modifier F k f = by_table (One Modifying ∷ []) (row_begins rows.ModForm) false refl refl F k f
+way_first grammar.annotation F k f = by_table (a kinds.At ∷ a kinds.Override ∷ []) (row_begins rows.ModForm) false refl refl F k f
+way_first grammar.no_member F k f = by_table (a kinds.Semicolon ∷ []) (row_begins rows.MemberForm) false refl refl F k f
+way_first grammar.initializer F k f = by_table (Part sorts.Block ∷ []) (row_begins rows.MemberForm) false refl refl F k f
+way_first grammar.static_initializer F k f = by_table (a kinds.Static ∷ Part sorts.Block ∷ []) (row_begins rows.MemberForm) false refl refl F k f
+way_first grammar.a_member F k f = by_table (Parts (rows.Any sorts.Mod) ∷ Parts rows.MemberTail ∷ []) (row_begins rows.MemberForm) false refl refl F k f
+way_first grammar.fields F k f = by_table (Part sorts.Type ∷ Part sorts.Decls ∷ a kinds.Semicolon ∷ []) (row_begins rows.MemberTail) false refl refl F k f
+way_first grammar.a_method F k f = by_table (Part sorts.Result ∷ name ∷ Part sorts.Params ∷ Parts (rows.Maybe sorts.Throws) ∷ Parts rows.MethodBody ∷ []) (row_begins rows.MemberTail) false refl refl F k f
+way_first grammar.a_constructor F k f = by_table (name ∷ Part sorts.Params ∷ Parts (rows.Maybe sorts.Throws) ∷ a kinds.OpenBrace ∷ Parts rows.OwnCall ∷ Parts (rows.Any sorts.Local) ∷ a kinds.CloseBrace ∷ []) (row_begins rows.MemberTail) false refl refl F k f
+way_first grammar.with_body F k f = by_table (Part sorts.Block ∷ []) (row_begins rows.MethodBody) false refl refl F k f
+way_first grammar.without_body F k f = by_table (a kinds.Semicolon ∷ []) (row_begins rows.MethodBody) false refl refl F k f
+way_first grammar.no_own_call F k f = by_table [] (row_begins rows.OwnCall) true refl refl F k f
+way_first grammar.own_call F k f = by_table (One Own ∷ Part sorts.Args ∷ a kinds.Semicolon ∷ []) (row_begins rows.OwnCall) true refl refl F k f
+way_first grammar.no_result F k f = by_table (a kinds.Void ∷ []) (row_begins rows.ResultForm) false refl refl F k f
+way_first grammar.a_result F k f = by_table (Part sorts.Type ∷ []) (row_begins rows.ResultForm) false refl refl F k f
+way_first grammar.no_initial F k f = by_table [] (row_begins rows.Initial) true refl refl F k f
+way_first grammar.initial F k f = by_table (a kinds.Assign ∷ Part sorts.Init ∷ []) (row_begins rows.Initial) true refl refl F k f
+way_first grammar.a_value F k f = by_table (Part sorts.Expr ∷ []) (row_begins rows.InitForm) false refl refl F k f
+way_first grammar.an_array F k f = by_table (a kinds.OpenBrace ∷ Parts rows.Elements ∷ a kinds.CloseBrace ∷ []) (row_begins rows.InitForm) false refl refl F k f
+way_first grammar.no_elements F k f = by_table [] (row_begins rows.Elements) true refl refl F k f
+way_first grammar.comma_alone F k f = by_table (a kinds.Comma ∷ []) (row_begins rows.Elements) true refl refl F k f
+way_first grammar.elements F k f = by_table (Part sorts.Init ∷ Parts rows.MoreElements ∷ []) (row_begins rows.Elements) true refl refl F k f
+way_first grammar.no_more_elements F k f = by_table [] (row_begins rows.MoreElements) true refl refl F k f
+way_first grammar.more_elements F k f = by_table (a kinds.Comma ∷ Parts rows.AfterComma ∷ []) (row_begins rows.MoreElements) true refl refl F k f
+way_first grammar.comma_last F k f = by_table [] (row_begins rows.AfterComma) true refl refl F k f
+way_first grammar.comma_between F k f = by_table (Part sorts.Init ∷ Parts rows.MoreElements ∷ []) (row_begins rows.AfterComma) true refl refl F k f
+way_first grammar.a_declaration F k f = by_table (Parts rows.MaybeFinal ∷ Part sorts.Type ∷ Part sorts.Decls ∷ a kinds.Semicolon ∷ []) (row_begins rows.LocalForm) false refl refl F k f
+way_first grammar.a_statement F k f = by_table (Part sorts.Stmt ∷ []) (row_begins rows.LocalForm) false refl refl F k f
+way_first grammar.a_block F k f = by_table (Part sorts.Block ∷ []) (row_begins rows.StmtForm) false refl refl F k f
+way_first grammar.empty F k f = by_table (a kinds.Semicolon ∷ []) (row_begins rows.StmtForm) false refl refl F k f
+way_first grammar.an_effect F k f = by_table (Part sorts.Effect ∷ a kinds.Semicolon ∷ []) (row_begins rows.StmtForm) false refl refl F k f
+way_first grammar.an_if F k f = by_table (a kinds.If ∷ a kinds.OpenParen ∷ Part sorts.Expr ∷ a kinds.CloseParen ∷ Part sorts.Stmt ∷ Parts rows.Otherwise ∷ []) (row_begins rows.StmtForm) false refl refl F k f
+way_first grammar.a_while F k f = by_table (a kinds.While ∷ a kinds.OpenParen ∷ Part sorts.Expr ∷ a kinds.CloseParen ∷ Part sorts.Stmt ∷ []) (row_begins rows.StmtForm) false refl refl F k f
+way_first grammar.a_do F k f = by_table (a kinds.Do ∷ Part sorts.Stmt ∷ a kinds.While ∷ a kinds.OpenParen ∷ Part sorts.Expr ∷ a kinds.CloseParen ∷ a kinds.Semicolon ∷ []) (row_begins rows.StmtForm) false refl refl F k f
+way_first grammar.a_for F k f = by_table (a kinds.For ∷ a kinds.OpenParen ∷ Parts (rows.Maybe sorts.ForInit) ∷ a kinds.Semicolon ∷ Parts (rows.Maybe sorts.Expr) ∷ a kinds.Semicolon ∷ Parts (rows.Series sorts.Effect) ∷ a kinds.CloseParen ∷ Part sorts.Stmt ∷ []) (row_begins rows.StmtForm) false refl refl F k f
+way_first grammar.labelled F k f = by_table (name ∷ a kinds.Colon ∷ Part sorts.Stmt ∷ []) (row_begins rows.StmtForm) false refl refl F k f
+way_first grammar.a_break F k f = by_table (a kinds.Break ∷ Parts rows.Label ∷ a kinds.Semicolon ∷ []) (row_begins rows.StmtForm) false refl refl F k f
+way_first grammar.a_continue F k f = by_table (a kinds.Continue ∷ Parts rows.Label ∷ a kinds.Semicolon ∷ []) (row_begins rows.StmtForm) false refl refl F k f
+way_first grammar.a_return F k f = by_table (a kinds.Return ∷ Parts (rows.Maybe sorts.Expr) ∷ a kinds.Semicolon ∷ []) (row_begins rows.StmtForm) false refl refl F k f
+way_first grammar.a_throw F k f = by_table (a kinds.Throw ∷ Part sorts.Expr ∷ a kinds.Semicolon ∷ []) (row_begins rows.StmtForm) false refl refl F k f
+way_first grammar.a_try F k f = by_table (a kinds.Try ∷ Part sorts.Block ∷ Parts rows.Handlers ∷ []) (row_begins rows.StmtForm) false refl refl F k f
+way_first grammar.no_else F k f = by_table [] (row_begins rows.Otherwise) true refl refl F k f
+way_first grammar.an_else F k f = by_table (a kinds.Else ∷ Part sorts.Stmt ∷ []) (row_begins rows.Otherwise) true refl refl F k f
+way_first grammar.no_label F k f = by_table [] (row_begins rows.Label) true refl refl F k f
+way_first grammar.label F k f = by_table (name ∷ []) (row_begins rows.Label) true refl refl F k f
+way_first grammar.catches F k f = by_table (Part sorts.Catch ∷ Parts (rows.Any sorts.Catch) ∷ Parts rows.Finally ∷ []) (row_begins rows.Handlers) false refl refl F k f
+way_first grammar.only_finally F k f = by_table (a kinds.Finally ∷ Part sorts.Block ∷ []) (row_begins rows.Handlers) false refl refl F k f
+way_first grammar.no_finally F k f = by_table [] (row_begins rows.Finally) true refl refl F k f
+way_first grammar.finally F k f = by_table (a kinds.Finally ∷ Part sorts.Block ∷ []) (row_begins rows.Finally) true refl refl F k f
+way_first grammar.for_declaration F k f = by_table (Parts rows.MaybeFinal ∷ Part sorts.Type ∷ Part sorts.Decls ∷ []) (row_begins rows.ForInitForm) false refl refl F k f
+way_first grammar.for_effects F k f = by_table (Part sorts.Effect ∷ Parts (rows.Further sorts.Effect) ∷ []) (row_begins rows.ForInitForm) false refl refl F k f
+way_first grammar.not_assigned F k f = by_table [] (row_begins rows.Assigned) true refl refl F k f
+way_first grammar.assigned F k f = by_table (One Setting ∷ Part sorts.Expr ∷ []) (row_begins rows.Assigned) true refl refl F k f
+way_first grammar.no_choice F k f = by_table [] (row_begins rows.Choice) true refl refl F k f
+way_first grammar.choice F k f = by_table (a kinds.Question ∷ Part sorts.Expr ∷ a kinds.Colon ∷ Part sorts.Cond ∷ []) (row_begins rows.Choice) true refl refl F k f
+way_first grammar.negated F k f = by_table (a kinds.Minus ∷ Parts rows.Negated ∷ []) (row_begins rows.UnaryForm) false refl refl F k f
+way_first grammar.prefixed F k f = by_table (One Prefixing ∷ Part sorts.Unary ∷ []) (row_begins rows.UnaryForm) false refl refl F k f
+way_first grammar.a_cast F k f = by_table (Part sorts.Cast ∷ []) (row_begins rows.UnaryForm) false refl refl F k f
+way_first grammar.a_postfix F k f = by_table (Part sorts.Postfix ∷ []) (row_begins rows.UnaryForm) false refl refl F k f
+way_first grammar.big F k f = by_table (a kinds.Big ∷ []) (row_begins rows.Negated) false refl refl F k f
+way_first grammar.small F k f = by_table (Part sorts.Unary ∷ []) (row_begins rows.Negated) false refl refl F k f
+way_first grammar.to_primitive F k f = by_table (a kinds.Prim ∷ a kinds.CloseParen ∷ Part sorts.Unary ∷ []) (row_begins rows.CastForm) false refl refl F k f
+way_first grammar.to_reference F k f = by_table (Part sorts.RefType ∷ a kinds.CloseParen ∷ Part sorts.Operand ∷ []) (row_begins rows.CastForm) false refl refl F k f
+way_first grammar.no_steps F k f = by_table [] (row_begins rows.Steps) true refl refl F k f
+way_first grammar.steps F k f = by_table (a kinds.Step ∷ Parts rows.Steps ∷ []) (row_begins rows.Steps) true refl refl F k f
+way_first grammar.literal F k f = by_table (a kinds.Literal ∷ []) (row_begins rows.PrimaryForm) false refl refl F k f
+way_first grammar.this F k f = by_table (a kinds.This ∷ []) (row_begins rows.PrimaryForm) false refl refl F k f
+way_first grammar.named F k f = by_table (name ∷ Parts (rows.Maybe sorts.Args) ∷ []) (row_begins rows.PrimaryForm) false refl refl F k f
+way_first grammar.grouped F k f = by_table (a kinds.OpenParen ∷ Part sorts.Expr ∷ a kinds.CloseParen ∷ []) (row_begins rows.PrimaryForm) false refl refl F k f
+way_first grammar.created F k f = by_table (Part sorts.New ∷ []) (row_begins rows.PrimaryForm) false refl refl F k f
+way_first grammar.inherited F k f = by_table (a kinds.Super ∷ a kinds.Dot ∷ name ∷ Parts (rows.Maybe sorts.Args) ∷ []) (row_begins rows.PrimaryForm) false refl refl F k f
+way_first grammar.an_object F k f = by_table (name ∷ Part sorts.Args ∷ []) (row_begins rows.NewForm) false refl refl F k f
+way_first grammar.sized F k f = by_table (One Element ∷ a kinds.OpenBracket ∷ Part sorts.Expr ∷ a kinds.CloseBracket ∷ Parts rows.Dimensions ∷ []) (row_begins rows.NewForm) false refl refl F k f
+way_first grammar.listed F k f = by_table (One Element ∷ a kinds.OpenBracket ∷ a kinds.CloseBracket ∷ Parts rows.Brackets ∷ a kinds.OpenBrace ∷ Parts rows.Elements ∷ a kinds.CloseBrace ∷ []) (row_begins rows.NewForm) false refl refl F k f
+way_first grammar.no_dimensions F k f = by_table [] (row_begins rows.Dimensions) true refl refl F k f
+way_first grammar.dimension F k f = by_table (a kinds.OpenBracket ∷ Part sorts.Expr ∷ a kinds.CloseBracket ∷ Parts rows.Dimensions ∷ []) (row_begins rows.Dimensions) true refl refl F k f
+way_first grammar.unsized F k f = by_table (a kinds.OpenBracket ∷ a kinds.CloseBracket ∷ Parts rows.Brackets ∷ []) (row_begins rows.Dimensions) true refl refl F k f
 
 rule_first : (x : Sort) (k : Kind) → first_in (rule x) (λ _. true) k ≡ true → begins x k ≡ true
+unfolding every
 rule_first sorts.Unit k f = refl
-rule_first sorts.Declaration k f = begins_Declaration k f
-rule_first sorts.Class k f = begins_Class k f
-rule_first sorts.Interface k f = begins_Interface k f
-rule_first sorts.Mod k f = begins_Mod k f
-rule_first sorts.Member k f = begins_Member k f
-rule_first sorts.Params k f = begins_Params k f
-rule_first sorts.Param k f = begins_Param k f
-rule_first sorts.Throws k f = begins_Throws k f
-rule_first sorts.Result k f = begins_Result k f
-rule_first sorts.Type k f = begins_Type k f
-rule_first sorts.RefType k f = begins_RefType k f
-rule_first sorts.Decls k f = begins_Decls k f
-rule_first sorts.Decl k f = begins_Decl k f
-rule_first sorts.Init k f = begins_Init k f
-rule_first sorts.Block k f = begins_Block k f
-rule_first sorts.Local k f = begins_Local k f
-rule_first sorts.Stmt k f = begins_Stmt k f
-rule_first sorts.ForInit k f = begins_ForInit k f
-rule_first sorts.Catch k f = begins_Catch k f
-rule_first sorts.Expr k f = begins_Expr k f
-rule_first sorts.Effect k f = begins_Effect k f
-rule_first sorts.Cond k f = begins_Cond k f
-rule_first sorts.OrElse k f = begins_OrElse k f
-rule_first sorts.AndAlso k f = begins_AndAlso k f
-rule_first sorts.Or k f = begins_Or k f
-rule_first sorts.Xor k f = begins_Xor k f
-rule_first sorts.And k f = begins_And k f
-rule_first sorts.Equality k f = begins_Equality k f
-rule_first sorts.Relation k f = begins_Relation k f
-rule_first sorts.Shift k f = begins_Shift k f
-rule_first sorts.Sum k f = begins_Sum k f
-rule_first sorts.Product k f = begins_Product k f
-rule_first sorts.Unary k f = begins_Unary k f
-rule_first sorts.Cast k f = begins_Cast k f
-rule_first sorts.Operand k f = begins_Operand k f
-rule_first sorts.Postfix k f = begins_Postfix k f
-rule_first sorts.Primary k f = begins_Primary k f
-rule_first sorts.New k f = begins_New k f
-rule_first sorts.Args k f = begins_Args k f
+rule_first sorts.Declaration k f = implied (first_in (rule sorts.Declaration) (λ _. true)) (begins sorts.Declaration) refl k f
+rule_first sorts.Class k f = implied (first_in (rule sorts.Class) (λ _. true)) (begins sorts.Class) refl k f
+rule_first sorts.Interface k f = implied (first_in (rule sorts.Interface) (λ _. true)) (begins sorts.Interface) refl k f
+rule_first sorts.Mod k f = implied (first_in (rule sorts.Mod) (λ _. true)) (begins sorts.Mod) refl k f
+rule_first sorts.Member k f = implied (first_in (rule sorts.Member) (λ _. true)) (begins sorts.Member) refl k f
+rule_first sorts.Params k f = implied (first_in (rule sorts.Params) (λ _. true)) (begins sorts.Params) refl k f
+rule_first sorts.Param k f = implied (first_in (rule sorts.Param) (λ _. true)) (begins sorts.Param) refl k f
+rule_first sorts.Throws k f = implied (first_in (rule sorts.Throws) (λ _. true)) (begins sorts.Throws) refl k f
+rule_first sorts.Result k f = implied (first_in (rule sorts.Result) (λ _. true)) (begins sorts.Result) refl k f
+rule_first sorts.Type k f = implied (first_in (rule sorts.Type) (λ _. true)) (begins sorts.Type) refl k f
+rule_first sorts.RefType k f = implied (first_in (rule sorts.RefType) (λ _. true)) (begins sorts.RefType) refl k f
+rule_first sorts.Decls k f = implied (first_in (rule sorts.Decls) (λ _. true)) (begins sorts.Decls) refl k f
+rule_first sorts.Decl k f = implied (first_in (rule sorts.Decl) (λ _. true)) (begins sorts.Decl) refl k f
+rule_first sorts.Init k f = implied (first_in (rule sorts.Init) (λ _. true)) (begins sorts.Init) refl k f
+rule_first sorts.Block k f = implied (first_in (rule sorts.Block) (λ _. true)) (begins sorts.Block) refl k f
+rule_first sorts.Local k f = implied (first_in (rule sorts.Local) (λ _. true)) (begins sorts.Local) refl k f
+rule_first sorts.Stmt k f = implied (first_in (rule sorts.Stmt) (λ _. true)) (begins sorts.Stmt) refl k f
+rule_first sorts.ForInit k f = implied (first_in (rule sorts.ForInit) (λ _. true)) (begins sorts.ForInit) refl k f
+rule_first sorts.Catch k f = implied (first_in (rule sorts.Catch) (λ _. true)) (begins sorts.Catch) refl k f
+rule_first sorts.Expr k f = implied (first_in (rule sorts.Expr) (λ _. true)) (begins sorts.Expr) refl k f
+rule_first sorts.Effect k f = implied (first_in (rule sorts.Effect) (λ _. true)) (begins sorts.Effect) refl k f
+rule_first sorts.Cond k f = implied (first_in (rule sorts.Cond) (λ _. true)) (begins sorts.Cond) refl k f
+rule_first sorts.OrElse k f = implied (first_in (rule sorts.OrElse) (λ _. true)) (begins sorts.OrElse) refl k f
+rule_first sorts.AndAlso k f = implied (first_in (rule sorts.AndAlso) (λ _. true)) (begins sorts.AndAlso) refl k f
+rule_first sorts.Or k f = implied (first_in (rule sorts.Or) (λ _. true)) (begins sorts.Or) refl k f
+rule_first sorts.Xor k f = implied (first_in (rule sorts.Xor) (λ _. true)) (begins sorts.Xor) refl k f
+rule_first sorts.And k f = implied (first_in (rule sorts.And) (λ _. true)) (begins sorts.And) refl k f
+rule_first sorts.Equality k f = implied (first_in (rule sorts.Equality) (λ _. true)) (begins sorts.Equality) refl k f
+rule_first sorts.Relation k f = implied (first_in (rule sorts.Relation) (λ _. true)) (begins sorts.Relation) refl k f
+rule_first sorts.Shift k f = implied (first_in (rule sorts.Shift) (λ _. true)) (begins sorts.Shift) refl k f
+rule_first sorts.Sum k f = implied (first_in (rule sorts.Sum) (λ _. true)) (begins sorts.Sum) refl k f
+rule_first sorts.Product k f = implied (first_in (rule sorts.Product) (λ _. true)) (begins sorts.Product) refl k f
+rule_first sorts.Unary k f = implied (first_in (rule sorts.Unary) (λ _. true)) (begins sorts.Unary) refl k f
+rule_first sorts.Cast k f = implied (first_in (rule sorts.Cast) (λ _. true)) (begins sorts.Cast) refl k f
+rule_first sorts.Operand k f = implied (first_in (rule sorts.Operand) (λ _. true)) (begins sorts.Operand) refl k f
+rule_first sorts.Postfix k f = implied (first_in (rule sorts.Postfix) (λ _. true)) (begins sorts.Postfix) refl k f
+rule_first sorts.Primary k f = implied (first_in (rule sorts.Primary) (λ _. true)) (begins sorts.Primary) refl k f
+rule_first sorts.New k f = implied (first_in (rule sorts.New) (λ _. true)) (begins sorts.New) refl k f
+rule_first sorts.Args k f = implied (first_in (rule sorts.Args) (λ _. true)) (begins sorts.Args) refl k f
 
 pub node_front : (f : Form) (ts : Asts) (s : List Tok) → tokens (node f ts) ++ s ≡ tokens_all ts ++ s
 node_front f none s = refl

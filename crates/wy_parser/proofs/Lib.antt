@@ -5,4 +5,17 @@ pub mod Sound
 pub mod Limits
 pub mod Following
 pub mod Whole
+pub mod Truth
 pub mod Firsts
+pub mod Follows
+pub mod Lawful
+pub mod Leads
+pub mod Fronts
+pub mod Members
+pub mod Statements
+pub mod Expressions
+pub mod Decisions
+pub mod Clear
+pub mod Suffixes
+pub mod Creations
+pub mod Complete

@@ -3,3 +3,4 @@ pub mod Reading
 pub mod Symbols
 pub mod Rules
 pub mod Parsed
+pub mod Causes

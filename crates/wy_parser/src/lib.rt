@@ -3,6 +3,7 @@
 
 pub mod condition;
 pub mod expression;
+pub mod laws;
 pub mod look;
 pub mod parse;
 pub mod part;

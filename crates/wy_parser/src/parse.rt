@@ -1,10 +1,11 @@
 //! The tree of all the tokens.
 
 ghost use Rattle.std.specs.Prelude.{◌≡◌, ◌≤◌, ◌<◌, map, length, IfOk, IfErr};
-ghost use Rattle.wy_tree.specs.Ast.{Ast, view, tokens as leaves};
-ghost use Rattle.wy_tree.specs.Grammar.{WellFormed};
+ghost use Rattle.wy_tree.specs.Ast.{view};
 ghost use Rattle.wy_parser.specs.Symbols.{symbols_seen, spanned_seen};
 ghost use Rattle.wy_parser.specs.Parsed.{Tells, PlaceIn, IsSyntax, whole};
+ghost use Rattle.wy_tree.specs.Trees.{IsTreeOf, IsOnlyTreeOf};
+ghost use Rattle.wy_parser.specs.Causes.{IsCause};
 
 use crate::read::tree;
 use crate::stop::Stop;
@@ -30,9 +31,11 @@ pub enum ParseError {
 pub fn parse(alloc: Global, tokens: &[Spanned]) -> Result<Tree, ParseError>
     requires { length tokens.now ≤ 1048576 }
     // What is found is a tree of the grammar, and its leaves are the tokens.
-    ensures found { IfOk result (λ t. WellFormed (view t) × (leaves (view t) ≡ map spanned_seen tokens.now)) }
-    // What is found, and where nothing is, is what reading by the grammar gives.
-    ensures exact { Tells result (whole (map spanned_seen tokens.now)) }
+    ensures found { IfOk result (λ t. IsTreeOf (map spanned_seen tokens.now) (view t)) }
+    // No other tree of the grammar has these leaves.
+    ensures only { IfOk result (λ t. IsOnlyTreeOf (map spanned_seen tokens.now) (view t)) }
+    // Tokens are refused only where no tree of the grammar has them as its leaves.
+    ensures refused { IfErr result (λ e. IsCause (map spanned_seen tokens.now) e) }
     ensures place { IfErr result (λ e. PlaceIn e (length tokens.now)) }
 {
     match symbols(alloc, tokens) {

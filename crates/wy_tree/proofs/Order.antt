@@ -12,11 +12,11 @@ earlier : (place first line low size : ℕ) (spans : List Placed) → first ≤ 
 earlier place first line low size [] le lo o = tt
 earlier place first line low size (t ∷ spans) le lo o = let a = o.0 in let b = o.3 in (omega arith, o.1, o.2, omega arith, o.4)
 
-none_of_none : (text : List ℕ) → piece_here text 0 ≡ None
+pub none_of_none : (text : List ℕ) → piece_here text 0 ≡ None
 unfolding piece_here
 none_of_none text = refl
 
-some_bytes : (text : List ℕ) (n : ℕ) (p : Piece) → IsLongest text n p → 0 < n
+pub some_bytes : (text : List ℕ) (n : ℕ) (p : Piece) → IsLongest text n p → 0 < n
 some_bytes text zero p l = let e = none_of_none text in let f = l.here in absurd (cc)
 some_bytes text (suc n) p l = omega arith
 

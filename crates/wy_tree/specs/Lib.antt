@@ -3,6 +3,7 @@ pub mod Kinds
 pub mod Ast
 pub mod Conditions
 pub mod Grammar
+pub mod Trees
 pub mod Bytes
 pub mod Words
 pub mod Numbers

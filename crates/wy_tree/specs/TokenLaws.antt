@@ -1,6 +1,7 @@
 -- Laws of the tokens of a text.
-use Rattle.std.specs.Prelude.{ℕ, ◌≡◌, ◌≤◌, ◌<◌, List, [], ◌∷◌, length, Some}
+use Rattle.std.specs.Prelude.{ℕ, ◌+◌, ◌≡◌, ◌≤◌, ◌<◌, List, [], ◌∷◌, length, take, All, Some}
 use Rattle.std.specs.Str.{chars}
+use Rattle.wy_tree.specs.Bytes.{line_ends}
 use Rattle.wy_tree.specs.Literals.{first_char}
 use Rattle.wy_tree.specs.Tokens.{Placed, Refusal, Tokens, Refuses, IsNotUtf8}
 
@@ -30,6 +31,10 @@ InOrder place line size (t ∷ spans) = (place ≤ t.start) × (t.start < t.end)
 -- The tokens of a text stand one after another within it, each with a byte or more, on lines from 1 on.
 abbrev pub TokensInOrder : Type 0
 TokensInOrder = (text : List ℕ) (spans : List Placed) → Tokens text spans → InOrder 0 1 (length text) spans
+
+-- The line of a token is one more than the lines that end before its first byte.
+abbrev pub LinesAreCounted : Type 0
+LinesAreCounted = (text : List ℕ) (spans : List Placed) → Tokens text spans → All (λ t. t.line ≡ 1 + line_ends (take t.start text)) spans
 
 -- The character that a literal's element begins with is the text's first character in UTF-8.
 abbrev pub FirstCharacter : Type 0

@@ -1,0 +1,296 @@
+-- The ways of declarations and members, which more than one token tells.
+use Rattle.std.proofs.Common.{Bool, true, false, not, ◌&&◌, ◌||◌, if◌then◌else◌, ◌≡◌, List, [], ◌∷◌, ◌++◌, refl, sym, ◌∙◌, ap, subst, append_assoc}
+use Rattle.wy_tree.specs.Seen.{Tok}
+use Rattle.wy_tree.specs.Kinds.{kind_of, same}
+use Rattle.wy_tree.specs.Conditions.{is_name}
+use Rattle.wy_tree.specs.Ast.{Ast, Asts, Leaf, more, node, tokens, tokens_all}
+use Rattle.wy_tree.specs.Grammar as grammar
+use Rattle.wy_tree.specs.Grammar.{a, name, is_modifying, form_of, Is, made, grown, Match, done, token, part, chosen}
+use Rattle.wy_tree.specs.declared.kind.Kind.{Kind}
+use Rattle.wy_tree.specs.declared.kind.Kind.TheVariants as kinds
+use Rattle.wy_tree.specs.declared.grammar.Sort.{Sort}
+use Rattle.wy_tree.specs.declared.grammar.Sort.TheVariants as sorts
+use Rattle.wy_tree.specs.declared.grammar.Row.TheVariants as rows
+use Rattle.wy_tree.specs.declared.grammar.Item.{Item}
+use Rattle.wy_tree.specs.declared.grammar.Item.TheVariants.{Part, Parts}
+use Rattle.wy_parser.specs.Choosing.{front, rest, second, past, modifies, is_bracket, heads_method, heads_interface, choose_declared, choose_declaration, choose_member, choose_member_tail}
+use Rattle.wy_parser.proofs.Truth.{or_left, or_right, both, neither, not_both, is_not, is_false}
+use Rattle.wy_parser.proofs.Firsts.{begins, row_begins, first_in, every, implied, node_front, starts, front_first}
+use Rattle.wy_parser.proofs.Follows.{row_meets}
+use Rattle.wy_parser.proofs.Fronts.{yes, no, no_sign_static_initializer, no_sign_a_member}
+
+pub part_front : (x : Sort) (t : Ast) (ts : Asts) → Is x t → (s : List Tok) → begins x (front (tokens_all (more t ts) ++ s)) ≡ true
+part_front x t ts v s = ap (λ z. begins x (front z)) (append_assoc (tokens t) (tokens_all ts) s) ∙ starts x t v (tokens_all ts ++ s)
+
+pub retell : (x : Sort) (t : Ast) (ts : Asts) (s : List Tok) → t ≡ node (form_of x) ts → tokens t ++ s ≡ tokens_all ts ++ s
+retell x t ts s q = ap (λ z. tokens z ++ s) q ∙ node_front (form_of x) ts s
+
+past_more : (p : Kind → Bool) (o : Tok) (s : List Tok) → p (kind_of o) ≡ true → past p (o ∷ s) ≡ past p s
+unfolding past
+past_more p o s e = ap (λ b. if b then past p s else o ∷ s) e
+
+past_here : (p : Kind → Bool) (o : Tok) (s : List Tok) → p (kind_of o) ≡ false → past p (o ∷ s) ≡ o ∷ s
+unfolding past
+past_here p o s e = ap (λ b. if b then past p s else o ∷ s) e
+
+modifying_modifies : (k : Kind) → is_modifying k ≡ true → modifies k ≡ true
+unfolding every
+modifying_modifies k e = implied is_modifying modifies refl k e
+
+at_modifies : (k : Kind) → same k kinds.At ≡ true → modifies k ≡ true
+unfolding every
+at_modifies k e = implied (λ k. same k kinds.At) modifies refl k e
+
+override_modifies : (k : Kind) → same k kinds.Override ≡ true → modifies k ≡ true
+unfolding every
+override_modifies k e = implied (λ k. same k kinds.Override) modifies refl k e
+
+class_stays : (k : Kind) → same k kinds.Class ≡ true → not (modifies k) ≡ true
+unfolding every
+class_stays k e = implied (λ k. same k kinds.Class) (λ k. not (modifies k)) refl k e
+
+interface_stays : (k : Kind) → same k kinds.Interface ≡ true → not (modifies k) ≡ true
+unfolding every
+interface_stays k e = implied (λ k. same k kinds.Interface) (λ k. not (modifies k)) refl k e
+
+class_is_no_interface : (k : Kind) → same k kinds.Class ≡ true → not (same k kinds.Interface) ≡ true
+unfolding every
+class_is_no_interface k e = implied (λ k. same k kinds.Class) (λ k. not (same k kinds.Interface)) refl k e
+
+mod_past : (t : Ast) → Is sorts.Mod t → (r : List Tok) → past modifies (tokens t ++ r) ≡ past modifies r
+mod_past t (made (chosen grammar.modifier (token {o} e done)) f q) r =
+    ap (λ z. past modifies (tokens z ++ r)) q ∙ past_more modifies o r (modifying_modifies (kind_of o) e)
+mod_past t (made (chosen grammar.annotation (token {o} e (token {o = o'} e' done))) f q) r =
+    ap (λ z. past modifies (tokens z ++ r)) q ∙ past_more modifies o (o' ∷ r) (at_modifies (kind_of o) e) ∙ past_more modifies o' r (override_modifies (kind_of o') e')
+mod_past t (grown v (grammar.operator f) w e q) r = absurd (cc)
+
+-- the parts behind the modifiers
+record Behind (items : List Item) (ts : Asts) (s : List Tok) : Type 0 where
+  parts : Asts
+  are : Match items parts
+  same_past : past modifies (tokens_all ts ++ s) ≡ past modifies (tokens_all parts ++ s)
+
+behind_mods : (items : List Item) (ts : Asts) → Match (Parts (rows.Any sorts.Mod) ∷ items) ts → (s : List Tok) → Behind items ts s
+behind_mods items ts (chosen grammar.none_of w) s = record { parts = ts; are = w; same_past = refl }
+behind_mods items _ (chosen grammar.some_of (part {t} {ts} v w)) s =
+    let i = behind_mods items ts w s in
+    record {
+      parts = i.parts;
+      are = i.are;
+      same_past = ap (past modifies) (append_assoc (tokens t) (tokens_all ts) s) ∙ mod_past t v (tokens_all ts ++ s) ∙ i.same_past;
+    }
+
+first_past : (k : Kind) (items : List Item) (ts : Asts) → Match (a k ∷ items) ts → (s : List Tok) → ((j : Kind) → same j k ≡ true → not (modifies j) ≡ true) → same (front (past modifies (tokens_all ts ++ s))) k ≡ true
+first_past k items _ (token {o} {ts} e w) s f = ap (λ z. same (front z) k) (past_here modifies o (tokens_all ts ++ s) (is_false (modifies (kind_of o)) (f (kind_of o) e))) ∙ e
+
+head_past : (k : Kind) (items : List Item) (ts : Asts) → Match (Parts (rows.Any sorts.Mod) ∷ a k ∷ items) ts → (s : List Tok) → ((j : Kind) → same j k ≡ true → not (modifies j) ≡ true)
+    → same (front (past modifies (tokens_all ts ++ s))) k ≡ true
+head_past k items ts w s f =
+    let b = behind_mods (a k ∷ items) ts w s in
+    ap (λ z. same (front z) k) b.same_past ∙ first_past k items b.parts b.are s f
+
+class_head : (t : Ast) → Is sorts.Class t → (s : List Tok) → heads_interface (tokens t ++ s) ≡ false
+unfolding heads_interface
+class_head t (made {ts} w e q) s =
+    ap (λ z. same (front (past modifies z)) kinds.Interface) (retell sorts.Class t ts s q)
+    ∙ is_false (same (front (past modifies (tokens_all ts ++ s))) kinds.Interface) (class_is_no_interface (front (past modifies (tokens_all ts ++ s))) (head_past kinds.Class _ ts w s class_stays))
+class_head t (grown v (grammar.operator f) w e q) s = absurd (cc)
+
+interface_head : (t : Ast) → Is sorts.Interface t → (s : List Tok) → heads_interface (tokens t ++ s) ≡ true
+unfolding heads_interface
+interface_head t (made {ts} w e q) s =
+    ap (λ z. same (front (past modifies z)) kinds.Interface) (retell sorts.Interface t ts s q) ∙ head_past kinds.Interface _ ts w s interface_stays
+interface_head t (grown v (grammar.operator f) w e q) s = absurd (cc)
+
+class_is_no_semicolon : (k : Kind) → begins sorts.Class k ≡ true → not (same k kinds.Semicolon) ≡ true
+unfolding every
+class_is_no_semicolon k e = implied (begins sorts.Class) (λ k. not (same k kinds.Semicolon)) refl k e
+
+interface_is_no_semicolon : (k : Kind) → begins sorts.Interface k ≡ true → not (same k kinds.Semicolon) ≡ true
+unfolding every
+interface_is_no_semicolon k e = implied (begins sorts.Interface) (λ k. not (same k kinds.Semicolon)) refl k e
+
+pub tells_nothing : (u : List Tok) → same (front u) kinds.Semicolon ≡ true → choose_declaration rows.Declared u ≡ a kinds.Semicolon ∷ []
+unfolding choose_declaration choose_declared
+tells_nothing u f = yes (same (front u) kinds.Semicolon) _ _ f
+
+pub tells_a_class : (items : List Item) (ts : Asts) → Match (Part sorts.Class ∷ items) ts → (s : List Tok) → choose_declaration rows.Declared (tokens_all ts ++ s) ≡ Part sorts.Class ∷ []
+unfolding choose_declaration choose_declared
+tells_a_class items _ (part {t} {ts} v w) s =
+    let u = tokens_all (more t ts) ++ s in
+    let f : heads_interface u ≡ false = ap heads_interface (append_assoc (tokens t) (tokens_all ts) s) ∙ class_head t v (tokens_all ts ++ s) in
+    no (same (front u) kinds.Semicolon) _ _ (class_is_no_semicolon (front u) (part_front sorts.Class t ts v s)) ∙ no (heads_interface u) _ _ (is_not (heads_interface u) f)
+
+pub tells_an_interface : (items : List Item) (ts : Asts) → Match (Part sorts.Interface ∷ items) ts → (s : List Tok) → choose_declaration rows.Declared (tokens_all ts ++ s) ≡ Part sorts.Interface ∷ []
+unfolding choose_declaration choose_declared
+tells_an_interface items _ (part {t} {ts} v w) s =
+    let u = tokens_all (more t ts) ++ s in
+    let f : heads_interface u ≡ true = ap heads_interface (append_assoc (tokens t) (tokens_all ts) s) ∙ interface_head t v (tokens_all ts ++ s) in
+    no (same (front u) kinds.Semicolon) _ _ (interface_is_no_semicolon (front u) (part_front sorts.Interface t ts v s)) ∙ yes (heads_interface u) _ _ f
+
+block_opens : (k : Kind) → begins sorts.Block k ≡ true → same k kinds.OpenBrace ≡ true
+unfolding every
+block_opens k e = implied (begins sorts.Block) (λ k. same k kinds.OpenBrace) refl k e
+
+tail_is_not_static : (k : Kind) → (row_begins rows.MemberTail k || false) ≡ true → not (same k kinds.Static) ≡ true
+unfolding every
+tail_is_not_static k e = implied (λ k. row_begins rows.MemberTail k || false) (λ k. not (same k kinds.Static)) refl k e
+
+annotation_is_not_static : (k : Kind) → same k kinds.At ≡ true → not (same k kinds.Static) ≡ true
+unfolding every
+annotation_is_not_static k e = implied (λ k. same k kinds.At) (λ k. not (same k kinds.Static)) refl k e
+
+tail_is_no_block : (k : Kind) → (begins sorts.Mod k || (row_begins rows.MemberTail k || false)) ≡ true → not (same k kinds.OpenBrace) ≡ true
+unfolding every
+tail_is_no_block k e = implied (λ k. begins sorts.Mod k || (row_begins rows.MemberTail k || false)) (λ k. not (same k kinds.OpenBrace)) refl k e
+
+pub tells_static_initializer : (items : List Item) (ts : Asts) → Match (a kinds.Static ∷ Part sorts.Block ∷ items) ts → (s : List Tok) → choose_member rows.MemberForm (tokens_all ts ++ s) ≡ a kinds.Static ∷ Part sorts.Block ∷ []
+tells_static_initializer items _ (token {o} e (part {t} {ts} v w)) s =
+    let u = o ∷ (tokens_all (more t ts) ++ s) in
+    no_sign_static_initializer u e
+    ∙ yes (same (front u) kinds.Static && same (second u) kinds.OpenBrace) _ _ (both (same (front u) kinds.Static) (same (second u) kinds.OpenBrace) e (block_opens (second u) (part_front sorts.Block t ts v s)))
+
+-- behind the modifier static stands no block
+static_alone : (items : List Item) (ts : Asts) → Match (Parts (rows.Any sorts.Mod) ∷ Parts rows.MemberTail ∷ items) ts → (s : List Tok) → same (front (tokens_all ts ++ s)) kinds.Static ≡ true
+    → same (second (tokens_all ts ++ s)) kinds.OpenBrace ≡ false
+static_alone items ts (chosen grammar.none_of w) s e =
+    let k = front (tokens_all ts ++ s) in
+    let f = tail_is_not_static k (front_first (Parts rows.MemberTail ∷ items) ts w (λ _. true) s refl) in
+    absurd (let g = is_false (same k kinds.Static) f in cc)
+static_alone items _ (chosen grammar.some_of (part {ts} (made (chosen grammar.modifier (token {o} e' done)) f q) w)) s e =
+    let k = front (tokens_all ts ++ s) in
+    ap (λ z. same (second ((tokens z ++ tokens_all ts) ++ s)) kinds.OpenBrace) q
+    ∙ is_false (same k kinds.OpenBrace) (tail_is_no_block k (front_first (Parts (rows.Any sorts.Mod) ∷ Parts rows.MemberTail ∷ items) ts w (λ _. true) s refl))
+static_alone items _ (chosen grammar.some_of (part {ts} (made (chosen grammar.annotation (token {o} e' (token {o = o'} f' done))) f q) w)) s e =
+    let g : same (kind_of o) kinds.Static ≡ true = sym (ap (λ z. same (front ((tokens z ++ tokens_all ts) ++ s)) kinds.Static) q) ∙ e in
+    absurd (let h = is_false (same (kind_of o) kinds.Static) (annotation_is_not_static (kind_of o) e') in cc)
+static_alone items _ (chosen grammar.some_of (part (grown v (grammar.operator f) w' e' q) w)) s e = absurd (cc)
+
+pub tells_a_member : (items : List Item) (ts : Asts) → Match (Parts (rows.Any sorts.Mod) ∷ Parts rows.MemberTail ∷ items) ts → (s : List Tok)
+    → first_in (Parts (rows.Any sorts.Mod) ∷ Parts rows.MemberTail ∷ []) (row_meets rows.MemberForm) (front (tokens_all ts ++ s)) ≡ true → choose_member rows.MemberForm (tokens_all ts ++ s) ≡ Parts (rows.Any sorts.Mod) ∷ Parts rows.MemberTail ∷ []
+tells_a_member items ts w s f =
+    let u = tokens_all ts ++ s in
+    no_sign_a_member u f ∙ no (same (front u) kinds.Static && same (second u) kinds.OpenBrace) _ _ (not_both (same (front u) kinds.Static) (same (second u) kinds.OpenBrace) (static_alone items ts w s))
+
+params_open : (k : Kind) → begins sorts.Params k ≡ true → same k kinds.OpenParen ≡ true
+unfolding every
+params_open k e = implied (begins sorts.Params) (λ k. same k kinds.OpenParen) refl k e
+
+void_is_no_name : (k : Kind) → same k kinds.Void ≡ true → not (is_name k) ≡ true
+unfolding every
+void_is_no_name k e = implied (λ k. same k kinds.Void) (λ k. not (is_name k)) refl k e
+
+name_is_no_bracket : (k : Kind) → is_name k ≡ true → not (is_bracket k) ≡ true
+unfolding every
+name_is_no_bracket k e = implied is_name (λ k. not (is_bracket k)) refl k e
+
+open_is_bracket : (k : Kind) → same k kinds.OpenBracket ≡ true → is_bracket k ≡ true
+unfolding every
+open_is_bracket k e = implied (λ k. same k kinds.OpenBracket) is_bracket refl k e
+
+close_is_bracket : (k : Kind) → same k kinds.CloseBracket ≡ true → is_bracket k ≡ true
+unfolding every
+close_is_bracket k e = implied (λ k. same k kinds.CloseBracket) is_bracket refl k e
+
+behind_element : (k : Kind) → ((same k kinds.OpenBracket || false) || (true && is_name k)) ≡ true → not (same k kinds.OpenParen) ≡ true
+unfolding every
+behind_element k e = implied (λ k. (same k kinds.OpenBracket || false) || (true && is_name k)) (λ k. not (same k kinds.OpenParen)) refl k e
+
+type_is_no_void : (k : Kind) → begins sorts.Type k ≡ true → not (same k kinds.Void) ≡ true
+unfolding every
+type_is_no_void k e = implied (begins sorts.Type) (λ k. not (same k kinds.Void)) refl k e
+
+pub decls_name : (k : Kind) → begins sorts.Decls k ≡ true → is_name k ≡ true
+unfolding every
+decls_name k e = implied (begins sorts.Decls) is_name refl k e
+
+behind_name : (k : Kind) → first_in (Parts rows.Brackets ∷ Parts rows.Initial ∷ []) (first_in (Parts (rows.Further sorts.Decl) ∷ []) (λ k. same k kinds.Semicolon)) k ≡ true → not (same k kinds.OpenParen) ≡ true
+unfolding every
+behind_name k e = implied (λ k. first_in (Parts rows.Brackets ∷ Parts rows.Initial ∷ []) (first_in (Parts (rows.Further sorts.Decl) ∷ []) (λ k. same k kinds.Semicolon)) k) (λ k. not (same k kinds.OpenParen)) refl k e
+
+pub tells_a_constructor : (items : List Item) (ts : Asts) → Match (name ∷ Part sorts.Params ∷ items) ts → (s : List Tok) → choose_member rows.MemberTail (tokens_all ts ++ s) ≡ name ∷ Part sorts.Params ∷ Parts (rows.Maybe sorts.Throws) ∷ a kinds.OpenBrace ∷ Parts rows.OwnCall ∷ Parts (rows.Any sorts.Local) ∷ a kinds.CloseBrace ∷ []
+unfolding choose_member choose_member_tail
+tells_a_constructor items _ (token {o} e (part {t} {ts} v w)) s =
+    let u = o ∷ (tokens_all (more t ts) ++ s) in
+    yes (is_name (front u) && same (second u) kinds.OpenParen) _ _ (both (is_name (front u)) (same (second u) kinds.OpenParen) e (params_open (second u) (part_front sorts.Params t ts v s)))
+
+brackets_past : (ts : Asts) → Match (Parts rows.Brackets ∷ []) ts → (r : List Tok) → past is_bracket (tokens_all ts ++ r) ≡ past is_bracket r
+brackets_past _ (chosen grammar.no_brackets done) r = refl
+brackets_past _ (chosen grammar.brackets (token {o} e (token {o = o'} {ts} f w))) r =
+    past_more is_bracket o (o' ∷ (tokens_all ts ++ r)) (open_is_bracket (kind_of o) e) ∙ past_more is_bracket o' (tokens_all ts ++ r) (close_is_bracket (kind_of o') f) ∙ brackets_past ts w r
+
+-- past the brackets of a type comes what follows it
+type_past : (t : Ast) → Is sorts.Type t → (r : List Tok) → past is_bracket (rest (tokens t ++ r)) ≡ past is_bracket r
+type_past t (made (token {o} {ts} e w) f q) r = ap (λ z. past is_bracket (rest z)) (retell sorts.Type t (more (Leaf o) ts) r q) ∙ brackets_past ts w r
+type_past t (grown v (grammar.operator f) w e q) r = absurd (cc)
+
+-- no parenthesis stands behind the first token of a type before a name
+type_second : (t : Ast) → Is sorts.Type t → (r : List Tok) → is_name (front r) ≡ true → same (second (tokens t ++ r)) kinds.OpenParen ≡ false
+type_second t (made (token {o} {ts} e w) f q) r n =
+    ap (λ z. same (second z) kinds.OpenParen) (retell sorts.Type t (more (Leaf o) ts) r q)
+    ∙ is_false (same (front (tokens_all ts ++ r)) kinds.OpenParen) (behind_element (front (tokens_all ts ++ r)) (front_first (Parts rows.Brackets ∷ []) ts w is_name r n))
+type_second t (grown v (grammar.operator f) w e q) r n = absurd (cc)
+
+name_past : (r : List Tok) → is_name (front r) ≡ true → past is_bracket r ≡ r
+unfolding past
+name_past [] n = refl
+name_past (o ∷ r) n = past_here is_bracket o r (is_false (is_bracket (kind_of o)) (name_is_no_bracket (kind_of o) n))
+
+-- a result, before the name and the parameters of a method
+result_heads : (t : Ast) → Is sorts.Result t → (r : List Tok) → is_name (front r) ≡ true → same (second r) kinds.OpenParen ≡ true → heads_method (tokens t ++ r) ≡ true
+unfolding heads_method
+result_heads t (made (chosen grammar.no_result (token {o} e done)) f q) r n p =
+    ap (λ z. same (front z) kinds.Void || same (second (past is_bracket (rest z))) kinds.OpenParen) (ap (λ z. tokens z ++ r) q)
+    ∙ or_left (same (kind_of o) kinds.Void) (same (second (past is_bracket r)) kinds.OpenParen) e
+result_heads t (made (chosen grammar.a_result (part {t = t'} v done)) f q) r n p =
+    ap (λ z. same (front z) kinds.Void || same (second (past is_bracket (rest z))) kinds.OpenParen) (ap (λ z. tokens z ++ r) q)
+    ∙ or_right (same (front (tokens t' ++ r)) kinds.Void) (same (second (past is_bracket (rest (tokens t' ++ r)))) kinds.OpenParen)
+    (ap (λ z. same (second z) kinds.OpenParen) (type_past t' v r ∙ name_past r n) ∙ p)
+result_heads t (grown v (grammar.operator f) w e q) r n p = absurd (cc)
+
+result_second : (t : Ast) → Is sorts.Result t → (r : List Tok) → is_name (front r) ≡ true → is_name (front (tokens t ++ r)) ≡ true → same (second (tokens t ++ r)) kinds.OpenParen ≡ false
+result_second t (made (chosen grammar.no_result (token {o} e done)) f q) r n b =
+    let c : is_name (kind_of o) ≡ true = sym (ap (λ z. is_name (front (tokens z ++ r))) q) ∙ b in
+    absurd (let d = is_false (is_name (kind_of o)) (void_is_no_name (kind_of o) e) in cc)
+result_second t (made (chosen grammar.a_result (part {t = t'} v done)) f q) r n b = ap (λ z. same (second (tokens z ++ r)) kinds.OpenParen) q ∙ type_second t' v r n
+result_second t (grown v (grammar.operator f) w e q) r n b = absurd (cc)
+
+pub tells_a_method : (items : List Item) (ts : Asts) → Match (Part sorts.Result ∷ name ∷ Part sorts.Params ∷ items) ts → (s : List Tok) → choose_member rows.MemberTail (tokens_all ts ++ s) ≡ Part sorts.Result ∷ name ∷ Part sorts.Params ∷ Parts (rows.Maybe sorts.Throws) ∷ Parts rows.MethodBody ∷ []
+unfolding choose_member choose_member_tail
+tells_a_method items _ (part {t} v (token {o} e (part {t = t'} {ts} v' w))) s =
+    let r = o ∷ (tokens_all (more t' ts) ++ s) in
+    let p : same (second r) kinds.OpenParen ≡ true = params_open (second r) (part_front sorts.Params t' ts v' s) in
+    let u = tokens t ++ r in
+    subst (λ z. (if is_name (front z) && same (second z) kinds.OpenParen then name ∷ Part sorts.Params ∷ Parts (rows.Maybe sorts.Throws) ∷ a kinds.OpenBrace ∷ Parts rows.OwnCall ∷ Parts (rows.Any sorts.Local) ∷ a kinds.CloseBrace ∷ [] else (if heads_method z then Part sorts.Result ∷ name ∷ Part sorts.Params ∷ Parts (rows.Maybe sorts.Throws) ∷ Parts rows.MethodBody ∷ [] else Part sorts.Type ∷ Part sorts.Decls ∷ a kinds.Semicolon ∷ [])) ≡ Part sorts.Result ∷ name ∷ Part sorts.Params ∷ Parts (rows.Maybe sorts.Throws) ∷ Parts rows.MethodBody ∷ [])
+    (sym (append_assoc (tokens t) (o ∷ tokens_all (more t' ts)) s))
+    (no (is_name (front u) && same (second u) kinds.OpenParen) _ _ (not_both (is_name (front u)) (same (second u) kinds.OpenParen) (result_second t v r e)) ∙ yes (heads_method u) _ _ (result_heads t v r e p))
+
+decl_second : (t : Ast) → Is sorts.Decl t → (F : Kind → Bool) (r : List Tok) → F (front r) ≡ true → first_in (Parts rows.Brackets ∷ Parts rows.Initial ∷ []) F (second (tokens t ++ r)) ≡ true
+decl_second t (made (token {o} {ts} e w) f q) F r n =
+    ap (λ z. first_in (Parts rows.Brackets ∷ Parts rows.Initial ∷ []) F (second z)) (retell sorts.Decl t (more (Leaf o) ts) r q) ∙ front_first (Parts rows.Brackets ∷ Parts rows.Initial ∷ []) ts w F r n
+decl_second t (grown v (grammar.operator f) w e q) F r n = absurd (cc)
+
+decls_second : (t : Ast) → Is sorts.Decls t → (r : List Tok) → same (front r) kinds.Semicolon ≡ true → same (second (tokens t ++ r)) kinds.OpenParen ≡ false
+decls_second t (made (part {t = t'} {ts} v w) f q) r n =
+    let F : Kind → Bool = first_in (Parts (rows.Further sorts.Decl) ∷ []) (λ k. same k kinds.Semicolon) in
+    let u = tokens t' ++ (tokens_all ts ++ r) in
+    ap (λ z. same (second z) kinds.OpenParen) (retell sorts.Decls t (more t' ts) r q ∙ append_assoc (tokens t') (tokens_all ts) r)
+    ∙ is_false (same (second u) kinds.OpenParen)
+    (behind_name (second u) (decl_second t' v F (tokens_all ts ++ r) (front_first (Parts (rows.Further sorts.Decl) ∷ []) ts w (λ k. same k kinds.Semicolon) r n)))
+decls_second t (grown v (grammar.operator f) w e q) r n = absurd (cc)
+
+pub tells_fields : (items : List Item) (ts : Asts) → Match (Part sorts.Type ∷ Part sorts.Decls ∷ a kinds.Semicolon ∷ items) ts → (s : List Tok) → choose_member rows.MemberTail (tokens_all ts ++ s) ≡ Part sorts.Type ∷ Part sorts.Decls ∷ a kinds.Semicolon ∷ []
+unfolding choose_member choose_member_tail heads_method
+tells_fields items _ (part {t} v (part {t = t'} v' (token {o} {ts} e w))) s =
+    let r = tokens t' ++ (o ∷ (tokens_all ts ++ s)) in
+    let n : is_name (front r) ≡ true = decls_name (front r) (starts sorts.Decls t' v' (o ∷ (tokens_all ts ++ s))) in
+    let u = tokens t ++ r in
+    let same_tokens : tokens_all (more t (more t' (more (Leaf o) ts))) ++ s ≡ u =
+    append_assoc (tokens t) (tokens t' ++ (o ∷ tokens_all ts)) s ∙ ap (λ z. tokens t ++ z) (append_assoc (tokens t') (o ∷ tokens_all ts) s) in
+    let p : same (second (past is_bracket (rest u))) kinds.OpenParen ≡ false = ap (λ z. same (second z) kinds.OpenParen) (type_past t v r ∙ name_past r n) ∙ decls_second t' v' (o ∷ (tokens_all ts ++ s)) e in
+    let q : same (front u) kinds.Void ≡ false = is_false (same (front u) kinds.Void) (type_is_no_void (front u) (starts sorts.Type t v r)) in
+    let m : (same (front u) kinds.Void || same (second (past is_bracket (rest u))) kinds.OpenParen) ≡ false = neither (same (front u) kinds.Void) (same (second (past is_bracket (rest u))) kinds.OpenParen) q p in
+    subst (λ z. (if is_name (front z) && same (second z) kinds.OpenParen then name ∷ Part sorts.Params ∷ Parts (rows.Maybe sorts.Throws) ∷ a kinds.OpenBrace ∷ Parts rows.OwnCall ∷ Parts (rows.Any sorts.Local) ∷ a kinds.CloseBrace ∷ [] else (if same (front z) kinds.Void || same (second (past is_bracket (rest z))) kinds.OpenParen then Part sorts.Result ∷ name ∷ Part sorts.Params ∷ Parts (rows.Maybe sorts.Throws) ∷ Parts rows.MethodBody ∷ [] else Part sorts.Type ∷ Part sorts.Decls ∷ a kinds.Semicolon ∷ [])) ≡ Part sorts.Type ∷ Part sorts.Decls ∷ a kinds.Semicolon ∷ [])
+    (sym same_tokens)
+    (no (is_name (front u) && same (second u) kinds.OpenParen) _ _ (not_both (is_name (front u)) (same (second u) kinds.OpenParen) (λ b. type_second t v r n))
+    ∙ no (same (front u) kinds.Void || same (second (past is_bracket (rest u))) kinds.OpenParen) _ _ (is_not (same (front u) kinds.Void || same (second (past is_bracket (rest u))) kinds.OpenParen) m))
