@@ -1,7 +1,10 @@
+pub mod Indexed
+pub mod Supertypes
+pub mod Counts
 pub mod Views
-pub mod Runs
-pub mod Equations
-pub mod Wrapped
-pub mod MoreSteps
-pub mod Limit
-mod Examples
+pub mod Found
+pub mod Numbered
+pub mod Builtins
+pub mod Taking
+pub mod Closing
+pub mod Ranges

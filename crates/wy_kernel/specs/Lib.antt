@@ -1,4 +1,10 @@
-pub mod Kernel
-pub mod Operations
-pub mod Meaning
-pub mod Laws
+pub mod Form
+pub mod Program
+pub mod View
+pub mod Statements
+pub mod Parts
+pub mod Subtyping
+pub mod Builtin
+pub mod Table
+pub mod ClassTable
+pub mod Rows

@@ -1,7 +1,15 @@
-//! The kernel forms: the small core that a Java program is elaborated to, and what a run of it is.
-//! Nothing here reads a text or writes one.
+//! The kernel forms: the core that a Java program is elaborated to, its types, and a program of them by its numbered parts.
+//! Nothing here reads a text or runs a program.
 #![tactic(auto)]
 
+pub mod builtin;
+pub mod closure;
 pub mod form;
-pub mod laws;
 pub mod operator;
+pub mod program;
+pub mod range;
+mod search;
+pub mod table;
+#[cfg(test)]
+mod tests;
+pub mod types;

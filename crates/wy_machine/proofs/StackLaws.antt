@@ -6,19 +6,19 @@ use Rattle.std.specs.declared.boxed.Box.{Box}
 use Rattle.std.specs.declared.vec.Vec.{Vec}
 use Rattle.std.specs.declared.alloc.Global.{Global}
 use Rattle.wy_kernel.specs.declared.operator.BinOp.{BinOp}
-use Rattle.wy_kernel.specs.declared.form.Const.{Const}
-use Rattle.wy_kernel.specs.declared.form.Place.{Place}
-use Rattle.wy_kernel.specs.declared.form.Expr.{Expr}
-use Rattle.wy_kernel.specs.declared.form.Expr.TheVariants as form
-use Rattle.wy_kernel.specs.declared.form.Stmt.{Stmt}
-use Rattle.wy_kernel.specs.declared.form.Stmt.TheVariants as stmt_form
-use Rattle.wy_kernel.specs.declared.form.Program.{Program}
-use Rattle.wy_kernel.specs.Kernel.{expression, statement, statements, whole}
-use Rattle.wy_kernel.specs.Operations.{default_value}
-use Rattle.wy_kernel.specs.Meaning.{State, StepLimit, Outcome, Done, Stopped, go_on, return, read, assign, print_line, value_at, with_value, text_of, is_true, eval, exec, program, start}
-use Rattle.wy_kernel.proofs.Views.{view_const, view_read, view_set, view_bin, view_block, view_eval, view_if, view_if_else, view_while, view_print}
-use Rattle.wy_kernel.proofs.Runs.{go_on-go_on, taken, loop_goes, eval_spends, exec_spends, spends_keeps}
-use Rattle.wy_kernel.proofs.Equations.{eval_stops, exec_stops, eval-constant, eval-read, eval-set, eval-binary, exec-block, exec-eval, exec-if, exec-if_else, exec-while, exec-print, exec_all-none, exec_all-more}
+use Rattle.wy_smallforms.specs.declared.form.Const.{Const}
+use Rattle.wy_smallforms.specs.declared.form.Place.{Place}
+use Rattle.wy_smallforms.specs.declared.form.Expr.{Expr}
+use Rattle.wy_smallforms.specs.declared.form.Expr.TheVariants as form
+use Rattle.wy_smallforms.specs.declared.form.Stmt.{Stmt}
+use Rattle.wy_smallforms.specs.declared.form.Stmt.TheVariants as stmt_form
+use Rattle.wy_smallforms.specs.declared.form.Program.{Program}
+use Rattle.wy_smallforms.specs.Kernel.{expression, statement, statements, whole}
+use Rattle.wy_smallforms.specs.Operations.{default_value}
+use Rattle.wy_smallforms.specs.Meaning.{State, StepLimit, Outcome, Done, Stopped, go_on, return, read, assign, print_line, value_at, with_value, text_of, is_true, eval, exec, program, start}
+use Rattle.wy_smallforms.proofs.Views.{view_const, view_read, view_set, view_bin, view_block, view_eval, view_if, view_if_else, view_while, view_print}
+use Rattle.wy_smallforms.proofs.Runs.{go_on-go_on, taken, loop_goes, eval_spends, exec_spends, spends_keeps}
+use Rattle.wy_smallforms.proofs.Equations.{eval_stops, exec_stops, eval-constant, eval-read, eval-set, eval-binary, exec-block, exec-eval, exec-if, exec-if_else, exec-while, exec-print, exec_all-none, exec_all-more}
 use Rattle.wy_machine.specs.declared.frame.Frame.{Frame}
 use Rattle.wy_machine.specs.declared.frame.Frame.TheVariants.{Do, DoAll, Find, Apply, Store, Forget, Choose, Turn, Decide, Show}
 use Rattle.wy_machine.specs.declared.machine.Machine.{Machine}

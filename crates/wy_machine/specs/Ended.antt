@@ -1,5 +1,5 @@
 -- An ending as the definition has it.
-use Rattle.wy_kernel.specs.Meaning.{Ending}
+use Rattle.wy_smallforms.specs.Meaning.{Ending}
 use Rattle.wy_machine.specs.declared.Ended.{Ended}
 
 abbrev pub ending_of : Ended → Ending

@@ -3,11 +3,11 @@ use Rattle.std.specs.Prelude.{ℕ, ◌+◌, ◌*◌, vec_len, Bool, true, false,
 use Rattle.std.specs.Borrow.{Bor}
 use Rattle.std.specs.declared.vec.Vec.{Vec}
 use Rattle.std.specs.declared.alloc.Global.{Global}
-use Rattle.wy_kernel.specs.declared.form.Const.{Const}
-use Rattle.wy_kernel.specs.declared.form.Stmt.{Stmt}
-use Rattle.wy_kernel.specs.Kernel.{expression, statement, statements}
-use Rattle.wy_kernel.specs.Operations.{default_value, result_of}
-use Rattle.wy_kernel.specs.Meaning.{State, StepLimit, Outcome, Stopped, Run, ◌>>=◌, ◌>>◌, return, assign, print_line, is_true, eval, loop_of, exec, exec_all}
+use Rattle.wy_smallforms.specs.declared.form.Const.{Const}
+use Rattle.wy_smallforms.specs.declared.form.Stmt.{Stmt}
+use Rattle.wy_smallforms.specs.Kernel.{expression, statement, statements}
+use Rattle.wy_smallforms.specs.Operations.{default_value, result_of}
+use Rattle.wy_smallforms.specs.Meaning.{State, StepLimit, Outcome, Stopped, Run, ◌>>=◌, ◌>>◌, return, assign, print_line, is_true, eval, loop_of, exec, exec_all}
 use Rattle.wy_machine.specs.declared.frame.Frame.{Frame}
 use Rattle.wy_machine.specs.declared.frame.Frame.TheVariants.{Do, DoAll, Find, Apply, Store, Forget, Choose, Turn, Decide, Show}
 use Rattle.wy_machine.specs.declared.machine.Machine.{Machine}

@@ -1,10 +1,10 @@
 //! The operators on values (JLS 15.17, 15.18, 15.20, 15.21).
 
 ghost use Rattle.std.specs.Prelude.{◌≡◌};
-ghost use Rattle.wy_kernel.specs.Operations.{int_result, result_of};
+ghost use Rattle.wy_smallforms.specs.Operations.{int_result, result_of};
 
-use wy_kernel::form::Const;
 use wy_kernel::operator::BinOp;
+use wy_smallforms::form::Const;
 
 fn apply_to_ints(op: BinOp, left: i32, right: i32) -> Const
     ensures { result ≡ int_result op left right }

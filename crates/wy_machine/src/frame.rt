@@ -1,8 +1,8 @@
 //! What a run has left to do, in pieces that refer to the program.
 //! A piece that needs values finds them on the stack of values.
 
-use wy_kernel::form::{Expr, Place, Stmt};
 use wy_kernel::operator::BinOp;
+use wy_smallforms::form::{Expr, Place, Stmt};
 
 /// One piece of what is left to do.
 #[derive(Drop)]

@@ -1,10 +1,10 @@
 //! Runs a program of kernel forms. Nothing here reads a text, and nothing is elaborated.
-//! What a run is stands in `wy_kernel`; here a machine with stacks of its own does it.
+//! What a run is stands in `wy_smallforms`; here a machine with stacks of its own does it.
 #![tactic(auto)]
 
 ghost use Rattle.std.specs.Prelude.{◌≡◌, IfOk};
-ghost use Rattle.wy_kernel.specs.Kernel.{whole};
-ghost use Rattle.wy_kernel.specs.Meaning.{run_of};
+ghost use Rattle.wy_smallforms.specs.Kernel.{whole};
+ghost use Rattle.wy_smallforms.specs.Meaning.{run_of};
 ghost use Rattle.wy_machine.specs.Ended.{ending_of};
 
 mod apply;
@@ -17,7 +17,7 @@ mod tests;
 use frame::Frame;
 use machine::Machine;
 use std::alloc::{AllocError, Global};
-use wy_kernel::form::{Const, Program};
+use wy_smallforms::form::{Const, Program};
 
 /// How a run ended.
 #[derive(Drop)]

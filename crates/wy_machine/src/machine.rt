@@ -3,7 +3,7 @@
 
 ghost use Rattle.std.specs.Prelude.{◌≡◌, ◌<◌, ◌≤◌, ◌+◌, ◌∷◌, IfOk, OnOk, IsTrue};
 ghost use Rattle.std.specs.Option.{option_map};
-ghost use Rattle.wy_kernel.specs.Meaning.{is_true, value_at, with_value};
+ghost use Rattle.wy_smallforms.specs.Meaning.{is_true, value_at, with_value};
 ghost use Rattle.wy_machine.specs.declared.frame.Frame.TheVariants.{Choose, Decide, Do, DoAll, Find, Turn};
 ghost use Rattle.wy_machine.specs.Stack.{measure_of, outcome_of, outcome_with, stack_of, top, under};
 
@@ -11,7 +11,7 @@ use crate::apply::apply;
 use crate::frame::Frame;
 use crate::print::print_line;
 use std::alloc::AllocError;
-use wy_kernel::form::{Const, Expr, Place, Stmt};
+use wy_smallforms::form::{Const, Expr, Place, Stmt};
 
 #[derive(Drop)]
 pub struct Machine<'a> {

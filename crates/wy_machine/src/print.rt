@@ -1,11 +1,11 @@
 //! A value as text (JLS 15.18.1.1).
 
 ghost use Rattle.std.specs.Prelude.{◌≡◌, ◌++◌, ◌∷◌, [], OnOk};
-ghost use Rattle.wy_kernel.specs.Meaning.{text_of};
+ghost use Rattle.wy_smallforms.specs.Meaning.{text_of};
 
 use itoa::Buffer;
 use std::alloc::AllocError;
-use wy_kernel::form::Const;
+use wy_smallforms::form::Const;
 
 /// Appends the value's text and a line feed.
 pub fn print_line(output: &mut Vec<u8>, value: Const) -> Result<(), AllocError>

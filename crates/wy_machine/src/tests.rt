@@ -2,8 +2,8 @@
 
 use super::*;
 use std::test::Fail;
-use wy_kernel::form::{Body, Expr, Place, Stmt};
 use wy_kernel::operator::BinOp;
+use wy_smallforms::form::{Body, Expr, Place, Stmt};
 
 fn number(value: i32) -> Expr {
     Expr::Const {

@@ -1,6 +1,6 @@
 use Rattle.std.proofs.Common.{◌≡◌, ◌∙◌, refl, ap, length, rules, arith}
-use Rattle.wy_kernel.specs.Kernel.{whole}
-use Rattle.wy_kernel.specs.Meaning.{Stopped, StepLimit, program, start, ending, run_of}
+use Rattle.wy_smallforms.specs.Kernel.{whole}
+use Rattle.wy_smallforms.specs.Meaning.{Stopped, StepLimit, program, start, ending, run_of}
 use Rattle.wy_machine.specs.Stack.{outcome_of, state_of, stack_of}
 use Rattle.wy_machine.proofs.StackLaws.{popped, it_begins, it_ends}
 use Rattle.wy_machine.proofs.run.Goals as goal

@@ -1,6 +1,6 @@
 use Rattle.std.proofs.Common.{◌≡◌, ◌≤◌}
-use Rattle.wy_kernel.specs.Kernel.{whole}
-use Rattle.wy_kernel.specs.Meaning.{program, start}
+use Rattle.wy_smallforms.specs.Kernel.{whole}
+use Rattle.wy_smallforms.specs.Meaning.{program, start}
 use Rattle.wy_machine.specs.Stack.{after, stack_of, state_of, measure_of}
 use Rattle.wy_machine.proofs.run.Given as goal
 

@@ -1,6 +1,6 @@
 use Rattle.std.proofs.Common.{ap, w32}
 use Rattle.std.proofs.lemmas.Int.{wrapping_add_is, wrapping_sub_is}
-use Rattle.wy_kernel.specs.declared.form.Const.TheVariants.{Int as Number}
+use Rattle.wy_smallforms.specs.declared.form.Const.TheVariants.{Int as Number}
 use Rattle.wy_machine.proofs.apply.apply_to_ints.Goals as goal
 
 pub returns-in-Add : goal.returns-in-Add

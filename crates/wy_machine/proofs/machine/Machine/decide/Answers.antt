@@ -1,5 +1,5 @@
 use Rattle.wy_machine.specs.Stack.{stack_of, state_of}
-use Rattle.wy_kernel.specs.Meaning.{is_true}
+use Rattle.wy_smallforms.specs.Meaning.{is_true}
 use Rattle.std.proofs.Common.{◌∙◌, ap}
 use Rattle.wy_machine.proofs.StackLaws.{carry, the_body_goes}
 use Rattle.wy_machine.proofs.machine.Machine.decide.Goals as goal

@@ -1,5 +1,5 @@
 use Rattle.std.proofs.Common.{◌∙◌, ap}
-use Rattle.wy_kernel.specs.Meaning.{value_at}
+use Rattle.wy_smallforms.specs.Meaning.{value_at}
 use Rattle.wy_machine.specs.Stack.{stack_of, state_of}
 use Rattle.wy_machine.proofs.StackLaws.{find_stops, const_starts, read_starts, set_starts, bin_starts}
 use Rattle.wy_machine.proofs.machine.Machine.find.Goals as goal

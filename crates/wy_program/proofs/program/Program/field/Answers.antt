@@ -1,8 +1,0 @@
-use Rattle.wy_forms.specs.Program.{field}
-use Rattle.wy_program.specs.View.{field_of}
-use Rattle.wy_program.proofs.Indexed.{indexed}
-use Rattle.wy_program.proofs.program.Program.field.Goals as goal
-
-pub returns : goal.returns
-unfolding field
-returns c = indexed field_of c.args.self.now.fields.items c.args.n _ c.index.result.now c.requires c.index.ensures

@@ -1,0 +1,4 @@
+pub mod Kernel
+pub mod Operations
+pub mod Meaning
+pub mod Laws
