@@ -7,8 +7,9 @@ use Rattle.wy_event.specs.declared.record.Use.{Use}
 use Rattle.wy_event.specs.declared.record.Use.TheVariants.{Place, Value, Choice}
 use Rattle.wy_event.specs.Numbers.{only, union, union_of}
 use Rattle.wy_event.specs.Record.{Recorded}
-use Rattle.wy_event.specs.Sources.{Owners, Data, Control, Source, writes, creates, is_so, or_else, written, creation, last_write, with_role, use_source, use_sources, event_sources, sources_of, sources, is_data, source_events, closure_within}
-use Rattle.wy_backward.proofs.Sets.{union_of-append, union_of_below, filter_all_below, AllBelow, AllBelow-append, AllBelow_up}
+use Rattle.wy_event.specs.Sources.{Owners, Data, Control, Source, writes, creates, is_so, or_else, written, creation, last_write, with_role, use_source, use_sources, event_sources, sources_of, sources, is_data, source_events, closure_within, closure, data_closure}
+use Rattle.wy_backward.proofs.Sets.{union_of-append, union_of_below, filter_all_below, AllBelow-append, AllBelow_up}
+use Rattle.wy_backward.specs.Agreement.{IsPast, ArePast, AllBelow}
 
 -- the events that an event's uses come from
 abbrev pub used_events : Owners → Bool → List Recorded → List Use → List ℕ
@@ -58,16 +59,6 @@ module _ (owner : Owners) (records : List Recorded) where
   pub last_write_below : (x : Slot) (m : ℕ) → AllBelow m (option_to_list (last_write owner records x m))
   unfolding last_write
   last_write_below x m = or_else_below m _ _ (written_below x m) (creation_below x m)
-
-  -- the moments of the uses are no later than n, and the events before it
-  abbrev pub IsPast : ℕ → Use → Type 0
-  IsPast n (Place x m) = m ≤ n
-  IsPast n (Value e) = e < n
-  IsPast n (Choice e) = e < n
-
-  abbrev pub ArePast : ℕ → List Use → Type 0
-  ArePast n [] = Unit {0}
-  ArePast n (u ∷ us) = IsPast n u × ArePast n us
 
   pub IsPast_up : (m n : ℕ) (u : Use) → m ≤ n → IsPast m u → IsPast n u
   IsPast_up m n (Place x k) le h = omega (arith, h)
@@ -164,12 +155,14 @@ module _ (owner : Owners) (records : List Recorded) where
   all_events_are e = source_events-append true (use_sources owner records e.uses) (with_role Control e.control) ∙ ap (λ l. used_events owner true records e.uses ++ l) (control_all e.control)
 
   -- the closure by data of an event whose uses are past
-  pub data_closure_at : (n : ℕ) (e : Recorded) → slice_get records n ≡ Some e → ArePast n e.uses → closure_of owner false records n ≡ union (only n) (union_of (closure_of owner false records) (used_events owner false records e.uses))
+  pub data_closure_at : (n : ℕ) (e : Recorded) → slice_get records n ≡ Some e → ArePast n e.uses → data_closure owner records n ≡ union (only n) (union_of (data_closure owner records) (used_events owner false records e.uses))
+  unfolding data_closure
   data_closure_at n e is past =
       at_event false n e is (rw (data_events_are e) (used_below false n e.uses past)) ∙ ap (λ ws. union (only n) (union_of (closure_of owner false records) ws)) (data_events_are e)
 
   -- the closure of an event whose uses and control parent are past
-  pub full_closure_at : (n : ℕ) (e : Recorded) → slice_get records n ≡ Some e → ArePast n e.uses → AllBelow n (option_to_list e.control) → closure_of owner true records n ≡ union (only n) (union (union_of (closure_of owner true records) (used_events owner true records e.uses)) (union_of (closure_of owner true records) (option_to_list e.control)))
+  pub full_closure_at : (n : ℕ) (e : Recorded) → slice_get records n ≡ Some e → ArePast n e.uses → AllBelow n (option_to_list e.control) → closure owner records n ≡ union (only n) (union (union_of (closure owner records) (used_events owner true records e.uses)) (union_of (closure owner records) (option_to_list e.control)))
+  unfolding closure
   full_closure_at n e is past under =
       at_event true n e is (rw (all_events_are e) (AllBelow-append n _ _ (used_below true n e.uses past) under))
       ∙ ap (λ ws. union (only n) (union_of (closure_of owner true records) ws)) (all_events_are e)

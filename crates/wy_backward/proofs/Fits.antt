@@ -2,25 +2,21 @@
 use Rattle.std.proofs.Common.{◌≡◌, ℕ, suc, Bool, true, false, ◌&&◌, ◌<◌, ◌≤◌, List, [], ◌∷◌, length, Option, Some, refl, sym, ap, ap₂, ◌∙◌, subst, arith}
 use Rattle.std.specs.Prelude.{None as Absent}
 use Rattle.std.specs.Prelude.{option_to_list, slice_get, if◌then◌else◌}
-use Rattle.wy_forms.specs.Program.{Program}
+use Rattle.wy_kernel.specs.Program.{Program}
 use Rattle.wy_event.specs.declared.record.Kind.{Kind}
 use Rattle.wy_event.specs.declared.record.Kind.TheVariants as kind
 use Rattle.wy_event.specs.declared.record.Slot.{Slot}
 use Rattle.wy_event.specs.Numbers.{Numbers, only, union, union_of}
 use Rattle.wy_event.specs.Record.{Recorded, same_slot}
-use Rattle.wy_event.specs.Sources.{Owners, is_write, writes, creates_as, creates, or_else, last_write}
+use Rattle.wy_event.specs.Sources.{Owners, is_write, writes, creates_as, creates, or_else, last_write, closure, data_closure}
 use Rattle.wy_steps.specs.Sets.{numbers}
-use Rattle.wy_steps.specs.State.{Carried, Held, Store, Noted, Active, State}
+use Rattle.wy_steps.specs.State.{Carried, Held, Active, State}
 use Rattle.wy_steps.specs.Steps.{Made, Draft, parent, control_set, next_event, made, with_event, held_by, slot_with, with_stored, default_in, owner_in, if_empty, with_created, no_value, held_of, outlasting, ends_with}
-use Rattle.wy_backward.proofs.Sets.{union_none, union_assoc, union_absorbed, union_again, union_of_one, AllBelow}
-use Rattle.wy_backward.proofs.Closures.{used_events, closure_of, ArePast, data_closure_at, full_closure_at, or_else_absent, last_write_written, last_write_kept}
+use Rattle.wy_backward.proofs.Sets.{union_none, union_assoc, union_absorbed, union_again, union_of_one}
+use Rattle.wy_backward.specs.Agreement.{ArePast, AllBelow, SlotAgrees, EventsAgree, Absorbs, EntriesAgree, Agrees, IsByUses}
+use Rattle.wy_backward.proofs.Closures.{data_closure_at, full_closure_at, or_else_absent, last_write_written, last_write_kept}
 
 -- ---- active entries
-
--- an entry comes from all that an older one comes from
-abbrev pub Absorbs : Numbers → List (Active numbers) → Type 0
-Absorbs a [] = Unit {0}
-Absorbs a (b ∷ rest) = (union a b.from_all ≡ a) × Absorbs a rest
 
 absorbs_control : (a : Numbers) (rest : List (Active numbers)) → Absorbs a rest → union a (control_set rest) ≡ a
 unfolding control_set
@@ -37,87 +33,51 @@ absorbs_all a (b ∷ rest) e = (
 )
 
 module _ (owner : Owners) (records : List Recorded) where
-  -- the events so far, the newest first, are the first of the records
-  abbrev pub IsFront : List (Noted numbers) → Type 0
-  IsFront [] = Unit {0}
-  IsFront (e ∷ rest) = (slice_get records (length rest) ≡ Some e.event) × IsFront rest
-
   -- a value comes from what its uses come from
   pub record Fits (v : Carried numbers) (n : ℕ) : Type 0 where
-    pub by_data : v.from_data ≡ union_of (closure_of owner false records) (used_events owner false records v.uses)
-    pub by_all : v.from_all ≡ union_of (closure_of owner true records) (used_events owner true records v.uses)
-    pub past : ArePast owner records n v.uses
+    pub sets : IsByUses owner records v
+    pub past : ArePast n v.uses
 
   -- an event that was made comes from its closures
   pub record MadeFits (e : Made numbers) (n : ℕ) : Type 0 where
     pub before : e.number < n
-    pub by_data : e.from_data ≡ closure_of owner false records e.number
-    pub by_all : e.from_all ≡ closure_of owner true records e.number
+    pub by_data : e.from_data ≡ data_closure owner records e.number
+    pub by_all : e.from_all ≡ closure owner records e.number
 
-  -- what is in a slot comes from its last write, and a slot without one is empty
-  abbrev pub SlotFits : Option (Held numbers) → Option ℕ → Type 0
-  SlotFits Absent Absent = Unit {0}
-  SlotFits Absent (Some n) = ⊥
-  SlotFits (Some h) Absent = ⊥
-  SlotFits (Some h) (Some n) = (h.from_data ≡ closure_of owner false records n) × (h.from_all ≡ closure_of owner true records n)
-
-  pub held_data : (o : Option (Held numbers)) (w : Option ℕ) → SlotFits o w → (held_of o).from_data ≡ union_of (closure_of owner false records) (option_to_list w)
+  pub held_data : (o : Option (Held numbers)) (w : Option ℕ) → SlotAgrees owner records o w → (held_of o).from_data ≡ union_of (data_closure owner records) (option_to_list w)
   unfolding held_of union_of
   held_data Absent Absent h = refl
   held_data Absent (Some n) h = absurd h
   held_data (Some s) Absent h = absurd h
-  held_data (Some s) (Some n) h = h.0 ∙ sym (union_of_one (closure_of owner false records) n)
+  held_data (Some s) (Some n) h = h.0 ∙ sym (union_of_one (data_closure owner records) n)
 
-  pub held_all : (o : Option (Held numbers)) (w : Option ℕ) → SlotFits o w → (held_of o).from_all ≡ union_of (closure_of owner true records) (option_to_list w)
+  pub held_all : (o : Option (Held numbers)) (w : Option ℕ) → SlotAgrees owner records o w → (held_of o).from_all ≡ union_of (closure owner records) (option_to_list w)
   unfolding held_of union_of
   held_all Absent Absent h = refl
   held_all Absent (Some n) h = absurd h
   held_all (Some s) Absent h = absurd h
-  held_all (Some s) (Some n) h = h.1 ∙ sym (union_of_one (closure_of owner true records) n)
+  held_all (Some s) (Some n) h = h.1 ∙ sym (union_of_one (closure owner records) n)
 
-  pub no_value_fits : (o : Option (Held numbers)) (w : Option ℕ) → SlotFits o w → SlotFits (no_value o) w
+  pub no_value_fits : (o : Option (Held numbers)) (w : Option ℕ) → SlotAgrees owner records o w → SlotAgrees owner records (no_value o) w
   unfolding no_value
   no_value_fits Absent w h = h
   no_value_fits (Some s) Absent h = absurd h
   no_value_fits (Some s) (Some n) h = h
 
-  -- the store as it is with so many events
-  abbrev pub StoreFits : Store numbers → ℕ → Type 0
-  StoreFits store n = (x : Slot) → SlotFits (store x) (last_write owner records x n)
+  pub EntriesAgree_up : (m n : ℕ) (entries : List (Active numbers)) → m ≤ n → EntriesAgree owner records m entries → EntriesAgree owner records n entries
+  EntriesAgree_up m n [] le h = tt
+  EntriesAgree_up m n (a ∷ rest) le h = (omega (arith, h.0), h.1, h.2, EntriesAgree_up m n rest le h.3)
 
-  -- the uses and the control parent of event n are below it
-  abbrev pub IsBehind : ℕ → Recorded → Type 0
-  IsBehind n e = record { uses : ArePast owner records n e.uses; control : AllBelow n (option_to_list e.control) }
-
-  -- backward equals forward, for each event so far and for the store just before it
-  abbrev pub NotedFit : List (Noted numbers) → Type 0
-  NotedFit [] = Unit {0}
-  NotedFit (e ∷ rest) = (e.from_data ≡ closure_of owner false records (length rest)) × (e.from_all ≡ closure_of owner true records (length rest)) × StoreFits e.before (length rest) × IsBehind (length rest) e.event × NotedFit rest
-
-  -- each active entry comes from its closure, and from all that the older ones come from
-  abbrev pub ActiveFit : ℕ → List (Active numbers) → Type 0
-  ActiveFit n [] = Unit {0}
-  ActiveFit n (a ∷ rest) = (a.number < n) × (a.from_all ≡ closure_of owner true records a.number) × Absorbs a.from_all rest × ActiveFit n rest
-
-  pub record Inv (s : State numbers) : Type 0 where
-    pub store : StoreFits s.store (length s.noted)
-    pub noted : NotedFit s.noted
-    pub active : ActiveFit (length s.noted) s.active
-
-  pub ActiveFit_up : (m n : ℕ) (entries : List (Active numbers)) → m ≤ n → ActiveFit m entries → ActiveFit n entries
-  ActiveFit_up m n [] le h = tt
-  ActiveFit_up m n (a ∷ rest) le h = (omega (arith, h.0), h.1, h.2, ActiveFit_up m n rest le h.3)
-
-  parent_below : (n : ℕ) (entries : List (Active numbers)) → ActiveFit n entries → AllBelow n (option_to_list (parent entries))
+  parent_below : (n : ℕ) (entries : List (Active numbers)) → EntriesAgree owner records n entries → AllBelow n (option_to_list (parent entries))
   unfolding parent
   parent_below n [] h = tt
   parent_below n (a ∷ rest) h = (h.0, tt)
 
   -- the greatest active entry stands for all of them
-  control_set_is : (n : ℕ) (entries : List (Active numbers)) → ActiveFit n entries → control_set entries ≡ union_of (closure_of owner true records) (option_to_list (parent entries))
+  control_set_is : (n : ℕ) (entries : List (Active numbers)) → EntriesAgree owner records n entries → control_set entries ≡ union_of (closure owner records) (option_to_list (parent entries))
   unfolding parent control_set union_of
   control_set_is n [] h = refl
-  control_set_is n (a ∷ rest) h = absorbs_control a.from_all rest h.2 ∙ h.1 ∙ sym (union_none (closure_of owner true records a.number))
+  control_set_is n (a ∷ rest) h = absorbs_control a.from_all rest h.2 ∙ h.1 ∙ sym (union_none (closure owner records a.number))
 
   absorbs_outlasting : (f : Option ℕ) (k : ℕ) (a : Numbers) (rest : List (Active numbers)) → Absorbs a rest → Absorbs a (outlasting f k rest)
   unfolding outlasting
@@ -128,28 +88,28 @@ module _ (owner : Owners) (records : List Recorded) where
       go true r = r
       go false r = (h.0, r)
 
-  pub active_outlasting : (f : Option ℕ) (k n : ℕ) (entries : List (Active numbers)) → ActiveFit n entries → ActiveFit n (outlasting f k entries)
+  pub active_outlasting : (f : Option ℕ) (k n : ℕ) (entries : List (Active numbers)) → EntriesAgree owner records n entries → EntriesAgree owner records n (outlasting f k entries)
   unfolding outlasting
   active_outlasting f k n [] h = tt
   active_outlasting f k n (a ∷ rest) h = go (ends_with f k a.reach) (active_outlasting f k n rest h.3)
     where
-      go : (c : Bool) → ActiveFit n (outlasting f k rest) → ActiveFit n (if c then outlasting f k rest else a ∷ outlasting f k rest)
+      go : (c : Bool) → EntriesAgree owner records n (outlasting f k rest) → EntriesAgree owner records n (if c then outlasting f k rest else a ∷ outlasting f k rest)
       go true r = r
       go false r = (h.0, h.1, absorbs_outlasting f k a.from_all rest h.2, r)
 
   -- ---- the next event
 
-  event_by_data : (d : Draft) (c : Carried numbers) (s : State numbers) → slice_get records (length s.noted) ≡ Some (next_event d c s).event → Fits c (length s.noted) → (next_event d c s).from_data ≡ closure_of owner false records (length s.noted)
+  event_by_data : (d : Draft) (c : Carried numbers) (s : State numbers) → slice_get records (length s.noted) ≡ Some (next_event d c s).event → Fits c (length s.noted) → (next_event d c s).from_data ≡ data_closure owner records (length s.noted)
   unfolding next_event
   event_by_data d c s is fits =
-      ap (union (only (length s.noted))) fits.by_data ∙ sym (data_closure_at owner records (length s.noted) _ is fits.past)
+      ap (union (only (length s.noted))) fits.sets.0 ∙ sym (data_closure_at owner records (length s.noted) _ is fits.past)
 
-  event_by_all : (d : Draft) (c : Carried numbers) (s : State numbers) → slice_get records (length s.noted) ≡ Some (next_event d c s).event → Inv s → Fits c (length s.noted) → (next_event d c s).from_all ≡ closure_of owner true records (length s.noted)
+  event_by_all : (d : Draft) (c : Carried numbers) (s : State numbers) → slice_get records (length s.noted) ≡ Some (next_event d c s).event → Agrees owner records s → Fits c (length s.noted) → (next_event d c s).from_all ≡ closure owner records (length s.noted)
   unfolding next_event
   event_by_all d c s is inv fits =
-      ap (union (only (length s.noted))) (ap₂ union fits.by_all (control_set_is (length s.noted) s.active inv.active)) ∙ sym (full_closure_at owner records (length s.noted) _ is fits.past (parent_below (length s.noted) s.active inv.active))
+      ap (union (only (length s.noted))) (ap₂ union fits.sets.1 (control_set_is (length s.noted) s.active inv.active)) ∙ sym (full_closure_at owner records (length s.noted) _ is fits.past (parent_below (length s.noted) s.active inv.active))
 
-  pub made_fits : (d : Draft) (c : Carried numbers) (s : State numbers) → slice_get records (length s.noted) ≡ Some (next_event d c s).event → Inv s → Fits c (length s.noted) → MadeFits (made (next_event d c s) s) (suc (length s.noted))
+  pub made_fits : (d : Draft) (c : Carried numbers) (s : State numbers) → slice_get records (length s.noted) ≡ Some (next_event d c s).event → Agrees owner records s → Fits c (length s.noted) → MadeFits (made (next_event d c s) s) (suc (length s.noted))
   unfolding made
   made_fits d c s is inv fits = record { before = omega arith; by_data = event_by_data d c s is fits; by_all = event_by_all d c s is inv fits }
 
@@ -185,7 +145,7 @@ module _ (owner : Owners) (records : List Recorded) where
   quiet_creates kind.Catch n what x q = absurd q
   quiet_creates _ n what x q = refl
 
-  noted_more : (d : Draft) (c : Carried numbers) (s : State numbers) → slice_get records (length s.noted) ≡ Some (next_event d c s).event → Inv s → Fits c (length s.noted) → NotedFit (next_event d c s ∷ s.noted)
+  noted_more : (d : Draft) (c : Carried numbers) (s : State numbers) → slice_get records (length s.noted) ≡ Some (next_event d c s).event → Agrees owner records s → Fits c (length s.noted) → EventsAgree owner records (next_event d c s ∷ s.noted)
   unfolding next_event
   noted_more d c s is inv fits = (event_by_data d c s is fits, event_by_all d c s is inv fits, inv.store, record { uses = fits.past; control = parent_below (length s.noted) s.active inv.active }, inv.noted)
 
@@ -197,13 +157,13 @@ module _ (owner : Owners) (records : List Recorded) where
       ∙ or_else_absent owner records (last_write owner records x (length s.noted))
 
   -- an event that neither writes nor creates
-  pub inv_noted : (d : Draft) (c : Carried numbers) (s : State numbers) → IsQuiet d.kind → slice_get records (length s.noted) ≡ Some (next_event d c s).event → Inv s → Fits c (length s.noted) → Inv (with_event (next_event d c s) s)
+  pub inv_noted : (d : Draft) (c : Carried numbers) (s : State numbers) → IsQuiet d.kind → slice_get records (length s.noted) ≡ Some (next_event d c s).event → Agrees owner records s → Fits c (length s.noted) → Agrees owner records (with_event (next_event d c s) s)
   unfolding with_event
   inv_noted d c s q is inv fits =
       record {
-        store = λ x. subst (λ w. SlotFits (s.store x) w) (sym (quiet_last d c s q is x)) (inv.store x);
+        store = λ x. subst (λ w. SlotAgrees owner records (s.store x) w) (sym (quiet_last d c s q is x)) (inv.store x);
         noted = noted_more d c s is inv fits;
-        active = ActiveFit_up (length s.noted) (suc (length s.noted)) s.active (omega arith) inv.active;
+        active = EntriesAgree_up (length s.noted) (suc (length s.noted)) s.active (omega arith) inv.active;
       }
 
   -- ---- writes
@@ -239,18 +199,18 @@ module _ (owner : Owners) (records : List Recorded) where
           ∙ ap (λ b. or_else (last_write owner records x (length s.noted)) (if b then Some (length s.noted) else Absent)) (writing_creates d.kind (length s.noted) d.what x q)
           ∙ or_else_absent owner records (last_write owner records x (length s.noted))
 
-  slot_fits : (b : Bool) (new : Held numbers) (old : Option (Held numbers)) (n : ℕ) (w : Option ℕ) → new.from_data ≡ closure_of owner false records n → new.from_all ≡ closure_of owner true records n → SlotFits old w → SlotFits (if b then Some new else old) (if b then Some n else w)
+  slot_fits : (b : Bool) (new : Held numbers) (old : Option (Held numbers)) (n : ℕ) (w : Option ℕ) → new.from_data ≡ data_closure owner records n → new.from_all ≡ closure owner records n → SlotAgrees owner records old w → SlotAgrees owner records (if b then Some new else old) (if b then Some n else w)
   slot_fits true new old n w data_is all_is before = (data_is, all_is)
   slot_fits false new old n w data_is all_is before = before
 
-  pub inv_written : (d : Draft) (c : Carried numbers) (s : State numbers) → IsWriting d.kind → slice_get records (length s.noted) ≡ Some (next_event d c s).event → Inv s → Fits c (length s.noted) → Inv (with_stored d.slot (held_by d.value (next_event d c s)) (with_event (next_event d c s) s))
+  pub inv_written : (d : Draft) (c : Carried numbers) (s : State numbers) → IsWriting d.kind → slice_get records (length s.noted) ≡ Some (next_event d c s).event → Agrees owner records s → Fits c (length s.noted) → Agrees owner records (with_stored d.slot (held_by d.value (next_event d c s)) (with_event (next_event d c s) s))
   unfolding with_event with_stored slot_with held_by
   inv_written d c s q is inv fits =
       record {
-        store = λ x. subst (λ w. SlotFits (slot_with d.slot (held_by d.value (next_event d c s)) s.store x) w) (sym (write_last d c s q is x))
+        store = λ x. subst (λ w. SlotAgrees owner records (slot_with d.slot (held_by d.value (next_event d c s)) s.store x) w) (sym (write_last d c s q is x))
             (slot_fits (same_slot x d.slot) (held_by d.value (next_event d c s)) (s.store x) (length s.noted) _ (event_by_data d c s is fits) (event_by_all d c s is inv fits) (inv.store x));
         noted = noted_more d c s is inv fits;
-        active = ActiveFit_up (length s.noted) (suc (length s.noted)) s.active (omega arith) inv.active;
+        active = EntriesAgree_up (length s.noted) (suc (length s.noted)) s.active (omega arith) inv.active;
       }
 
   -- ---- creations
@@ -266,7 +226,7 @@ module _ (owner : Owners) (records : List Recorded) where
   creating_writes kind.Init q = refl
   creating_writes _ q = absurd q
 
-  created_fits : (b : Bool) (new : Held numbers) (old : Option (Held numbers)) (n : ℕ) (w : Option ℕ) → new.from_data ≡ closure_of owner false records n → new.from_all ≡ closure_of owner true records n → SlotFits old w → SlotFits (if_empty old (if b then Some new else Absent)) (or_else w (if b then Some n else Absent))
+  created_fits : (b : Bool) (new : Held numbers) (old : Option (Held numbers)) (n : ℕ) (w : Option ℕ) → new.from_data ≡ data_closure owner records n → new.from_all ≡ closure owner records n → SlotAgrees owner records old w → SlotAgrees owner records (if_empty old (if b then Some new else Absent)) (or_else w (if b then Some n else Absent))
   unfolding if_empty or_else
   created_fits b new Absent n (Some k) data_is all_is before = absurd before
   created_fits b new (Some h) n Absent data_is all_is before = absurd before
@@ -275,13 +235,13 @@ module _ (owner : Owners) (records : List Recorded) where
   created_fits false new Absent n Absent data_is all_is before = tt
 
 module _ (p : Program) (records : List Recorded) where
-  pub inv_created : (d : Draft) (c : Carried numbers) (s : State numbers) → IsCreating (owner_in p) records d.kind → slice_get records (length s.noted) ≡ Some (next_event d c s).event → Inv (owner_in p) records s → Fits (owner_in p) records c (length s.noted) → Inv (owner_in p) records (with_created p (length s.noted) (next_event d c s) (with_event (next_event d c s) s))
+  pub inv_created : (d : Draft) (c : Carried numbers) (s : State numbers) → IsCreating (owner_in p) records d.kind → slice_get records (length s.noted) ≡ Some (next_event d c s).event → Agrees (owner_in p) records s → Fits (owner_in p) records c (length s.noted) → Agrees (owner_in p) records (with_created p (length s.noted) (next_event d c s) (with_event (next_event d c s) s))
   unfolding with_event with_created held_by writes next_event
   inv_created d c s q is inv fits =
       record {
-        store = λ x. subst (λ w. SlotFits (owner_in p) records (if_empty (s.store x) (if creates (owner_in p) (length s.noted) x (next_event d c s).event then Some (held_by (default_in p (next_event d c s).event x) (next_event d c s)) else Absent)) w)
+        store = λ x. subst (λ w. SlotAgrees (owner_in p) records (if_empty (s.store x) (if creates (owner_in p) (length s.noted) x (next_event d c s).event then Some (held_by (default_in p (next_event d c s).event x) (next_event d c s)) else Absent)) w)
             (sym (last_write_kept (owner_in p) records x (length s.noted) _ is (ap (λ b. b && same_slot x d.slot) (creating_writes (owner_in p) records d.kind q))))
             (created_fits (owner_in p) records (creates (owner_in p) (length s.noted) x (next_event d c s).event) (held_by (default_in p (next_event d c s).event x) (next_event d c s)) (s.store x) (length s.noted) (last_write (owner_in p) records x (length s.noted)) (event_by_data (owner_in p) records d c s is fits) (event_by_all (owner_in p) records d c s is inv fits) (inv.store x));
         noted = noted_more (owner_in p) records d c s is inv fits;
-        active = ActiveFit_up (owner_in p) records (length s.noted) (suc (length s.noted)) s.active (omega arith) inv.active;
+        active = EntriesAgree_up (owner_in p) records (length s.noted) (suc (length s.noted)) s.active (omega arith) inv.active;
       }

@@ -6,3 +6,4 @@ pub mod Forms
 pub mod Wholes
 pub mod Programs
 pub mod Theorem
+pub mod Values

@@ -1,21 +1,21 @@
 -- Every expression, every statement and every call keeps what the steps keep.
 use Rattle.std.proofs.Common.{◌≡◌, ℕ, zero, suc, Bool, true, false, List, [], ◌∷◌, Option, Some, refl, sym, subst}
 use Rattle.std.specs.Prelude.{None as Absent}
-use Rattle.wy_forms.specs.Program.{Program}
+use Rattle.wy_kernel.specs.Program.{Program}
 use Rattle.wy_event.specs.Record.{Recorded}
 use Rattle.wy_steps.specs.Sets.{numbers}
 use Rattle.wy_steps.specs.State.{Carried, Run, Around, Reason, Jumped, Returned, Threw, ◌>>◌, catching}
 use Rattle.wy_steps.specs.Steps.{owner_in, tick}
 use Rattle.wy_meaning.specs.World.{World}
 use Rattle.wy_backward.proofs.Rules.{Fact, nothing, Entails, newest, before, trivially, reason_fits, keeps_return, keeps_leave, keeps_stop, keeps_catching, keeps_choose, after, with_number, with_flag, with_type, with_made, all_fit, option_fits, absent_fits, no_values_fit, more_fit, first_fits, rest_fit, threw_fits, of_returned, of_threw, constant_fits, value_of_fits, keeps_tick, keeps_steps_left, keeps_scoped, keeps_in_frame}
-use Rattle.wy_forms.specs.Form.{Expression, Const, Str, Read, Set, Upd, Un, Bin, Conv, Cast, InstanceOf, Cond, New, NewArray, Call, Cat, Lib, Place, Local, Static, Field, Elem, Part, absent, the, Row, none, more, Statement, Stmt, Act, Block, Eval, Declare, If, While, Do, For, Labelled, Jump, Return, Throw, Try, Print, Other, nothing as no_statement, this, Statements, done, first, Catches, uncaught, catch}
-use Rattle.wy_forms.specs.Program.{Body, Method, body, init_body}
+use Rattle.wy_kernel.specs.Form.{Expression, Const, Str, Read, Set, Upd, Un, Bin, Conv, Cast, InstanceOf, Cond, New, NewArray, Call, Cat, Lib, Place, Local, Static, Field, Elem, Part, absent, the, Row, none, more, Statement, Stmt, Act, Block, Eval, Declare, If, While, Do, For, Labelled, Jump, Return, Throw, Try, Print, Other, nothing as no_statement, this, Statements, done, first, Catches, uncaught, catch}
+use Rattle.wy_kernel.specs.Program.{Body, Method, body, init_body}
 use Rattle.wy_meaning.specs.Call.{bind_all, end_body, at_return, run_body, frame_of_call, call_uses, bound, call_method, at_failure, initialize_above, initialization}
 use Rattle.wy_meaning.specs.Expression.{eval, locate, eval_part, eval_row}
 use Rattle.wy_meaning.specs.Statement.{statement, tested, evaluated, declaration, if_form, turns, while_form, do_form, for_test, for_form, jump, return_form, throw_form, Clause, caught, handle, at_throw, finally, try_form, print_form, other_or, exec, exec_act, exec_other, exec_all, exec_catches}
 use Rattle.wy_meaning.specs.Run.{call_body, init_block, world, main_run, strings}
-use Rattle.wy_forms.specs.declared.types.MethodForm.{MethodForm}
-use Rattle.wy_forms.specs.declared.types.MethodForm.TheVariants as kinds
+use Rattle.wy_kernel.specs.declared.types.MethodForm.{MethodForm}
+use Rattle.wy_kernel.specs.declared.types.MethodForm.TheVariants as kinds
 use Rattle.wy_backward.proofs.Forms.{steps, notes, looked, Hold, Fit, Carries, Acts, WorldKeeps, note_call, note_bind, note_init, keeps_type_of, AllCarry, PlaceCarries, keeps_initialize, keeps_read_place, keeps_set_place, keeps_cat, keeps_print_value, keeps_print_nothing}
 use Rattle.wy_backward.proofs.Wholes.{keeps_make_array, keeps_create, keeps_new_array, keeps_library_form, PartCarries, part_or_carries, keeps_update, keeps_unary, keeps_binary, keeps_convert, keeps_cast, keeps_instance_of, keeps_conditional, keeps_call}
 
@@ -44,7 +44,7 @@ module _ (p : Program) (records : List Recorded) (w : World numbers) (kw : World
     keeps_eval (Cat left right left_ty right_ty site) = record { by = λ P. ticked P _ (keeps_cat p records w kw P _ _ site (keeps_eval left) (keeps_eval right)) }
     keeps_eval (Lib o args site) = record { by = λ P. ticked P _ (keeps_library_form p records w kw P o _ site (keeps_row args)) }
 
-    keeps_locate : (x : Place) → PlaceCarries p records w kw (locate w x)
+    pub keeps_locate : (x : Place) → PlaceCarries p records w kw (locate w x)
     keeps_locate (Local i) = tt
     keeps_locate (Static f site) = tt
     keeps_locate (Field object f site) = keeps_eval object
@@ -54,7 +54,7 @@ module _ (p : Program) (records : List Recorded) (w : World numbers) (kw : World
     keeps_part absent = tt
     keeps_part (the e) = keeps_eval e
 
-    keeps_row : (x : Row) → AllCarry p records (eval_row w x)
+    pub keeps_row : (x : Row) → AllCarry p records (eval_row w x)
     keeps_row none = tt
     keeps_row (more e rest) = (keeps_eval e, keeps_row rest)
 

@@ -2,22 +2,23 @@
 use Rattle.std.proofs.Common.{◌≡◌, ℕ, zero, suc, Bool, true, false, ◌≤◌, List, [], ◌∷◌, length, Option, Some, refl, sym, ap, ◌∙◌, subst, le_refl, le_trans, arith}
 use Rattle.std.specs.Prelude.{None as Absent}
 use Rattle.std.specs.Prelude.{if◌then◌else◌, nat_le, nat_lt}
-use Rattle.wy_forms.specs.declared.types.Ty.{Ty}
-use Rattle.wy_forms.specs.Program.{Program}
+use Rattle.wy_kernel.specs.declared.types.Ty.{Ty}
+use Rattle.wy_kernel.specs.Program.{Program}
 use Rattle.wy_value.specs.declared.value.Value.{Value}
 use Rattle.wy_event.specs.declared.record.Slot.{Slot}
 use Rattle.wy_event.specs.declared.record.Use.TheVariants.{Value as ValueOf}
-use Rattle.wy_event.specs.Numbers.{union_of}
+use Rattle.wy_event.specs.Numbers.{Numbers, union_of}
 use Rattle.wy_event.specs.Record.{Recorded, same_slot}
-use Rattle.wy_event.specs.Sources.{Owners, last_write, use_sources, source_events}
+use Rattle.wy_event.specs.Sources.{Owners, last_write, use_sources, source_events, closure, data_closure}
 use Rattle.wy_steps.specs.Sets.{numbers}
 use Rattle.wy_steps.specs.State.{Carried, Held, Reach, Covered, State, Stop, Reason, Jumped, Returned, Threw, Outcome, Done, Left, Stopped, Run, go_on, ◌>>=◌, ◌>>◌, return, leave, stop, go_on_left, catching, choose}
 use Rattle.wy_steps.specs.Steps.{event_limit, use_limit, element_limit, unit_limit, output_limit, constant, with_value, joined, joined_all, Made, value_of, chosen, pay, tick, steps_left, frame, event_at, is_begun, read, declare, no_value, Draft, next_event, made, with_event, room_for, noting, note, with_stored, writing, note_write, owner_in, with_created, creating, note_new, with_active, entered, go_in, activating, active_again, scoped, without, end_reaches, reaching, frame_again, in_frame, with_elements, take_elements, with_units, take_units, room_for_output, write_out, take_byte, next_byte, covering, begun, ended, left_by, stop_cause, event_of, arrives, end_normally, be_left, cover_end, covered}
 use Rattle.wy_meaning.specs.Run.{end}
 use Rattle.wy_meaning.specs.Place.{Spot}
+use Rattle.wy_backward.specs.Agreement.{AreFirst, SlotAgrees, Absorbs, Agrees}
 use Rattle.wy_backward.proofs.Sets.{union_of-append, union_of_one}
-use Rattle.wy_backward.proofs.Closures.{used_events, closure_of, ArePast_up, ArePast-append, used_events-append, place_events, value_events, choice_data, choice_all}
-use Rattle.wy_backward.proofs.Fits.{Absorbs, IsFront, Fits, MadeFits, SlotFits, held_data, held_all, no_value_fits, Inv, ActiveFit_up, active_outlasting, made_fits, newest_absorbs, IsQuiet, inv_noted, IsWriting, inv_written, IsCreating, inv_created}
+use Rattle.wy_backward.proofs.Closures.{used_events, ArePast_up, ArePast-append, used_events-append, place_events, value_events, choice_data, choice_all}
+use Rattle.wy_backward.proofs.Fits.{Fits, MadeFits, held_data, held_all, no_value_fits, EntriesAgree_up, active_outlasting, made_fits, newest_absorbs, IsQuiet, inv_noted, IsWriting, inv_written, IsCreating, inv_created}
 
 -- what is known once there are n events, and from then on
 pub record Fact : Type 1 where
@@ -53,7 +54,7 @@ chain d e = record { by = λ n h. e.by n (d.by n h) }
 
 module _ (owner : Owners) (records : List Recorded) where
   abbrev pub fits : Carried numbers → Fact
-  fits v = record { holds = λ n. Fits owner records v n; up = λ m n le h. record { by_data = h.by_data; by_all = h.by_all; past = ArePast_up owner records m n v.uses le h.past } }
+  fits v = record { holds = λ n. Fits owner records v n; up = λ m n le h. record { sets = h.sets; past = ArePast_up owner records m n v.uses le h.past } }
 
   pub MadeFits_up : (e : Made numbers) (m n : ℕ) → m ≤ n → MadeFits owner records e m → MadeFits owner records e n
   MadeFits_up e m n le h = record { before = le_trans h.before le; by_data = h.by_data; by_all = h.by_all }
@@ -75,10 +76,10 @@ module _ (owner : Owners) (records : List Recorded) where
 
   -- an outcome that a run may come to from a state in which something is known
   pub record Kept {X : Type 0} (known : Type 0) (Q : X → Fact) (s : State numbers) (o : Outcome numbers X) : Type 0 where
-    pub front : IsFront owner records (end o).noted → IsFront owner records s.noted
+    pub front : AreFirst records (end o).noted → AreFirst records s.noted
     pub longer : length s.noted ≤ length (end o).noted
-    pub inv : IsFront owner records (end o).noted → Inv owner records s → known → Inv owner records (end o)
-    pub returned : IsFront owner records (end o).noted → Inv owner records s → known → Given Q o
+    pub inv : AreFirst records (end o).noted → Agrees owner records s → known → Agrees owner records (end o)
+    pub returned : AreFirst records (end o).noted → Agrees owner records s → known → Given Q o
 
   pub record Keeps {X : Type 0} (P : Fact) (m : Run numbers X) (Q : X → Fact) : Type 0 where
     pub by : (s : State numbers) → Kept (P.holds (length s.noted)) Q s (m s)
@@ -254,19 +255,21 @@ module _ (owner : Owners) (records : List Recorded) where
 
   pub constant_fits : {P : Fact} (v : Value) → Entails P (fits (constant v))
   unfolding constant union_of
-  constant_fits v = record { by = λ m h. record { by_data = ap (union_of (closure_of owner false records)) (sym (no_events false)); by_all = ap (union_of (closure_of owner true records)) (sym (no_events true)); past = tt } }
+  constant_fits v = record { by = λ m h. record { sets = (ap (union_of (data_closure owner records)) (sym (no_events false)), ap (union_of (closure owner records)) (sym (no_events true))); past = tt } }
 
   pub with_value_fits : {P : Fact} (v : Value) (c : Carried numbers) → Entails P (fits c) → Entails P (fits (with_value v c))
   unfolding with_value
-  with_value_fits v c e = record { by = λ m h. let f = e.by m h in record { by_data = f.by_data; by_all = f.by_all; past = f.past } }
+  with_value_fits v c e = record { by = λ m h. let f = e.by m h in record { sets = f.sets; past = f.past } }
 
   pub joined_fits : {P : Fact} (v : Value) (a b : Carried numbers) → Entails P (fits a) → Entails P (fits b) → Entails P (fits (joined v a b))
   unfolding joined
   joined_fits v a b ea eb =
       record {
         by = λ m h. let fa = ea.by m h in let fb = eb.by m h in record {
-          by_data = rw (fa.by_data, fb.by_data, used_events-append owner records false a.uses b.uses, union_of-append);
-          by_all = rw (fa.by_all, fb.by_all, used_events-append owner records true a.uses b.uses, union_of-append);
+          sets = (
+            rw (fa.sets.0, fb.sets.0, used_events-append owner records false a.uses b.uses, union_of-append),
+            rw (fa.sets.1, fb.sets.1, used_events-append owner records true a.uses b.uses, union_of-append),
+          );
           past = ArePast-append owner records m a.uses b.uses fa.past fb.past;
         };
       }
@@ -276,19 +279,21 @@ module _ (owner : Owners) (records : List Recorded) where
   joined_all_fit [] e = constant_fits _
   joined_all_fit (v ∷ vs) e = joined_fits _ v (joined_all vs) (first_fits v vs e) (joined_all_fit vs (rest_fit v vs e))
 
-  one_event : (all : Bool) (n : ℕ) → union_of (closure_of owner all records) (used_events owner all records (ValueOf n ∷ [])) ≡ closure_of owner all records n
-  one_event all n = ap (union_of (closure_of owner all records)) (value_events owner records all n [] ∙ ap (λ l. n ∷ l) (no_events all)) ∙ union_of_one (closure_of owner all records) n
+  one_event : (all : Bool) (f : ℕ → Numbers) (n : ℕ) → union_of f (used_events owner all records (ValueOf n ∷ [])) ≡ f n
+  one_event all f n = ap (union_of f) (value_events owner records all n [] ∙ ap (λ l. n ∷ l) (no_events all)) ∙ union_of_one f n
 
   pub value_of_fits : {P : Fact} (e : Made numbers) (v : Value) → Entails P (made_fit e) → Entails P (fits (value_of e v))
   unfolding value_of made_fit
-  value_of_fits e v h = record { by = λ m k. let f = h.by m k in record { by_data = f.by_data ∙ sym (one_event false e.number); by_all = f.by_all ∙ sym (one_event true e.number); past = (f.before, tt) } }
+  value_of_fits e v h = record { by = λ m k. let f = h.by m k in record { sets = (f.by_data ∙ sym (one_event false (data_closure owner records) e.number), f.by_all ∙ sym (one_event true (closure owner records) e.number)); past = (f.before, tt) } }
 
   pub chosen_fits : {P : Fact} (e : Made numbers) (c : Carried numbers) → Entails P (made_fit e) → Entails P (fits c) → Entails P (fits (chosen e c))
   unfolding chosen made_fit union_of
   chosen_fits e c he hc = record {
     by = λ m k. let f = he.by m k in let g = hc.by m k in record {
-      by_data = g.by_data ∙ ap (union_of (closure_of owner false records)) (sym (choice_data owner records e.number c.uses));
-      by_all = rw (f.by_all, g.by_all, choice_all owner records e.number c.uses) refl;
+      sets = (
+        g.sets.0 ∙ ap (union_of (data_closure owner records)) (sym (choice_data owner records e.number c.uses)),
+        rw (f.by_all, g.sets.1, choice_all owner records e.number c.uses) refl,
+      );
       past = (f.before, g.past);
     };
   }
@@ -367,14 +372,16 @@ module _ (owner : Owners) (records : List Recorded) where
       longer = le_refl _;
       inv = λ h i p. i;
       returned = λ h i p. record {
-        by_data = held_data owner records (s.store x) (last_write owner records x (length s.noted)) (i.store x) ∙ ap (union_of (closure_of owner false records)) (sym (place_events owner records false x (length s.noted)));
-        by_all = held_all owner records (s.store x) (last_write owner records x (length s.noted)) (i.store x) ∙ ap (union_of (closure_of owner true records)) (sym (place_events owner records true x (length s.noted)));
+        sets = (
+          held_data owner records (s.store x) (last_write owner records x (length s.noted)) (i.store x) ∙ ap (union_of (data_closure owner records)) (sym (place_events owner records false x (length s.noted))),
+          held_all owner records (s.store x) (last_write owner records x (length s.noted)) (i.store x) ∙ ap (union_of (closure owner records)) (sym (place_events owner records true x (length s.noted))),
+        );
         past = (le_refl _, tt);
       };
     };
   }
 
-  declared_fits : (b : Bool) (o : Option (Held numbers)) (w : Option ℕ) → SlotFits owner records o w → SlotFits owner records (if b then no_value o else o) w
+  declared_fits : (b : Bool) (o : Option (Held numbers)) (w : Option ℕ) → SlotAgrees owner records o w → SlotAgrees owner records (if b then no_value o else o) w
   declared_fits true o w h = no_value_fits owner records o w h
   declared_fits false o w h = h
 
@@ -472,9 +479,9 @@ module _ (owner : Owners) (records : List Recorded) where
 
   again_kept : {X : Type 0} (P : Fact) (Q : X → Fact) (s : State numbers) (o : Outcome numbers X) → Kept (P.holds (length s.noted)) Q s o → Kept (P.holds (length s.noted)) Q s (active_again s.active o)
   unfolding active_again end
-  again_kept P Q s (Done x s1) k = record { front = k.front; longer = k.longer; inv = λ h i p. let j = k.inv h i p in record { store = j.store; noted = j.noted; active = ActiveFit_up owner records _ _ s.active k.longer i.active }; returned = k.returned }
-  again_kept P Q s (Left why s1) k = record { front = k.front; longer = k.longer; inv = λ h i p. let j = k.inv h i p in record { store = j.store; noted = j.noted; active = ActiveFit_up owner records _ _ s.active k.longer i.active }; returned = k.returned }
-  again_kept P Q s (Stopped why s1) k = record { front = k.front; longer = k.longer; inv = λ h i p. let j = k.inv h i p in record { store = j.store; noted = j.noted; active = ActiveFit_up owner records _ _ s.active k.longer i.active }; returned = k.returned }
+  again_kept P Q s (Done x s1) k = record { front = k.front; longer = k.longer; inv = λ h i p. let j = k.inv h i p in record { store = j.store; noted = j.noted; active = EntriesAgree_up owner records _ _ s.active k.longer i.active }; returned = k.returned }
+  again_kept P Q s (Left why s1) k = record { front = k.front; longer = k.longer; inv = λ h i p. let j = k.inv h i p in record { store = j.store; noted = j.noted; active = EntriesAgree_up owner records _ _ s.active k.longer i.active }; returned = k.returned }
+  again_kept P Q s (Stopped why s1) k = record { front = k.front; longer = k.longer; inv = λ h i p. let j = k.inv h i p in record { store = j.store; noted = j.noted; active = EntriesAgree_up owner records _ _ s.active k.longer i.active }; returned = k.returned }
 
   pub keeps_scoped : {X : Type 0} {P : Fact} {Q : X → Fact} {m : Run numbers X} → Keeps P m Q → Keeps P (scoped m) Q
   unfolding scoped
@@ -492,7 +499,7 @@ module _ (owner : Owners) (records : List Recorded) where
 
   -- ---- frames
 
-  inv_frame : (f : Option ℕ) (s : State numbers) → Inv owner records s → Inv owner records (record s { frame = f })
+  inv_frame : (f : Option ℕ) (s : State numbers) → Agrees owner records s → Agrees owner records (record s { frame = f })
   inv_frame f s i = record { store = i.store; noted = i.noted; active = i.active }
 
   frame_kept : {X : Type 0} (known : Type 0) (Q : X → Fact) (g f : Option ℕ) (s : State numbers) (o : Outcome numbers X) → Kept known Q (record s { frame = g }) o → Kept known Q s (frame_again f o)
@@ -507,7 +514,7 @@ module _ (owner : Owners) (records : List Recorded) where
 
   -- ---- coverage
 
-  inv_covering : (n : ℕ) (f : Covered → Covered) (s : State numbers) → Inv owner records s → Inv owner records (covering n f s)
+  inv_covering : (n : ℕ) (f : Covered → Covered) (s : State numbers) → Agrees owner records s → Agrees owner records (covering n f s)
   unfolding covering
   inv_covering n f s i = record { store = i.store; noted = i.noted; active = i.active }
 

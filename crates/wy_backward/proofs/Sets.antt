@@ -4,6 +4,7 @@ use Rattle.std.specs.Prelude.{filter}
 use mathlib.Core.Path.{fun_ext}
 use mathlib.Core.Bool.{or_assoc}
 use Rattle.wy_event.specs.Numbers.{Numbers, none, union, union_of}
+use Rattle.wy_backward.specs.Agreement.{AllBelow}
 
 or-false : (b : Bool) → (b || false) ≡ b
 or-false true = refl
@@ -51,11 +52,6 @@ union_of-append f (n ∷ a) b = ap (union (f n)) (union_of-append f a b) ∙ sym
 pub union_of_one : (f : ℕ → Numbers) (n : ℕ) → union_of f (n ∷ []) ≡ f n
 unfolding union_of
 union_of_one f n = union_none (f n)
-
--- each number of the list is below n
-abbrev pub AllBelow : ℕ → List ℕ → Type 0
-AllBelow n [] = Unit {0}
-AllBelow n (w ∷ ws) = (w < n) × AllBelow n ws
 
 pub AllBelow-append : (n : ℕ) (a b : List ℕ) → AllBelow n a → AllBelow n b → AllBelow n (a ++ b)
 AllBelow-append n [] b ha hb = hb

@@ -1,10 +1,10 @@
 -- Backward equals forward, for every run.
-use Rattle.std.proofs.Common.{◌≡◌, ℕ, zero, suc, true, false, ◌≤◌, List, [], ◌∷◌, ◌++◌, length, ◌⊎◌, inl, inr, ⊎_elim, Option, Some, refl, sym, ap, ◌∙◌, subst, append-nil, append_assoc, arith}
+use Rattle.std.proofs.Common.{◌≡◌, ℕ, zero, suc, ◌≤◌, List, [], ◌∷◌, ◌++◌, length, ◌⊎◌, inl, inr, ⊎_elim, Option, Some, refl, sym, ap, ◌∙◌, subst, append-nil, append_assoc, arith}
 use Rattle.std.specs.Prelude.{None as Absent}
 use Rattle.std.specs.Prelude.{slice_get}
 use Rattle.std.proofs.lemmas.List.{map-append, length-map, length-reverse}
 use mathlib.Core.List.{map, reverse, reverse-cons}
-use Rattle.wy_forms.specs.Program.{Program}
+use Rattle.wy_kernel.specs.Program.{Program}
 use Rattle.wy_event.specs.declared.record.Slot.{Slot}
 use Rattle.wy_event.specs.Record.{Recorded}
 use Rattle.wy_event.specs.Sources.{Owners, or_else, written, creation, last_write, closure, data_closure}
@@ -13,8 +13,8 @@ use Rattle.wy_steps.specs.State.{Held, Store, Noted}
 use Rattle.wy_steps.specs.Steps.{owner_in, depth_limit}
 use Rattle.wy_meaning.specs.Run.{world, main_run, start, outcome, end, history, events, final_store}
 use Rattle.wy_backward.specs.Backward.{BackwardIsForward, StoredIsLastWrite, before_or, UsesDetermineSets}
-use Rattle.wy_backward.proofs.Closures.{closure_of, data_closure_at, full_closure_at}
-use Rattle.wy_backward.proofs.Fits.{IsBehind, IsFront, Inv, NotedFit, StoreFits, SlotFits}
+use Rattle.wy_backward.specs.Agreement.{AreFirst, SlotAgrees, StoreAgrees, IsBehind, EventsAgree, Agrees, EndsAgree}
+use Rattle.wy_backward.proofs.Closures.{data_closure_at, full_closure_at}
 use Rattle.wy_backward.proofs.Rules.{nothing}
 use Rattle.wy_backward.proofs.Programs.{world_keeps, keeps_main_run}
 
@@ -34,15 +34,15 @@ length-in_order : (noted : List (Noted numbers)) → length (in_order noted) ≡
 unfolding in_order
 length-in_order noted = length-map (reverse noted) (λ e. e.event) ∙ length-reverse noted
 
-front_of : (owner : Owners) (noted : List (Noted numbers)) (later : List Recorded) → IsFront owner (in_order noted ++ later) noted
+front_of : (owner : Owners) (noted : List (Noted numbers)) (later : List Recorded) → AreFirst (in_order noted ++ later) noted
 front_of owner [] later = tt
 front_of owner (e ∷ rest) later =
     let e1 = ap (λ l. l ++ later) (in_order-cons e rest) ∙ append_assoc (in_order rest) (e.event ∷ []) later in (
       rw (e1, ← length-in_order rest) (slice_get_seam (in_order rest) e.event later),
-      subst (λ l. IsFront owner l rest) (sym e1) (front_of owner rest (e.event ∷ later)),
+      subst (λ l. AreFirst l rest) (sym e1) (front_of owner rest (e.event ∷ later)),
     )
 
-start_fits : (owner : Owners) (all : List Recorded) (input : List ℕ) (budget : ℕ) → Inv owner all (start input budget)
+pub start_fits : (owner : Owners) (all : List Recorded) (input : List ℕ) (budget : ℕ) → Agrees owner all (start input budget)
 unfolding start last_write written creation or_else
 start_fits owner all input budget = record { store = λ x. tt; noted = tt; active = tt }
 
@@ -55,10 +55,10 @@ slice_get_snoc (x ∷ xs) y (suc n) z e = ⊎_elim (λ h. inl h) (λ h. inr (ap 
 module _ (owner : Owners) (all : List Recorded) where
   -- what holds of an event by its number
   abbrev pub EventFits : ℕ → Noted numbers → Type 0
-  EventFits n e = (e.from_data ≡ closure_of owner false all n) × (e.from_all ≡ closure_of owner true all n) × StoreFits owner all e.before n × IsBehind owner all n e.event
+  EventFits n e = (e.from_data ≡ data_closure owner all n) × (e.from_all ≡ closure owner all n) × StoreAgrees owner all e.before n × IsBehind n e.event
 
   -- an event of a list with the newest first, by its number
-  each_fits : (noted : List (Noted numbers)) → NotedFit owner all noted → (n : ℕ) (e : Noted numbers) → slice_get (reverse noted) n ≡ Some e → EventFits n e
+  each_fits : (noted : List (Noted numbers)) → EventsAgree owner all noted → (n : ℕ) (e : Noted numbers) → slice_get (reverse noted) n ≡ Some e → EventFits n e
   each_fits [] h n e is = absurd (cc)
   each_fits (x ∷ rest) h n e is =
       let at = rw (reverse-cons x rest) at is in
@@ -73,11 +73,11 @@ module _ (owner : Owners) (all : List Recorded) where
   absent_past (x ∷ xs) zero is le = absurd (cc)
   absent_past (x ∷ xs) (suc n) is le = ap suc (absent_past xs n is (omega arith))
 
-  held_fits : (store : Store numbers) (x : Slot) (m w : ℕ) (e : Noted numbers) → StoreFits owner all store m → last_write owner all x m ≡ Some w → EventFits w e →
+  held_fits : (store : Store numbers) (x : Slot) (m w : ℕ) (e : Noted numbers) → StoreAgrees owner all store m → last_write owner all x m ≡ Some w → EventFits w e →
       (h : Held numbers) × (store x ≡ Some h) × ((k : ℕ) → h.from_data k ≡ e.from_data k) × ((k : ℕ) → h.from_all k ≡ e.from_all k)
-  held_fits store x m w e fits is f = go (store x) (subst (λ o. SlotFits owner all (store x) o) is (fits x))
+  held_fits store x m w e fits is f = go (store x) (subst (λ o. SlotAgrees owner all (store x) o) is (fits x))
     where
-      go : (o : Option (Held numbers)) → SlotFits owner all o (Some w) → (h : Held numbers) × (o ≡ Some h) × ((k : ℕ) → h.from_data k ≡ e.from_data k) × ((k : ℕ) → h.from_all k ≡ e.from_all k)
+      go : (o : Option (Held numbers)) → SlotAgrees owner all o (Some w) → (h : Held numbers) × (o ≡ Some h) × ((k : ℕ) → h.from_data k ≡ e.from_data k) × ((k : ℕ) → h.from_all k ≡ e.from_all k)
       go Absent g = absurd g
       go (Some h) g = (h, refl, λ k. ap (λ (u : ℕ → _). u k) (g.0 ∙ sym f.0), λ k. ap (λ (u : ℕ → _). u k) (g.1 ∙ sym f.1))
 
@@ -86,15 +86,19 @@ module _ (p : Program) (input : List ℕ) (budget : ℕ) where
   all_events = in_order (end (outcome {A = numbers} p input budget)).noted
 
   -- the invariant at the end, with the records of the whole run
-  at_end : Inv (owner_in p) all_events (end (outcome {A = numbers} p input budget))
+  at_end : Agrees (owner_in p) all_events (end (outcome {A = numbers} p input budget))
   unfolding outcome all_events
   at_end =
       let final = (end (main_run (world {A = numbers} p depth_limit) (start input budget))).noted in
-      let front = subst (λ l. IsFront (owner_in p) l final) (append-nil (in_order final)) (front_of (owner_in p) final []) in
+      let front = subst (λ l. AreFirst l final) (append-nil (in_order final)) (front_of (owner_in p) final []) in
       ((keeps_main_run p (in_order final) (world p depth_limit) (world_keeps p (in_order final) depth_limit) nothing).by (start input budget)).inv front (start_fits (owner_in p) (in_order final) input budget) tt
 
+pub ends_agree : (p : Program) → EndsAgree p
+unfolding events history in_order all_events
+ends_agree p input budget = at_end p input budget
+
 pub backward_is_forward : (p : Program) (input : List ℕ) (budget : ℕ) → BackwardIsForward p input budget
-unfolding history events in_order all_events closure data_closure
+unfolding history events in_order all_events
 backward_is_forward p input budget n e is k =
     let f = each_fits (owner_in p) (all_events p input budget) _ (at_end p input budget).noted n e is in
     (ap (λ (u : ℕ → _). u k) (sym f.0), ap (λ (u : ℕ → _). u k) (sym f.1))
@@ -114,7 +118,7 @@ stored_is_last_write p input budget m x w e le is at =
     go Absent found =
         let inv = at_end p input budget in
         let n : m ≡ length (end (outcome {A = numbers} p input budget)).noted = absent_past (owner_in p) (all_events p input budget) _ m found le ∙ length-reverse _ in
-        held_fits (owner_in p) (all_events p input budget) (end (outcome {A = numbers} p input budget)).store x m w e (subst (λ k. StoreFits (owner_in p) (all_events p input budget) (end (outcome {A = numbers} p input budget)).store k) (sym n) inv.store) is (each_fits (owner_in p) (all_events p input budget) _ inv.noted w e at)
+        held_fits (owner_in p) (all_events p input budget) (end (outcome {A = numbers} p input budget)).store x m w e (subst (λ k. StoreAgrees (owner_in p) (all_events p input budget) (end (outcome {A = numbers} p input budget)).store k) (sym n) inv.store) is (each_fits (owner_in p) (all_events p input budget) _ inv.noted w e at)
 
 slice_get_mapped : {X Y : Type 0} (f : X → Y) (xs : List X) (n : ℕ) (x : X) → slice_get xs n ≡ Some x → slice_get (map f xs) n ≡ Some (f x)
 slice_get_mapped f [] n x e = absurd (cc)
@@ -122,7 +126,7 @@ slice_get_mapped f (y ∷ ys) zero x e = cc
 slice_get_mapped f (y ∷ ys) (suc n) x e = slice_get_mapped f ys n x e
 
 pub uses_determine_sets : (p : Program) (input : List ℕ) (budget : ℕ) → UsesDetermineSets p input budget
-unfolding history events in_order all_events closure data_closure
+unfolding history events in_order all_events
 uses_determine_sets p input budget n e is k =
     let f = each_fits (owner_in p) (all_events p input budget) _ (at_end p input budget).noted n e is in
     let at = slice_get_mapped (λ (x : Noted numbers). x.event) _ n e is in (

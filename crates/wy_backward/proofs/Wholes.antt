@@ -5,12 +5,12 @@ use Rattle.std.specs.Prelude.{ℤ}
 use Rattle.wy_kernel.specs.declared.operator.Primitive.{Primitive}
 use Rattle.wy_kernel.specs.declared.operator.BinOp.{BinOp}
 use Rattle.wy_kernel.specs.declared.operator.UnOp.{UnOp}
-use Rattle.wy_forms.specs.declared.types.Ty.{Ty}
-use Rattle.wy_forms.specs.declared.form.CallForm.{CallForm}
-use Rattle.wy_forms.specs.declared.form.CallForm.TheVariants as form
-use Rattle.wy_forms.specs.declared.form.LibOp.{LibOp}
-use Rattle.wy_forms.specs.declared.form.LibOp.TheVariants as op
-use Rattle.wy_forms.specs.Program.{Program}
+use Rattle.wy_kernel.specs.declared.types.Ty.{Ty}
+use Rattle.wy_kernel.specs.declared.form.CallForm.{CallForm}
+use Rattle.wy_kernel.specs.declared.form.CallForm.TheVariants as form
+use Rattle.wy_kernel.specs.declared.form.LibOp.{LibOp}
+use Rattle.wy_kernel.specs.declared.form.LibOp.TheVariants as op
+use Rattle.wy_kernel.specs.Program.{Program}
 use Rattle.wy_value.specs.declared.value.Value.{Value}
 use Rattle.wy_value.specs.declared.value.Value.TheVariants as val
 use Rattle.wy_event.specs.Record.{Recorded}

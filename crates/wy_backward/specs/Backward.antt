@@ -1,7 +1,7 @@
 -- What each event of a run comes from, as the run carried it, and what the records alone give.
 use Rattle.std.specs.Prelude.{◌≡◌, ℕ, ◌≤◌, true, false, List, length, Option, Some, option_to_list, slice_get}
 use Rattle.std.specs.Prelude.{None as Absent}
-use Rattle.wy_forms.specs.Program.{Program}
+use Rattle.wy_kernel.specs.Program.{Program}
 use Rattle.wy_event.specs.declared.record.Slot.{Slot}
 use Rattle.wy_event.specs.declared.record.Use.{Use}
 use Rattle.wy_event.specs.Record.{Recorded}

@@ -2,8 +2,9 @@
 #![tactic(auto)]
 
 ghost use Rattle.std.specs.Prelude.{List, ℕ};
-ghost use Rattle.wy_forms.specs.Program.{Program};
+ghost use Rattle.wy_kernel.specs.Program.{Program};
 ghost use Rattle.wy_backward.specs.Backward.{BackwardIsForward, StoredIsLastWrite, UsesDetermineSets};
+ghost use Rattle.wy_backward.specs.Agreement.{ArgumentsLead, EndsAgree, EqualUsesEqualSets, ExpressionsLead, InitializationsLead, PlacesLead, StartsAgree, StatementsLead, ValuesAreByUses};
 
 /// In every run the closure of an event over the records is what its values carried: by data, and in all. What the
 /// store held for a slot at a moment is what the last write below that moment came from.
@@ -12,8 +13,22 @@ pub fn backward_is_forward()
     ensures stored { (p : Program) (input : List ℕ) (budget : ℕ) → StoredIsLastWrite p input budget }
 {}
 
-/// What was carried to an event, by data and in all, is determined by its uses, its control parent and the records.
-/// It says nothing of a value that no event has used.
+/// The states of a run agree with its records: the first does, so does the last, and every expression, place, list of
+/// arguments, statement and initialization of a class leads from a state that does to one that does.
+pub fn states_agree_with_records()
+    ensures starts { (p : Program) → StartsAgree p }
+    ensures expressions { (p : Program) → ExpressionsLead p }
+    ensures places { (p : Program) → PlacesLead p }
+    ensures arguments { (p : Program) → ArgumentsLead p }
+    ensures statements { (p : Program) → StatementsLead p }
+    ensures initializations { (p : Program) → InitializationsLead p }
+    ensures ends { (p : Program) → EndsAgree p }
+{}
+
+/// What was carried to an event is determined by its uses, its control parent and the records; what a value that
+/// arises in a run carries, by its uses and the records. So two such values with equal uses carry equal sets.
 pub fn uses_determine_sets()
-    ensures { (p : Program) (input : List ℕ) (budget : ℕ) → UsesDetermineSets p input budget }
+    ensures events { (p : Program) (input : List ℕ) (budget : ℕ) → UsesDetermineSets p input budget }
+    ensures values { (p : Program) → ValuesAreByUses p }
+    ensures equal_uses { (p : Program) → EqualUsesEqualSets p }
 {}

@@ -5,12 +5,12 @@ use Rattle.std.specs.Prelude.{ℤ, pos, if◌then◌else◌, ◌||◌, length}
 use Rattle.wy_kernel.specs.declared.operator.Primitive.{Primitive}
 use Rattle.wy_kernel.specs.declared.operator.BinOp.{BinOp}
 use Rattle.wy_kernel.specs.declared.operator.UnOp.{UnOp}
-use Rattle.wy_forms.specs.declared.types.Ty.{Ty}
-use Rattle.wy_forms.specs.declared.form.CallForm.{CallForm}
-use Rattle.wy_forms.specs.declared.form.CallForm.TheVariants as form
-use Rattle.wy_forms.specs.declared.form.LibOp.{LibOp}
-use Rattle.wy_forms.specs.declared.form.LibOp.TheVariants as op
-use Rattle.wy_forms.specs.Program.{Program, is_source}
+use Rattle.wy_kernel.specs.declared.types.Ty.{Ty}
+use Rattle.wy_kernel.specs.declared.form.CallForm.{CallForm}
+use Rattle.wy_kernel.specs.declared.form.CallForm.TheVariants as form
+use Rattle.wy_kernel.specs.declared.form.LibOp.{LibOp}
+use Rattle.wy_kernel.specs.declared.form.LibOp.TheVariants as op
+use Rattle.wy_kernel.specs.Program.{Program, is_source}
 use Rattle.wy_value.specs.declared.value.Value.{Value}
 use Rattle.wy_value.specs.declared.value.Value.TheVariants as val
 use Rattle.wy_event.specs.declared.record.Slot.{Slot}
@@ -24,14 +24,14 @@ use Rattle.wy_meaning.specs.Call.{text_equals, call_on_text, call_form, call_on,
 use Rattle.wy_meaning.specs.Array.{make_array, for_each, subarrays, make_arrays, create_array, set_elements, create_filled, new_array}
 use Rattle.wy_meaning.specs.Library.{text_arg, unit_or_fail, part_or_fail, int_or_fail, parse, read_byte, library_one, library_two, library_three, library, library_form}
 use Rattle.wy_meaning.specs.Expression.{part_or, update, unary, binary, convert, cast, instance_of, arm, conditional, call}
-use Rattle.wy_forms.specs.Form.{Expression, Const, Str, Read, Set, Upd, Un, Bin, Conv, Cast, InstanceOf, Cond, New, NewArray, Call, Cat, Lib, Place, Local, Static, Field, Elem, Part, absent, the, Row, none, more, Statement, Stmt, Act, Block, Eval, Declare, If, While, Do, For, Labelled, Jump, Return, Throw, Try, Print, Other, nothing as no_statement, this, Statements, done, first, Catches, uncaught, catch}
-use Rattle.wy_forms.specs.Program.{Body, Method}
+use Rattle.wy_kernel.specs.Form.{Expression, Const, Str, Read, Set, Upd, Un, Bin, Conv, Cast, InstanceOf, Cond, New, NewArray, Call, Cat, Lib, Place, Local, Static, Field, Elem, Part, absent, the, Row, none, more, Statement, Stmt, Act, Block, Eval, Declare, If, While, Do, For, Labelled, Jump, Return, Throw, Try, Print, Other, nothing as no_statement, this, Statements, done, first, Catches, uncaught, catch}
+use Rattle.wy_kernel.specs.Program.{Body, Method}
 use Rattle.wy_meaning.specs.Call.{bind_all, end_body, at_return, run_body, frame_of_call, call_uses, bound, call_method, at_failure, initialize_above, initialization}
 use Rattle.wy_meaning.specs.Expression.{eval, locate, eval_part, eval_row}
 use Rattle.wy_meaning.specs.Statement.{statement, tested, evaluated, declaration, if_form, turns, while_form, do_form, for_test, for_form, jump, return_form, throw_form, Clause, caught, handle, at_throw, finally, try_form, print_form, other_or, exec, exec_act, exec_other, exec_all, exec_catches}
 use Rattle.wy_meaning.specs.Run.{call_body, init_block, main_run, strings}
-use Rattle.wy_forms.specs.declared.types.MethodForm.{MethodForm}
-use Rattle.wy_forms.specs.declared.types.MethodForm.TheVariants as kinds
+use Rattle.wy_kernel.specs.declared.types.MethodForm.{MethodForm}
+use Rattle.wy_kernel.specs.declared.types.MethodForm.TheVariants as kinds
 use Rattle.wy_steps.specs.Sets.{Sets, nothing}
 use Rattle.wy_carriers.proofs.Erased.{value_erased, made_erased, spot_erased, all_erased, option_erased, reason_erased, plain as same, Erases, after, with_number, with_option, with_flag, with_type, with_carried, with_made, with_spot, with_all, erases_return, erases_leave, erases_stop, erases_catching, erases_choose, erases_tick, erases_steps_left, erases_note, erases_note_write, erases_note_new, erases_activating, erases_scoped, erases_reaching, erases_in_frame, erases_covered, joined_all_same, steps}
 use Rattle.wy_value.specs.Operator.{unary_of}

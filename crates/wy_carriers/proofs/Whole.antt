@@ -3,7 +3,7 @@ use Rattle.std.proofs.Common.{◌≡◌, ℕ, zero, suc, List, [], ◌∷◌, �
 use Rattle.std.specs.Prelude.{None as Absent, ◌-◌}
 use Rattle.std.proofs.lemmas.List.{map-append, length-map}
 use mathlib.Core.List.{reverse, reverse-cons}
-use Rattle.wy_forms.specs.Program.{Program, body, init_body}
+use Rattle.wy_kernel.specs.Program.{Program, body, init_body}
 use Rattle.wy_steps.specs.Sets.{Sets, nothing}
 use Rattle.wy_steps.specs.State.{Carried, Noted, State, Reason, Jumped, Returned, Threw, Outcome, Done, Left, Stopped, Run}
 use Rattle.wy_steps.specs.Steps.{depth_limit}

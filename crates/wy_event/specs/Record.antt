@@ -34,8 +34,8 @@ recorded e = record {
   what = present e.what;
   slot = e.slot;
   value = e.value;
-  units = e.units.items;
-  uses = e.uses.items;
+  units = e.units;
+  uses = e.uses;
 }
 
 unfoldable pub same_slot : Slot → Slot → Bool

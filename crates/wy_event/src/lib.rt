@@ -3,3 +3,6 @@
 #![tactic(auto)]
 
 pub mod record;
+pub mod sequence;
+#[cfg(test)]
+mod tests;

@@ -1,5 +1,6 @@
 //! An event, what it stands on, and what is kept of a whole run.
 
+use crate::sequence::Sequence;
 use wy_value::Value;
 
 /// What an event is.
@@ -49,8 +50,8 @@ pub struct Event {
     pub what: u32,
     pub slot: Slot,
     pub value: Value,
-    pub units: Vec<u16>,
-    pub uses: Vec<Use>,
+    pub units: Sequence<u16>,
+    pub uses: Sequence<Use>,
 }
 
 /// What is known of a statement: how often it began and ended normally, the moment of its first begin,
@@ -66,7 +67,7 @@ pub struct Cover {
 /// A cover for each statement, by its number.
 #[derive(Drop)]
 pub struct Coverage {
-    pub statements: Vec<Cover>,
+    pub statements: Sequence<Cover>,
 }
 
 /// How a run ended.
@@ -81,18 +82,27 @@ pub struct Tail {
     pub output: u32,
 }
 
+/// The class of the object of the Throw that ended a run, and the site of that Throw; both are NONE where there is none.
+#[derive(Clone, Copy, Debug, PartialEq, Eq)]
+pub struct Thrown {
+    pub class: u32,
+    pub site: u32,
+}
+
+pub type Bytes = Sequence<u8>;
+
 /// What a run was given: its step budget, its input and the text of its program.
 #[derive(Drop)]
 pub struct Head {
     pub steps: u32,
-    pub input: Vec<u8>,
-    pub source: Vec<u8>,
+    pub input: Bytes,
+    pub source: Bytes,
 }
 
 /// A run as it is kept.
 #[derive(Drop)]
 pub struct Trace {
     pub head: Head,
-    pub events: Vec<Event>,
+    pub events: Sequence<Event>,
     pub tail: Tail,
 }

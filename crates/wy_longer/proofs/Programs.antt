@@ -1,8 +1,8 @@
 -- Every expression, every statement and every call goes at least as far with more steps left.
 use Rattle.std.proofs.Common.{ℕ, zero, suc, Bool, true, false, ◌≤◌, List, [], ◌∷◌, Option, Some, arith}
 use Rattle.std.specs.Prelude.{None as Absent}
-use Rattle.wy_forms.specs.Form.{Expression, Const, Str, Read, Set, Upd, Un, Bin, Conv, Cast, InstanceOf, Cond, New, NewArray, Call, Cat, Lib, Place, Local, Static, Field, Elem, Part, absent, the, Row, none, more, Statement, Stmt, Act, Block, Eval, Declare, If, While, Do, For, Labelled, Jump, Return, Throw, Try, Print, Other, nothing, this, Statements, done, first, Catches, uncaught, catch}
-use Rattle.wy_forms.specs.Program.{Program, Body, Method, body, init_body}
+use Rattle.wy_kernel.specs.Form.{Expression, Const, Str, Read, Set, Upd, Un, Bin, Conv, Cast, InstanceOf, Cond, New, NewArray, Call, Cat, Lib, Place, Local, Static, Field, Elem, Part, absent, the, Row, none, more, Statement, Stmt, Act, Block, Eval, Declare, If, While, Do, For, Labelled, Jump, Return, Throw, Try, Print, Other, nothing, this, Statements, done, first, Catches, uncaught, catch}
+use Rattle.wy_kernel.specs.Program.{Program, Body, Method, body, init_body}
 use Rattle.wy_steps.specs.Sets.{Sets}
 use Rattle.wy_steps.specs.State.{Carried, Run, Reason, Jumped, Returned, Threw, ◌>>◌, catching, choose}
 use Rattle.wy_steps.specs.Steps.{tick}

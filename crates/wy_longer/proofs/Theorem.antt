@@ -2,7 +2,7 @@
 use Rattle.std.proofs.Common.{◌≡◌, ℕ, ◌+◌, ◌-◌, false, ◌≤◌, List, refl, ap, ◌∙◌, subst, arith}
 use Rattle.std.specs.Prelude.{map, reverse}
 use Rattle.std.proofs.lemmas.List.{map-append, reverse-append}
-use Rattle.wy_forms.specs.Program.{Program}
+use Rattle.wy_kernel.specs.Program.{Program}
 use Rattle.wy_steps.specs.Sets.{Sets}
 use Rattle.wy_steps.specs.State.{Carried, Noted, State, Stop, StepLimit, Outcome, Done, Left, Stopped}
 use Rattle.wy_steps.specs.Steps.{depth_limit}

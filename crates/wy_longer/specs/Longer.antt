@@ -1,6 +1,6 @@
 -- What a run has in common with a run of the same program and input that has a larger budget.
 use Rattle.std.specs.Prelude.{◌≡◌, ℕ, List, ◌++◌}
-use Rattle.wy_forms.specs.Program.{Program}
+use Rattle.wy_kernel.specs.Program.{Program}
 use Rattle.wy_steps.specs.Sets.{Sets}
 use Rattle.wy_steps.specs.State.{StepLimit}
 use Rattle.wy_meaning.specs.Run.{history, events, output, tail, final_store, stop_number}

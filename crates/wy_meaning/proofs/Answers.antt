@@ -2,7 +2,7 @@
 use Rattle.std.proofs.Common.{◌≡◌, refl}
 use Rattle.std.specs.Prelude.{ℕ, Bool, List, [], ◌∷◌, Option, Some, slice_get}
 use Rattle.std.specs.Prelude.{None as Absent}
-use Rattle.wy_forms.specs.Program.{Program}
+use Rattle.wy_kernel.specs.Program.{Program}
 use Rattle.wy_event.specs.Numbers.{Numbers}
 use Rattle.wy_event.specs.Sources.{closure, data_closure, last_write}
 use Rattle.wy_event.specs.declared.record.Slot.TheVariants.{Local}

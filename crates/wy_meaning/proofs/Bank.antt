@@ -4,14 +4,14 @@ use Rattle.std.specs.Prelude.{pos, negsuc, true, false, [], ◌∷◌, Some, cod
 use Rattle.std.specs.Prelude.{None as Absent}
 use Rattle.wy_kernel.specs.declared.operator.Primitive.TheVariants as prim
 use Rattle.wy_kernel.specs.declared.operator.BinOp.TheVariants as op
-use Rattle.wy_forms.specs.declared.types.Base.TheVariants.{Primitive as Basic, Class as Named}
-use Rattle.wy_forms.specs.declared.types.Ty.TheVariants.{Void, Of}
-use Rattle.wy_forms.specs.declared.types.MethodForm.TheVariants as kinds
-use Rattle.wy_forms.specs.declared.form.CondForm.TheVariants as condition
-use Rattle.wy_forms.specs.declared.form.CallForm.TheVariants as calling
-use Rattle.wy_forms.specs.declared.form.LibOp.TheVariants as lib
-use Rattle.wy_forms.specs.Form.{Int, Const, Str, Read, Set, Upd, Bin, Cond, New, NewArray, Call, Cat, Lib, Local, Field, Elem, absent, the, none, more, Stmt, Block, Eval, If, While, For, Return, Throw, Try, Print, nothing, done, first, uncaught, catch}
-use Rattle.wy_forms.specs.Program.{Program}
+use Rattle.wy_kernel.specs.declared.types.Base.TheVariants.{Primitive as Basic, Class as Named}
+use Rattle.wy_kernel.specs.declared.types.Ty.TheVariants.{Void, Of}
+use Rattle.wy_kernel.specs.declared.types.MethodForm.TheVariants as kinds
+use Rattle.wy_kernel.specs.declared.form.CondForm.TheVariants as condition
+use Rattle.wy_kernel.specs.declared.form.CallForm.TheVariants as calling
+use Rattle.wy_kernel.specs.declared.form.LibOp.TheVariants as lib
+use Rattle.wy_kernel.specs.Form.{Int, Const, Str, Read, Set, Upd, Bin, Cond, New, NewArray, Call, Cat, Lib, Local, Field, Elem, absent, the, none, more, Stmt, Block, Eval, If, While, For, Return, Throw, Try, Print, nothing, done, first, uncaught, catch}
+use Rattle.wy_kernel.specs.Program.{Program}
 use Rattle.wy_value.specs.declared.value.Value.TheVariants as val
 use Rattle.wy_event.specs.declared.record.Kind.TheVariants as kind
 use Rattle.wy_event.specs.declared.record.Slot.TheVariants as slot

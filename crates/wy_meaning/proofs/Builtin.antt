@@ -3,14 +3,14 @@ use Rattle.std.specs.Prelude.{ℕ, false, List, [], ◌∷◌, ◌++◌, Option,
 use Rattle.std.specs.Prelude.{None as Absent}
 use Rattle.wy_kernel.specs.declared.operator.Primitive.TheVariants as prim
 use Rattle.wy_kernel.specs.declared.operator.BinOp.TheVariants as op
-use Rattle.wy_forms.specs.declared.types.Base.TheVariants.{Primitive as Basic, Class as Named}
-use Rattle.wy_forms.specs.declared.types.Ty.TheVariants.{Void, Of}
-use Rattle.wy_forms.specs.declared.types.MethodForm.TheVariants as kinds
-use Rattle.wy_forms.specs.declared.form.CallForm.TheVariants as calling
-use Rattle.wy_forms.specs.declared.form.LibOp.TheVariants as lib
-use Rattle.wy_forms.specs.Form.{Null, Const, Str, Read, Set, Bin, Call, Cat, Lib, Local, Field, the, none, more, Stmt, Block, Eval, If, Return, nothing, done, first}
-use Rattle.wy_forms.specs.Program.{Program, Class, Method, Body}
-use Rattle.wy_forms.specs.Program as part
+use Rattle.wy_kernel.specs.declared.types.Base.TheVariants.{Primitive as Basic, Class as Named}
+use Rattle.wy_kernel.specs.declared.types.Ty.TheVariants.{Void, Of}
+use Rattle.wy_kernel.specs.declared.types.MethodForm.TheVariants as kinds
+use Rattle.wy_kernel.specs.declared.form.CallForm.TheVariants as calling
+use Rattle.wy_kernel.specs.declared.form.LibOp.TheVariants as lib
+use Rattle.wy_kernel.specs.Form.{Null, Const, Str, Read, Set, Bin, Call, Cat, Lib, Local, Field, the, none, more, Stmt, Block, Eval, If, Return, nothing, done, first}
+use Rattle.wy_kernel.specs.Program.{Program, Class, Method, Body}
+use Rattle.wy_kernel.specs.Program as part
 use Rattle.wy_meaning.proofs.Computed.{class_named, method_named, field_named, body_with}
 
 abbrev pub built_in_classes : List Class

@@ -3,10 +3,10 @@ use Rattle.std.specs.Prelude.{ℕ, Bool, false, if◌then◌else◌, List, [], �
 use Rattle.std.specs.Fmt.{digits as fmt_digits}
 use Rattle.std.specs.Int.{int_wrap}
 use Rattle.std.specs.Char.Utf16.{utf16_chars}
-use Rattle.wy_forms.specs.declared.types.Ty.{Ty}
-use Rattle.wy_forms.specs.declared.types.MethodForm.{MethodForm}
-use Rattle.wy_forms.specs.Form.{Statement}
-use Rattle.wy_forms.specs.Program as part
+use Rattle.wy_kernel.specs.declared.types.Ty.{Ty}
+use Rattle.wy_kernel.specs.declared.types.MethodForm.{MethodForm}
+use Rattle.wy_kernel.specs.Form.{Statement}
+use Rattle.wy_kernel.specs.Program as part
 use Rattle.wy_value.specs.declared.value.Value.{Value}
 use Rattle.wy_event.specs.declared.record.Kind.{Kind}
 use Rattle.wy_event.specs.declared.record.Slot.{Slot}
@@ -16,7 +16,7 @@ use Rattle.wy_event.specs.Numbers.{Numbers}
 use Rattle.wy_steps.specs.Sets.{nothing as carries_nothing}
 use Rattle.wy_steps.specs.State.{Covered}
 use Rattle.wy_meaning.specs.Run.{Tail}
-use Rattle.wy_forms.specs.Program.{class, method, field, body, init_body, fixed_text, local_site, is_source, full_name, primitive_code, base_code, type_code, base_of, type_of_code, element_type, class_of_type, is_array, is_one_of, is_above, class_below, is_subclass, same_primitive, base_below, is_object, brackets_below, is_below, same_units, same_types, is_instance, runs_as, declared_in, or_above, find_method, dispatch}
+use Rattle.wy_kernel.specs.Program.{class, method, field, body, init_body, fixed_text, local_site, is_source, full_name, primitive_code, base_code, type_code, base_of, type_of_code, element_type, class_of_type, is_array, is_one_of, is_above, class_below, is_subclass, same_primitive, base_below, is_object, brackets_below, is_below, same_units, same_types, is_instance, runs_as, declared_in, or_above, find_method, dispatch}
 use Rattle.wy_event.specs.Numbers.{none, only, union, union_of}
 use Rattle.wy_event.specs.Record.{present, recorded, same_slot}
 use Rattle.wy_event.specs.Sources.{is_write, writes, is_what, creates_as, creates, is_so, or_else, written, creation, last_write, with_role, use_source, use_sources, event_sources, sources_of, sources, is_data, source_events, closure_within, closure, data_closure}

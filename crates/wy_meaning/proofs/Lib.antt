@@ -10,3 +10,4 @@ mod Forms
 mod Answers
 mod Orders
 mod Limits
+mod Operators

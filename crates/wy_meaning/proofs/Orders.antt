@@ -4,11 +4,11 @@ use Rattle.std.specs.Prelude.{pos, true, false, [], ◌∷◌, Some, codes}
 use Rattle.std.specs.Prelude.{None as Absent}
 use Rattle.wy_kernel.specs.declared.operator.Primitive.TheVariants as prim
 use Rattle.wy_kernel.specs.declared.operator.BinOp.TheVariants as op
-use Rattle.wy_forms.specs.declared.types.Base.TheVariants.{Primitive as Basic, Class as Named}
-use Rattle.wy_forms.specs.declared.types.Ty.TheVariants.{Void, Of}
-use Rattle.wy_forms.specs.declared.types.MethodForm.TheVariants as kinds
-use Rattle.wy_forms.specs.Form.{Int, Const, Read, Set, Upd, New, Cat, Local, the, none, Stmt, Block, Eval, Print, done, first}
-use Rattle.wy_forms.specs.Program.{Program}
+use Rattle.wy_kernel.specs.declared.types.Base.TheVariants.{Primitive as Basic, Class as Named}
+use Rattle.wy_kernel.specs.declared.types.Ty.TheVariants.{Void, Of}
+use Rattle.wy_kernel.specs.declared.types.MethodForm.TheVariants as kinds
+use Rattle.wy_kernel.specs.Form.{Int, Const, Read, Set, Upd, New, Cat, Local, the, none, Stmt, Block, Eval, Print, done, first}
+use Rattle.wy_kernel.specs.Program.{Program}
 use Rattle.wy_value.specs.declared.value.Value.TheVariants as val
 use Rattle.wy_event.specs.declared.record.Kind.TheVariants as kind
 use Rattle.wy_event.specs.declared.record.Slot.TheVariants as slot

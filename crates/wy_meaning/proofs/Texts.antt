@@ -3,13 +3,13 @@ use Rattle.std.proofs.Common.{◌≡◌, refl}
 use Rattle.std.specs.Prelude.{pos, true, false, [], ◌∷◌, Some, codes}
 use Rattle.std.specs.Prelude.{None as Absent}
 use Rattle.wy_kernel.specs.declared.operator.BinOp.TheVariants as op
-use Rattle.wy_forms.specs.declared.types.Base.TheVariants.{Class as Named}
-use Rattle.wy_forms.specs.declared.types.Ty.TheVariants.{Void, Of}
-use Rattle.wy_forms.specs.declared.types.MethodForm.TheVariants as kinds
-use Rattle.wy_forms.specs.declared.form.CallForm.TheVariants as calling
-use Rattle.wy_forms.specs.declared.form.LibOp.TheVariants as lib
-use Rattle.wy_forms.specs.Form.{Null, Const, Str, Read, Set, Upd, New, Call, Cat, Lib, Local, Field, absent, the, none, more, Stmt, Block, Eval, Return, Print, done, first}
-use Rattle.wy_forms.specs.Program.{Program}
+use Rattle.wy_kernel.specs.declared.types.Base.TheVariants.{Class as Named}
+use Rattle.wy_kernel.specs.declared.types.Ty.TheVariants.{Void, Of}
+use Rattle.wy_kernel.specs.declared.types.MethodForm.TheVariants as kinds
+use Rattle.wy_kernel.specs.declared.form.CallForm.TheVariants as calling
+use Rattle.wy_kernel.specs.declared.form.LibOp.TheVariants as lib
+use Rattle.wy_kernel.specs.Form.{Null, Const, Str, Read, Set, Upd, New, Call, Cat, Lib, Local, Field, absent, the, none, more, Stmt, Block, Eval, Return, Print, done, first}
+use Rattle.wy_kernel.specs.Program.{Program}
 use Rattle.wy_value.specs.declared.value.Value.TheVariants as val
 use Rattle.wy_event.specs.declared.record.Kind.TheVariants as kind
 use Rattle.wy_event.specs.declared.record.Slot.TheVariants as slot

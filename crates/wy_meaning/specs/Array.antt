@@ -1,7 +1,7 @@
 -- Arrays (JLS 10.6, 15.10.1, 15.10.2).
 use Rattle.std.specs.Prelude.{ℕ, zero, suc, pos, negsuc, Bool, true, false, ◌||◌, List, [], ◌∷◌, length}
-use Rattle.wy_forms.specs.declared.types.Ty.{Ty}
-use Rattle.wy_forms.specs.Program.{type_code, element_type}
+use Rattle.wy_kernel.specs.declared.types.Ty.{Ty}
+use Rattle.wy_kernel.specs.Program.{type_code, element_type}
 use Rattle.wy_value.specs.declared.value.Value.{Value}
 use Rattle.wy_value.specs.declared.value.Value.TheVariants.{None as Nothing, Int, Object}
 use Rattle.wy_event.specs.declared.record.Kind.TheVariants as kind

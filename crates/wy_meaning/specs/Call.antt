@@ -1,13 +1,13 @@
 -- Calls and creation (JLS 12.5, 15.9.4, 15.12.4).
 use Rattle.std.specs.Prelude.{ℕ, suc, Bool, true, false, ◌==◌, if◌then◌else◌, List, [], ◌∷◌, Option, Some}
 use Rattle.std.specs.Prelude.{None as Absent}
-use Rattle.wy_forms.specs.declared.types.Ty.{Ty}
-use Rattle.wy_forms.specs.declared.types.Ty.TheVariants.{Void}
-use Rattle.wy_forms.specs.declared.types.MethodForm.{MethodForm}
-use Rattle.wy_forms.specs.declared.types.MethodForm.TheVariants.{Constructor}
-use Rattle.wy_forms.specs.Program.{Body, Method, method, class, local_site}
-use Rattle.wy_forms.specs.declared.form.CallForm.{CallForm}
-use Rattle.wy_forms.specs.declared.form.CallForm.TheVariants as form
+use Rattle.wy_kernel.specs.declared.types.Ty.{Ty}
+use Rattle.wy_kernel.specs.declared.types.Ty.TheVariants.{Void}
+use Rattle.wy_kernel.specs.declared.types.MethodForm.{MethodForm}
+use Rattle.wy_kernel.specs.declared.types.MethodForm.TheVariants.{Constructor}
+use Rattle.wy_kernel.specs.Program.{Body, Method, method, class, local_site}
+use Rattle.wy_kernel.specs.declared.form.CallForm.{CallForm}
+use Rattle.wy_kernel.specs.declared.form.CallForm.TheVariants as form
 use Rattle.wy_value.specs.declared.value.Value.TheVariants.{None as Nothing, Bool as Boolean, Object}
 use Rattle.wy_event.specs.declared.record.Kind.TheVariants as kind
 use Rattle.wy_event.specs.declared.record.Slot.TheVariants.{Local}
@@ -17,7 +17,7 @@ use Rattle.wy_steps.specs.Steps.{constant, joined, value_of, note, note_new, not
 use Rattle.wy_meaning.specs.World.{World, plain, about, into, fail, null_pointer, class_code, is_null, is_text, units_of, all_of}
 use Rattle.wy_meaning.specs.Place.{initialize}
 use Rattle.wy_meaning.specs.Text.{call_chosen}
-use Rattle.wy_forms.specs.Program.{same_units}
+use Rattle.wy_kernel.specs.Program.{same_units}
 
 -- ---- what a call does
 

@@ -4,11 +4,11 @@ use Rattle.std.specs.Prelude.{None as Absent}
 use Rattle.wy_kernel.specs.declared.operator.Primitive.{Primitive}
 use Rattle.wy_kernel.specs.declared.operator.BinOp.{BinOp}
 use Rattle.wy_kernel.specs.declared.operator.UnOp.{UnOp}
-use Rattle.wy_forms.specs.declared.types.Ty.{Ty}
-use Rattle.wy_forms.specs.declared.form.CallForm.{CallForm}
-use Rattle.wy_forms.specs.declared.form.CallForm.TheVariants as form
-use Rattle.wy_forms.specs.Form.{Constant, Null, Truth, Byte, Short, Char, Int, Long, Expression, Const, Str, Read, Set, Upd, Un, Bin, Conv, Cast, InstanceOf, Cond, New, NewArray, Call, Cat, Lib, Place, Local, Static, Field, Elem, Part, absent, the, Row, none, more}
-use Rattle.wy_forms.specs.Program.{is_below}
+use Rattle.wy_kernel.specs.declared.types.Ty.{Ty}
+use Rattle.wy_kernel.specs.declared.form.CallForm.{CallForm}
+use Rattle.wy_kernel.specs.declared.form.CallForm.TheVariants as form
+use Rattle.wy_kernel.specs.Form.{Constant, Null, Truth, Byte, Short, Char, Int, Long, Expression, Const, Str, Read, Set, Upd, Un, Bin, Conv, Cast, InstanceOf, Cond, New, NewArray, Call, Cat, Lib, Place, Local, Static, Field, Elem, Part, absent, the, Row, none, more}
+use Rattle.wy_kernel.specs.Program.{is_below}
 use Rattle.wy_value.specs.declared.value.Value.{Value}
 use Rattle.wy_value.specs.declared.value.Value.TheVariants as val
 use Rattle.wy_value.specs.Operator.{binary_of, unary_of}

@@ -7,3 +7,4 @@ pub mod Library
 pub mod Expression
 pub mod Statement
 pub mod Run
+pub mod Kept

@@ -3,15 +3,15 @@ use Rattle.std.specs.Prelude.{ℕ, ◌==◌, ℤ, pos, negsuc, neg_ℤ, int_lt, 
 use Rattle.std.specs.Prelude.{None as Absent}
 use Rattle.std.specs.Fmt.{digits}
 use Rattle.std.specs.Int.{w32, w64}
-use Rattle.wy_forms.specs.declared.types.Base.{Base}
-use Rattle.wy_forms.specs.declared.types.Base.TheVariants.{Primitive as Basic, Class as Named}
+use Rattle.wy_kernel.specs.declared.types.Base.{Base}
+use Rattle.wy_kernel.specs.declared.types.Base.TheVariants.{Primitive as Basic, Class as Named}
 use Rattle.wy_kernel.specs.declared.operator.Primitive.{Primitive}
 use Rattle.wy_kernel.specs.declared.operator.Primitive.TheVariants as prim
-use Rattle.wy_forms.specs.declared.types.Ty.{Ty}
-use Rattle.wy_forms.specs.declared.types.Ty.TheVariants.{Of}
-use Rattle.wy_forms.specs.declared.form.LibOp.{LibOp}
-use Rattle.wy_forms.specs.declared.form.LibOp.TheVariants as op
-use Rattle.wy_forms.specs.Program.{Program, full_name, same_units}
+use Rattle.wy_kernel.specs.declared.types.Ty.{Ty}
+use Rattle.wy_kernel.specs.declared.types.Ty.TheVariants.{Of}
+use Rattle.wy_kernel.specs.declared.form.LibOp.{LibOp}
+use Rattle.wy_kernel.specs.declared.form.LibOp.TheVariants as op
+use Rattle.wy_kernel.specs.Program.{Program, full_name, same_units}
 use Rattle.wy_value.specs.declared.value.Value.{Value}
 use Rattle.wy_value.specs.declared.value.Value.TheVariants.{None as Nothing, Bool as Boolean, Char, Int, Long, Object, Text, Fixed}
 use Rattle.wy_value.specs.Number.{wrapped}

@@ -4,10 +4,10 @@ use Rattle.std.specs.Prelude.{None as Absent}
 use Rattle.wy_kernel.specs.declared.operator.Primitive.{Primitive}
 use Rattle.wy_kernel.specs.declared.operator.Primitive.TheVariants as prim
 use Rattle.wy_kernel.specs.declared.operator.BinOp.{BinOp}
-use Rattle.wy_forms.specs.declared.types.Base.TheVariants.{Primitive as Basic}
-use Rattle.wy_forms.specs.declared.types.Ty.{Ty}
-use Rattle.wy_forms.specs.declared.types.Ty.TheVariants.{Of}
-use Rattle.wy_forms.specs.Program.{Program, is_source, is_below, element_type, field}
+use Rattle.wy_kernel.specs.declared.types.Base.TheVariants.{Primitive as Basic}
+use Rattle.wy_kernel.specs.declared.types.Ty.{Ty}
+use Rattle.wy_kernel.specs.declared.types.Ty.TheVariants.{Of}
+use Rattle.wy_kernel.specs.Program.{Program, is_source, is_below, element_type, field}
 use Rattle.wy_value.specs.declared.value.Value.{Value}
 use Rattle.wy_value.specs.declared.value.Value.TheVariants.{None as Nothing, Int, Long, Null, Object}
 use Rattle.wy_value.specs.Operator.{binary_of, is_shift}

@@ -1,10 +1,10 @@
 -- The run of a program with an input and a step budget (JLS 12.1, 12.4).
 use Rattle.std.specs.Prelude.{ℕ, zero, suc, ◌-◌, pos, List, [], ◌∷◌, length, map, reverse, Option, Some}
 use Rattle.std.specs.Prelude.{None as Absent}
-use Rattle.wy_forms.specs.declared.types.Base.TheVariants.{Class as Named}
-use Rattle.wy_forms.specs.declared.types.Ty.{Ty}
-use Rattle.wy_forms.specs.declared.types.Ty.TheVariants.{Of}
-use Rattle.wy_forms.specs.Program.{Program, Body, method, class, body, init_body, string_class}
+use Rattle.wy_kernel.specs.declared.types.Base.TheVariants.{Class as Named}
+use Rattle.wy_kernel.specs.declared.types.Ty.{Ty}
+use Rattle.wy_kernel.specs.declared.types.Ty.TheVariants.{Of}
+use Rattle.wy_kernel.specs.Program.{Program, Body, method, class, body, init_body, string_class}
 use Rattle.wy_value.specs.declared.value.Value.TheVariants.{Int, Object}
 use Rattle.wy_event.specs.Record.{Recorded}
 use Rattle.wy_steps.specs.Sets.{Sets}

@@ -1,8 +1,8 @@
 -- What a statement does (JLS 14): each form by what its parts do, and the recursion on the forms.
 use Rattle.std.specs.Prelude.{ℕ, zero, suc, Bool, true, List, [], ◌∷◌, Option, Some}
 use Rattle.std.specs.Prelude.{None as Absent}
-use Rattle.wy_forms.specs.Form.{Statement, Stmt, Act, Block, Eval, Declare, If, While, Do, For, Labelled, Jump, Return, Throw, Try, Print, Other, nothing, this, Statements, done, first, Catches, uncaught, catch}
-use Rattle.wy_forms.specs.Program.{Program, is_subclass, class_of_type}
+use Rattle.wy_kernel.specs.Form.{Statement, Stmt, Act, Block, Eval, Declare, If, While, Do, For, Labelled, Jump, Return, Throw, Try, Print, Other, nothing, this, Statements, done, first, Catches, uncaught, catch}
+use Rattle.wy_kernel.specs.Program.{Program, is_subclass, class_of_type}
 use Rattle.wy_value.specs.declared.value.Value.TheVariants.{None as Nothing}
 use Rattle.wy_event.specs.declared.record.Kind.TheVariants as kind
 use Rattle.wy_event.specs.declared.record.Slot.TheVariants.{Local}

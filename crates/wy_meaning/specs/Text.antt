@@ -1,6 +1,6 @@
 -- Texts: string conversion, `+` on texts and what is printed (JLS 5.1.11, 15.18.1).
 use Rattle.std.specs.Prelude.{ℕ, Bool, true, false, List, [], ◌∷◌, ◌++◌, length, Some}
-use Rattle.wy_forms.specs.Program.{dispatch, class_of_type}
+use Rattle.wy_kernel.specs.Program.{dispatch, class_of_type}
 use Rattle.wy_value.specs.declared.value.Value.{Value}
 use Rattle.wy_value.specs.declared.value.Value.TheVariants.{None as Nothing, Object, Text, Fixed}
 use Rattle.wy_value.specs.Numeral.{text_of}

@@ -1,10 +1,10 @@
 -- What the forms of a program share: the program, and what a call and an initialization do; the exceptions that the machine throws; and what a value refers to.
 use Rattle.std.specs.Prelude.{ℕ, ◌+◌, pos, Bool, true, false, List, [], ◌∷◌, Option, Some}
 use Rattle.std.specs.Prelude.{None as Absent}
-use Rattle.wy_forms.specs.declared.types.Base.TheVariants.{Class as Named}
-use Rattle.wy_forms.specs.declared.types.Ty.{Ty}
-use Rattle.wy_forms.specs.declared.types.Ty.TheVariants.{Null as OfNull, Of}
-use Rattle.wy_forms.specs.Program.{Program, type_of_code, string_class, fixed_text}
+use Rattle.wy_kernel.specs.declared.types.Base.TheVariants.{Class as Named}
+use Rattle.wy_kernel.specs.declared.types.Ty.{Ty}
+use Rattle.wy_kernel.specs.declared.types.Ty.TheVariants.{Null as OfNull, Of}
+use Rattle.wy_kernel.specs.Program.{Program, type_of_code, string_class, fixed_text}
 use Rattle.wy_value.specs.declared.value.Value.{Value}
 use Rattle.wy_value.specs.declared.value.Value.TheVariants.{None as Nothing, Bool as Boolean, Int, Null, Object, Text, Fixed}
 use Rattle.wy_event.specs.declared.record.Kind.{Kind}

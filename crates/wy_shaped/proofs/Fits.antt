@@ -4,10 +4,10 @@ use Rattle.std.specs.Prelude.{None as Absent}
 use Rattle.std.specs.Prelude.{slice_get, if◌then◌else◌}
 use Rattle.wy_kernel.specs.declared.operator.Primitive.{Primitive}
 use Rattle.wy_kernel.specs.declared.operator.Primitive.TheVariants as prim
-use Rattle.wy_forms.specs.declared.types.Base.TheVariants.{Primitive as Basic, Class as Named}
-use Rattle.wy_forms.specs.declared.types.Ty.{Ty}
-use Rattle.wy_forms.specs.declared.types.Ty.TheVariants.{Void, Null as OfNull, Of}
-use Rattle.wy_forms.specs.Program.{Program, field, element_type, type_of_code}
+use Rattle.wy_kernel.specs.declared.types.Base.TheVariants.{Primitive as Basic, Class as Named}
+use Rattle.wy_kernel.specs.declared.types.Ty.{Ty}
+use Rattle.wy_kernel.specs.declared.types.Ty.TheVariants.{Void, Null as OfNull, Of}
+use Rattle.wy_kernel.specs.Program.{Program, field, element_type, type_of_code}
 use Rattle.wy_value.specs.declared.value.Value.{Value}
 use Rattle.wy_value.specs.declared.value.Value.TheVariants as val
 use Rattle.wy_event.specs.declared.record.Kind.{Kind}

@@ -6,14 +6,14 @@ use Rattle.std.proofs.Common.{◌&&◌, int_eq}
 use Rattle.std.specs.Int.{Width, w32, w64}
 use Rattle.wy_kernel.specs.declared.operator.Primitive.{Primitive}
 use Rattle.wy_kernel.specs.declared.operator.Primitive.TheVariants as prim
-use Rattle.wy_forms.specs.declared.types.Base.TheVariants.{Primitive as Basic}
-use Rattle.wy_forms.specs.declared.types.Ty.TheVariants.{Of}
+use Rattle.wy_kernel.specs.declared.types.Base.TheVariants.{Primitive as Basic}
+use Rattle.wy_kernel.specs.declared.types.Ty.TheVariants.{Of}
 use Rattle.wy_value.specs.Operator.{arithmetic, comparison, is_comparison, is_division, on_numbers, binary_of, unary_of}
 use Rattle.wy_value.specs.Conversion.{value_in, converted}
 use Rattle.wy_kernel.specs.declared.operator.BinOp.{BinOp}
 use Rattle.wy_kernel.specs.declared.operator.UnOp.{UnOp}
-use Rattle.wy_forms.specs.declared.types.Ty.{Ty}
-use Rattle.wy_forms.specs.Program.{Program, is_source}
+use Rattle.wy_kernel.specs.declared.types.Ty.{Ty}
+use Rattle.wy_kernel.specs.Program.{Program, is_source}
 use Rattle.wy_value.specs.declared.value.Value.{Value}
 use Rattle.wy_value.specs.declared.value.Value.TheVariants as val
 use Rattle.wy_event.specs.declared.record.Kind.{Kind}

@@ -1,7 +1,7 @@
 -- Every expression, every statement and every call keeps what the steps keep.
 use Rattle.std.proofs.Common.{ℕ, zero, suc, Bool, true, false, List, [], ◌∷◌, Option, Some}
 use Rattle.std.specs.Prelude.{None as Absent}
-use Rattle.wy_forms.specs.Program.{Program}
+use Rattle.wy_kernel.specs.Program.{Program}
 use Rattle.wy_value.specs.declared.value.Value.TheVariants as val
 use Rattle.wy_event.specs.Record.{Recorded}
 use Rattle.wy_steps.specs.Sets.{Sets}
@@ -10,14 +10,14 @@ use Rattle.wy_steps.specs.Steps.{tick}
 use Rattle.wy_meaning.specs.World.{World}
 use Rattle.wy_shaped.specs.Shaped.{IsFrame, IsThrow}
 use Rattle.wy_shaped.proofs.Rules.{IsNoReference, Fact, nothing, Entails, newest, before, trivially, at, reason_fits, keeps_return, keeps_leave, keeps_stop, plain_stop, keeps_catching, keeps_choose, after, with_number, with_flag, with_type, all_fit, option_fits, absent_fits, no_values_fit, more_fit, first_fits, rest_fit, threw_fits, of_returned, of_threw, threw_at, failed_stop, plain_value, carried_value, object_value, local_slot, constant_fits, keeps_tick, keeps_steps_left, keeps_scoped, keeps_in_frame}
-use Rattle.wy_forms.specs.Form.{Constant, Null, Truth, Byte, Short, Char, Int, Long, Expression, Const, Str, Read, Set, Upd, Un, Bin, Conv, Cast, InstanceOf, Cond, New, NewArray, Call, Cat, Lib, Place, Local, Static, Field, Elem, Part, absent, the, Row, none, more, Statement, Stmt, Act, Block, Eval, Declare, If, While, Do, For, Labelled, Jump, Return, Throw, Try, Print, Other, nothing as no_statement, this, Statements, done, first, Catches, uncaught, catch}
-use Rattle.wy_forms.specs.Program.{Body, Method, body, init_body}
+use Rattle.wy_kernel.specs.Form.{Constant, Null, Truth, Byte, Short, Char, Int, Long, Expression, Const, Str, Read, Set, Upd, Un, Bin, Conv, Cast, InstanceOf, Cond, New, NewArray, Call, Cat, Lib, Place, Local, Static, Field, Elem, Part, absent, the, Row, none, more, Statement, Stmt, Act, Block, Eval, Declare, If, While, Do, For, Labelled, Jump, Return, Throw, Try, Print, Other, nothing as no_statement, this, Statements, done, first, Catches, uncaught, catch}
+use Rattle.wy_kernel.specs.Program.{Body, Method, body, init_body}
 use Rattle.wy_meaning.specs.Call.{bind_all, end_body, at_return, run_body, frame_of_call, call_uses, bound, call_method, at_failure, initialize_above, initialization}
 use Rattle.wy_meaning.specs.Expression.{constant_value, eval, locate, eval_part, eval_row}
 use Rattle.wy_meaning.specs.Statement.{statement, tested, evaluated, declaration, if_form, turns, while_form, do_form, for_test, for_form, jump, return_form, throw_form, Clause, caught, handle, at_throw, finally, try_form, print_form, other_or, exec, exec_act, exec_other, exec_all, exec_catches}
 use Rattle.wy_meaning.specs.Run.{call_body, init_block, world, main_run, strings}
-use Rattle.wy_forms.specs.declared.types.MethodForm.{MethodForm}
-use Rattle.wy_forms.specs.declared.types.MethodForm.TheVariants as kinds
+use Rattle.wy_kernel.specs.declared.types.MethodForm.{MethodForm}
+use Rattle.wy_kernel.specs.declared.types.MethodForm.TheVariants as kinds
 use Rattle.wy_shaped.proofs.Forms.{with_new, with_call, with_init, with_bind, valued_new, at_call, at_init, none_value, number_value, steps, notes, looked, Hold, Fit, Carries, Acts, WorldKeeps, note_call, note_bind, note_init, keeps_type_of, AllCarry, PlaceCarries, keeps_initialize, keeps_read_place, keeps_set_place, keeps_cat, keeps_print_value, keeps_print_nothing}
 use Rattle.wy_shaped.proofs.Wholes.{keeps_make_array, keeps_create, keeps_new_array, keeps_library_form, PartCarries, part_or_carries, keeps_update, keeps_unary, keeps_binary, keeps_convert, keeps_cast, keeps_instance_of, keeps_conditional, keeps_call}
 

@@ -3,7 +3,7 @@ use Rattle.std.proofs.Common.{◌+◌, arith, ◌≤◌, ◌≡◌, ℕ, zero, s
 use Rattle.std.specs.Prelude.{slice_get}
 use Rattle.std.proofs.lemmas.List.{map-append, length-map, length-reverse}
 use mathlib.Core.List.{map, reverse, reverse-cons}
-use Rattle.wy_forms.specs.Program.{Program}
+use Rattle.wy_kernel.specs.Program.{Program}
 use Rattle.wy_event.specs.Record.{Recorded}
 use Rattle.wy_steps.specs.Sets.{Sets}
 use Rattle.wy_steps.specs.State.{Carried, Noted, Covered, Stop, InitFailed, Reason, Jumped, Returned, Threw, Outcome, Done, Left, Stopped}

@@ -1,7 +1,7 @@
 -- What the records of a run refer to: earlier records, each of a kind that may stand in its place, and what each kind of record has.
 use Rattle.std.specs.Prelude.{◌+◌, ◌≡◌, ◌<◌, ◌≤◌, ◌⊎◌, ℕ, zero, suc, pos, List, [], ◌∷◌, length, Option, Some, slice_get}
 use Rattle.std.specs.Prelude.{None as Absent}
-use Rattle.wy_forms.specs.Program.{Program}
+use Rattle.wy_kernel.specs.Program.{Program}
 use Rattle.wy_value.specs.declared.value.Value.{Value}
 use Rattle.wy_value.specs.declared.value.Value.TheVariants as val
 use Rattle.wy_event.specs.declared.record.Kind.{Kind}

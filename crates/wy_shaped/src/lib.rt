@@ -2,7 +2,7 @@
 #![tactic(auto)]
 
 ghost use Rattle.std.specs.Prelude.{List, ℕ};
-ghost use Rattle.wy_forms.specs.Program.{Program};
+ghost use Rattle.wy_kernel.specs.Program.{Program};
 ghost use Rattle.wy_steps.specs.Sets.{nothing, numbers};
 ghost use Rattle.wy_shaped.specs.Shaped.{CountsAreShaped, RecordsAreShaped, CoverageIsShaped, LastIsShaped};
 

@@ -3,10 +3,10 @@ use Rattle.std.specs.Prelude.{ℕ, zero, suc, ◌+◌, Bool, true, false, ◌&&�
 use Rattle.std.specs.Prelude.{None as Absent}
 use Rattle.wy_kernel.specs.declared.operator.Primitive.{Primitive}
 use Rattle.wy_kernel.specs.declared.operator.Primitive.TheVariants as prim
-use Rattle.wy_forms.specs.declared.types.Base.TheVariants.{Primitive as Basic}
-use Rattle.wy_forms.specs.declared.types.Ty.{Ty}
-use Rattle.wy_forms.specs.declared.types.Ty.TheVariants.{Of}
-use Rattle.wy_forms.specs.Program.{Program, field, type_of_code, element_type}
+use Rattle.wy_kernel.specs.declared.types.Base.TheVariants.{Primitive as Basic}
+use Rattle.wy_kernel.specs.declared.types.Ty.{Ty}
+use Rattle.wy_kernel.specs.declared.types.Ty.TheVariants.{Of}
+use Rattle.wy_kernel.specs.Program.{Program, field, type_of_code, element_type}
 use Rattle.wy_value.specs.declared.value.Value.{Value}
 use Rattle.wy_value.specs.declared.value.Value.TheVariants.{None as Nothing, Bool as Boolean, Byte, Short, Char, Int, Long, Null}
 use Rattle.wy_event.specs.declared.record.Kind.{Kind}

@@ -1,5 +1,12 @@
 use Rattle.wy_backward.proofs.Theorem.{uses_determine_sets}
+use Rattle.wy_backward.proofs.Values.{values_are_by_uses, equal_uses_equal_sets}
 use Rattle.wy_backward.proofs.uses_determine_sets.Goals as goal
 
-pub returns : goal.returns
-returns c = uses_determine_sets
+pub returns-clause-events : goal.returns-clause-events
+returns-clause-events c = uses_determine_sets
+
+pub returns-clause-values : goal.returns-clause-values
+returns-clause-values c = values_are_by_uses
+
+pub returns-clause-equal_uses : goal.returns-clause-equal_uses
+returns-clause-equal_uses c = equal_uses_equal_sets
