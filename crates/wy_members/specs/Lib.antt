@@ -1,0 +1,3 @@
+pub mod Choice
+pub mod Widening
+pub mod Laws
