@@ -1,16 +1,16 @@
 -- How blocks are read, by the braces that may still be opened, and rows of statements, one after another.
 use Rattle.std.proofs.Common.{ℕ, zero, suc, ◌-◌, ◌<◌, ◌≡◌, List, [], ◌∷◌, ◌++◌, length, map, take, Option, Some, None, refl, sym, ◌∙◌, ap, subst, arith}
 use Rattle.std.proofs.lemmas.List.{length-map, take-map}
-use Rattle.wy_kernel.specs.Kernel.{Statement, Statements, none, more, Block, statement, statements}
+use Rattle.wy_smallforms.specs.Kernel.{Statement, Statements, none, more, Block, statement, statements}
 use Rattle.wy_small.specs.declared.token.Sign.TheVariants as sign
-use Rattle.wy_kernel.specs.declared.form.Stmt.{Stmt}
+use Rattle.wy_smallforms.specs.declared.form.Stmt.{Stmt}
 use Rattle.wy_small.specs.declared.token.Token.{Token}
 use Rattle.wy_small.specs.declared.scope.Local.{Local}
 use Rattle.wy_small.specs.declared.scope.Scope.{Scope as Scoping}
 use Rattle.wy_small.specs.declared.error.ReadError.{ReadError}
 use Rattle.wy_small.specs.declared.error.ReadError.TheVariants as errors
 use Rattle.wy_small.specs.Outcome.{Fails, named, names, scope_seen}
-use Rattle.wy_small.specs.Text.{Tok, seen, Mark}
+use Rattle.wy_small.specs.Tokens.{Tok, seen, Mark}
 use Rattle.wy_small.specs.Elaboration.{◌>>=◌, Scope}
 use Rattle.wy_small.specs.Reading.{took, if_some, Reader, ReadStatements, statement_by, row_at, braced, block_at, left}
 

@@ -3,11 +3,11 @@ use Rattle.std.proofs.Common.{ℕ, zero, suc, ◌+◌, ◌-◌, ◌*◌, ◌<◌
 use Rattle.std.proofs.lemmas.Bool.{le-leb, leb-true}
 use Rattle.wy_kernel.specs.declared.operator.BinOp.{BinOp}
 use Rattle.wy_kernel.specs.declared.operator.BinOp.TheVariants as op
-use Rattle.wy_kernel.specs.declared.form.Const.TheVariants as const
-use Rattle.wy_kernel.specs.Kernel.{Expression, Constant}
+use Rattle.wy_smallforms.specs.declared.form.Const.TheVariants as const
+use Rattle.wy_smallforms.specs.Kernel.{Expression, Constant}
 use Rattle.wy_small.specs.declared.token.Sign.{Sign}
 use Rattle.wy_small.specs.declared.token.Sign.TheVariants as sign
-use Rattle.wy_small.specs.Text.{Tok, Word, Number, Mark}
+use Rattle.wy_small.specs.Tokens.{Tok, Word, Number, Mark}
 use Rattle.wy_small.specs.Trees.{Atom, Name, Literal, Group, Product, Factor, Times, Sum, Term, Plus, Minus, atom_tokens, product_tokens, sum_tokens}
 use Rattle.wy_small.specs.Elaboration.{◌>>=◌, guard, Names, number_of, folded, read_of, atom, product, sum, short_sum}
 use Rattle.wy_small.specs.Reading.{same, took, read_local, closed, group_by, term_operator, atom_at, factors_at, product_at, terms_at, sum_at, short_sum_at}

@@ -1,9 +1,9 @@
 -- What each form means, as one equation.
 use Rattle.std.proofs.Common.{ℕ, suc, ◌≡◌, not, true, List, Option, Some, refl, sym, ◌∙◌, ap}
 use Rattle.std.specs.Str.{bytes_eq}
-use Rattle.wy_kernel.specs.declared.form.Place.TheVariants.{Local}
-use Rattle.wy_kernel.specs.Kernel.{Expression, Set, Statement, Statements}
-use Rattle.wy_kernel.specs.Kernel as kernel
+use Rattle.wy_smallforms.specs.declared.form.Place.TheVariants.{Local}
+use Rattle.wy_smallforms.specs.Kernel.{Expression, Set, Statement, Statements}
+use Rattle.wy_smallforms.specs.Kernel as kernel
 use Rattle.wy_small.specs.Words.{system}
 use Rattle.wy_small.specs.Trees.{Sum, Test, Stmt, Declare, Assign, If, IfElse, While, Print, Stmts, more}
 use Rattle.wy_small.specs.Elaboration.{◌>>=◌, guard, Scope, number_of, declared, behind, short_sum, test, block, stmt, stmts}

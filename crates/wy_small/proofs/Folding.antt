@@ -1,9 +1,9 @@
 -- An operator on two expressions, by whether they are constants; and how an expression is folded.
 use Rattle.std.proofs.Common.{◌≡◌, Option, Some, None, refl, sym, ◌∙◌, ap}
 use Rattle.wy_kernel.specs.declared.operator.BinOp.{BinOp}
-use Rattle.wy_kernel.specs.declared.form.Const.{Const}
-use Rattle.wy_kernel.specs.Kernel.{Expression, Constant, Binary}
-use Rattle.wy_kernel.specs.Operations.{result_of}
+use Rattle.wy_smallforms.specs.declared.form.Const.{Const}
+use Rattle.wy_smallforms.specs.Kernel.{Expression, Constant, Binary}
+use Rattle.wy_smallforms.specs.Operations.{result_of}
 use Rattle.wy_small.specs.Elaboration.{constant_in, folded_by, folded}
 
 pub folded_constants : (o : BinOp) (l r : Expression) (a b : Const) → Some a ≡ constant_in l → Some b ≡ constant_in r → folded o l r ≡ Constant (result_of o a b)

@@ -2,9 +2,9 @@
 use Rattle.std.proofs.Common.{ℕ, zero, suc, ◌+◌, ◌≡◌, Bool, true, false, not, ◌&&◌, ◌||◌, nat_le, List, [], ◌∷◌, ◌++◌, length, Option, Some, None, refl, sym, ◌∙◌, ap, arith}
 use Rattle.wy_kernel.specs.declared.operator.BinOp.{BinOp}
 use Rattle.wy_kernel.specs.declared.operator.BinOp.TheVariants as op
-use Rattle.wy_kernel.specs.declared.form.Place.TheVariants.{Local}
-use Rattle.wy_kernel.specs.Kernel.{Expression, Constant, Read, Whole, Set, Binary}
-use Rattle.wy_kernel.specs.Kernel as kernel
+use Rattle.wy_smallforms.specs.declared.form.Place.TheVariants.{Local}
+use Rattle.wy_smallforms.specs.Kernel.{Expression, Constant, Read, Whole, Set, Binary}
+use Rattle.wy_smallforms.specs.Kernel as kernel
 use Rattle.wy_small.specs.Words.{is_name, is_class_name}
 use Rattle.wy_small.specs.Trees.{Atom, Name, Literal, Group, Product, Factor, Times, Sum, Term, Plus, Minus, sum_tokens, operator_of, Stmt, Declare, Assign, If, IfElse, While, Print, Stmts, none, more}
 use Rattle.wy_small.specs.Elaboration.{guard, Names, Scope, number_of, read_of, folded, atom, product, sum, short_sum, test, is_free, declared, block, stmt, stmts, start, elaborated}

@@ -2,12 +2,12 @@
 use Rattle.std.proofs.Common.{ℕ, zero, suc, ◌≡◌, ◌⊎◌, inl, inr, not, List, [], ◌∷◌, ◌++◌, length, codes, Option, Some, None, refl, sym, ◌∙◌, ap, append_assoc}
 use Rattle.std.specs.Str.{bytes_eq}
 use Rattle.wy_kernel.specs.declared.operator.BinOp.{BinOp}
-use Rattle.wy_kernel.specs.declared.form.Place.TheVariants.{Local}
-use Rattle.wy_kernel.specs.Kernel.{Expression, Set, Statement, Statements}
-use Rattle.wy_kernel.specs.Kernel as kernel
+use Rattle.wy_smallforms.specs.declared.form.Place.TheVariants.{Local}
+use Rattle.wy_smallforms.specs.Kernel.{Expression, Set, Statement, Statements}
+use Rattle.wy_smallforms.specs.Kernel as kernel
 use Rattle.wy_small.specs.declared.token.Sign.{Sign}
 use Rattle.wy_small.specs.declared.token.Sign.TheVariants as sign
-use Rattle.wy_small.specs.Text.{Tok, Word, Number, Mark}
+use Rattle.wy_small.specs.Tokens.{Tok, Word, Number, Mark}
 use Rattle.wy_small.specs.Words.{system}
 use Rattle.wy_small.specs.Trees.{Sum, sum_tokens, Comparison, IsLess, IsGreater, IsLessEqual, IsGreaterEqual, IsEqual, IsNotEqual, sign_of, operator_of, Test, test_tokens, in_parens, in_braces, given, println, Stmt, Declare, Assign, If, IfElse, While, Print, Stmts, none, more, stmt_tokens, stmts_tokens}
 use Rattle.wy_small.specs.Elaboration.{◌>>=◌, guard, Names, Scope, number_of, declared, behind, folded, short_sum, test, block, stmt, stmts}

@@ -5,10 +5,10 @@ use Rattle.std.proofs.lemmas.Slice.Eq.{bytes_eq-Decides}
 use Rattle.std.specs.Str.{bytes_eq}
 use Rattle.wy_kernel.specs.declared.operator.BinOp.{BinOp}
 use Rattle.wy_kernel.specs.declared.operator.BinOp.TheVariants as op
-use Rattle.wy_kernel.specs.Kernel.{Expression}
+use Rattle.wy_smallforms.specs.Kernel.{Expression}
 use Rattle.wy_small.specs.declared.token.Sign.{Sign}
 use Rattle.wy_small.specs.declared.token.Sign.TheVariants as sign
-use Rattle.wy_small.specs.Text.{Tok, Word, Number, Mark}
+use Rattle.wy_small.specs.Tokens.{Tok, Word, Number, Mark}
 use Rattle.wy_small.specs.Elaboration.{◌>>=◌, guard}
 use Rattle.wy_small.specs.Reading.{tag, same, took, if_some, term_operator, closed, word_at}
 use Rattle.wy_small.proofs.Tokens.{same_is}

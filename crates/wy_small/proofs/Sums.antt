@@ -1,12 +1,12 @@
 -- How sums are read, by the number of calls that are left.
 use Rattle.std.proofs.Common.{ℕ, zero, suc, ◌-◌, ◌<◌, ◌≡◌, ℤ, List, [], ◌∷◌, Some, None, refl, ap, map, length, arith}
 use Rattle.wy_kernel.specs.declared.operator.BinOp.TheVariants as op
-use Rattle.wy_kernel.specs.declared.form.Const.TheVariants as const
-use Rattle.wy_kernel.specs.Kernel.{Expression, Constant}
+use Rattle.wy_smallforms.specs.declared.form.Const.TheVariants as const
+use Rattle.wy_smallforms.specs.Kernel.{Expression, Constant}
 use Rattle.wy_small.specs.declared.token.Token.{Token}
 use Rattle.wy_small.specs.declared.token.Sign.{Sign}
 use Rattle.wy_small.specs.declared.token.Sign.TheVariants as sign
-use Rattle.wy_small.specs.Text.{Tok, seen, Word, Number, Mark}
+use Rattle.wy_small.specs.Tokens.{Tok, seen, Word, Number, Mark}
 use Rattle.wy_small.specs.Elaboration.{◌>>=◌, Names, number_of, folded, read_of}
 use Rattle.wy_small.specs.Reading.{took, if_some, read_local, group_by, term_operator, atom_at, factors_at, product_at, terms_at, sum_at}
 

@@ -1,9 +1,9 @@
 -- A class that is read is spelled so and means this, and what is spelled as a class and means something is read.
 use Rattle.std.proofs.Common.{ℕ, ◌≡◌, Bool, true, false, ◌&&◌, List, [], ◌∷◌, ◌++◌, codes, Option, Some, None, refl, sym, ◌∙◌, ap, append_assoc}
-use Rattle.wy_kernel.specs.Kernel.{Statement, Whole}
-use Rattle.wy_kernel.specs.Kernel as kernel
+use Rattle.wy_smallforms.specs.Kernel.{Statement, Whole}
+use Rattle.wy_smallforms.specs.Kernel as kernel
 use Rattle.wy_small.specs.declared.token.Sign.TheVariants as sign
-use Rattle.wy_small.specs.Text.{Tok, Word, Mark}
+use Rattle.wy_small.specs.Tokens.{Tok, Word, Mark}
 use Rattle.wy_small.specs.Words.{is_name, is_class_name}
 use Rattle.wy_small.specs.Trees.{in_braces, stmts_tokens, CompilationUnit, public_tokens, header, tokens_of}
 use Rattle.wy_small.specs.Elaboration.{guard, Scope, block, stmts, start, elaborated}

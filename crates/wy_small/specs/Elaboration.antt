@@ -3,12 +3,12 @@ use Rattle.std.specs.Prelude.{ℕ, zero, suc, ◌+◌, nat_le, Bool, true, false
 use Rattle.std.specs.Str.{bytes_eq}
 use Rattle.wy_kernel.specs.declared.operator.BinOp.{BinOp}
 use Rattle.wy_kernel.specs.declared.operator.BinOp.TheVariants as op
-use Rattle.wy_kernel.specs.declared.form.Const.{Const}
-use Rattle.wy_kernel.specs.declared.form.Const.TheVariants as const
-use Rattle.wy_kernel.specs.declared.form.Place.TheVariants.{Local}
-use Rattle.wy_kernel.specs.Kernel.{Expression, Constant, Read, Set, Binary, Statement, Statements, Whole}
-use Rattle.wy_kernel.specs.Kernel as kernel
-use Rattle.wy_kernel.specs.Operations.{result_of}
+use Rattle.wy_smallforms.specs.declared.form.Const.{Const}
+use Rattle.wy_smallforms.specs.declared.form.Const.TheVariants as const
+use Rattle.wy_smallforms.specs.declared.form.Place.TheVariants.{Local}
+use Rattle.wy_smallforms.specs.Kernel.{Expression, Constant, Read, Set, Binary, Statement, Statements, Whole}
+use Rattle.wy_smallforms.specs.Kernel as kernel
+use Rattle.wy_smallforms.specs.Operations.{result_of}
 use Rattle.wy_small.specs.Trees.{Atom, Name, Literal, Group, Product, Factor, Times, Sum, Term, Plus, Minus, sum_tokens, Test, operator_of, Stmt, Declare, Assign, If, IfElse, While, Print, Stmts, none, more, CompilationUnit}
 use Rattle.wy_small.specs.Words.{is_name, is_class_name, system}
 
@@ -96,7 +96,7 @@ unfoldable mutual
     r ← product names p
     Some (folded op.Sub l r)
 
--- a sum of at most 100 pieces
+-- a sum of at most 100 tokens
 unfoldable pub short_sum : Names → Sum → Option Expression
 short_sum names s = do
   e ← sum names s

@@ -1,6 +1,7 @@
--- What holds of every program of the small form, whatever its text.
+-- What holds of every program of the small form, whatever its tokens.
 use Rattle.std.specs.Prelude.{ℕ, ◌+◌, ◌≡◌, Bool, true, false, not, ◌||◌, List, Some}
-use Rattle.wy_kernel.specs.Kernel.{Expression, Constant, Whole}
+use Rattle.wy_smallforms.specs.Kernel.{Expression, Constant, Whole}
+use Rattle.wy_tree.specs.Seen as java
 use Rattle.wy_small.specs.Trees.{Atom, Name, Literal, Group, Product, Factor, Times, Sum, Term, Plus, Minus, Test, Stmt, Declare, Assign, If, IfElse, While, Print, Stmts, none, more, CompilationUnit}
 use Rattle.wy_small.specs.Elaboration.{Names, short_sum, test, elaborated}
 use Rattle.wy_small.specs.Small.{IsSmall}
@@ -50,6 +51,6 @@ abbrev mutual
 abbrev pub LocalsCounted : Type 0
 LocalsCounted = (u : CompilationUnit) (w : Whole) → elaborated u ≡ Some w → w.locals ≡ 1 + all_declarations u.body
 
--- a text has one program at most
+-- tokens are those of one program at most
 abbrev pub OneProgram : Type 0
-OneProgram = (text : List ℕ) (v w : Whole) → IsSmall text v → IsSmall text w → v ≡ w
+OneProgram = (tokens : List java.Tok) (v w : Whole) → IsSmall tokens v → IsSmall tokens w → v ≡ w

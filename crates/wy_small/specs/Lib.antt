@@ -1,10 +1,9 @@
-pub mod Text
+pub mod Tokens
 pub mod Words
 pub mod Trees
 pub mod Elaboration
 pub mod Small
 pub mod Reading
 pub mod Outcome
-pub mod Lexing
 pub mod Whole
 pub mod Laws

@@ -1,13 +1,13 @@
 -- What the functions of the reader return, as readings.
 use Rattle.std.specs.Prelude.{ℕ, ◌≡◌, List, map, Option, Some, None, Result, Ok, Err}
 use Rattle.std.specs.Borrow.{Bor}
-use Rattle.wy_kernel.specs.declared.form.Expr.{Expr}
-use Rattle.wy_kernel.specs.Kernel.{Expression, expression}
+use Rattle.wy_smallforms.specs.declared.form.Expr.{Expr}
+use Rattle.wy_smallforms.specs.Kernel.{Expression, expression}
 use Rattle.wy_small.specs.declared.error.ReadError.{ReadError}
 use Rattle.wy_small.specs.declared.error.ReadError.TheVariants as errors
 use Rattle.wy_small.specs.declared.token.Token.{Token}
 use Rattle.wy_small.specs.declared.scope.Local.{Local}
-use Rattle.wy_small.specs.Text.{Tok, seen}
+use Rattle.wy_small.specs.Tokens.{Tok, seen}
 use Rattle.wy_small.specs.declared.scope.Scope.{Scope as Scoping}
 use Rattle.wy_small.specs.Elaboration.{Names, Scope}
 

@@ -3,13 +3,13 @@ use Rattle.std.specs.Prelude.{ℕ, zero, suc, ◌+◌, nat_eq, nat_le, Bool, tru
 use Rattle.std.specs.Str.{bytes_eq}
 use Rattle.wy_kernel.specs.declared.operator.BinOp.{BinOp}
 use Rattle.wy_kernel.specs.declared.operator.BinOp.TheVariants as op
-use Rattle.wy_kernel.specs.declared.form.Const.TheVariants as const
-use Rattle.wy_kernel.specs.declared.form.Place.TheVariants.{Local}
-use Rattle.wy_kernel.specs.Kernel.{Expression, Constant, Read, Set, Binary, Statement, Statements, Whole}
-use Rattle.wy_kernel.specs.Kernel as kernel
+use Rattle.wy_smallforms.specs.declared.form.Const.TheVariants as const
+use Rattle.wy_smallforms.specs.declared.form.Place.TheVariants.{Local}
+use Rattle.wy_smallforms.specs.Kernel.{Expression, Constant, Read, Set, Binary, Statement, Statements, Whole}
+use Rattle.wy_smallforms.specs.Kernel as kernel
 use Rattle.wy_small.specs.declared.token.Sign.{Sign}
 use Rattle.wy_small.specs.declared.token.Sign.TheVariants as sign
-use Rattle.wy_small.specs.Text.{Tok, Word, Number, Mark}
+use Rattle.wy_small.specs.Tokens.{Tok, Word, Number, Mark}
 use Rattle.wy_small.specs.Words.{is_name, is_class_name, system}
 use Rattle.wy_small.specs.Elaboration.{◌>>=◌, guard, Names, Scope, number_of, declared, folded, read_of, start}
 

@@ -1,10 +1,10 @@
--- The grammar of the small form: trees whose constructors are the productions, and the pieces of each.
+-- The grammar of the small form: trees whose constructors are the productions, and the tokens of each.
 use Rattle.std.specs.Prelude.{ℕ, Bool, true, false, ℤ, List, [], ◌∷◌, ◌++◌, codes}
 use Rattle.wy_kernel.specs.declared.operator.BinOp.{BinOp}
 use Rattle.wy_kernel.specs.declared.operator.BinOp.TheVariants as op
 use Rattle.wy_small.specs.declared.token.Sign.{Sign}
 use Rattle.wy_small.specs.declared.token.Sign.TheVariants as sign
-use Rattle.wy_small.specs.Text.{Tok, Word, Number, Mark}
+use Rattle.wy_small.specs.Tokens.{Tok, Word, Number, Mark}
 
 mutual
   -- Atom = name | number | "(" Sum ")"
@@ -133,6 +133,6 @@ header w =
     Word (codes "public") ∷ (Word (codes "static") ∷ (Word (codes "void") ∷ (Word (codes "main") ∷ (in_parens
     (Word (codes "String") ∷ (Mark sign.OpenBracket ∷ (Mark sign.CloseBracket ∷ (Word w ∷ []))))))))
 
--- the pieces of a unit
+-- the tokens of a unit
 abbrev pub tokens_of : CompilationUnit → List Tok
 tokens_of u = public_tokens u.is_public ++ Word (codes "class") ∷ (Word u.class_name ∷ (in_braces (header u.parameter ++ in_braces (stmts_tokens u.body))))

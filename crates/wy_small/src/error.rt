@@ -5,7 +5,7 @@ use std::alloc::{AllocError, AllocFailed};
 /// Why `read` gave no program.
 #[derive(Clone, Copy, Debug, PartialEq, Eq)]
 pub enum ReadError {
-    /// The text isn't of the small form.
+    /// The tokens aren't those of the small form.
     NotSmall,
     /// No memory was left, or the numbers of locals ran out.
     NoMemory,

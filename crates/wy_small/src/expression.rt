@@ -2,9 +2,9 @@
 //! What stands without a name is folded to one constant.
 
 ghost use Rattle.std.specs.Prelude.{◌≡◌, map, option_map, IfOk};
-ghost use Rattle.wy_kernel.specs.Kernel.{expression, Binary, Constant};
-ghost use Rattle.wy_kernel.specs.Operations.{result_of};
-ghost use Rattle.wy_small.specs.Text.{seen};
+ghost use Rattle.wy_smallforms.specs.Kernel.{expression, Binary, Constant};
+ghost use Rattle.wy_smallforms.specs.Operations.{result_of};
+ghost use Rattle.wy_small.specs.Tokens.{seen};
 ghost use Rattle.wy_small.specs.Elaboration.{constant_in, folded, read_of};
 ghost use Rattle.wy_small.specs.Reading.{read_local, group_by, term_operator, atom_at, factors_at, product_at, terms_at, sum_at, short_sum_at, comparison_of, comparison_at, test_at, value_at};
 ghost use Rattle.wy_small.specs.Outcome.{Gives, names, read_expression};
@@ -13,8 +13,8 @@ use crate::error::ReadError;
 use crate::scope::{Local, index_of};
 use crate::token::{Sign, Token, after_sign, expect_sign};
 use std::alloc::{AllocError, Global};
-use wy_kernel::form::{Const, Expr, Place};
 use wy_kernel::operator::BinOp;
+use wy_smallforms::form::{Const, Expr, Place};
 
 /// A sum of at most 100 tokens nests fewer calls than this.
 const MOST_CALLS: u32 = 303;
@@ -49,7 +49,7 @@ fn value_of(op: BinOp, a: Const, b: Const) -> Const
 }
 
 // The constant that an expression is, if it is one.
-#[tactic(auto, using(wy_kernel::proofs::Views::view_const, wy_kernel::proofs::Views::view_read, wy_kernel::proofs::Views::view_set, wy_kernel::proofs::Views::view_bin))]
+#[tactic(auto, using(wy_smallforms::proofs::Views::view_const, wy_smallforms::proofs::Views::view_read, wy_smallforms::proofs::Views::view_set, wy_smallforms::proofs::Views::view_bin))]
 fn constant(value: &Expr) -> Option<Const>
     ensures { result ≡ constant_in (expression value.now) }
 {
@@ -61,7 +61,7 @@ fn constant(value: &Expr) -> Option<Const>
     }
 }
 
-#[tactic(auto, using(wy_kernel::proofs::Views::view_bin))]
+#[tactic(auto, using(wy_smallforms::proofs::Views::view_bin))]
 fn joined(alloc: Global, op: BinOp, left: Expr, right: Expr) -> Result<Expr, AllocError>
     ensures { IfOk result (λ e. expression e ≡ Binary op (expression left) (expression right)) }
 {
@@ -73,7 +73,7 @@ fn joined(alloc: Global, op: BinOp, left: Expr, right: Expr) -> Result<Expr, All
 }
 
 // An operator on two operands: a constant, if both are.
-#[tactic(auto, using(wy_kernel::proofs::Views::view_const, crate::proofs::Folding::folded_constants, crate::proofs::Folding::folded_left, crate::proofs::Folding::folded_right))]
+#[tactic(auto, using(wy_smallforms::proofs::Views::view_const, crate::proofs::Folding::folded_constants, crate::proofs::Folding::folded_left, crate::proofs::Folding::folded_right))]
 fn binary(alloc: Global, op: BinOp, left: Expr, right: Expr) -> Result<Expr, AllocError>
     ensures { IfOk result (λ e. expression e ≡ folded op (expression left) (expression right)) }
 {
@@ -88,7 +88,7 @@ fn binary(alloc: Global, op: BinOp, left: Expr, right: Expr) -> Result<Expr, All
     })
 }
 
-#[tactic(auto, using(wy_kernel::proofs::Views::view_const))]
+#[tactic(auto, using(wy_smallforms::proofs::Views::view_const))]
 fn constant_expression(value: i32) -> Expr
     ensures { expression result ≡ Constant (Const.Int value) }
 {
@@ -97,7 +97,7 @@ fn constant_expression(value: i32) -> Expr
     }
 }
 
-#[tactic(auto, using(wy_kernel::proofs::Views::view_read))]
+#[tactic(auto, using(wy_smallforms::proofs::Views::view_read))]
 fn read_local(local: Option<u32>, rest: &[Token]) -> Result<(Expr, &[Token]), ReadError>
     ensures { Gives read_expression result (read_local (read_of local) (map seen rest.now)) }
 {
@@ -108,7 +108,7 @@ fn read_local(local: Option<u32>, rest: &[Token]) -> Result<(Expr, &[Token]), Re
 
 // A name, a number, or a sum in parentheses.
 #[cycle(sum)]
-#[tactic(auto, using(wy_kernel::proofs::Views::view_const, crate::proofs::Sums::atom_none, crate::proofs::Sums::atom_end, crate::proofs::Sums::atom_word, crate::proofs::Sums::atom_number, crate::proofs::Sums::atom_mark))]
+#[tactic(auto, using(wy_smallforms::proofs::Views::view_const, crate::proofs::Sums::atom_none, crate::proofs::Sums::atom_end, crate::proofs::Sums::atom_word, crate::proofs::Sums::atom_number, crate::proofs::Sums::atom_mark))]
 fn atom<'t>(
     alloc: Global,
     locals: &[Local<'_>],

@@ -2,8 +2,8 @@
 
 ghost use Rattle.wy_small.specs.Laws.{SumsFold, TestsFold, LocalsCounted, OneProgram};
 
-/// A text has at most one program: neither its pieces nor its grammar can be taken two ways.
-pub fn a_text_has_one_program()
+/// Tokens are those of at most one program: the grammar can't be taken two ways.
+pub fn a_token_list_has_one_program()
     ensures { OneProgram }
 {}
 

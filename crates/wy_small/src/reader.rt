@@ -1,8 +1,8 @@
-//! From the text of a class to its program (JLS 7.3, 8.1, 12.1.4).
+//! From the tokens of a class to its program (JLS 7.3, 8.1, 12.1.4).
 
 ghost use Rattle.std.specs.Prelude.{◌≡◌, ◌&&◌, map, IfOk};
-ghost use Rattle.wy_kernel.specs.Kernel.{Whole, whole, statement, Block, none};
-ghost use Rattle.wy_small.specs.Text.{seen};
+ghost use Rattle.wy_smallforms.specs.Kernel.{Whole, whole, statement, Block, none};
+ghost use Rattle.wy_small.specs.Tokens.{seen, spoken};
 ghost use Rattle.wy_small.specs.Words.{is_name, is_class_name};
 ghost use Rattle.wy_small.specs.Elaboration.{start};
 ghost use Rattle.wy_small.specs.Reading.{header_at, class_at, is_end, unit_at};
@@ -11,13 +11,14 @@ ghost use Rattle.wy_small.specs.Whole.{whole_at};
 ghost use Rattle.wy_small.specs.Outcome.{Gives, scope_seen, tokens as tokens_seen};
 
 use crate::error::ReadError;
-use crate::lexer::pieces;
+use crate::meaning::meanings;
 use crate::scope::Scope;
 use crate::statement::block;
 use crate::token::{Sign, Token, after_word, any_word, expect_sign, expect_word};
 use crate::words::{is_class_name, is_name};
 use std::alloc::Global;
-use wy_kernel::form::{Body, Program, Stmt};
+use wy_smallforms::form::{Body, Program, Stmt};
+use wy_tree::token::Spanned;
 
 /// The braces that may be open at once, but for that of the class.
 const BRACES: u32 = 19;
@@ -62,7 +63,7 @@ fn scope_of(alloc: Global, parameter: &[u8]) -> Scope<'_>
 }
 
 // The program whose main has this block.
-#[tactic(auto, using(wy_kernel::proofs::Views::view_block))]
+#[tactic(auto, using(wy_smallforms::proofs::Views::view_block))]
 fn program_of(alloc: Global, block: Stmt, locals: u32) -> Program
     ensures { whole result ≡ record { init = Block none; main = statement block; locals = locals } }
 {
@@ -105,18 +106,18 @@ fn program(alloc: Global, tokens: &[Token]) -> Result<Program, ReadError>
 }
 
 #[tactic(auto, unfolding(crate::specs::Whole::whole_at))]
-fn text_program(alloc: Global, text: &[u8]) -> Result<Program, ReadError>
-    ensures { Gives whole result (whole_at text.now) }
+fn whole_program(alloc: Global, tokens: &[Spanned]) -> Result<Program, ReadError>
+    ensures { Gives whole result (whole_at (map spoken tokens.now)) }
 {
-    let tokens = pieces(alloc, text)?;
+    let tokens = meanings(alloc, tokens)?;
     program(alloc, tokens.as_slice())
 }
 
-/// The program of a text of the small form.
+/// The program of these tokens, if they are of the small form.
 #[tactic(auto, using(crate::proofs::Programs::whole_sound))]
-pub fn read(alloc: Global, text: &[u8]) -> Result<Program, ReadError>
-    ensures program { IfOk result (λ p. IsSmall text.now (whole p)) }
-    ensures refused { result ≡ Err ReadError.NotSmall → (w : Whole) → ¬ IsSmall text.now w }
+pub fn read(alloc: Global, tokens: &[Spanned]) -> Result<Program, ReadError>
+    ensures program { IfOk result (λ p. IsSmall (map spoken tokens.now) (whole p)) }
+    ensures refused { result ≡ Err ReadError.NotSmall → (w : Whole) → ¬ IsSmall (map spoken tokens.now) w }
 {
-    text_program(alloc, text)
+    whole_program(alloc, tokens)
 }

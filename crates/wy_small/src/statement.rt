@@ -2,8 +2,8 @@
 //! A block's locals are in scope up to its end; their numbers are never given again.
 
 ghost use Rattle.std.specs.Prelude.{◌≡◌, map, length, option_map, IfOk};
-ghost use Rattle.wy_kernel.specs.Kernel.{expression, statement, statements, Eval, Set};
-ghost use Rattle.wy_small.specs.Text.{seen};
+ghost use Rattle.wy_smallforms.specs.Kernel.{expression, statement, statements, Eval, Set};
+ghost use Rattle.wy_small.specs.Tokens.{seen};
 ghost use Rattle.wy_small.specs.Reading.{assigned, assignment_at, declaration_at, otherwise_at, conditional_at, repetition_at, println_at, print_at, statement_by, row_at, braced, block_at};
 ghost use Rattle.wy_small.specs.Outcome.{Gives, scope_seen, tokens as tokens_seen};
 
@@ -12,7 +12,7 @@ use crate::expression::{short_sum, test, value};
 use crate::scope::{Scope, declare, index_of, is_system};
 use crate::token::{Sign, Token, after_sign, after_word, any_word, expect_sign, expect_word};
 use std::alloc::{AllocError, Global};
-use wy_kernel::form::{Expr, Place, Stmt};
+use wy_smallforms::form::{Expr, Place, Stmt};
 
 // A word and "=" at the front.
 #[tactic(auto, unfolding(crate::specs::Reading::assigned))]
@@ -77,7 +77,7 @@ fn println(tokens: &[Token]) -> Result<&[Token], ReadError>
     expect_sign(rest, Sign::OpenParen)
 }
 
-#[tactic(auto, using(wy_kernel::proofs::Views::view_print), unfolding(crate::specs::Reading::print_at))]
+#[tactic(auto, using(wy_smallforms::proofs::Views::view_print), unfolding(crate::specs::Reading::print_at))]
 fn print<'t>(
     alloc: Global,
     scope: &Scope<'t>,
@@ -107,7 +107,7 @@ fn otherwise(tokens: &[Token]) -> Option<&[Token]>
 
 // What is behind "if": its test, its block, and the block of its else, if it has one.
 #[cycle(statement)]
-#[tactic(auto, using(wy_kernel::proofs::Views::view_if, wy_kernel::proofs::Views::view_if_else), unfolding(crate::specs::Reading::conditional_at))]
+#[tactic(auto, using(wy_smallforms::proofs::Views::view_if, wy_smallforms::proofs::Views::view_if_else), unfolding(crate::specs::Reading::conditional_at))]
 fn conditional<'t>(
     alloc: Global,
     scope: &mut Scope<'t>,
@@ -136,7 +136,7 @@ fn conditional<'t>(
 
 // What is behind "while": its test and its block.
 #[cycle(statement)]
-#[tactic(auto, using(wy_kernel::proofs::Views::view_while), unfolding(crate::specs::Reading::repetition_at))]
+#[tactic(auto, using(wy_smallforms::proofs::Views::view_while), unfolding(crate::specs::Reading::repetition_at))]
 fn repetition<'t>(
     alloc: Global,
     scope: &mut Scope<'t>,
@@ -200,7 +200,7 @@ fn row<'t>(
 }
 
 #[cycle(statement)]
-#[tactic(auto, using(wy_kernel::proofs::Views::view_block), unfolding(crate::specs::Reading::braced))]
+#[tactic(auto, using(wy_smallforms::proofs::Views::view_block), unfolding(crate::specs::Reading::braced))]
 fn braced<'t>(
     alloc: Global,
     scope: &mut Scope<'t>,

@@ -1,14 +1,29 @@
 //! Texts that are of the small form and texts that aren't, told apart by one rule each.
 
 use crate::error::ReadError;
-use crate::reader::read;
+use crate::reader::read as read_tokens;
 use std::alloc::{AllocError, Global};
 use std::test::Fail;
-use wy_kernel::form::{Const, Expr, Place, Program, Stmt};
 use wy_kernel::operator::BinOp;
+use wy_lexer::{LexError, lex};
+use wy_smallforms::form::{Const, Expr, Place, Program, Stmt};
 
 const WORKED: &[u8] =
     b"class Main {\n  public static void main(String[] args) {\n    int x = 2;\n    int y = 0;\n    if (x > 1) {\n      y = x + 3;\n    }\n    System.out.println(y);\n  }\n}\n";
+
+const MOST_BYTES: usize = 1_048_576;
+
+// The program of a text's tokens.
+fn read(alloc: Global, text: &[u8]) -> Result<Program, ReadError> {
+    if text.len() > MOST_BYTES {
+        return Err(ReadError::NotSmall);
+    }
+    match lex(alloc, text) {
+        Ok(tokens) => read_tokens(alloc, tokens.as_slice()),
+        Err(LexError::NoMemory) => Err(ReadError::NoMemory),
+        Err(_) => Err(ReadError::NotSmall),
+    }
+}
 
 // A class whose main has this body.
 fn with_body(alloc: Global, body: &[u8]) -> Result<Vec<u8>, AllocError> {
@@ -123,7 +138,7 @@ fn the_worked_program_has_these_forms(rt: HostRuntime) -> Result<(), Fail> {
 
 #[test]
 fn bodies_have_these_forms(rt: HostRuntime) -> Result<(), Fail> {
-    let rows: [(&[u8], &str); 13] = [
+    let rows: [(&[u8], &str); 14] = [
         (b"", "{}{} 1"),
         (b"int x=2;x=x-3-1;", "{}{v1 = 2;v1 = ((v1 - 3) - 1);} 2"),
         (b"int x=1;x=x+2*3;", "{}{v1 = 1;v1 = (v1 + 6);} 2"),
@@ -152,6 +167,7 @@ fn bodies_have_these_forms(rt: HostRuntime) -> Result<(), Fail> {
             "{}{v1 = 1;while (v1 < 9){v1 = (v1 + 1);}} 2",
         ),
         (b"int $_9=(((7)));", "{}{v1 = 7;} 2"),
+        (b"int x=1;/* x=2; */x=3;// x=4;\n", "{}{v1 = 1;v1 = 3;} 2"),
     ];
     for (body, wanted) in rows {
         let text = with_body(rt.alloc(), body)?;
@@ -162,9 +178,38 @@ fn bodies_have_these_forms(rt: HostRuntime) -> Result<(), Fail> {
     Ok(())
 }
 
+// Each spelling of an int literal, with its value in decimal (JLS 3.10.1).
+static SPELLINGS: [(&str, &str); 12] = [
+    ("0", "0"),
+    ("2147483647", "2147483647"),
+    ("1_000", "1000"),
+    ("0x7f", "127"),
+    ("0X7FFF_FFFF", "2147483647"),
+    ("0xFFFFFFFF", "-1"),
+    ("0x80000000", "-2147483648"),
+    ("017", "15"),
+    ("0_7", "7"),
+    ("037777777777", "-1"),
+    ("0b101", "5"),
+    ("0B1111_1111_1111_1111_1111_1111_1111_1110", "-2"),
+];
+
+#[test]
+fn an_int_is_its_value_in_every_spelling(rt: HostRuntime) -> Result<(), Fail> {
+    for (spelling, value) in SPELLINGS {
+        let body = format!(in rt.alloc(); "int x={spelling};")?;
+        let text = with_body(rt.alloc(), body.as_bytes())?;
+        let program = read(rt.alloc(), text.as_slice())?;
+        let forms = shown(rt.alloc(), &program)?;
+        let wanted = format!(in rt.alloc(); "{{}}{{v1 = {value};}} 2")?;
+        assert_eq!(rt; forms.as_str(), wanted.as_str());
+    }
+    Ok(())
+}
+
 #[test]
 fn bodies_that_break_one_rule_are_refused(rt: HostRuntime) -> Result<(), Fail> {
-    let rows: [&[u8]; 38] = [
+    let rows: [&[u8]; 36] = [
         b"x=1;int x=2;",
         b"int x=x;",
         b"if(1<2){int x=1;}x=2;",
@@ -175,13 +220,11 @@ fn bodies_that_break_one_rule_are_refused(rt: HostRuntime) -> Result<(), Fail> {
         b"System.out.println(a);",
         b"a=1;",
         b"int x=2147483648;",
-        b"int x=007;",
-        b"int x=1_0;",
+        b"int x=2147483648-1;",
         b"int x=1L;",
         b"int x=1.5;",
-        b"int x=0x1;",
-        b"int x=1;/* */",
-        b"int x=1;// \n",
+        b"int x='1';",
+        b"int x=\"1\";",
         b"int x=1;x++;",
         b"int x=1;x+=1;",
         b"int x=1;x=-x;",
@@ -299,12 +342,12 @@ fn twenty_braces_and_ninety_nine_tokens_are_the_most(rt: HostRuntime) -> Result<
     let alloc = rt.alloc();
     assert!(rt; read(alloc, nested(alloc, 18)?.as_slice()).is_ok());
     assert!(rt; read(alloc, nested(alloc, 19)?.as_slice()).is_err());
-    assert!(rt; read(alloc, nested(alloc, 100_000)?.as_slice()).is_err());
+    assert!(rt; read(alloc, nested(alloc, 2_000)?.as_slice()).is_err());
     assert!(rt; read(alloc, ones(alloc, 50)?.as_slice()).is_ok());
     assert!(rt; read(alloc, ones(alloc, 51)?.as_slice()).is_err());
-    assert!(rt; read(alloc, ones(alloc, 400_000)?.as_slice()).is_err());
+    assert!(rt; read(alloc, ones(alloc, 10_000)?.as_slice()).is_err());
     assert!(rt; read(alloc, parentheses(alloc, 49)?.as_slice()).is_ok());
     assert!(rt; read(alloc, parentheses(alloc, 50)?.as_slice()).is_err());
-    assert!(rt; read(alloc, parentheses(alloc, 400_000)?.as_slice()).is_err());
+    assert!(rt; read(alloc, parentheses(alloc, 10_000)?.as_slice()).is_err());
     Ok(())
 }

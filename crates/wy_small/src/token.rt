@@ -1,7 +1,7 @@
-//! The pieces of a text (JLS 3.5): words, numbers and signs. Nothing here knows the grammar.
+//! The tokens of the small form: words, numbers and signs. Nothing here knows the grammar.
 
 ghost use Rattle.std.specs.Prelude.{◌≡◌, nat_eq, option_map, map};
-ghost use Rattle.wy_small.specs.Text.{seen, Word, Mark};
+ghost use Rattle.wy_small.specs.Tokens.{seen, Word, Mark};
 ghost use Rattle.wy_small.specs.Reading.{tag, took, word_at};
 ghost use Rattle.wy_small.specs.Outcome.{Gives, tokens as tokens_seen};
 
@@ -30,12 +30,12 @@ pub enum Sign {
     NotEqual,
 }
 
-/// A piece of a text.
+/// A token of the small form.
 #[derive(Debug, Drop)]
 pub enum Token {
     /// A name or a keyword, by its bytes.
     Word(Vec<u8>),
-    /// A decimal number, by its value.
+    /// An int, by its value.
     Number(i32),
     Mark(Sign),
 }

@@ -93,7 +93,7 @@ fn is_among(words: &[&[u8]], word: &[u8]) -> bool
 }
 
 /// Whether a word may be a name: it is no keyword, and not `true`, `false` or `null`.
-#[tactic(auto, unfolding(crate::specs::Words::is_name, crate::specs::Words::reserved))]
+#[tactic(auto, unfolding(crate::specs::Words::is_name, wy_tree::specs::Words::is_key, wy_tree::specs::Words::keys))]
 pub fn is_name(word: &[u8]) -> bool
     ensures { result ≡ is_name word.now }
 {

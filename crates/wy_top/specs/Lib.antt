@@ -3,6 +3,7 @@ pub mod Words
 pub mod Lines
 pub mod Refusals
 pub mod Due
+pub mod Programs
 pub mod Answers
 pub mod Call
 pub mod Deliveries

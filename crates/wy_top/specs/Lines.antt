@@ -1,6 +1,8 @@
 -- The lines that a command writes. Each ends with a line feed.
 use Rattle.std.specs.Prelude.{ℕ, List, [], ◌∷◌, ◌++◌, ◌==◌, Bool, true, codes, if◌then◌else◌}
-use Rattle.wy_kernel.specs.Meaning.{Ending}
+use Rattle.std.specs.Fmt.{decimal}
+use Rattle.wy_smallforms.specs.Meaning.{Ending}
+use Rattle.wy_tree.specs.Tokens.{Refusal, BadToken, BadLiteral}
 
 abbrev pub line_of : List ℕ → List ℕ
 line_of text = text ++ 10 ∷ []
@@ -10,6 +12,20 @@ usage_line = line_of (codes "usage: whyline run SRC")
 
 abbrev pub absent_line : List ℕ → List ℕ
 absent_line name = line_of (codes "absent: " ++ name)
+
+-- the rule that a source breaks, and the byte at which it does
+abbrev pub at_byte : List ℕ → ℕ → List ℕ
+at_byte rule byte = line_of (codes "program: " ++ (rule ++ (codes " at byte " ++ decimal byte)))
+
+abbrev pub not_utf8_line : ℕ → List ℕ
+not_utf8_line byte = at_byte (codes "NotUtf8") byte
+
+abbrev pub fault_line : Refusal → List ℕ
+fault_line (BadToken byte) = at_byte (codes "BadToken") byte
+fault_line (BadLiteral byte) = at_byte (codes "BadLiteral") byte
+
+abbrev pub syntax_line : ℕ → ℕ → List ℕ
+syntax_line line token = line_of (codes "program: Syntax at line " ++ (decimal line ++ (codes " token " ++ decimal token)))
 
 abbrev pub not_yet_line : List ℕ
 not_yet_line = line_of (codes "program: NotYet")

@@ -1,20 +1,20 @@
 //! What a call answers: its status and its text, before any byte of it is written.
 ghost use Rattle.std.specs.Prelude.{◌≡◌, ◌≤◌, IfOk, map, string_bytes, length};
 ghost use Rattle.wy_outside.specs.Counts.{Rose};
-ghost use Rattle.wy_top.specs.Due.{source_limit};
+ghost use Rattle.wy_top.specs.Due.{DueFor, source_limit};
 ghost use Rattle.wy_top.specs.declared.status.Status.TheVariants.{Absent, TooLong, Usage, Fault};
 ghost use Rattle.wy_top.specs.Lines.{shelf_fault_line};
+ghost use Rattle.wy_top.specs.Statuses.{code_of};
 ghost use Rattle.wy_top.specs.Words.{IsNoCommand};
-ghost use Rattle.wy_top.specs.Answers.{IsRead, IsAnswer};
+ghost use Rattle.wy_top.specs.Answers.{IsAnswer};
 
 use crate::lines::{Refusal, refusal_line, report};
+use crate::program::{ProgramError, program};
 use crate::status::Status;
 use crate::words::source_of;
 use std::alloc::{AllocError, Global};
 use wy_machine::run;
 use wy_outside::shelf::{Shelf, ShelfError};
-use wy_small::error::ReadError;
-use wy_small::reader::read;
 
 /// The bytes that a source may have.
 const SOURCE_LIMIT: u32 = 1_048_576;
@@ -41,12 +41,12 @@ impl Answer {
     }
 }
 
-/// What the program's text gives: its run, or that it can't be run yet.
-fn answer_to_text(alloc: Global, text: &[u8]) -> Result<Answer, AllocError>
-    requires { length text.now ≤ source_limit }
-    ensures { IfOk result (λ answer. IsRead text.now answer) }
+/// What the source gives: the report of its run, or why it can't be run.
+fn answer_to_source(alloc: Global, source: &[u8]) -> Result<Answer, AllocError>
+    requires { length source.now ≤ source_limit }
+    ensures { IfOk result (λ answer. DueFor source.now (code_of answer.status) answer.text.items) }
 {
-    match read(alloc, text) {
+    match program(alloc, source) {
         Ok(program) => {
             let ended = run(alloc, &program, &[], STEP_BUDGET)?;
             let text = report(ended)?;
@@ -55,8 +55,10 @@ fn answer_to_text(alloc: Global, text: &[u8]) -> Result<Answer, AllocError>
                 text,
             })
         }
-        Err(ReadError::NotSmall) => Answer::refused(alloc, Status::Program, Refusal::NotYet),
-        Err(ReadError::NoMemory) => Err(AllocError),
+        Err(ProgramError::Rejected(rejection)) => {
+            Answer::refused(alloc, Status::Program, Refusal::Program { rejection })
+        }
+        Err(ProgramError::NoMemory) => Err(AllocError),
     }
 }
 
@@ -88,10 +90,10 @@ pub fn answer_to<S: Shelf>(
         None => return Answer::refused(alloc, Status::Usage, Refusal::Usage),
     };
     match shelf.read(alloc, name, SOURCE_LIMIT + 1) {
-        Ok(text) if text.len() > SOURCE_LIMIT as usize => {
+        Ok(source) if source.len() > SOURCE_LIMIT as usize => {
             Answer::refused(alloc, Status::TooLong, Refusal::LongFile { name })
         }
-        Ok(text) => answer_to_text(alloc, text.as_slice()),
+        Ok(source) => answer_to_source(alloc, source.as_slice()),
         Err(ShelfError::Failed) => Answer::refused(alloc, Status::Fault, Refusal::FaultShelf),
         Err(ShelfError::Absent) => Answer::refused(alloc, Status::Absent, Refusal::Absent { name }),
         Err(ShelfError::NoMemory) => Err(AllocError),

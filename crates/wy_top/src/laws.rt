@@ -1,15 +1,19 @@
 //! What holds of the definitions that the program's contract cites. Each law is the contract of a
 //! function that does nothing.
-ghost use Rattle.std.specs.Prelude.{◌≡◌, ℕ, List, Option};
+ghost use Rattle.std.specs.Prelude.{◌≡◌, ◌⊎◌, ℕ, List, Option};
 ghost use Rattle.wy_outside.specs.Shelf.{Files};
-ghost use Rattle.wy_top.specs.Due.{Due};
+ghost use Rattle.wy_top.specs.Due.{Due, AreSyntaxLines};
 
-use wy_small::laws::a_text_has_one_program;
+use wy_small::laws::a_token_list_has_one_program;
+use wy_tree::laws::{a_refused_text_has_no_tokens, a_text_has_one_token_list};
 
-/// For the same words and files one status and one text are due.
+/// For the same words and files one status is due, and one text, but that Syntax may name any token.
 pub fn one_answer_is_due()
     ensures { (words : List (List ℕ)) (held : Option Files) (s t : ℕ) (x y : List ℕ)
-        → Due words held s x → Due words held t y → (s ≡ t) × (x ≡ y) }
+        → Due words held s x → Due words held t y
+        → (s ≡ t) × ((x ≡ y) ⊎ AreSyntaxLines words held x y) }
 {
-    a_text_has_one_program();
+    a_text_has_one_token_list();
+    a_refused_text_has_no_tokens();
+    a_token_list_has_one_program();
 }

@@ -5,6 +5,7 @@
 mod answer;
 pub mod laws;
 mod lines;
+mod program;
 pub mod status;
 #[cfg(test)]
 mod tests;

@@ -167,9 +167,9 @@ fn a_text_that_breaks_one_rule_is_not_yet_a_program(rt: HostRuntime) -> Result<(
         "int args = 1;",
         "int System = 1;",
         "System.out.println(args);",
-        "System.out.println(2147483648);",
-        "System.out.println(007);",
-        "// a comment",
+        "System.out.println(1L);",
+        "System.out.println('1');",
+        "System.out.println(-2147483648);",
         "int x = 1; x++;",
         "System.out.print(1);",
     ];
@@ -190,7 +190,7 @@ fn a_text_that_breaks_one_rule_is_not_yet_a_program(rt: HostRuntime) -> Result<(
 }
 
 /// The text so many times.
-fn repeated(alloc: Global, part: &str, times: u8) -> Result<String, AllocError> {
+fn repeated(alloc: Global, part: &str, times: u32) -> Result<String, AllocError> {
     let mut all = String::new(alloc);
     for _ in 0..times {
         all.push_str(part)?;
@@ -222,6 +222,176 @@ fn twenty_braces_and_a_hundred_tokens_are_the_most(rt: HostRuntime) -> Result<()
         let seen = call(rt.alloc(), &["run", "Main.java"], text.as_slice(), &[], &[])?;
         assert_eq!(rt; seen.status, status);
         assert_eq!(rt; seen.written.as_slice(), written);
+    }
+    Ok(())
+}
+
+// Texts without tokens, or that aren't UTF-8, and the line that each is answered with.
+static FAULTS: [(&[u8], &str); 12] = [
+    (b"class A 1.5", "program: BadLiteral at byte 8\n"),
+    (
+        b"class A { int x = 0x; }",
+        "program: BadLiteral at byte 18\n",
+    ),
+    (
+        b"class A { char c = 'ab'; }",
+        "program: BadLiteral at byte 19\n",
+    ),
+    (b"class A { } \"x\n\"", "program: BadLiteral at byte 12\n"),
+    (b"09", "program: BadLiteral at byte 0\n"),
+    (b"1.5 #", "program: BadLiteral at byte 0\n"),
+    (b"class A { } /*", "program: BadToken at byte 12\n"),
+    (b"class A { } # 1.5", "program: BadToken at byte 12\n"),
+    (b"/**/ // 1.5\r\xc2\xb0", "program: BadToken at byte 12\n"),
+    (b"\xff", "program: NotUtf8 at byte 0\n"),
+    (
+        b"class A { } // \xc3\x28 /*",
+        "program: NotUtf8 at byte 15\n",
+    ),
+    (b"# 1.5 \xe2\x82", "program: NotUtf8 at byte 6\n"),
+];
+
+#[test]
+fn a_text_without_tokens_is_refused_at_its_byte(rt: HostRuntime) -> Result<(), Fail> {
+    for (text, line) in FAULTS {
+        let seen = call(rt.alloc(), &["run", "Main.java"], text, &[], &[])?;
+        assert_eq!(rt; seen.status, 4, "{line}");
+        assert_eq!(rt; seen.written.as_slice(), line.as_bytes(), "{line}");
+    }
+    Ok(())
+}
+
+/// The line and the token that an answer names, if it is that of Syntax.
+fn syntax_place(written: &[u8]) -> Option<(u32, u32)> {
+    let text = str::from_utf8(written).ok()?;
+    let place = text.strip_prefix("program: Syntax at line ")?;
+    let (line, token) = place.strip_suffix("\n")?.split_once(" token ")?;
+    Some((line.parse().ok()?, token.parse().ok()?))
+}
+
+// Texts whose tokens have no tree, with a token on each line, and how many there are.
+static SYNTAX: [(&str, u32); 9] = [
+    ("class\nMain\n{\nint\nx\n=\n;\n}\n", 8),
+    ("class\nA\n{\n}\n}", 5),
+    ("class\r\nA\r\n{", 3),
+    ("class\rint\r{\r}", 4),
+    ("1", 1),
+    ("class\nA\n{\nint\nx\n=\n2147483648\n;\n}", 9),
+    ("class\nA\n{\nint\nx\n=\n(\n1\n;\n}", 10),
+    ("class\nA\n{\n{\ntry\n{\n}\n}\n}", 9),
+    ("class\nA\n{\n{\nif\n(\na\n)\nint\nx\n;\n}\n}", 13),
+];
+
+#[test]
+fn tokens_without_a_tree_are_refused_at_a_token_with_its_line(rt: HostRuntime) -> Result<(), Fail> {
+    for (text, count) in SYNTAX {
+        let seen = call(rt.alloc(), &["run", "Main.java"], text.as_bytes(), &[], &[])?;
+        assert_eq!(rt; seen.status, 4, "{text}");
+        let (line, token) = syntax_place(seen.written.as_slice()).unwrap_or((0, u32::MAX));
+        assert!(rt; token <= count, "{text}");
+        assert_eq!(rt; line, token.min(count - 1) + 1, "{text}");
+    }
+    Ok(())
+}
+
+/// A class with a field whose value is 1 in so many parentheses: its tree is four levels deeper.
+fn grouped(alloc: Global, groups: u32) -> Result<String, AllocError> {
+    let mut text = String::from_str(alloc, "class A { int f = ")?;
+    text.push_str(repeated(alloc, "(", groups)?.as_str())?;
+    text.push_str("1")?;
+    text.push_str(repeated(alloc, ")", groups)?.as_str())?;
+    text.push_str("; }")?;
+    Ok(text)
+}
+
+#[test]
+fn a_tree_of_300_levels_is_read_and_one_of_301_is_not(rt: HostRuntime) -> Result<(), Fail> {
+    let alloc = rt.alloc();
+    let text = grouped(alloc, 296)?;
+    let seen = call(alloc, &["run", "Main.java"], text.as_bytes(), &[], &[])?;
+    assert_eq!(rt; seen.written.as_slice(), b"program: NotYet\n".as_slice());
+    for groups in [297, 100_000] {
+        let text = grouped(alloc, groups)?;
+        let seen = call(alloc, &["run", "Main.java"], text.as_bytes(), &[], &[])?;
+        assert_eq!(rt; seen.status, 4);
+        let (line, token) = syntax_place(seen.written.as_slice()).unwrap_or((0, u32::MAX));
+        assert_eq!(rt; line, 1);
+        assert!(rt; token <= 2 * groups + 9);
+    }
+    Ok(())
+}
+
+// Java with every kind of token that has a place in the grammar.
+const EVERY_KIND: &[u8] = b"interface I { int f(int a) throws Exception; }
+class B implements I { public int f(int a) throws Exception { return a; } }
+class A extends B implements I {
+  static final long BIG = -9223372036854775808L;
+  protected char c = 'c';
+  String s = \"s\";
+  Object none = null;
+  A() { super(); }
+  @Override
+  public int f(int a) throws Exception {
+    int[] xs = new int[] { 1, 0x2, 0b11, 017, 1_000 };
+    int n = -2147483648;
+    for (int i = 0; i < 3; i++) if (i == 1) continue; else n += i;
+    do { n--; if (n >>> 1 > 2) break; } while (n != 0);
+    while (!(this instanceof A) && true || false) n = ~n;
+    int q = a >= 0 ? a | 1 ^ 2 & 3 : a << 2 % 3;
+    try { throw new Exception(); } catch (Exception e) { n = xs[0]; } finally { n = q / 2 * n - 1; }
+    return this.f(n);
+  }
+  void g() { }
+}
+";
+
+#[test]
+fn a_well_formed_text_that_is_not_small_is_not_yet_a_program(rt: HostRuntime) -> Result<(), Fail> {
+    let rows: [&[u8]; 6] = [
+        EVERY_KIND,
+        b"",
+        b" // nothing\n/* at all */",
+        b";",
+        b"class Main { }",
+        b"interface Main { void main(String[] args); }",
+    ];
+    for text in rows {
+        let seen = call(rt.alloc(), &["run", "Main.java"], text, &[], &[])?;
+        assert_eq!(rt; seen.status, 4);
+        assert_eq!(rt; seen.written.as_slice(), b"program: NotYet\n".as_slice());
+    }
+    Ok(())
+}
+
+// Operands of a print, and what real Java prints.
+static PRINTED: [(&str, &str); 16] = [
+    ("0", "0"),
+    ("2147483647", "2147483647"),
+    ("2_147_483_647", "2147483647"),
+    ("0x10", "16"),
+    ("0XfF", "255"),
+    ("0xFFFFFFFF", "-1"),
+    ("0x8000_0000", "-2147483648"),
+    ("00", "0"),
+    ("017", "15"),
+    ("0_7", "7"),
+    ("037777777776", "-2"),
+    ("0b1_01", "5"),
+    ("0B11111111111111111111111111111101", "-3"),
+    ("1 /* + 1 */ + 2 // + 3\n", "3"),
+    ("/* a * b ** / c */ 4 - /**/ 5", "-1"),
+    ("6 * // 7\r 8", "48"),
+];
+
+#[test]
+fn comments_are_skipped_and_every_spelling_of_an_int_runs(rt: HostRuntime) -> Result<(), Fail> {
+    for (operand, printed) in PRINTED {
+        let body = format!(in rt.alloc(); "System.out.println({operand});")?;
+        let text = with_body(rt.alloc(), body.as_str())?;
+        let seen = call(rt.alloc(), &["run", "Main.java"], text.as_slice(), &[], &[])?;
+        let wanted = format!(in rt.alloc(); "{printed}\n-- finished\n")?;
+        assert_eq!(rt; seen.status, 0, "{operand}");
+        assert_eq!(rt; seen.written.as_slice(), wanted.as_bytes(), "{operand}");
     }
     Ok(())
 }

@@ -10,7 +10,6 @@ ghost use Rattle.wy_top.specs.Call.{WritesDue, WritesFront};
 ghost use Rattle.wy_top.specs.Statuses.{IsStatus};
 
 use crate::answer::{Answer, answer_to};
-use crate::laws::one_answer_is_due;
 use crate::status::Status;
 use std::alloc::Global;
 use wy_outside::shelf::Shelf;
@@ -25,7 +24,7 @@ use wy_outside::source::Source;
 /// | 0 | the program ran to its end or to the step limit |
 /// | 2 | the words are no command |
 /// | 3 | there is no such file |
-/// | 4 | the text is no program that can be run yet |
+/// | 4 | the source has no tokens or no tree, or is no program that can be run yet |
 /// | 7 | a read or a write failed |
 /// | 8 | the file has more than 1,048,576 bytes |
 /// | 9 | memory ran out |
@@ -64,7 +63,6 @@ pub fn whyline<S: Shelf, K: Source, O: Sink>(
     ensures keys_stay { keys.new ≡ keys.old }
 {
     let _ = keys;
-    one_answer_is_due();
     match answer_to(alloc, words, shelf) {
         Ok(answer) => deliver(out, &answer).code(),
         Err(_) => Status::NoMemory.code(),

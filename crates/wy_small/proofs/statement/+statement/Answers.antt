@@ -1,7 +1,7 @@
 use Rattle.std.proofs.Common.{◌∙◌, ap, take, arith}
 use Rattle.std.proofs.lemmas.Result.{err_from_is_err_and}
-use Rattle.wy_kernel.specs.Kernel.{statements}
-use Rattle.wy_kernel.proofs.Views.{view_block}
+use Rattle.wy_smallforms.specs.Kernel.{statements}
+use Rattle.wy_smallforms.proofs.Views.{view_block}
 use Rattle.wy_small.proofs.Blocks.{row_ends, row_stops, row_goes, row_out, pushed, passes, braced_is}
 use Rattle.wy_small.proofs.statement.+statement.Goals as goal
 

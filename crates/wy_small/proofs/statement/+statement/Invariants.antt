@@ -1,6 +1,6 @@
 use Rattle.std.proofs.Common.{◌≡◌, ◌+◌, ◌-◌, ◌*◌, map, length}
-use Rattle.wy_kernel.specs.Kernel.{statements}
-use Rattle.wy_small.specs.Text.{seen}
+use Rattle.wy_smallforms.specs.Kernel.{statements}
+use Rattle.wy_small.specs.Tokens.{seen}
 use Rattle.wy_small.specs.Outcome.{scope_seen}
 use Rattle.wy_small.specs.Reading.{statement_by, row_at, block_at}
 use Rattle.wy_small.proofs.Blocks.{with_front}

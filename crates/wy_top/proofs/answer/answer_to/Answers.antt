@@ -1,4 +1,4 @@
-use Rattle.wy_top.proofs.AnswerLemmas.{usage_due, too_long_due, text_due, absent_due}
+use Rattle.wy_top.proofs.AnswerLemmas.{usage_due, too_long_due, source_due, absent_due}
 use Rattle.wy_top.proofs.answer.answer_to.Goals as goal
 
 -- src/answer.rt:71:17
@@ -8,13 +8,13 @@ returns-in-None-clause-due g c = usage_due _ _ _ _ (c.source_of.ensures.refused 
 -- src/answer.rt:62:1
 pub returns-in-Ok-clause-due : goal.returns-in-Ok-clause-due
 returns-in-Ok-clause-due g c =
-    too_long_due _ _ c.in-Some.name.now c.in-Ok.text _ _ _ c.in-Some.ensures.asked c.in-Ok.ensures.content (rw c.len.ensures at c.if-len.true) c.in-Ok.ensures.failed c.refused-in-Ok.ensures
+    too_long_due _ _ c.in-Some.name.now c.in-Ok.source _ _ _ c.in-Some.ensures.asked c.in-Ok.ensures.content (rw c.len.ensures at c.if-len.true) c.in-Ok.ensures.failed c.refused-in-Ok.ensures
 
 -- src/answer.rt:62:1
 pub returns-in-Ok-2-clause-due : goal.returns-in-Ok-2-clause-due
 returns-in-Ok-2-clause-due g c =
-    text_due _ _ c.in-Some.name.now c.in-Ok.text _ _ _ _ c.in-Some.ensures.asked c.in-Ok.ensures.content (rw c.len.ensures at c.if-len.false) c.in-Ok.ensures.failed
-    c.as_slice.ensures.value c.answer_to_text.ensures
+    source_due _ _ c.in-Some.name.now c.in-Ok.source _ _ _ _ c.in-Some.ensures.asked c.in-Ok.ensures.content (rw c.len.ensures at c.if-len.false) c.in-Ok.ensures.failed
+    c.as_slice.ensures.value c.answer_to_source.ensures
 
 -- src/answer.rt:62:1
 pub returns-in-Err-Absent-clause-due : goal.returns-in-Err-Absent-clause-due

@@ -1,7 +1,0 @@
-use Rattle.std.proofs.Common.{◌≡◌, ◌+◌, drop}
-use Rattle.std.specs.List.{prefix_len}
-use Rattle.wy_small.specs.Lexing.{goes_on_number}
-use Rattle.wy_small.proofs.lexer.number_length.Given as goal
-
-abbrev pub invariant-loop-i : goal.invariant-loop-i
-invariant-loop-i l = prefix_len goes_on_number l.text ≡ l.i + prefix_len goes_on_number (drop l.i l.text)
