@@ -39,6 +39,10 @@ done
 
 printf 'class Main { public static void main(String[] a) { while (1 < 2) { } } }' >"$scratch/endless.java"
 printf 'class Main { public static void main(String[] a) { int x = y; } }' >"$scratch/unknown.java"
+printf 'class A { int x = 0x; }' >"$scratch/literal.java"
+printf 'class A { } /*' >"$scratch/comment.java"
+printf 'class A { } // \377' >"$scratch/bytes.java"
+printf 'class Main { int x = ; }' >"$scratch/syntax.java"
 head -c 1048577 /dev/zero | tr '\0' ' ' >"$scratch/long.java"
 
 expect_line "the step limit" 0 '-- step limit' run "$scratch/endless.java"
@@ -48,8 +52,14 @@ expect_line "a name that begins with a minus sign" 2 'usage: whyline run SRC' ru
 expect_line "a word that isn't UTF-8" 2 'usage: whyline run SRC' run "$(printf '\377')"
 expect_line "no such file" 3 "absent: $scratch/none.java" run "$scratch/none.java"
 expect_line "a name without a declaration" 4 'program: NotYet' run "$scratch/unknown.java"
+expect_line "a literal with a fault" 4 'program: BadLiteral at byte 18' run "$scratch/literal.java"
+expect_line "a comment that isn't closed" 4 'program: BadToken at byte 12' run "$scratch/comment.java"
+expect_line "a text that isn't UTF-8" 4 'program: NotUtf8 at byte 15' run "$scratch/bytes.java"
 expect_line "a folder in place of a file" 7 'fault: shelf' run examples
 expect_line "a file of a byte too many" 8 "too long: $scratch/long.java" run "$scratch/long.java"
+
+./whyline run "$scratch/syntax.java" >"$scratch/out" 2>/dev/null
+[ $? = 4 ] && grep -qx 'program: Syntax at line 1 token [0-8]' "$scratch/out" && report "tokens without a tree" 1 || report "tokens without a tree" 0
 
 ./whyline run examples/first.java >/dev/full 2>/dev/null
 [ $? = 7 ] && report "an output that is full" 1 || report "an output that is full" 0
