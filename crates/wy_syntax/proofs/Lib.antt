@@ -1,0 +1,3 @@
+mod Examples
+pub mod ExpressionViews
+pub mod Parts

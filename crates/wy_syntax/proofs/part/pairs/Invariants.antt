@@ -1,0 +1,11 @@
+use Rattle.std.proofs.Common.{◌≡◌, ◌≤◌, ◌+◌, length}
+use Rattle.wy_tree.specs.Ast.{views}
+use Rattle.wy_tree.specs.Conditions.{pairs}
+use Rattle.wy_syntax.specs.Names.{widths}
+use Rattle.wy_syntax.proofs.part.pairs.Given as goal
+
+abbrev pub invariant-loop-left : goal.invariant-loop-left
+invariant-loop-left l = (l.found + pairs (views l.left) ≡ pairs (views l.initial.left)) × (l.found + widths (views l.left) ≤ widths (views l.initial.left))
+
+abbrev pub decreases-loop-left : goal.decreases-loop-left
+decreases-loop-left l = length l.left
