@@ -1,5 +1,6 @@
 //! Laws of subtyping and of choice. Each function does nothing: its contract is the law.
 
+ghost use Rattle.wy_members.specs.Refusal.{NoneIsDue, OneIsDue};
 ghost use Rattle.wy_members.specs.Laws.{BelowIsAntisymmetric, NoneIsChosenAndRefused, OneIsChosen, OneRuleRefuses};
 
 /// No two types are below each other.
@@ -16,4 +17,10 @@ pub fn one_method_is_chosen()
 pub fn one_rule_refuses()
     ensures one { OneRuleRefuses }
     ensures exclusive { NoneIsChosenAndRefused }
+{}
+
+/// The declarations of a program are refused by one rule at one token, and not at all where they keep the rules.
+pub fn one_refusal_is_due()
+    ensures one { OneIsDue }
+    ensures none { NoneIsDue }
 {}
