@@ -99,5 +99,5 @@ methods = first_methods ++ all_constructors 15
 
 unfoldable pub fields : List Field
 fields =
-    record { name = codes "message"; site = no_site; class = throwable_class; ty = text; is_static = false; is_final = false; is_private = true }
+    record { name = codes "message"; site = no_site; class = throwable_class; ty = text; is_static = false; is_final = false; is_fixed = false; is_private = true }
     ∷ []

@@ -37,6 +37,8 @@ pub record Field : Type 0 where
   pub ty : Ty
   pub is_static : Bool
   pub is_final : Bool
+  -- final, and with an initializer
+  pub is_fixed : Bool
   pub is_private : Bool
 
 pub record Local : Type 0 where
@@ -69,7 +71,7 @@ unfoldable pub method : Program → ℕ → Method
 method p n = slice_index_or p.methods n (record { name = []; site = 0; class = 0; params = []; result = Void; form = kind.Static; is_private = false; is_abstract = false; is_final = false })
 
 unfoldable pub field : Program → ℕ → Field
-field p n = slice_index_or p.fields n (record { name = []; site = 0; class = 0; ty = Void; is_static = false; is_final = false; is_private = false })
+field p n = slice_index_or p.fields n (record { name = []; site = 0; class = 0; ty = Void; is_static = false; is_final = false; is_fixed = false; is_private = false })
 
 -- none exactly where the method has no body
 unfoldable pub body : Program → ℕ → Option Body

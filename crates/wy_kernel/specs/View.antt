@@ -171,6 +171,7 @@ field_of f = record {
   ty = f.ty;
   is_static = f.is_static;
   is_final = f.is_final;
+  is_fixed = f.is_fixed;
   is_private = f.is_private;
 }
 

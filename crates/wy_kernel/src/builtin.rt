@@ -194,6 +194,7 @@ pub fn fields(alloc: Global) -> Result<Vec<Field>, AllocError>
             ty: TEXT,
             is_static: false,
             is_final: false,
+            is_fixed: false,
             is_private: true,
         },
     ]?)

@@ -97,6 +97,7 @@ fn small(alloc: Global) -> Result<Program, AllocError>
                 },
                 is_static: true,
                 is_final: false,
+                is_fixed: false,
                 is_private: false,
             },
         ]?,

@@ -67,6 +67,8 @@ pub struct Field {
     pub ty: Ty,
     pub is_static: bool,
     pub is_final: bool,
+    /// It is final and its declaration has an initializer: nothing else may assign it.
+    pub is_fixed: bool,
     pub is_private: bool,
 }
 

@@ -69,7 +69,7 @@ abbrev pub method_named : List ℕ → ℕ → ℕ → List Ty → Ty → Method
 method_named name site c params result form = record { name = name; site = site; class = c; params = params; result = result; form = form; is_private = false; is_abstract = false; is_final = false }
 
 abbrev pub field_named : List ℕ → ℕ → ℕ → Ty → Bool → part.Field
-field_named name site c ty is_static = record { name = name; site = site; class = c; ty = ty; is_static = is_static; is_final = false; is_private = false }
+field_named name site c ty is_static = record { name = name; site = site; class = c; ty = ty; is_static = is_static; is_final = false; is_fixed = false; is_private = false }
 
 abbrev pub local_at : Ty → ℕ → part.Local
 local_at ty site = record { name = []; site = site; ty = ty }
