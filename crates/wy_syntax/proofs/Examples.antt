@@ -2,16 +2,14 @@
 use Rattle.std.proofs.Common.{◌≡◌, ℕ, true, false, List, [], ◌∷◌, Some, None, refl}
 use Rattle.std.specs.Prelude.{codes}
 use Rattle.wy_kernel.specs.declared.operator.BinOp.TheVariants as binary
-use Rattle.wy_kernel.specs.declared.operator.UnOp.TheVariants as unary
-use Rattle.wy_kernel.specs.declared.operator.Primitive.TheVariants as primitives
-use Rattle.wy_tree.specs.Seen.{Word, Key, Int, Sign}
-use Rattle.wy_tree.specs.Kinds.{kind_of, word_kind_of, int_kind_of, declaring_key_kind, branching_key_kind, leaving_key_kind, typing_key_kind, other_key_kind, bracket_sign_kind, logic_sign_kind, comparing_sign_kind, arithmetic_sign_kind, lone_sign_kind, assigning_sign_kind}
-use Rattle.wy_tree.specs.Ast.{Ast, Asts, Leaf, Node, none, more}
+use Rattle.wy_tree.specs.Seen.{Word, Key, Sign}
+use Rattle.wy_tree.specs.Kinds.{kind_of, word_kind_of, declaring_key_kind, branching_key_kind, bracket_sign_kind, logic_sign_kind, comparing_sign_kind, arithmetic_sign_kind, lone_sign_kind}
+use Rattle.wy_tree.specs.Ast.{Ast, Leaf, Node, none, more}
 use Rattle.wy_tree.specs.declared.tree.Form.TheVariants as form
 use Rattle.wy_syntax.specs.Syntax as plain
-use Rattle.wy_syntax.specs.Names.{primitive_named, operator, comparing, bitwise, updating, shifting, prefix, is_up}
-use Rattle.wy_syntax.specs.Expressions.{expression, assignment, choice, binary as binary_by, unary as unary_by, cast, postfix, primary, creation, sizes, listed, elements, inside, arguments_of, arguments}
-use Rattle.wy_syntax.specs.Statements.{initial_in, declarator, declarator_list, declarators, effects, effects_behind, statement, braces, block, statements, by_word, branch, otherwise, loop_while, loop_do, loop_for, behind_init, for_test, body_behind, other, tried, catches, clause, last_of}
+use Rattle.wy_syntax.specs.Names.{operator, is_up}
+use Rattle.wy_syntax.specs.Expressions.{expression, binary as binary_by, postfix, primary, arguments_of, arguments}
+use Rattle.wy_syntax.specs.Statements.{effects, effects_behind, statement, by_word, loop_while, loop_for, for_test, body_behind}
 
 abbrev word : List ℕ → Ast
 word text = Leaf (Word text)

@@ -13,7 +13,6 @@ use Rattle.wy_syntax.specs.declared.name.Named.{Named}
 use Rattle.wy_syntax.specs.declared.name.WrittenBase.{WrittenBase}
 use Rattle.wy_syntax.specs.declared.name.WrittenType.{WrittenType}
 use Rattle.wy_syntax.specs.declared.expression.Expression.{Expression}
-use Rattle.wy_syntax.specs.declared.expression.Initial.{Initial}
 use Rattle.wy_syntax.specs.declared.expression.Element.{Element}
 use Rattle.wy_syntax.specs.declared.expression.Expression.TheOpen as layer
 use Rattle.wy_syntax.specs.declared.expression.Expression.TheVariants as form

@@ -3,7 +3,7 @@ use Rattle.std.proofs.Common.{◌≡◌, ℕ, refl, []}
 use Rattle.wy_tree.specs.Ast.{Asts, Node}
 use Rattle.wy_tree.specs.declared.tree.Form.{Form}
 use Rattle.wy_tree.specs.declared.tree.Form.TheVariants as form
-use Rattle.wy_syntax.specs.Syntax.{WrittenType, Class}
+use Rattle.wy_syntax.specs.Syntax.{Class}
 use Rattle.wy_syntax.specs.Names.{written}
 
 pub not_written : (n : ℕ) (f : Form) (ts : Asts) → (f ≡ form.TypeNode → ⊥) → written n (Node f ts) ≡ record { base = Class []; token = n; brackets = 0 }

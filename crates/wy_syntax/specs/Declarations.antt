@@ -1,5 +1,5 @@
 -- The declarations that a tree is, where its first token has a number: one rule a production (JLS 7, 8, 9).
-use Rattle.std.specs.Prelude.{ℕ, ◌≤◌, ◌+◌, Bool, true, false, ◌||◌, ◌&&◌, if◌then◌else◌, List, [], ◌∷◌, ◌++◌, Option, Some, None, codes}
+use Rattle.std.specs.Prelude.{ℕ, ◌≤◌, ◌+◌, Bool, true, false, ◌&&◌, if◌then◌else◌, List, [], ◌∷◌, ◌++◌, Option, Some, None, codes}
 use Rattle.std.specs.Str.{bytes_eq}
 use Rattle.wy_tree.specs.Seen.{Tok, Key}
 use Rattle.wy_tree.specs.Ast.{Ast, Asts, Leaf, Node}

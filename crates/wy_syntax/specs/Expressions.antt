@@ -1,11 +1,9 @@
 -- The expression that a tree is, where its first token has a number: one rule a production (JLS 15).
-use Rattle.std.specs.Prelude.{ℕ, zero, suc, ◌+◌, Bool, true, false, ◌||◌, ◌&&◌, if◌then◌else◌, List, []}
-use Rattle.wy_tree.specs.Seen.{Tok, Word, Key, Sign}
+use Rattle.std.specs.Prelude.{ℕ, suc, ◌+◌, Bool, true, false, ◌||◌, ◌&&◌, if◌then◌else◌}
+use Rattle.wy_tree.specs.Seen.{Tok}
 use Rattle.wy_tree.specs.Ast.{Ast, Asts, Leaf, Node}
 use Rattle.wy_tree.specs.Ast as tree
-use Rattle.wy_tree.specs.Conditions.{pairs}
 use Rattle.wy_tree.specs.Kinds.{kind_of, same}
-use Rattle.wy_tree.specs.declared.kind.Kind.{Kind}
 use Rattle.wy_tree.specs.declared.kind.Kind.TheVariants as kinds
 use Rattle.wy_tree.specs.declared.tree.Form.TheVariants as form
 use Rattle.wy_syntax.specs.Syntax.{Base, Expression, Literal, Name, This, Group, Invoke, Field, InvokeOn, SuperField, SuperInvoke, Element, NewObject, NewArray, NewList, Unary, Step, Binary, Both, Either, InstanceOf, Cast, Choice, Assign, Update, Wrong, Row, none, more, Initial, Value, Listed, Elements, no_more, element}
@@ -156,3 +154,11 @@ unfoldable mutual
 -- what a variable is given first: a value, or elements in braces
 abbrev pub initial : ℕ → Ast → Initial
 initial n t = if is_braced t then Listed (inside n t) n else Value (expression n t)
+
+-- an array by its type, which begins at the second number, and by the parts behind it
+abbrev pub array : ℕ → ℕ → Ast → Asts → Expression
+array n at base (tree.more bracket (tree.more x behind)) =
+    if is_leaf kinds.CloseBracket x
+    then listed n (base_named base) at (empty_pairs (tree.more bracket (tree.more x behind))) (at + width base + width bracket + width x) behind
+    else NewArray (base_named base) at (sizes (at + width base) (tree.more bracket (tree.more x behind))) (empty_pairs behind) n
+array n at base _ = Wrong

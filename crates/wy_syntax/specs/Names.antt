@@ -1,5 +1,5 @@
 -- Tokens by what they write: names, types, operators (JLS 3.9, 3.12, 4.2, 15.15 to 15.26).
-use Rattle.std.specs.Prelude.{ℕ, ◌+◌, Bool, true, false, if◌then◌else◌, List, [], codes}
+use Rattle.std.specs.Prelude.{ℕ, ◌+◌, Bool, false, if◌then◌else◌, List, [], codes}
 use Rattle.std.specs.Str.{bytes_eq}
 use Rattle.wy_kernel.specs.declared.operator.Primitive.{Primitive}
 use Rattle.wy_kernel.specs.declared.operator.Primitive.TheVariants as primitives
@@ -12,7 +12,6 @@ use Rattle.wy_tree.specs.Ast.{Ast, Asts, Leaf, Node, none, more}
 use Rattle.wy_tree.specs.Conditions.{pairs}
 use Rattle.wy_tree.specs.Kinds.{kind_of, same}
 use Rattle.wy_tree.specs.declared.kind.Kind.{Kind}
-use Rattle.wy_tree.specs.declared.kind.Kind.TheVariants as kinds
 use Rattle.wy_tree.specs.declared.tree.Form.TheVariants as form
 use Rattle.wy_syntax.specs.Syntax.{Named, Base, Basic, Class, WrittenType}
 

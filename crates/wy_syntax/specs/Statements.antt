@@ -1,9 +1,8 @@
 -- The statement that a tree is, where its first token has a number: one rule a production (JLS 14).
-use Rattle.std.specs.Prelude.{ℕ, suc, ◌+◌, Bool, true, false, if◌then◌else◌, List, [], ◌∷◌, Option, Some, None}
+use Rattle.std.specs.Prelude.{ℕ, ◌+◌, Bool, true, false, if◌then◌else◌, List, [], ◌∷◌, Option, Some, None}
 use Rattle.wy_tree.specs.Ast.{Ast, Asts, Leaf, Node}
 use Rattle.wy_tree.specs.Ast as tree
 use Rattle.wy_tree.specs.Conditions.{first_kind, pairs}
-use Rattle.wy_tree.specs.Seen.{Tok}
 use Rattle.wy_tree.specs.declared.kind.Kind.{Kind}
 use Rattle.wy_tree.specs.declared.kind.Kind.TheVariants as kinds
 use Rattle.wy_tree.specs.declared.tree.Form.TheVariants as form
@@ -21,9 +20,13 @@ unfoldable pub initial_in : ℕ → Asts → Option Initial
 initial_in n (tree.more x (tree.more v behind)) = if is_leaf kinds.Assign x then Some (initial (n + width x) v) else initial_in (n + width x) (tree.more v behind)
 initial_in n _ = None
 
+-- a name alone
+abbrev pub lone_declarator : ℕ → Ast → Declarator
+lone_declarator n t = record { name = named n t; brackets = 0; initial = None }
+
 unfoldable pub declarator : ℕ → Ast → Declarator
 declarator n (Node form.Decl (tree.more x behind)) = record { name = named n x; brackets = pairs behind; initial = initial_in (n + width x) behind }
-declarator n t = record { name = named n t; brackets = 0; initial = None }
+declarator n t = lone_declarator n t
 
 unfoldable pub declarator_list : ℕ → Asts → List Declarator
 declarator_list n (tree.more d (tree.more comma rest)) = declarator n d ∷ declarator_list (n + width d + width comma) rest
@@ -189,3 +192,7 @@ unfoldable mutual
   pub last_of : ℕ → Asts → Last
   last_of n (tree.more x (tree.more b rest)) = if is_leaf kinds.Finally x then finally (block (n + width x) b) else last_of (n + width x) (tree.more b rest)
   last_of n _ = nowhere
+
+-- a `for` from its updates on
+abbrev pub for_tested : ℕ → ForInit → Option Expression → ℕ → Asts → Statement
+for_tested n init test m parts = For init test (effects m parts) (body_behind m parts) n

@@ -1,5 +1,5 @@
 -- The abstract syntax in memory as contracts see it.
-use Rattle.std.specs.Prelude.{ℕ, List, [], ◌∷◌, map, Option, Some, None, option_map, string_bytes}
+use Rattle.std.specs.Prelude.{List, [], ◌∷◌, map, Option, Some, None, option_map, string_bytes}
 use Rattle.std.specs.declared.boxed.Box.{Box}
 use Rattle.std.specs.declared.alloc.Global.{Global}
 use Rattle.std.specs.declared.vec.Vec.{Vec}
@@ -124,6 +124,10 @@ abbrev pub statements_of : List plain.Statement → plain.Statements
 statements_of [] = plain.done
 statements_of (s ∷ rest) = plain.first s (statements_of rest)
 
+abbrev pub other_seen : Option plain.Statement → plain.Other
+other_seen None = plain.absent
+other_seen (Some s) = plain.present s
+
 abbrev pub other_of : Option (Box plain.Statement Global) → plain.Other
 other_of None = plain.absent
 other_of (Some s) = plain.present s.value
@@ -139,6 +143,11 @@ Clause = plain.Catches → plain.Catches
 abbrev pub clauses_of : List Clause → plain.Catches
 clauses_of [] = plain.uncaught
 clauses_of (c ∷ rest) = c (clauses_of rest)
+
+-- clauses in front of others
+abbrev pub clauses_before : List Clause → plain.Catches → plain.Catches
+clauses_before [] others = others
+clauses_before (c ∷ rest) others = c (clauses_before rest others)
 
 abbrev pub statement_step : Statement-F plain.Statement plain.Braced Clause → plain.Statement
 statement_step (acts.Block block) = plain.Statement.Block block

@@ -4,6 +4,7 @@
 
 pub mod declaration;
 pub mod expression;
+pub mod lower;
 pub mod name;
 pub mod operator;
 pub mod part;

@@ -1,9 +1,9 @@
 //! The parts of a production: how many tokens they have, which tokens they are, and what names and types they write
 //! (JLS 3.8, 3.9, 4.3, 10.2).
 
-ghost use Rattle.std.specs.Prelude.{◌≡◌, ◌<◌, ◌^◌, IfOk, string_bytes};
-ghost use Rattle.wy_tree.specs.Ast.{view, views, Node};
-ghost use Rattle.wy_tree.specs.Conditions.{pairs};
+ghost use Rattle.std.specs.Prelude.{◌≡◌, ◌<◌, ◌^◌, IfOk, MatchOption, string_bytes};
+ghost use Rattle.wy_tree.specs.Ast.{Asts, view, views, Node};
+ghost use Rattle.wy_tree.specs.Conditions.{leaf_kind, pairs};
 ghost use Rattle.wy_tree.specs.Seen.{seen};
 ghost use Rattle.wy_syntax.specs.Names.{width, widths, is_leaf, word_of, name_of, named, sign_of, base_of, base_named, written};
 ghost use Rattle.wy_syntax.specs.View.{named_of, base_seen, type_seen};
@@ -187,4 +187,26 @@ fn bracketed(alloc: Global, parts: &[Tree], token: u32) -> Result<WrittenType, A
         token,
         brackets: pairs(behind),
     })
+}
+
+/// The parts of a tree of this form.
+#[tactic(auto, using(wy_tree::proofs::Views::view_leaf, wy_tree::proofs::Views::view_node))]
+pub fn parts_of(tree: &Tree, wanted: Form) -> Option<&[Tree]>
+    ensures { MatchOption result ((ts : Asts) → view tree.now ≡ Node wanted ts → ⊥) (λ parts. view tree.now ≡ Node wanted (views parts.now)) }
+{
+    match tree {
+        Tree::Node { form, parts } if *form == wanted => Some(parts),
+        _ => None,
+    }
+}
+
+/// The kind of a token, or of nothing.
+#[tactic(auto, using(wy_tree::proofs::Views::view_leaf, wy_tree::proofs::Views::view_node))]
+pub fn leaf_kind(tree: &Tree) -> Kind
+    ensures { result ≡ leaf_kind (view tree.now) }
+{
+    match tree {
+        Tree::Leaf(token) => kind_at(token),
+        Tree::Node { .. } => Kind::Nothing,
+    }
 }
