@@ -1,7 +1,7 @@
 -- A program has at most one refusal.
 use Rattle.std.proofs.Common.{◌≡◌, ℕ, ◌≤◌, [], ◌∷◌, get_or, refl, sym, ◌∙◌, ap, subst, arith}
-use Rattle.wy_members.specs.declared.rule.Rule.{Rule}
-use Rattle.wy_members.specs.declared.rule.Rule.TheVariants as rule
+use Rattle.wy_constant.specs.declared.rule.Rule.{Rule}
+use Rattle.wy_constant.specs.declared.rule.Rule.TheVariants as rule
 use Rattle.wy_members.specs.Broken.{Breaks}
 use Rattle.wy_members.specs.Refusal.{place_of, OneIsDue, NoneIsDue}
 

@@ -7,8 +7,8 @@ use Rattle.std.proofs.lemmas.Option.{slice_get_within}
 use Rattle.wy_kernel.specs.Program.{Class, Method, Field}
 use Rattle.wy_kernel.specs.Builtin as builtin
 use Rattle.wy_syntax.specs.Syntax.{Named, Placed, Member, ClassSyntax}
-use Rattle.wy_members.specs.declared.rule.Rule.{Rule}
-use Rattle.wy_members.specs.declared.rule.Rule.TheVariants as rule
+use Rattle.wy_constant.specs.declared.rule.Rule.{Rule}
+use Rattle.wy_constant.specs.declared.rule.Rule.TheVariants as rule
 use Rattle.wy_members.specs.Declarations.{CompilationUnit, classes_of, table, denoted}
 use Rattle.wy_members.specs.Broken as broken
 use Rattle.wy_members.specs.Broken.{Breaks, HasMember, IsWritten, IsDuplicate, IsUnknownName, IsCycle, HasWrongSupertype, HasWrongMethod, IsNotImplemented, compared, known_part, names_in, modifiers_in}

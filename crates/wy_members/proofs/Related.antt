@@ -13,24 +13,28 @@ use Rattle.wy_kernel.specs.declared.table.ClassTable.{ClassTable}
 use Rattle.wy_kernel.specs.Program.{Class}
 use Rattle.wy_kernel.specs.Builtin as builtin
 use Rattle.wy_kernel.specs.ClassTable.{table_of}
+use Rattle.wy_members.specs.Lineage.{HasTop}
+use Rattle.wy_members.specs.LineageView.{lineage_of}
+use Rattle.wy_members.specs.declared.lineage.Lineage.{Lineage}
 use Rattle.wy_kernel.specs.Table.{Table, IsTable}
 use Rattle.wy_kernel.specs.Subtyping.{direct_supertypes, Supertype, itself, further, IsReference, Below, same, of_null, primitive_type}
-use Rattle.wy_members.specs.Widening.{widens_to}
-use Rattle.wy_members.proofs.Straight.{Straight, equal, upward, widening, null, object, array, straight, HasTop, Widens, byte_to_short, byte_to_int, byte_to_long, short_to_int, short_to_long, char_to_int, char_to_long, int_to_long, widening_below, class_arrays_below, object_arrays_above, array_below_object}
+use Rattle.wy_constant.specs.Widening.{widens_to}
+use Rattle.wy_members.proofs.Straight.{Straight, equal, upward, widening, null, object, array, straight, Widens, byte_to_short, byte_to_int, byte_to_long, short_to_int, short_to_long, char_to_int, char_to_long, int_to_long, widening_below, class_arrays_below, object_arrays_above, array_below_object}
 
 pub is_table_of : (t : ClassTable) → ∥ IsTable (table_of t) ∥₁
 unfolding table_of
 is_table_of t = t.is_table
 
-object_alone : (rest : List Class) → direct_supertypes (builtin.classes ++ rest) 0 ≡ []
+pub object_alone : (rest : List Class) → direct_supertypes (builtin.classes ++ rest) 0 ≡ []
 unfolding direct_supertypes builtin.classes
 object_alone rest = refl
 
 pub top_of : (t : Table) → ∥ IsTable t ∥₁ → HasTop t.classes
 top_of t g = ∥∥₁_elim g (hlevel props) (λ g'. ap (λ cs. direct_supertypes cs 0) g'.library_classes.1 ∙ object_alone g'.library_classes.0)
 
-pub top_in : (t : ClassTable) → HasTop (table_of t).classes
-top_in t = top_of (table_of t) (is_table_of t)
+pub top_in : (l : Lineage) → HasTop (lineage_of l).classes
+unfolding lineage_of
+top_in l = ∥∥₁_elim l.has_top (hlevel props) (λ top. top)
 
 pub both : {P : Type 0} (b : Bool) → IsTrue b → P → IsTrue b ↔ P
 both b t p = (λ _. p, λ _. t)
@@ -185,7 +189,7 @@ pub null_at : (classes : List Class) (r : Bool) (a b : Ty) (x : Base) (n : ℕ) 
 null_at classes r a b x n top e f exact =
     let P : Ty → Type 0 = λ v. IsTrue r ↔ IsReference v in at classes r a b Null (Of x n) e f (null_exact classes x n r top (subst P f exact))
 
-none_above : {A : Type 0} (classes : List Class) (c d : ℕ) → length classes ≤ c → Contains (direct_supertypes classes c) d → A
+pub none_above : {A : Type 0} (classes : List Class) (c d : ℕ) → length classes ≤ c → Contains (direct_supertypes classes c) d → A
 unfolding direct_supertypes
 none_above [] c d le (k, lt, e) = absurd (omega arith)
 none_above (x ∷ xs) zero d le h = absurd (omega arith)
@@ -195,3 +199,11 @@ none_above (x ∷ xs) (suc c) d le h = none_above xs c d (omega arith) h
 pub beyond : (classes : List Class) {c d : ℕ} → length classes ≤ c → Supertype classes c d → c ≡ d
 beyond classes le itself = refl
 beyond classes le (further {c} {d} {e} h s) = none_above classes c d le h
+
+-- ---- tests of several facts
+
+pub with_first : {P Q : Type 0} (r : Bool) → P → IsTrue r ↔ Q → IsTrue r ↔ (P × Q)
+with_first r p exact = (λ t. (p, exact.0 t), λ h. exact.1 h.1)
+
+pub or_second : {P Q : Type 0} (r : Bool) → (Q → ⊥) → IsTrue r ↔ P → IsTrue r ↔ (P ⊎ Q)
+or_second r none exact = (λ t. inl (exact.0 t), λ h. elim h [ inl p ↦ exact.1 p | inr q ↦ absurd (none q) ])

@@ -5,7 +5,7 @@ use Rattle.std.specs.Prelude.{None as Absent}
 use Rattle.wy_kernel.specs.Builtin as builtin
 use Rattle.wy_syntax.specs.declared.declaration.Modifier.TheVariants as modifier
 use Rattle.wy_syntax.specs.Syntax.{Fields, Method}
-use Rattle.wy_members.specs.declared.rule.Rule.TheVariants as rule
+use Rattle.wy_constant.specs.declared.rule.Rule.TheVariants as rule
 use Rattle.wy_members.specs.Declarations.{CompilationUnit, table, denoted}
 use Rattle.wy_members.specs.Broken.{Breaks, again_class, reserved, again_field, again_method, again_parameter, again_modifier}
 use Rattle.wy_members.proofs.Written.{int_type, long_type, the, parameter, declarator, header, empty, constructor, class, interface}

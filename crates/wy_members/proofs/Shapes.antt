@@ -64,9 +64,9 @@ shapes_table : table shapes ≡ record {
       ∷ record { name = codes "next"; site = 71; class = 20; params = Of (Named 19) 0 ∷ Of (Basic prim.Int) 2 ∷ []; result = Of (Named 18) 0; form = kind.Instance; is_private = false; is_abstract = false; is_final = false }
       ∷ []);
   fields = builtin.fields ++ (
-      record { name = codes "side"; site = 17; class = 19; ty = Of (Basic prim.Int) 0; is_static = false; is_final = false; is_private = true }
-      ∷ record { name = codes "twice"; site = 19; class = 19; ty = Of (Basic prim.Int) 0; is_static = false; is_final = false; is_private = true }
-      ∷ record { name = codes "rows"; site = 28; class = 19; ty = Of (Basic prim.Long) 2; is_static = true; is_final = true; is_private = false }
+      record { name = codes "side"; site = 17; class = 19; ty = Of (Basic prim.Int) 0; is_static = false; is_final = false; is_fixed = false; is_private = true }
+      ∷ record { name = codes "twice"; site = 19; class = 19; ty = Of (Basic prim.Int) 0; is_static = false; is_final = false; is_fixed = false; is_private = true }
+      ∷ record { name = codes "rows"; site = 28; class = 19; ty = Of (Basic prim.Long) 2; is_static = true; is_final = true; is_fixed = false; is_private = false }
       ∷ []);
   constants = Absent ∷ Absent ∷ Absent ∷ Absent ∷ [];
 }

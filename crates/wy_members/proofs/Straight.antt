@@ -9,6 +9,7 @@ use Rattle.wy_kernel.specs.declared.types.Ty.{Ty}
 use Rattle.wy_kernel.specs.declared.types.Ty.TheVariants.{Void, Null, Of}
 use Rattle.wy_kernel.specs.Program.{Class}
 use Rattle.wy_kernel.specs.Subtyping.{direct_supertypes, Supertype, itself, further, IsReference, Below, same, transitive, declared, byte_short, short_int, int_long, char_int, of_null, to_object, of_arrays, primitive_type}
+use Rattle.wy_members.specs.Lineage.{HasTop}
 
 -- a widening of one step or more
 pub data Widens : Primitive → Primitive → Type 0 where
@@ -28,10 +29,6 @@ pub data Straight (classes : List Class) : Ty → Ty → Type 0 where
   null : {b : Ty} → IsReference b → Straight classes Null b
   object : {c n : ℕ} → Straight classes (Of (Named c) n) (Of (Named 0) n)
   array : {a : Base} {m n : ℕ} → n < m → Straight classes (Of a m) (Of (Named 0) n)
-
--- Object has nothing above
-abbrev pub HasTop : List Class → Type 0
-HasTop classes = direct_supertypes classes 0 ≡ []
 
 none_contained : {A : Type 0} (xs : List ℕ) (c : ℕ) → xs ≡ [] → Contains xs c → A
 none_contained [] c e (k, lt, is) = absurd (omega arith)

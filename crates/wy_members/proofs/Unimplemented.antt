@@ -9,7 +9,7 @@ use Rattle.wy_kernel.specs.Builtin as builtin
 use Rattle.wy_kernel.specs.Subtyping.{Below, direct_supertypes, class_type, primitive_type}
 use Rattle.wy_syntax.specs.declared.declaration.Modifier.TheVariants as modifier
 use Rattle.wy_syntax.specs.Syntax.{Method}
-use Rattle.wy_members.specs.declared.rule.Rule.TheVariants as rule
+use Rattle.wy_constant.specs.declared.rule.Rule.TheVariants as rule
 use Rattle.wy_members.specs.Choice.{lowest, NearestHasBody, HasLowestResult, HasHigherResult}
 use Rattle.wy_members.specs.Declarations.{CompilationUnit, table, denoted}
 use Rattle.wy_members.specs.Broken.{Breaks, compared, Inherits, declares_abstract, left_in, body_missing, body_too_much, abstract_constructor, static_without_body, private_without_body}

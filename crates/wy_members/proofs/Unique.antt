@@ -9,10 +9,11 @@ use Rattle.wy_kernel.specs.declared.types.Ty.TheVariants.{Of}
 use Rattle.wy_kernel.specs.Program.{Class, Method}
 use Rattle.wy_kernel.specs.Subtyping.{Supertype, itself, further, IsAcyclic, Substitutable, class_type}
 use Rattle.wy_kernel.specs.Table.{Table, IsTable}
-use Rattle.wy_members.specs.declared.rule.Rule.TheVariants as rule
+use Rattle.wy_constant.specs.declared.rule.Rule.TheVariants as rule
 use Rattle.wy_members.specs.Choice.{EachBelow, none, more, Equivalent, IsNearest, HasLowestResult, Counts, nearest, lowest, Chosen}
-use Rattle.wy_members.specs.Laws.{BelowIsAntisymmetric, OneIsChosen, NoneIsChosenAndRefused}
-use Rattle.wy_members.proofs.Straight.{Straight, equal, upward, widening, null, object, array, straight, HasTop, Widens, byte_to_short, byte_to_int, byte_to_long, short_to_int, short_to_long, char_to_int, char_to_long, int_to_long, further_up, above_object}
+use Rattle.wy_members.specs.Laws.{BelowIsAntisymmetric, OneIsChosen, OneRuleRefuses, NoneIsChosenAndRefused}
+use Rattle.wy_members.proofs.Straight.{Straight, equal, upward, widening, null, object, array, straight, Widens, byte_to_short, byte_to_int, byte_to_long, short_to_int, short_to_long, char_to_int, char_to_long, int_to_long, further_up, above_object}
+use Rattle.wy_members.specs.Lineage.{HasTop}
 use Rattle.wy_members.proofs.Related.{top_of, deeper, class_below_class, primitive_below_primitive, below_null}
 
 one_class : (classes : List Class) {c d : ℕ} → IsAcyclic classes → Supertype classes c d → Supertype classes d c → c ≡ d
@@ -121,3 +122,18 @@ none_chosen_and_refused t type name arguments k rule.NoMethod c r = r.0 (k, c.me
 none_chosen_and_refused t type name arguments k rule.Ambiguous c r = r.1 k c
 none_chosen_and_refused t type name arguments k rule.NotOffered c r = r.1 (k, c.method, (c.applicable.0, c.applicable.1.member))
 none_chosen_and_refused t type name arguments k _ c r = absurd r
+
+pub one_rule : OneRuleRefuses
+one_rule t type name arguments rule.NoMethod rule.NoMethod r s = refl
+one_rule t type name arguments rule.NoMethod rule.Ambiguous r s = absurd (r.0 s.0)
+one_rule t type name arguments rule.NoMethod rule.NotOffered r s = absurd (r.1 s)
+one_rule t type name arguments rule.Ambiguous rule.NoMethod r s = absurd (s.0 r.0)
+one_rule t type name arguments rule.Ambiguous rule.Ambiguous r s = refl
+one_rule t type name arguments rule.Ambiguous rule.NotOffered r s = let (k, m, a) = r.0 in absurd (s.1 (k, m, (a.0, a.1.member)))
+one_rule t type name arguments rule.NotOffered rule.NoMethod r s = absurd (s.1 r)
+one_rule t type name arguments rule.NotOffered rule.Ambiguous r s = let (k, m, a) = s.0 in absurd (r.1 (k, m, (a.0, a.1.member)))
+one_rule t type name arguments rule.NotOffered rule.NotOffered r s = refl
+one_rule t type name arguments rule.NoMethod _ r s = absurd s
+one_rule t type name arguments rule.Ambiguous _ r s = absurd s
+one_rule t type name arguments rule.NotOffered _ r s = absurd s
+one_rule t type name arguments _ b r s = absurd r

@@ -4,7 +4,7 @@ use Rattle.std.specs.Prelude.{List, [], ◌∷◌, Some, codes, slice_index_or}
 use Rattle.wy_kernel.specs.Builtin as builtin
 use Rattle.wy_kernel.specs.Subtyping.{direct_supertypes, itself, further}
 use Rattle.wy_syntax.specs.Syntax.{Fields, Method}
-use Rattle.wy_members.specs.declared.rule.Rule.TheVariants as rule
+use Rattle.wy_constant.specs.declared.rule.Rule.TheVariants as rule
 use Rattle.wy_members.specs.Declarations.{CompilationUnit, table, denoted}
 use Rattle.wy_members.specs.Broken.{Breaks, unknown_class, unknown_constructor, above_itself}
 use Rattle.wy_members.proofs.Written.{at, class_type, parameter, declarator, empty, constructor, class}

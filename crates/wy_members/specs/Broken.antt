@@ -9,8 +9,8 @@ use Rattle.wy_kernel.specs.declared.types.Ty.{Ty}
 use Rattle.wy_syntax.specs.declared.declaration.Modifier.TheVariants as modifier
 use Rattle.wy_syntax.specs.Syntax.{Named, WrittenType, Placed, Parameter, Header, Member, ClassSyntax, Declaration, Declared}
 use Rattle.wy_syntax.specs.Syntax as syntax
-use Rattle.wy_members.specs.declared.rule.Rule.{Rule}
-use Rattle.wy_members.specs.declared.rule.Rule.TheVariants as rule
+use Rattle.wy_constant.specs.declared.rule.Rule.{Rule}
+use Rattle.wy_constant.specs.declared.rule.Rule.TheVariants as rule
 use Rattle.wy_members.specs.Choice.{Has, Equivalent, Counts}
 use Rattle.wy_members.specs.Declarations.{CompilationUnit, classes_of, denoted, has, is_abstract_in, table}
 
@@ -92,11 +92,13 @@ with_fitting_supertypes classes k = record k {
   interfaces = filter (is_interface_in classes) k.interfaces;
 }
 
--- what overrides and implements: private methods neither do so nor are overridden
+-- what overrides and implements: private methods neither do so nor are overridden, and fields have no part in it
 abbrev pub inheriting : Table → Table
-inheriting t = record t {
+inheriting t = record {
   classes = map (with_fitting_supertypes t.classes) t.classes;
   methods = filter (λ (m : Method). not m.is_private) t.methods;
+  fields = [];
+  constants = [];
 }
 
 unfoldable pub compared : CompilationUnit → Table

@@ -8,8 +8,8 @@ use Rattle.wy_kernel.specs.declared.types.MethodForm.TheVariants as kind
 use Rattle.wy_kernel.specs.Program.{Class, Method, first_source_class}
 use Rattle.wy_kernel.specs.Subtyping.{Below, IsReference, Substitutable, class_type}
 use Rattle.wy_kernel.specs.Table.{Table}
-use Rattle.wy_members.specs.declared.rule.Rule.{Rule}
-use Rattle.wy_members.specs.declared.rule.Rule.TheVariants as rule
+use Rattle.wy_constant.specs.declared.rule.Rule.{Rule}
+use Rattle.wy_constant.specs.declared.rule.Rule.TheVariants as rule
 
 -- for which type a class declares: a method for each reference below the class, a constructor for the class alone
 abbrev pub DeclaredFor : List Class → Ty → ℕ → MethodForm → Type 0

@@ -10,7 +10,7 @@ use Rattle.wy_kernel.specs.declared.types.MethodForm.{MethodForm}
 use Rattle.wy_kernel.specs.declared.types.MethodForm.TheVariants as kind
 use Rattle.wy_kernel.specs.Program.{Class, Method, Field, object_class, first_source_class}
 use Rattle.wy_kernel.specs.Builtin as builtin
-use Rattle.wy_kernel.specs.Table.{Table}
+use Rattle.wy_kernel.specs.Table.{Table, ConstantValue}
 use Rattle.wy_syntax.specs.declared.declaration.Modifier.{Modifier}
 use Rattle.wy_syntax.specs.declared.declaration.Modifier.TheVariants as modifier
 use Rattle.wy_syntax.specs.contracts.declaration.Modifier.{the_type}
@@ -33,9 +33,15 @@ classes_of unit = filter_map class_in unit
 
 -- ---- names and types
 
+abbrev pub name_of : Class → List ℕ
+name_of k = k.name
+
+abbrev pub written_names : CompilationUnit → List (List ℕ)
+written_names unit = map (λ (k : ClassSyntax). k.name.name) (classes_of unit)
+
 -- the names of all classes and interfaces, by their numbers
 abbrev pub class_names : CompilationUnit → List (List ℕ)
-class_names unit = map (λ (k : Class). k.name) builtin.classes ++ map (λ (k : ClassSyntax). k.name.name) (classes_of unit)
+class_names unit = map name_of builtin.classes ++ written_names unit
 
 -- the number of the class or the interface that a name denotes: the first of this name
 unfoldable pub denoted : CompilationUnit → List ℕ → Option ℕ
@@ -58,8 +64,11 @@ abbrev pub result_type : CompilationUnit → Option WrittenType → Ty
 result_type unit None = Void
 result_type unit (Some ty) = type_with unit ty 0
 
+abbrev pub types_of : CompilationUnit → List Parameter → List Ty
+types_of unit params = map (λ (p : Parameter). type_with unit p.ty p.brackets) params
+
 abbrev pub parameter_types : CompilationUnit → Header → List Ty
-parameter_types unit h = map (λ (p : Parameter). type_with unit p.ty p.brackets) h.params
+parameter_types unit h = types_of unit h.params
 
 -- ---- modifiers
 
@@ -77,6 +86,10 @@ abbrev pub superclass : CompilationUnit → Option Named → ℕ
 superclass unit None = object_class
 superclass unit (Some n) = class_or_object unit n.name
 
+-- what a class implements, or an interface extends, without what denotes nothing
+abbrev pub interfaces_of : CompilationUnit → List Named → List ℕ
+interfaces_of unit interfaces = filter_map (λ (n : Named). denoted unit n.name) interfaces
+
 abbrev pub class_row : CompilationUnit → ClassSyntax → Class
 class_row unit k = record {
   name = k.name.name;
@@ -85,8 +98,12 @@ class_row unit k = record {
   is_abstract = k.is_interface || has modifier.Abstract k.modifiers;
   is_final = has modifier.Final k.modifiers;
   above = if k.is_interface then None else Some (superclass unit k.above);
-  interfaces = filter_map (λ (n : Named). denoted unit n.name) k.interfaces;
+  interfaces = interfaces_of unit k.interfaces;
 }
+
+-- the rows of the classes of some declarations of the unit
+abbrev pub class_rows : CompilationUnit → CompilationUnit → List Class
+class_rows unit declarations = map (class_row unit) (classes_of declarations)
 
 -- ---- methods and constructors (JLS 8.4, 8.6, 8.8, 9.4)
 
@@ -116,14 +133,21 @@ method_in unit c k (syntax.Method h result body) = Some (method_row unit c k h h
 method_in unit c k (syntax.Constructor h own_call brace parts end) = Some (method_row unit c k h (codes "new") Void kind.Constructor)
 method_in unit c k _ = None
 
+-- the methods and constructors among some members of class c
+abbrev pub methods_in : CompilationUnit → ℕ → ClassSyntax → List Member → List Method
+methods_in unit c k members = filter_map (method_in unit c k) members
+
 -- a method that no text declares, at the name of its class
 abbrev pub implied : ℕ → ClassSyntax → List ℕ → MethodForm → Method
 implied c k name form = record { name = name; site = k.name.token; class = c; params = []; result = Void; form = form; is_private = false; is_abstract = false; is_final = false }
 
+abbrev pub is_given_first : Declarator → Bool
+is_given_first d = is_some d.initial
+
 -- an instance initializer, or an instance field with an initializer
 abbrev pub initializes_objects : Member → Bool
 initializes_objects (Initializer is_static block) = not is_static
-initializes_objects (Fields ms ty declarators) = not (has modifier.Static ms) && list_any (λ (d : Declarator). is_some d.initial) declarators
+initializes_objects (Fields ms ty declarators) = not (has modifier.Static ms) && list_any is_given_first declarators
 initializes_objects _ = false
 
 -- the unit of the instance initializers of a class that has some
@@ -139,7 +163,7 @@ abbrev pub implied_constructor : ℕ → ClassSyntax → List Method
 implied_constructor c k = if k.is_interface || list_any is_constructor k.members then [] else implied c k (codes "new") kind.Constructor ∷ []
 
 abbrev pub methods_of : CompilationUnit → ℕ → ClassSyntax → List Method
-methods_of unit c k = fields_unit c k ++ implied_constructor c k ++ filter_map (method_in unit c k) k.members
+methods_of unit c k = fields_unit c k ++ implied_constructor c k ++ methods_in unit c k k.members
 
 -- ---- fields (JLS 8.3)
 
@@ -151,30 +175,43 @@ field_row unit c ms ty d = record {
   ty = type_with unit ty d.brackets;
   is_static = has modifier.Static ms;
   is_final = has modifier.Final ms;
+  is_fixed = has modifier.Final ms && is_some d.initial;
   is_private = has modifier.Private ms;
 }
 
+abbrev pub field_rows : CompilationUnit → ℕ → List Placed → WrittenType → List Declarator → List Field
+field_rows unit c ms ty declarators = map (field_row unit c ms ty) declarators
+
 abbrev pub fields_in : CompilationUnit → ℕ → Member → List Field
-fields_in unit c (Fields ms ty declarators) = map (field_row unit c ms ty) declarators
+fields_in unit c (Fields ms ty declarators) = field_rows unit c ms ty declarators
 fields_in unit c _ = []
 
+abbrev pub fields_among : CompilationUnit → ℕ → List Member → List Field
+fields_among unit c members = flat_map (fields_in unit c) members
+
 abbrev pub fields_of : CompilationUnit → ℕ → ClassSyntax → List Field
-fields_of unit c k = flat_map (fields_in unit c) k.members
+fields_of unit c k = fields_among unit c k.members
 
 -- ---- the table
 
--- what f makes of each class of the text and its number, in a row
+-- what f makes of each class of the text and its number, in a row, the first of number c
+abbrev pub class_by_class_from : {X : Type 0} → (ℕ → ClassSyntax → List X) → ℕ → CompilationUnit → List X
+class_by_class_from f c unit = flat_map (λ p. f p.0 p.1) (enumerate_from c (classes_of unit))
+
 abbrev pub class_by_class : {X : Type 0} → (ℕ → ClassSyntax → List X) → CompilationUnit → List X
-class_by_class f unit = flat_map (λ p. f p.0 p.1) (enumerate_from first_source_class (classes_of unit))
+class_by_class f unit = class_by_class_from f first_source_class unit
 
 abbrev pub all_fields : CompilationUnit → List Field
 all_fields unit = builtin.fields ++ class_by_class (fields_of unit) unit
 
+abbrev pub no_constants : List Field → List (Option ConstantValue)
+no_constants fields = map (λ f. None) fields
+
 -- which fields are constant variables is not said here
 unfoldable pub table : CompilationUnit → Table
 table unit = record {
-  classes = builtin.classes ++ map (class_row unit) (classes_of unit);
+  classes = builtin.classes ++ class_rows unit unit;
   methods = builtin.methods ++ class_by_class (methods_of unit) unit;
   fields = all_fields unit;
-  constants = map (λ f. None) (all_fields unit);
+  constants = no_constants (all_fields unit);
 }

@@ -1,10 +1,12 @@
 -- What makes subtyping and the choice of methods sound to rely on.
-use Rattle.std.specs.Prelude.{◌≡◌, ℕ, List}
+use Rattle.std.specs.Prelude.{◌≡◌, ℕ, List, Option}
 use Rattle.wy_kernel.specs.declared.types.Ty.{Ty}
 use Rattle.wy_kernel.specs.Subtyping.{Below}
-use Rattle.wy_kernel.specs.Table.{Table, IsTable}
-use Rattle.wy_members.specs.declared.rule.Rule.{Rule}
+use Rattle.wy_kernel.specs.Table.{Table, IsTable, ConstantValue}
+use Rattle.wy_constant.specs.declared.rule.Rule.{Rule}
 use Rattle.wy_members.specs.Choice.{Chosen, Refused}
+use Rattle.wy_members.specs.Declarations.{CompilationUnit}
+use Rattle.wy_members.specs.Constants.{IsConstantField, HasConstants}
 
 -- of two types each below the other, each is the other
 abbrev pub BelowIsAntisymmetric : Type 0
@@ -18,3 +20,11 @@ OneRuleRefuses = (t : Table) (type : Ty) (name : List ℕ) (arguments : List Ty)
 
 abbrev pub NoneIsChosenAndRefused : Type 0
 NoneIsChosenAndRefused = (t : Table) (type : Ty) (name : List ℕ) (arguments : List Ty) (k : ℕ) (rule : Rule) → Chosen t type name arguments k → Refused t type name arguments rule → ⊥
+
+-- a field that is a constant variable has one value
+abbrev pub OneConstantAField : Type 0
+OneConstantAField = (unit : CompilationUnit) (k : ℕ) (v w : ConstantValue) → IsConstantField unit k v → IsConstantField unit k w → v ≡ w
+
+-- two lists of all constants of a program are one
+abbrev pub OneListOfConstants : Type 0
+OneListOfConstants = (unit : CompilationUnit) (a b : List (Option ConstantValue)) → HasConstants unit a → HasConstants unit b → a ≡ b

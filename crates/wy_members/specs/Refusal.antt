@@ -1,7 +1,7 @@
 -- The refusal that is due: of the rules that the declarations of a program break, the one at the least token, and there the first.
 use Rattle.std.specs.Prelude.{◌≡◌, ℕ, ◌≤◌}
-use Rattle.wy_members.specs.declared.rule.Rule.{Rule}
-use Rattle.wy_members.specs.declared.rule.Rule.TheVariants as rule
+use Rattle.wy_constant.specs.declared.rule.Rule.{Rule}
+use Rattle.wy_constant.specs.declared.rule.Rule.TheVariants as rule
 use Rattle.wy_members.specs.Declarations.{CompilationUnit}
 use Rattle.wy_members.specs.Broken.{Breaks}
 

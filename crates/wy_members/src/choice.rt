@@ -4,12 +4,14 @@ ghost use Rattle.std.specs.Prelude.{◌≡◌, ◌≢◌, ◌↔◌, ℕ, Ok, Er
 ghost use Rattle.wy_kernel.specs.ClassTable.{table_of};
 ghost use Rattle.wy_kernel.specs.View.{method_of};
 ghost use Rattle.wy_members.specs.Choice.{Applies, Chosen, IsMethod, IsMostSpecific, Refused, SomeApplies};
-ghost use Rattle.wy_members.specs.declared.rule.Rule.{Rule};
+ghost use Rattle.wy_constant.specs.declared.rule.Rule.{Rule};
+ghost use Rattle.wy_members.specs.LineageView.{lineage_of};
 
 use crate::counting::is_counted;
+use crate::lineage::Lineage;
 use crate::member::{has_some, is_member, is_of_library};
-use crate::rule::{Rule, TypeError};
 use crate::signature::are_below;
+use wy_constant::{Rule, TypeError};
 use wy_kernel::table::ClassTable;
 use wy_kernel::types::{Method, Ty};
 
@@ -25,61 +27,62 @@ pub fn choose(
     ensures refused { (rule : Rule) → (result ≡ Err (TypeError.Broken rule token)) ↔ Refused (table_of table.now) receiver.now name.now args.now rule }
     ensures no_memory { result ≢ Err TypeError.NoMemory }
 {
-    match chosen(table, receiver, name, args) {
+    let lineage = Lineage::of_table(table);
+    match chosen(&lineage, receiver, name, args) {
         Some(method) => Ok(method),
         None => Err(TypeError::Broken {
-            rule: refusal(table, receiver, name, args),
+            rule: refusal(&lineage, receiver, name, args),
             token,
         }),
     }
 }
 
-fn chosen(table: &ClassTable, ty: &Ty, name: &str, args: &[Ty]) -> Option<u32>
-    ensures { MatchOption result ((k : ℕ) → Chosen (table_of table.now) ty.now name.now args.now k → ⊥) (λ k. Chosen (table_of table.now) ty.now name.now args.now k) }
+fn chosen(lineage: &Lineage, ty: &Ty, name: &str, args: &[Ty]) -> Option<u32>
+    ensures { MatchOption result ((k : ℕ) → Chosen (lineage_of lineage.now) ty.now name.now args.now k → ⊥) (λ k. Chosen (lineage_of lineage.now) ty.now name.now args.now k) }
 {
-    for k in 0..table.methods() {
-        if is_chosen(table, ty, name, args, k, table.method(k)) {
+    for k in 0..lineage.methods() {
+        if is_chosen(lineage, ty, name, args, k, lineage.method(k)) {
             return Some(k);
         }
     }
     None
 }
 
-fn is_chosen(table: &ClassTable, ty: &Ty, name: &str, args: &[Ty], k: u32, m: &Method) -> bool
-    requires { IsMethod (table_of table.now) k (method_of m.now) }
-    ensures { IsTrue result ↔ Chosen (table_of table.now) ty.now name.now args.now k }
+fn is_chosen(lineage: &Lineage, ty: &Ty, name: &str, args: &[Ty], k: u32, m: &Method) -> bool
+    requires { IsMethod (lineage_of lineage.now) k (method_of m.now) }
+    ensures { IsTrue result ↔ Chosen (lineage_of lineage.now) ty.now name.now args.now k }
 {
-    applies(table, ty, name, args, m)
-        && is_most_specific(table, ty, name, args, m)
-        && is_counted(table, ty, k, m)
+    applies(lineage, ty, name, args, m)
+        && is_most_specific(lineage, ty, name, args, m)
+        && is_counted(lineage, ty, k, m)
 }
 
 // The rule by which there is no choice.
-fn refusal(table: &ClassTable, ty: &Ty, name: &str, args: &[Ty]) -> Rule
-    ensures { ((k : ℕ) → Chosen (table_of table.now) ty.now name.now args.now k → ⊥) → Refused (table_of table.now) ty.now name.now args.now result }
+fn refusal(lineage: &Lineage, ty: &Ty, name: &str, args: &[Ty]) -> Rule
+    ensures { ((k : ℕ) → Chosen (lineage_of lineage.now) ty.now name.now args.now k → ⊥) → Refused (lineage_of lineage.now) ty.now name.now args.now result }
 {
-    if some_applies(table, ty, name, args) {
+    if some_applies(lineage, ty, name, args) {
         Rule::Ambiguous
-    } else if is_of_library(ty) && !has_some(table, ty, name) {
+    } else if is_of_library(ty) && !has_some(lineage, ty, name) {
         Rule::NotOffered
     } else {
         Rule::NoMethod
     }
 }
 
-fn applies(table: &ClassTable, ty: &Ty, name: &str, args: &[Ty], m: &Method) -> bool
-    ensures { IsTrue result ↔ Applies (table_of table.now).classes ty.now name.now args.now (method_of m.now) }
+fn applies(lineage: &Lineage, ty: &Ty, name: &str, args: &[Ty], m: &Method) -> bool
+    ensures { IsTrue result ↔ Applies (lineage_of lineage.now).classes ty.now name.now args.now (method_of m.now) }
 {
-    is_member(table, ty, name, m) && are_below(table, args, m.params.as_slice())
+    is_member(lineage, ty, name, m) && are_below(lineage, args, m.params.as_slice())
 }
 
-fn is_most_specific(table: &ClassTable, ty: &Ty, name: &str, args: &[Ty], m: &Method) -> bool
-    ensures { IsTrue result ↔ IsMostSpecific (table_of table.now) ty.now name.now args.now (method_of m.now) }
+fn is_most_specific(lineage: &Lineage, ty: &Ty, name: &str, args: &[Ty], m: &Method) -> bool
+    ensures { IsTrue result ↔ IsMostSpecific (lineage_of lineage.now) ty.now name.now args.now (method_of m.now) }
 {
-    for j in 0..table.methods() {
-        let other = table.method(j);
-        if applies(table, ty, name, args, other)
-            && !are_below(table, m.params.as_slice(), other.params.as_slice())
+    for j in 0..lineage.methods() {
+        let other = lineage.method(j);
+        if applies(lineage, ty, name, args, other)
+            && !are_below(lineage, m.params.as_slice(), other.params.as_slice())
         {
             return false;
         }
@@ -87,11 +90,11 @@ fn is_most_specific(table: &ClassTable, ty: &Ty, name: &str, args: &[Ty], m: &Me
     true
 }
 
-fn some_applies(table: &ClassTable, ty: &Ty, name: &str, args: &[Ty]) -> bool
-    ensures { IsTrue result ↔ SomeApplies (table_of table.now) ty.now name.now args.now }
+fn some_applies(lineage: &Lineage, ty: &Ty, name: &str, args: &[Ty]) -> bool
+    ensures { IsTrue result ↔ SomeApplies (lineage_of lineage.now) ty.now name.now args.now }
 {
-    for k in 0..table.methods() {
-        if applies(table, ty, name, args, table.method(k)) {
+    for k in 0..lineage.methods() {
+        if applies(lineage, ty, name, args, lineage.method(k)) {
             return true;
         }
     }

@@ -1,7 +1,7 @@
 //! Laws of subtyping and of choice. Each function does nothing: its contract is the law.
 
 ghost use Rattle.wy_members.specs.Refusal.{NoneIsDue, OneIsDue};
-ghost use Rattle.wy_members.specs.Laws.{BelowIsAntisymmetric, NoneIsChosenAndRefused, OneIsChosen, OneRuleRefuses};
+ghost use Rattle.wy_members.specs.Laws.{BelowIsAntisymmetric, NoneIsChosenAndRefused, OneConstantAField, OneIsChosen, OneListOfConstants, OneRuleRefuses};
 
 /// No two types are below each other.
 pub fn subtyping_is_antisymmetric()
@@ -23,4 +23,10 @@ pub fn one_rule_refuses()
 pub fn one_refusal_is_due()
     ensures one { OneIsDue }
     ensures none { NoneIsDue }
+{}
+
+/// A field that is a constant variable has one value, and a program one list of them.
+pub fn one_constant_stands_for_a_field()
+    ensures value { OneConstantAField }
+    ensures list { OneListOfConstants }
 {}

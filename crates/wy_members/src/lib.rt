@@ -2,16 +2,30 @@
 //! Nothing here reads a body.
 #![tactic(auto)]
 
+mod broken;
 mod choice;
+mod class_row;
+mod class_table;
+mod constant_field;
 mod counting;
+mod field_row;
+mod initializer;
 pub mod laws;
+mod lineage;
 mod member;
-mod rule;
+mod method_row;
+mod names;
+mod program_table;
+pub mod rows;
 mod signature;
 mod subtyping;
 #[cfg(test)]
 mod tests;
+mod written_type;
 
 pub use choice::choose;
-pub use rule::{Rule, TypeError};
+pub use class_table::class_table_of;
+pub use method_row::{initializes_objects, is_constructor};
 pub use subtyping::subtype;
+pub use written_type::has as has_modifier;
+pub use wy_constant::{Rule, TypeError};

@@ -1,25 +1,25 @@
 //! Lists of types, results and signatures side by side (JLS 8.4.2, 8.4.5).
 
 ghost use Rattle.std.specs.Prelude.{◌≡◌, ◌↔◌, IsTrue};
-ghost use Rattle.wy_kernel.specs.ClassTable.{table_of};
 ghost use Rattle.wy_kernel.specs.Subtyping.{Substitutable};
 ghost use Rattle.wy_kernel.specs.View.{method_of};
 ghost use Rattle.wy_members.specs.Choice.{EachBelow, IsEquivalent};
+ghost use Rattle.wy_members.specs.LineageView.{lineage_of};
 
+use crate::lineage::Lineage;
 use crate::member::is_member;
-use crate::subtyping::{is_reference, subtype};
-use wy_kernel::table::ClassTable;
+use crate::subtyping::{is_below, is_reference};
 use wy_kernel::types::{Method, Ty};
 
 /// Whether each type of the first list is below the one at its place in the second, and there are as many.
-pub fn are_below(table: &ClassTable, lower: &[Ty], upper: &[Ty]) -> bool
-    ensures { IsTrue result ↔ EachBelow (table_of table.now).classes lower.now upper.now }
+pub fn are_below(lineage: &Lineage, lower: &[Ty], upper: &[Ty]) -> bool
+    ensures { IsTrue result ↔ EachBelow (lineage_of lineage.now).classes lower.now upper.now }
 {
     if lower.len() != upper.len() {
         return false;
     }
     for i in 0..lower.len() {
-        if !subtype(table, &lower[i], &upper[i]) {
+        if !is_below(lineage, &lower[i], &upper[i]) {
             return false;
         }
     }
@@ -41,16 +41,16 @@ pub fn are_same_types(a: &[Ty], b: &[Ty]) -> bool
 }
 
 /// Whether a method with result `a` may stand for one with result `b`: they are the same, or `a` is a lower reference.
-pub fn is_substitutable(table: &ClassTable, a: &Ty, b: &Ty) -> bool
-    ensures { IsTrue result ↔ Substitutable (table_of table.now).classes a.now b.now }
+pub fn is_substitutable(lineage: &Lineage, a: &Ty, b: &Ty) -> bool
+    ensures { IsTrue result ↔ Substitutable (lineage_of lineage.now).classes a.now b.now }
 {
-    is_same_type(a, b) || is_reference(a) && subtype(table, a, b)
+    is_same_type(a, b) || is_reference(a) && is_below(lineage, a, b)
 }
 
 /// Whether a type has the other method with the name and the parameter types of this one.
-pub fn is_equivalent(table: &ClassTable, ty: &Ty, m: &Method, other: &Method) -> bool
-    ensures { IsTrue result ↔ IsEquivalent (table_of table.now).classes ty.now (method_of m.now) (method_of other.now) }
+pub fn is_equivalent(lineage: &Lineage, ty: &Ty, m: &Method, other: &Method) -> bool
+    ensures { IsTrue result ↔ IsEquivalent (lineage_of lineage.now).classes ty.now (method_of m.now) (method_of other.now) }
 {
-    is_member(table, ty, m.name.as_str(), other)
+    is_member(lineage, ty, m.name.as_str(), other)
         && are_same_types(other.params.as_slice(), m.params.as_slice())
 }

@@ -1,12 +1,14 @@
-//! Subtyping, by the supertypes that a table keeps (JLS 4.10).
+//! Subtyping, by the supertypes that a lineage keeps (JLS 4.10).
 //! No walk over classes, and no memory.
 
 ghost use Rattle.std.specs.Prelude.{◌≡◌, ◌↔◌, IsTrue};
 ghost use Rattle.wy_kernel.specs.ClassTable.{table_of};
 ghost use Rattle.wy_kernel.specs.Program.{object_class};
 ghost use Rattle.wy_kernel.specs.Subtyping.{Below, IsReference, Supertype};
-ghost use Rattle.wy_members.specs.Widening.{widens_to};
+ghost use Rattle.wy_members.specs.LineageView.{lineage_of};
 
+use crate::lineage::Lineage;
+use wy_constant::widens;
 use wy_kernel::operator::Primitive;
 use wy_kernel::table::ClassTable;
 use wy_kernel::types::{Base, Ty};
@@ -16,6 +18,13 @@ const OBJECT: u32 = 0;
 /// Whether type `a` is below type `b`.
 pub fn subtype(table: &ClassTable, a: &Ty, b: &Ty) -> bool
     ensures { IsTrue result ↔ Below (table_of table.now).classes a.now b.now }
+{
+    is_below(&Lineage::of_table(table), a, b)
+}
+
+/// Whether type `a` is below type `b` by the supertypes of a lineage.
+pub fn is_below(lineage: &Lineage, a: &Ty, b: &Ty) -> bool
+    ensures { IsTrue result ↔ Below (lineage_of lineage.now).classes a.now b.now }
 {
     match (*a, *b) {
         (
@@ -29,7 +38,7 @@ pub fn subtype(table: &ClassTable, a: &Ty, b: &Ty) -> bool
             },
         ) => {
             if m == n {
-                is_base_below(table, lower, upper, m)
+                is_base_below(lineage, lower, upper, m)
             } else {
                 n < m && is_object(upper)
             }
@@ -88,11 +97,11 @@ pub fn is_reference(ty: &Ty) -> bool
 }
 
 // Whether `lower` is below `upper` where both have so many brackets.
-fn is_base_below(table: &ClassTable, lower: Base, upper: Base, brackets: u8) -> bool
-    ensures { IsTrue result ↔ Below (table_of table.now).classes (Ty.Of lower brackets) (Ty.Of upper brackets) }
+fn is_base_below(lineage: &Lineage, lower: Base, upper: Base, brackets: u8) -> bool
+    ensures { IsTrue result ↔ Below (lineage_of lineage.now).classes (Ty.Of lower brackets) (Ty.Of upper brackets) }
 {
     match (lower, upper) {
-        (Base::Class(c), Base::Class(d)) => d == OBJECT || is_supertype(table, c, d),
+        (Base::Class(c), Base::Class(d)) => d == OBJECT || is_supertype(lineage, c, d),
         (Base::Primitive(p), Base::Primitive(q)) => {
             if brackets == 0 {
                 widens(p, q)
@@ -120,32 +129,9 @@ fn is_object(base: Base) -> bool
     }
 }
 
-// Whether class b is class a, or a class or an interface above it.
-fn is_supertype(table: &ClassTable, a: u32, b: u32) -> bool
-    ensures { IsTrue result ↔ Supertype (table_of table.now).classes a b }
+/// Whether class b is class a, or a class or an interface above it.
+pub fn is_supertype(lineage: &Lineage, a: u32, b: u32) -> bool
+    ensures { IsTrue result ↔ Supertype (lineage_of lineage.now).classes a b }
 {
-    a == b || a < table.classes() && table.supertypes(a).contains(&b)
-}
-
-#[tactic(auto, unfolding(crate::specs::Widening::widens_to))]
-fn widens(a: Primitive, b: Primitive) -> bool
-    ensures { result ≡ widens_to a b }
-{
-    match (a, b) {
-        (Primitive::Bool, Primitive::Bool) => true,
-        (Primitive::Byte, Primitive::Byte) => true,
-        (Primitive::Byte, Primitive::Short) => true,
-        (Primitive::Byte, Primitive::Int) => true,
-        (Primitive::Byte, Primitive::Long) => true,
-        (Primitive::Short, Primitive::Short) => true,
-        (Primitive::Short, Primitive::Int) => true,
-        (Primitive::Short, Primitive::Long) => true,
-        (Primitive::Char, Primitive::Char) => true,
-        (Primitive::Char, Primitive::Int) => true,
-        (Primitive::Char, Primitive::Long) => true,
-        (Primitive::Int, Primitive::Int) => true,
-        (Primitive::Int, Primitive::Long) => true,
-        (Primitive::Long, Primitive::Long) => true,
-        _ => false,
-    }
+    a == b || a < lineage.classes() && lineage.supertypes(a).contains(&b)
 }

@@ -6,11 +6,13 @@ ghost use Rattle.wy_kernel.specs.Subtyping.{named_above};
 ghost use Rattle.wy_kernel.specs.View.{class_of};
 ghost use Rattle.wy_kernel.specs.declared.types.Class.{Class};
 
+mod tables;
+
 use crate::choice::choose;
-use crate::rule::{Rule, TypeError};
 use crate::subtyping::subtype;
 use std::alloc::{AllocError, Global};
 use std::test::Fail;
+use wy_constant::{Rule, TypeError};
 use wy_kernel::builtin;
 use wy_kernel::closure::supertypes;
 use wy_kernel::operator::Primitive;

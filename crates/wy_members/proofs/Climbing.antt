@@ -1,0 +1,94 @@
+-- Whether a class is above another is found by climbing, so that its mere truth gives the way up.
+use Rattle.std.proofs.Common.{◌≡◌, ℕ, zero, suc, ◌+◌, ◌<◌, Bool, true, false, ◌||◌, List, [], ◌∷◌, length, nat_eq, refl, sym, ◌∙◌, ap, subst, arith, ◌⊎◌, inl, inr, Some, eq-eqb, rules, ◌↔◌, below_more}
+use Rattle.std.specs.Prelude.{slice_get}
+use Rattle.std.specs.List.{Contains, list_any}
+use Rattle.std.proofs.Math.Logic.{∥∥₁_elim}
+use Rattle.std.proofs.Props.{props}
+use mathlib.Core.HLevel.{Σ_prop_path}
+use Rattle.wy_kernel.specs.Program.{Class}
+use Rattle.wy_kernel.specs.Subtyping.{direct_supertypes, Supertype, itself, further}
+use Rattle.wy_kernel.specs.Table.{KeepsSupertypes}
+
+or_right : (a b : Bool) → b ≡ true → (a || b) ≡ true
+or_right true b e = refl
+or_right false b e = e
+
+or_left : (a b : Bool) → a ≡ true → (a || b) ≡ true
+or_left true b e = refl
+or_left false b e = absurd (cc)
+
+or_cases : (a b : Bool) → (a || b) ≡ true → (a ≡ true) ⊎ (b ≡ true)
+or_cases true b e = inl refl
+or_cases false b e = inr e
+
+-- an element that passes a test
+pub found : (p : ℕ → Bool) (xs : List ℕ) → list_any p xs ≡ true → (x : ℕ) × Contains xs x × (p x ≡ true)
+found p [] e = absurd (cc)
+found p (x ∷ xs) e =
+    elim (or_cases (p x) (list_any p xs) e) [
+      | inl h ↦ (x, (0, omega arith, refl), h)
+      | inr h ↦ (let f = found p xs h in (f.0, (suc f.1.0, (let lt : f.1.0 < length xs = f.1.1 in omega arith), f.1.2), f.2))
+    ]
+
+pub passes : (p : ℕ → Bool) (xs : List ℕ) (x : ℕ) → Contains xs x → p x ≡ true → list_any p xs ≡ true
+passes p [] x (k, lt, e) h = absurd (omega arith)
+passes p (y ∷ ys) x (zero, lt, e) h = or_left (p y) (list_any p ys) (ap p e ∙ h)
+passes p (y ∷ ys) x (suc k, lt, e) h = or_right (p y) (list_any p ys) (passes p ys x (k, omega arith, e) h)
+
+contained : (x : ℕ) (xs : List ℕ) → list_any (nat_eq x) xs ≡ true → Contains xs x
+contained x xs e =
+    let f = found (nat_eq x) xs e in let same : nat_eq x f.0 ≡ true = f.2 in let is : f.0 ≡ x = search rules in
+    let P : ℕ → Type 0 = λ y. Contains xs y in subst P is f.1
+
+-- d stands so many steps above c
+climbs : List Class → ℕ → ℕ → ℕ → Bool
+climbs classes d zero c = nat_eq c d
+climbs classes d (suc n) c = list_any (climbs classes d n) (direct_supertypes classes c)
+
+sound : (classes : List Class) (d n c : ℕ) → climbs classes d n c ≡ true → Supertype classes c d
+unfolding climbs
+sound classes d zero c e = let is : c ≡ d = search rules in let P : ℕ → Type 0 = λ x. Supertype classes c x in subst P is itself
+sound classes d (suc n) c e = let x = found (climbs classes d n) (direct_supertypes classes c) e in further x.1 (sound classes d n x.0 x.2)
+
+complete : (classes : List Class) {c d : ℕ} → Supertype classes c d → (n : ℕ) × (climbs classes d n c ≡ true)
+unfolding climbs
+complete classes (itself {c}) = (0, eq-eqb c c refl)
+complete classes (further {c} {d} {e} h s) = let way = complete classes s in (suc way.0, passes (climbs classes e way.0) (direct_supertypes classes c) d h way.1)
+
+-- the first number that passes a test
+First : (ℕ → Bool) → Type 0
+First p = (n : ℕ) × ((p n ≡ true) × ((m : ℕ) → m < n → p m ≡ false))
+
+one_first : (p : ℕ → Bool) → IsProp (First p)
+unfolding First
+one_first p (n, (e, before)) (m, (f, ahead)) =
+    Σ_prop_path (λ x. hlevel props) (omega (arith, λ (lt : n < m). (let g : true ≡ false = sym e ∙ ahead n lt in let no : ⊥ = cc in no), λ (lt : m < n). (let g : true ≡ false = sym f ∙ before m lt in let no : ⊥ = cc in no)))
+
+all_before : (p : ℕ → Bool) (k : ℕ) → ((m : ℕ) → m < k → p m ≡ false) → p k ≡ false → (m : ℕ) → m < suc k → p m ≡ false
+all_before p k before here m lt = let P : ℕ → Type 0 = λ x. p x ≡ false in let less : m < k + 1 = omega arith in below_more P k before here m less
+
+first_at : (p : ℕ → Bool) (k : ℕ) (b : Bool) → p k ≡ b → ((i : ℕ) → i < k → p i ≡ false) → (p k ≡ false → First p) → First p
+unfolding First
+first_at p k true here before later = (k, (here, before))
+first_at p k false here before later = later here
+
+first_from : (p : ℕ → Bool) (k n m : ℕ) → n + k ≡ m → ((i : ℕ) → i < k → p i ≡ false) → p m ≡ true → First p
+unfolding First
+first_from p k zero m is before e = (k, (ap p (let same : k ≡ m = omega arith in same) ∙ e, before))
+first_from p k (suc n) m is before e =
+    first_at p k (p k) refl before (λ here. first_from p (suc k) n m (omega arith) (all_before p k before here) e)
+
+-- where it is merely so that class d is above class c, it is
+pub reached : (classes : List Class) (c d : ℕ) → ∥ Supertype classes c d ∥₁ → Supertype classes c d
+unfolding First
+reached classes c d h =
+    let p : ℕ → Bool = λ n. climbs classes d n c in
+    let first : First p = ∥∥₁_elim h (one_first p) (λ s. (let way = complete classes s in first_from p 0 way.0 way.0 (omega arith) (λ m lt. absurd (omega arith)) way.1)) in
+    sound classes d first.0 c first.1.0
+
+-- a row of supertypes holds each of them and no other
+pub row_exact : (classes : List Class) (rows : List (List ℕ)) → ∥ KeepsSupertypes classes rows ∥₁ → (c : ℕ) (row : List ℕ) → slice_get rows c ≡ Some row → (d : ℕ) → Contains row d ↔ Supertype classes c d
+row_exact classes rows k c row is d = (
+  λ m. reached classes c d (∥∥₁_elim k (hlevel props) (λ k'. ∣ ((k'.each c row is).exact d).0 m ∣₁)),
+  λ s. contained d row (∥∥₁_elim k (hlevel props) (λ k'. passes (nat_eq d) row d (((k'.each c row is).exact d).1 s) (eq-eqb d d refl))),
+)

@@ -1,0 +1,12 @@
+use Rattle.std.proofs.Common.{Bor, map}
+use Rattle.wy_syntax.specs.declared.declaration.ClassSyntax.{ClassSyntax}
+use Rattle.wy_syntax.specs.View.{class_of}
+use Rattle.wy_members.specs.Least.{IsLeast}
+use Rattle.wy_members.specs.LineageView.{lineage_of}
+use Rattle.wy_members.specs.Names.{unit_of}
+use Rattle.wy_members.specs.Within.{WrongAboveAt}
+use Rattle.wy_members.proofs.Leasts.{Before}
+use Rattle.wy_members.proofs.broken.supertypes.least_in_classes.Given as goal
+
+abbrev pub invariant-loop-i : goal.invariant-loop-i
+invariant-loop-i l = IsLeast (Before (map (λ (k : Bor ClassSyntax). class_of k.now) l.classes) (WrongAboveAt (unit_of l.names) (lineage_of l.judged).classes) l.i) l.least

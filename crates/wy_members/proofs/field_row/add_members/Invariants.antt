@@ -1,0 +1,14 @@
+use Rattle.std.proofs.Common.{◌≡◌, ◌++◌, length, map}
+use Rattle.wy_kernel.specs.View.{field_of}
+use Rattle.wy_syntax.specs.View.{member_of}
+use Rattle.wy_members.specs.Declarations.{fields_among}
+use Rattle.wy_members.specs.Names.{unit_of}
+use Rattle.wy_members.proofs.field_row.add_members.Given as goal
+
+abbrev pub invariant-loop-left : goal.invariant-loop-left
+invariant-loop-left l =
+    map field_of l.rows.items ++ fields_among (unit_of l.names) l.number (map member_of l.left)
+    ≡ map field_of l.initial.rows.items ++ fields_among (unit_of l.names) l.number (map member_of l.initial.left)
+
+abbrev pub decreases-loop-left : goal.decreases-loop-left
+decreases-loop-left l = length l.left

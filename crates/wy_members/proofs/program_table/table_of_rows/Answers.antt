@@ -1,0 +1,47 @@
+use Rattle.std.proofs.Common.{◌≡◌, ◌<◌, ℕ, List, length, ap, sym, subst, ◌∙◌, arith}
+use Rattle.std.specs.Prelude.{map, option_map}
+use Rattle.std.proofs.lemmas.List.{length-map}
+use Rattle.wy_kernel.specs.declared.types.Class as memory
+use Rattle.wy_kernel.specs.Program.{Class}
+use Rattle.wy_kernel.specs.Builtin.{no_site}
+use Rattle.wy_kernel.specs.View.{class_of, method_of, field_of}
+use Rattle.wy_kernel.specs.ClassTable.{table_of}
+use Rattle.wy_kernel.specs.Table.{Table, IsTable, NamesAmong, KeepsSupertypes, constant_value}
+use Rattle.wy_members.specs.Declarations.{table, no_constants}
+use Rattle.wy_members.specs.Names.{unit_of}
+use Rattle.wy_members.proofs.InRange.{is_table, names_among}
+use Rattle.wy_members.proofs.ProgramTables.{same_table}
+use Rattle.wy_members.proofs.program_table.table_of_rows.Goals as goal
+
+pub supertypes-requires-clause-among : goal.supertypes-requires-clause-among
+supertypes-requires-clause-among c =
+    let seen : map class_of c.as_slice.result.now ≡ (table (unit_of c.args.names.now)).classes = ap (map class_of) c.as_slice.ensures.value ∙ c.requires.rows.classes in
+    let P : List Class → Type 0 = λ xs. NamesAmong xs in
+    subst P (sym seen) (names_among (unit_of c.args.names.now))
+
+pub invariant_of-result-clause-keeps_supertypes : goal.invariant_of-result-clause-keeps_supertypes
+invariant_of-result-clause-keeps_supertypes c =
+    let P : List memory.Class → Type 0 = λ xs. KeepsSupertypes (map class_of xs) (map (λ row. row.items) c.in_ok-supertypes.supertypes.items) in
+    ∣ subst P c.as_slice.ensures.value c.in_ok-supertypes.ensures ∣₁
+
+pub invariant_of-result-clause-is_table : goal.invariant_of-result-clause-is_table
+invariant_of-result-clause-is_table c =
+    let unit = unit_of c.args.names.now in
+    let rows = c.args.rows in
+    let r = c.requires.rows in
+    let none : map (option_map constant_value) c.in_ok-constants.constants.items ≡ no_constants (map field_of rows.fields.items) = c.in_ok-constants.ensures ∙ ap (λ fs. no_constants (map field_of fs)) c.as_slice-2.ensures.value in
+    let few_classes : length (table unit).classes < no_site = few (length-map rows.classes.items class_of) (ap length r.classes) r.few_classes in
+    let few_methods : length (table unit).methods < no_site = few (length-map rows.methods.items method_of) (ap length r.methods) r.few_methods in
+    let few_fields : length (table unit).fields < no_site = few (length-map rows.fields.items field_of) (ap length r.fields) r.few_fields in
+    let P : Table → Type 0 = λ t. IsTable t in
+    ∣ subst P (sym (same_table unit rows.classes.items rows.methods.items rows.fields.items c.in_ok-constants.constants.items r.classes r.methods r.fields none)) (is_table unit c.requires.acyclic few_classes few_methods few_fields) ∣₁
+  where
+    few : {a b d : ℕ} → a ≡ b → a ≡ d → b < no_site → d < no_site
+    few e f h = omega arith
+
+pub returns : goal.returns
+unfolding table_of
+returns c =
+    let r = c.requires.rows in
+    same_table (unit_of c.args.names.now) c.args.rows.classes.items c.args.rows.methods.items c.args.rows.fields.items c.in_ok-constants.constants.items r.classes r.methods r.fields
+    (c.in_ok-constants.ensures ∙ ap (λ fs. no_constants (map field_of fs)) c.as_slice-2.ensures.value)

@@ -1,0 +1,50 @@
+//! The refusal that is due for a program's declarations, from the rows of its table.
+//! What is judged and compared is made here; the rules themselves are decided elsewhere.
+
+ghost use Rattle.std.specs.Prelude.{IfOk, MatchOption};
+ghost use Rattle.wy_members.specs.Names.{unit_of};
+ghost use Rattle.wy_members.specs.Refusal.{IsRefusal, KeepsRules};
+ghost use Rattle.wy_members.specs.Rows.{AreRows};
+
+use crate::broken::breach::Breach;
+use crate::broken::fitting::fitting_classes;
+use crate::broken::inheriting::inheriting_methods;
+use crate::broken::judging::breach_in;
+use crate::broken::known::known_methods;
+use crate::broken::text::classes_in;
+use crate::lineage::Lineage;
+use crate::names::Names;
+use crate::rows::Rows;
+use std::alloc::{AllocError, Global};
+use wy_kernel::closure::supertypes;
+
+/// The rule that the declarations of a program break at their least token, and there the first, if they break one.
+pub fn refusal(alloc: Global, names: &Names, rows: &Rows) -> Result<Option<Breach>, AllocError>
+    requires { AreRows (unit_of names.now) rows.now }
+    ensures { IfOk result (λ found. MatchOption found (KeepsRules (unit_of names.now)) (λ b. IsRefusal (unit_of names.now) b.rule b.token)) }
+{
+    let texts = classes_in(alloc, names.unit)?;
+    let known = known_methods(alloc, names)?;
+    let inheriting = inheriting_methods(alloc, known.as_slice())?;
+    let fitting = fitting_classes(alloc, rows.classes.as_slice())?;
+    let above = supertypes(alloc, rows.classes.as_slice())?;
+    let above_fitting = supertypes(alloc, fitting.as_slice())?;
+    let judged = Lineage::of_rows(
+        rows.classes.as_slice(),
+        rows.methods.as_slice(),
+        above.as_slice(),
+    );
+    let compared = Lineage::of_rows(
+        fitting.as_slice(),
+        inheriting.as_slice(),
+        above_fitting.as_slice(),
+    );
+    Ok(breach_in(
+        names,
+        rows,
+        known.as_slice(),
+        texts.as_slice(),
+        &judged,
+        &compared,
+    ))
+}
