@@ -13,14 +13,14 @@ use Rattle.wy_kernel.specs.Form as kernel
 use Rattle.wy_kernel.specs.Program.{same_primitive, primitive_code}
 use Rattle.wy_kernel.specs.Table.{Table}
 use Rattle.wy_kernel.specs.Subtyping.{primitive_type, class_type}
-use Rattle.wy_members.specs.Widening.{widens_to}
-use Rattle.wy_members.specs.declared.rule.Rule.TheVariants.{NoMethod, UnknownName, BadOperand, BadAssign, NotInStatic}
+use Rattle.wy_constant.specs.Widening.{widens_to}
+use Rattle.wy_constant.specs.declared.rule.Rule.TheVariants.{NoMethod, UnknownName, BadOperand, BadAssign, NotInStatic}
 use Rattle.wy_tree.specs.Seen as token
 use Rattle.wy_syntax.specs.Syntax as source
-use Rattle.wy_elab_expr.specs.Refusal.{refused}
-use Rattle.wy_elab_expr.specs.Scope.{Scope, body_of, with_variable}
-use Rattle.wy_elab_expr.specs.Fields.{field_within}
-use Rattle.wy_elab_expr.specs.Constant.{choice_type, choice_constant, binary_constant, unary_constant, name_constant}
+use Rattle.wy_constant.specs.Refusal.{refused}
+use Rattle.wy_constant.specs.Scope.{Scope, body_of, with_variable}
+use Rattle.wy_constant.specs.Fields.{field_within}
+use Rattle.wy_constant.specs.Constant.{choice_type, choice_constant, binary_constant, unary_constant, name_constant}
 use Rattle.wy_elab_expr.specs.Meaning.{Known, Formed, converted_form, brought, text_type}
 use Rattle.wy_elab_expr.specs.Operators.{Judgement, is_assignable, unary_of, operand_types, binary_of, choice_of, lazy_of}
 use Rattle.wy_elab_expr.specs.Members.{named_spot, named}

@@ -1,8 +1,13 @@
-pub mod Blocks
-mod Examples
 mod Forms
-pub mod Found
-pub mod Upward
-pub mod Views
-pub mod Arms
+pub mod KernelViews
+pub mod Listed
+pub mod Nearest
+pub mod Primitives
+pub mod Rows
+pub mod Judging
+pub mod Operands
 pub mod Layers
+pub mod Arms
+pub mod Dots
+pub mod Sequence
+mod Examples

@@ -17,13 +17,13 @@ use Rattle.wy_kernel.specs.Table.{Table}
 use Rattle.wy_tree.specs.Seen.{Tok, Key}
 use Rattle.wy_syntax.specs.Syntax.{Expression, WrittenType, Basic as written_basic, Class as written_class, Row, none, more, Initial, Value, Listed, Elements, no_more, element}
 use Rattle.wy_syntax.specs.Syntax as source
-use Rattle.wy_members.specs.declared.rule.Rule.TheVariants.{UnknownName, NoMethod, BadOperand, BadAssign, NotInStatic, NotOffered}
-use Rattle.wy_elab_expr.specs.Scope.{Scope}
-use Rattle.wy_elab_expr.specs.Fields.{class_named, field_of, superclass}
-use Rattle.wy_elab_expr.specs.Constant.{literal, can_name_class}
+use Rattle.wy_constant.specs.declared.rule.Rule.TheVariants.{UnknownName, NoMethod, BadOperand, BadAssign, NotInStatic, NotOffered}
+use Rattle.wy_constant.specs.Scope.{Scope}
+use Rattle.wy_constant.specs.Fields.{class_named, field_of, superclass}
+use Rattle.wy_constant.specs.Constant.{literal, can_name_class}
 use Rattle.wy_elab_expr.specs.Meaning.{Meaning, Known, Formed, type_of, text_type, Gets, give, refuse, ◌>>=◌, brought, formed}
 use Rattle.wy_elab_expr.specs.Operators.{Judgement, is_void, is_nullable, is_text_type, number_type, both_numbers, primitive_in, class_of, is_assignable, unary_of, binary_of, operand_types, lazy_of, choice_of, cast_of, instance_of}
-use Rattle.wy_elab_expr.specs.Members.{Spot, spot, this_form, named_spot, named, qualified_spot, qualified_name, field_spot, field_read, object_field, is_library_name, Through, Nothing, Object, OfClass, Super, called, LibraryMethod, text_methods, value_of_methods, integer_methods, math_methods, has_name, library_call, created, some_void, int_type}
+use Rattle.wy_elab_expr.specs.Members.{Spot, spot, this_form, named_spot, named, qualified_spot, qualified_name, field_spot, field_read, object_field, no_field, is_library_name, Through, Nothing, Object, OfClass, Super, called, LibraryMethod, text_methods, value_of_methods, integer_methods, math_methods, has_name, library_call, created, some_void, int_type}
 
 -- ---- written types
 
@@ -137,20 +137,25 @@ printed m token =
       give (record { form = e; ty = printed_type (type_of m) }))
     else refuse NotOffered token)
 
--- a call of `print` or `println` has no value
-abbrev pub nothing : Gets Meaning
-nothing = give (Formed (kernel.Const kernel.Null) Void)
-
 abbrev pub is_print : List ℕ → Bool
 is_print name = bytes_eq name (codes "print") || bytes_eq name (codes "println")
 
-abbrev pub print_call : List ℕ → List Meaning → ℕ → Gets Meaning
-print_call name [] token = if bytes_eq name (codes "println") then nothing else refuse (if is_print name then NoMethod else NotOffered) token
-print_call name (m ∷ []) token = if is_print name then (do
-  p ← printed m token
-  nothing)
+abbrev pub some_printed : Printed → Gets (Option Printed)
+some_printed p = give (Some p)
+
+-- what a call of `print` or `println` writes: a value, or nothing but the end of a line
+unfoldable pub print_operand : List ℕ → List Meaning → ℕ → Gets (Option Printed)
+print_operand name [] token = if bytes_eq name (codes "println") then give None else refuse (if is_print name then NoMethod else NotOffered) token
+print_operand name (m ∷ []) token =
+    if is_print name then printed m token >>= some_printed
     else refuse (if is_void (type_of m) then BadOperand else NotOffered) token
-print_call name arguments token = refuse (if some_void arguments then BadOperand else (if is_print name then NoMethod else NotOffered)) token
+print_operand name arguments token = refuse (if some_void arguments then BadOperand else (if is_print name then NoMethod else NotOffered)) token
+
+-- a call of `print` or `println` has no value
+abbrev pub print_call : List ℕ → List Meaning → ℕ → Gets Meaning
+print_call name arguments token = do
+  p ← print_operand name arguments token
+  give (Formed (kernel.Const kernel.Null) Void)
 
 abbrev pub called_on_stream : Stream → List ℕ → List Meaning → ℕ → Gets Meaning
 called_on_stream Input name arguments token = if some_void arguments then refuse BadOperand token else byte_read name arguments token
@@ -163,7 +168,7 @@ above t s = unwrap_or (superclass (slice_get t.classes s.class)) object_class
 
 abbrev pub super_field_named : Table → Scope → Option ℕ → ℕ → Gets Spot
 super_field_named t s (Some k) token = object_field s this_form k (slice_get t.fields k) token
-super_field_named t s None token = refuse UnknownName token
+super_field_named t s None token = refuse (no_field (above t s)) token
 
 unfoldable pub super_spot : Table → Scope → List ℕ → ℕ → Gets Spot
 super_spot t s name token = if s.has_this then super_field_named t s (field_of t (above t s) name) token else refuse NotInStatic token
@@ -460,3 +465,15 @@ unfoldable mutual
     inner ← or_type (element_of ty) brace
     all ← elements_of j t s inner elements
     give (kernel.NewArray ty kernel.none all.forms all.sites brace)
+
+-- ---- an expression as what stands around it takes it
+
+pub record Typed : Type 0 where
+  pub form : kernel.Expression
+  pub ty : Ty
+
+unfoldable pub typed : Judgement → Table → Scope → Expression → Gets Typed
+typed j t s e = do
+  m ← elaborated j t s e
+  form ← formed m
+  give (record { form = form; ty = type_of m })

@@ -1,9 +1,5 @@
-pub mod Refusal
-pub mod Scope
-pub mod Scopes
-pub mod Fields
-pub mod Constant
 pub mod Meaning
 pub mod Operators
 pub mod Members
 pub mod Elaboration
+pub mod Views

@@ -10,10 +10,10 @@ use Rattle.wy_kernel.specs.Program.{string_class, same_primitive}
 use Rattle.wy_kernel.specs.Subtyping.{primitive_type, class_type}
 use Rattle.wy_kernel.specs.Table.{ConstantValue, Simple, Text}
 use Rattle.wy_value.specs.Conversion.{converted}
-use Rattle.wy_members.specs.declared.rule.Rule.{Rule}
-use Rattle.wy_elab_expr.specs.Refusal.{Refusal, refused}
-use Rattle.wy_elab_expr.specs.Scope.{FixedText}
-use Rattle.wy_elab_expr.specs.Constant.{value_of, constant_in, primitive_of}
+use Rattle.wy_constant.specs.declared.rule.Rule.{Rule}
+use Rattle.wy_constant.specs.Refusal.{Refusal, refused}
+use Rattle.wy_constant.specs.Scope.{FixedText}
+use Rattle.wy_constant.specs.Constant.{value_of, constant_in, primitive_of}
 
 -- a constant with the first token of its expression, of which no form is made yet; or a form with its type
 pub data Meaning : Type 0 where

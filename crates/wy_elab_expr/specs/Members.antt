@@ -15,11 +15,11 @@ use Rattle.wy_kernel.specs.Form as kernel
 use Rattle.wy_kernel.specs.Program.{Class, Method, Field, object_class, string_class, first_source_class}
 use Rattle.wy_kernel.specs.Subtyping.{primitive_type, class_type, object_type}
 use Rattle.wy_kernel.specs.Table.{Table, ConstantValue}
-use Rattle.wy_members.specs.declared.rule.Rule.{Rule}
-use Rattle.wy_members.specs.declared.rule.Rule.TheVariants.{UnknownName, NotImplemented, NoMethod, BadOperand, Private, NotInStatic, NotOffered}
-use Rattle.wy_elab_expr.specs.Scope.{Scope, Variable, denoted}
-use Rattle.wy_elab_expr.specs.Fields.{class_named, field_of}
-use Rattle.wy_elab_expr.specs.Constant.{name_constant, member_constant}
+use Rattle.wy_constant.specs.declared.rule.Rule.{Rule}
+use Rattle.wy_constant.specs.declared.rule.Rule.TheVariants.{UnknownName, NotImplemented, NoMethod, BadOperand, Private, NotInStatic, NotOffered}
+use Rattle.wy_constant.specs.Scope.{Scope, Variable, denoted}
+use Rattle.wy_constant.specs.Fields.{class_named, field_of}
+use Rattle.wy_constant.specs.Constant.{name_constant, member_constant}
 use Rattle.wy_elab_expr.specs.Meaning.{Meaning, Known, Formed, type_of, text_type, Gets, give, refuse, ◌>>=◌, brought, formed}
 use Rattle.wy_elab_expr.specs.Operators.{Judgement, is_void, class_of, is_interface, boolean_type}
 
@@ -46,8 +46,8 @@ abbrev pub own_field : Scope → ℕ → Option Field → ℕ → Gets Spot
 own_field s k None token = refuse UnknownName token
 own_field s k (Some f) token =
     if is_outside s f.is_private f.class then refuse Private token
-    else (if f.is_static then give (spot (Static k token) f.ty f.is_final)
-    else (if s.has_this then give (spot (kernel.Field this_form k token) f.ty f.is_final) else refuse NotInStatic token))
+    else (if f.is_static then give (spot (Static k token) f.ty f.is_fixed)
+    else (if s.has_this then give (spot (kernel.Field this_form k token) f.ty f.is_fixed) else refuse NotInStatic token))
 
 abbrev pub own_field_named : Table → Scope → Option ℕ → ℕ → Gets Spot
 own_field_named t s (Some k) token = own_field s k (slice_get t.fields k) token
@@ -78,7 +78,7 @@ abbrev pub static_field : Scope → ℕ → Option Field → ℕ → Gets Spot
 static_field s k None token = refuse UnknownName token
 static_field s k (Some f) token =
     if is_outside s f.is_private f.class then refuse Private token
-    else (if f.is_static then give (spot (Static k token) f.ty f.is_final) else refuse NotInStatic token)
+    else (if f.is_static then give (spot (Static k token) f.ty f.is_fixed) else refuse NotInStatic token)
 
 abbrev pub field_of_class : Table → Scope → ℕ → Option ℕ → ℕ → Gets Spot
 field_of_class t s class (Some k) token = static_field s k (slice_get t.fields k) token
@@ -113,7 +113,7 @@ abbrev pub object_field : Scope → Expression → ℕ → Option Field → ℕ 
 object_field s object k None token = refuse UnknownName token
 object_field s object k (Some f) token =
     if is_outside s f.is_private f.class then refuse Private token
-    else (if f.is_static then refuse NotOffered token else give (spot (kernel.Field object k token) f.ty f.is_final))
+    else (if f.is_static then refuse NotOffered token else give (spot (kernel.Field object k token) f.ty f.is_fixed))
 
 abbrev pub field_through : Table → Scope → ℕ → Expression → Option ℕ → ℕ → Gets Spot
 field_through t s class object (Some k) token = object_field s object k (slice_get t.fields k) token

@@ -19,11 +19,10 @@ use Rattle.wy_kernel.specs.Table.{Table, ConstantValue, Simple, Text}
 use Rattle.wy_value.specs.declared.value.Value.{Value}
 use Rattle.wy_value.specs.declared.value.Value.TheVariants as value
 use Rattle.wy_value.specs.Operator.{is_shift, is_equality, is_comparison}
-use Rattle.wy_value.specs.Conversion.{number_of}
-use Rattle.wy_members.specs.declared.rule.Rule.{Rule}
-use Rattle.wy_members.specs.declared.rule.Rule.TheVariants.{BadOperand, BadAssign, BadCast}
+use Rattle.wy_constant.specs.declared.rule.Rule.{Rule}
+use Rattle.wy_constant.specs.declared.rule.Rule.TheVariants.{BadOperand, BadAssign, BadCast}
 use Rattle.wy_members.specs.Choice.{Chosen, Refused}
-use Rattle.wy_elab_expr.specs.Constant.{value_of, unary_constant, binary_constant, choice_constant, choice_type, cast_constant, combined, truth, has_number, converted_value, simple, simple_in, as_truth}
+use Rattle.wy_constant.specs.Constant.{value_of, unary_constant, binary_constant, choice_constant, choice_type, cast_constant, combined, truth, converted_value, constant_fits, simple, simple_in, as_truth}
 use Rattle.wy_elab_expr.specs.Meaning.{Meaning, Known, Formed, type_of, text_type, Gets, give, refuse, ◌>>=◌, brought, formed}
 
 -- ---- what a table settles: which type is below which, and the method that a call means
@@ -129,14 +128,6 @@ unfoldable pub can_cast : Judgement → Table → Ty → Ty → Bool
 can_cast j t a b = can_cast_by j t a (primitive_in a) b (primitive_in b)
 
 -- ---- assignment (JLS 5.2)
-
-abbrev pub fits_number : Primitive → Option ℤ → Bool
-fits_number p (Some z) = has_number p z
-fits_number p None = false
-
-abbrev pub constant_fits : Primitive → Value → Bool
-constant_fits p (value.Long z) = false
-constant_fits p v = fits_number p (number_of v)
 
 -- a constant whose value fits may be assigned to byte, short or char
 abbrev pub fits_into : Ty → Meaning → Bool

@@ -1,18 +1,44 @@
-//! Expressions of a body, by their definitions in specs: what is in scope, and the values of constant expressions (JLS 6, 15.28).
+//! Expressions of a body: the kernel forms that they become, by the definition in specs (JLS 15).
 #![tactic(auto)]
 
-mod arithmetic;
-mod constant;
+mod allowed;
+mod arguments;
+mod array;
+mod assignable;
+mod assignment;
+mod bring;
+pub mod build;
+mod call;
+mod call_on;
+mod cast;
+mod choice;
+mod elaboration;
 mod fields;
-mod find;
-mod fold;
+mod kinds;
+mod library;
+mod library_call;
+mod literal;
+mod meaning;
 mod names;
-mod scope;
-mod simple;
-#[cfg(test)]
-mod tests;
-mod variable;
+mod operand;
+mod operation;
+mod printing;
+mod refusal;
+mod sizes;
+mod spot;
+mod texts;
+mod typed;
 
-pub use constant::constant_of;
-pub use scope::Scope;
-pub use variable::Variable;
+pub use allowed::is_below;
+pub use arguments::{brought_all, method_for, some_void};
+pub use assignable::is_assignable;
+pub use assignment::{assigned_value, element_of};
+pub use bring::{brought, class, formed, primitive, type_of};
+pub use elaboration::{elaborated, elaborated_all, initialized};
+pub use kinds::{is_boolean, is_text, is_void, number_type};
+pub use meaning::Meaning;
+pub use names::{class_for_new, stream_in, type_written, with_brackets};
+pub use printing::{Printed, Stream, print_operand};
+pub use refusal::refused;
+pub use texts::Texts;
+pub use typed::{Typed, expr};

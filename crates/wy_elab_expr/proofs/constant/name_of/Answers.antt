@@ -1,5 +1,0 @@
-use Rattle.wy_elab_expr.proofs.Layers.{no_name}
-use Rattle.wy_elab_expr.proofs.constant.name_of.Goals as goal
-
-pub returns-in_default : goal.returns-in_default
-returns-in_default c = no_name c.args.e.now c.in_default.not-Name

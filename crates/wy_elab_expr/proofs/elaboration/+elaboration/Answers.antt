@@ -1,0 +1,98 @@
+use Rattle.std.proofs.Common.{map, rules}
+use Rattle.std.proofs.lemmas.Result.{err_from_is_err_and}
+use Rattle.wy_kernel.specs.ClassTable.{table_of}
+use Rattle.wy_elab_expr.specs.Views.{class_name_of, meaning_of, stream_of}
+use Rattle.wy_elab_expr.proofs.Dots.{read_of_class, target_of_class, stream_stops, class_stops, object_stops, stream_goes, class_goes, object_goes}
+use Rattle.wy_elab_expr.proofs.Layers.{no_target}
+use Rattle.wy_elab_expr.proofs.Sequence.{goes_on, stops, ends, elements_go, elements_stop, elements_end}
+use Rattle.wy_elab_expr.proofs.elaboration.+elaboration.Goals as goal
+
+pub elaborated_all-returns-in_err-m : goal.elaborated_all-returns-in_err-m
+elaborated_all-returns-in_err-m t c = λ j h.
+    let p = err_from_is_err_and c.from_residual.result c.from_residual.ensures.1 in
+    rw (p.1, p.2) (stops j (table_of c.args.table.now) c.args.scope.now c.args.args.now c.loop-arg.arg-index c.arg-item.result c.loop-arg.all.items c.loop-arg.texts _ _
+    c.loop-arg-test.true c.arg-item.is (c.in_err-m.ensures j h) (c.loop-arg.invariant j h))
+
+pub elaborated_all-loop-arg-preserved : goal.elaborated_all-loop-arg-preserved
+elaborated_all-loop-arg-preserved t c = λ j h.
+    goes_on j (table_of c.args.table.now) c.args.scope.now c.args.args.now c.loop-arg.arg-index c.arg-item.result c.loop-arg.all.items c.push.new.self.items c.in_ok-m.m c.loop-arg.texts c.elaborated.new.texts _
+    c.loop-arg-test.true c.arg-item.is (c.in_ok-m.ensures j h) c.in_ok-push.ensures.items (c.loop-arg.invariant j h)
+
+pub elaborated_all-returns : goal.elaborated_all-returns
+elaborated_all-returns t c = λ j h.
+    ends j (table_of c.args.table.now) c.args.scope.now c.args.args.now c.loop-arg.arg-index c.loop-arg.all.items c.loop-arg.texts _ c.loop-arg-test.false (c.loop-arg.invariant j h)
+
+pub elements_of-returns-in_err-form : goal.elements_of-returns-in_err-form
+elements_of-returns-in_err-form t c = λ j h.
+    let p = err_from_is_err_and c.from_residual.result c.from_residual.ensures.1 in
+    rw (p.1, p.2) (elements_stop j (table_of c.args.table.now) c.args.scope.now c.args.ty c.args.elements.now c.loop-element.element-index c.element-item.result c.loop-element.forms.items c.loop-element.sites.items c.loop-element.texts _ _
+    c.loop-element-test.true c.element-item.is (c.in_err-form.ensures j h) (c.loop-element.invariant j h))
+
+pub elements_of-loop-element-preserved : goal.elements_of-loop-element-preserved
+elements_of-loop-element-preserved t c = λ j h.
+    elements_go j (table_of c.args.table.now) c.args.scope.now c.args.ty c.args.elements.now c.loop-element.element-index c.element-item.result c.loop-element.forms.items c.push.new.self.items
+    c.loop-element.sites.items c.push-in-loop-element.new.self.items c.in_ok-form.form c.loop-element.texts c.initialized.new.texts _
+    c.loop-element-test.true c.element-item.is (c.in_ok-form.ensures j h) c.in_ok-push.ensures.items c.in_ok-push-2.ensures.items (c.loop-element.invariant j h)
+
+pub elements_of-returns : goal.elements_of-returns
+elements_of-returns t c = λ j h.
+    elements_end j (table_of c.args.table.now) c.args.scope.now c.args.ty c.args.elements.now c.loop-element.element-index c.loop-element.forms.items c.loop-element.sites.items c.loop-element.texts _
+    c.loop-element-test.false (c.loop-element.invariant j h)
+
+pub target-returns-in_default : goal.target-returns-in_default
+target-returns-in_default t c = λ j h.
+    no_target j (table_of c.args.table.now) c.args.scope.now c.args.texts.now c.args.e.now c.in_default.not-Name c.in_default.not-Group c.in_default.not-Field c.in_default.not-SuperField c.in_default.not-Element
+
+pub elaborated-returns-in-Some : goal.elaborated-returns-in-Some
+elaborated-returns-in-Some t c = λ j h.
+    read_of_class j (table_of c.args.table.now) c.args.scope.now c.args.texts.now c.args.texts.now c.args.e.now c.deref-in-Field.result.now c.in-Field.object c.in-Field.name c.in-Field.token
+    c.as_str-in-Some.result.now (class_name_of c.in-Some.c) c.qualified_name.result
+    c.in-Field.is c.deref-in-Field.ensures (search rules) (search rules) (c.qualified_name.ensures c.args.texts.now)
+
+pub target-returns-in-Some : goal.target-returns-in-Some
+target-returns-in-Some t c = λ j h.
+    target_of_class j (table_of c.args.table.now) c.args.scope.now c.args.texts.now c.args.texts.now c.args.e.now c.deref-in-Field.result.now c.in-Field.object c.in-Field.name c.in-Field.token
+    c.as_str-in-Some.result.now (class_name_of c.in-Some.c) c.class_target.result
+    c.in-Field.is c.deref-in-Field.ensures (search rules) (search rules) (c.class_target.ensures c.args.texts.now)
+
+pub elaborated-returns-in_err-args-in-Some-stream_in : goal.elaborated-returns-in_err-args-in-Some-stream_in
+elaborated-returns-in_err-args-in-Some-stream_in t c = λ j h.
+    let p = err_from_is_err_and c.from_residual-in_err-args-in-Some-stream_in.result c.from_residual-in_err-args-in-Some-stream_in.ensures.1 in
+    rw (p.1, p.2) (stream_stops j (table_of c.args.table.now) c.args.scope.now c.args.texts.now c.args.e.now c.deref-in-InvokeOn.result.now c.in-InvokeOn.object c.in-InvokeOn.name c.in-InvokeOn.args c.in-InvokeOn.token
+    c.deref-in-Some-stream_in.result.now (stream_of c.in-Some-stream_in.stream) _
+    c.in-InvokeOn.is c.deref-in-InvokeOn.ensures c.deref-in-Some-stream_in.ensures.value (search rules) (c.in_err-args-in-Some-stream_in.ensures j h))
+
+pub elaborated-returns-in_err-args-in-Some-class_in : goal.elaborated-returns-in_err-args-in-Some-class_in
+elaborated-returns-in_err-args-in-Some-class_in t c = λ j h.
+    let p = err_from_is_err_and c.from_residual-in_err-args-in-Some-class_in.result c.from_residual-in_err-args-in-Some-class_in.ensures.1 in
+    rw (p.1, p.2) (class_stops j (table_of c.args.table.now) c.args.scope.now c.args.texts.now c.args.e.now c.deref-in-InvokeOn.result.now c.deref-in-None-stream_in.result.now c.in-InvokeOn.object c.in-InvokeOn.name c.in-InvokeOn.args c.in-InvokeOn.token
+    c.deref-in-Some-class_in.result.now (class_name_of c.in-Some-class_in.c) _
+    c.in-InvokeOn.is c.deref-in-InvokeOn.ensures c.deref-in-None-stream_in.ensures c.deref-in-Some-class_in.ensures.value (search rules) (search rules) (c.in_err-args-in-Some-class_in.ensures j h))
+
+pub elaborated-returns-in_err-args-in-None-class_in : goal.elaborated-returns-in_err-args-in-None-class_in
+elaborated-returns-in_err-args-in-None-class_in t c = λ j h.
+    let p = err_from_is_err_and c.from_residual-in_err-args-in-None-class_in.result c.from_residual-in_err-args-in-None-class_in.ensures.1 in
+    rw (p.1, p.2) (object_stops j (table_of c.args.table.now) c.args.scope.now c.args.texts.now c.elaborated-in-None-class_in.new.texts c.args.e.now c.deref-in-InvokeOn.result.now c.deref-in-None-stream_in.result.now c.deref-in-None-class_in.result.now c.in-InvokeOn.object c.in-InvokeOn.name c.in-InvokeOn.args c.in-InvokeOn.token
+    c.deref-in-None-class_in-2.result.now (meaning_of c.in_ok-m-in-None-class_in.m) _
+    c.in-InvokeOn.is c.deref-in-InvokeOn.ensures c.deref-in-None-stream_in.ensures c.deref-in-None-class_in.ensures c.deref-in-None-class_in-2.ensures.value (search rules) (search rules)
+    (c.in_ok-m-in-None-class_in.ensures j h) (c.in_err-args-in-None-class_in.ensures j h))
+
+pub elaborated-returns-in_ok-args-in-Some-stream_in : goal.elaborated-returns-in_ok-args-in-Some-stream_in
+elaborated-returns-in_ok-args-in-Some-stream_in t c = λ j h.
+    stream_goes j (table_of c.args.table.now) c.args.scope.now c.args.texts.now c.elaborated_all-in-Some-stream_in.new.texts c.called_on_stream.new.texts c.args.e.now c.deref-in-InvokeOn.result.now c.in-InvokeOn.object c.in-InvokeOn.name c.in-InvokeOn.args c.in-InvokeOn.token
+    c.deref-in-Some-stream_in.result.now c.as_str-in-Some-stream_in.result.now (stream_of c.in-Some-stream_in.stream) (map meaning_of c.in_ok-args-in-Some-stream_in.args.items) c.called_on_stream.result
+    c.in-InvokeOn.is c.deref-in-InvokeOn.ensures c.deref-in-Some-stream_in.ensures.value (search rules) (search rules) (c.in_ok-args-in-Some-stream_in.ensures j h) c.called_on_stream.ensures
+
+pub elaborated-returns-in_ok-args-in-Some-class_in : goal.elaborated-returns-in_ok-args-in-Some-class_in
+elaborated-returns-in_ok-args-in-Some-class_in t c = λ j h.
+    class_goes j (table_of c.args.table.now) c.args.scope.now c.args.texts.now c.elaborated_all-in-Some-class_in.new.texts c.called_on_class.new.texts c.args.e.now c.deref-in-InvokeOn.result.now c.deref-in-None-stream_in.result.now c.in-InvokeOn.object c.in-InvokeOn.name c.in-InvokeOn.args c.in-InvokeOn.token
+    c.deref-in-Some-class_in.result.now c.as_str-in-Some-class_in.result.now (class_name_of c.in-Some-class_in.c) (map meaning_of c.in_ok-args-in-Some-class_in.args.items) c.called_on_class.result
+    c.in-InvokeOn.is c.deref-in-InvokeOn.ensures c.deref-in-None-stream_in.ensures c.deref-in-Some-class_in.ensures.value (search rules) (search rules) (search rules)
+    (c.in_ok-args-in-Some-class_in.ensures j h) (c.called_on_class.ensures j h)
+
+pub elaborated-returns-in_ok-args-in-None-class_in : goal.elaborated-returns-in_ok-args-in-None-class_in
+elaborated-returns-in_ok-args-in-None-class_in t c = λ j h.
+    object_goes j (table_of c.args.table.now) c.args.scope.now c.args.texts.now c.elaborated-in-None-class_in.new.texts c.elaborated_all-in-None-class_in.new.texts c.called_on.new.texts c.args.e.now c.deref-in-InvokeOn.result.now c.deref-in-None-stream_in.result.now c.deref-in-None-class_in.result.now c.in-InvokeOn.object c.in-InvokeOn.name c.in-InvokeOn.args c.in-InvokeOn.token
+    c.deref-in-None-class_in-2.result.now c.as_str-in-None-class_in.result.now (meaning_of c.in_ok-m-in-None-class_in.m) (map meaning_of c.in_ok-args-in-None-class_in.args.items) c.called_on.result
+    c.in-InvokeOn.is c.deref-in-InvokeOn.ensures c.deref-in-None-stream_in.ensures c.deref-in-None-class_in.ensures c.deref-in-None-class_in-2.ensures.value (search rules) (search rules) (search rules)
+    (c.in_ok-m-in-None-class_in.ensures j h) (c.in_ok-args-in-None-class_in.ensures j h) (c.called_on.ensures j h)
