@@ -1,0 +1,10 @@
+pub mod Places
+pub mod Making
+pub mod Parts
+pub mod Jumps
+pub mod Statements
+pub mod Views
+pub mod Library
+pub mod Bodies
+pub mod Classes
+pub mod Program
