@@ -1,0 +1,7 @@
+pub mod Rows
+pub mod Split
+pub mod Forms
+pub mod Headers
+pub mod Constructors
+pub mod Classes
+pub mod Programs
