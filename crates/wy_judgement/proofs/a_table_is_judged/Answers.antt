@@ -1,0 +1,9 @@
+use Rattle.std.specs.Prelude.{map}
+use Rattle.wy_kernel.specs.ClassTable.{table_of}
+use Rattle.wy_members.proofs.Related.{is_table_of}
+use Rattle.wy_judgement.proofs.Judged.{judged}
+use Rattle.wy_judgement.proofs.a_table_is_judged.Goals as goal
+
+pub returns : goal.returns
+unfolding table_of
+returns c = let t = c.args._table.now in judged (table_of t) (map (λ row. row.items) t.supertypes.items) (is_table_of t) t.keeps_supertypes

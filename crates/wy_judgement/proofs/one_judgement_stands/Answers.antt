@@ -1,0 +1,5 @@
+use Rattle.wy_judgement.proofs.One.{one}
+use Rattle.wy_judgement.proofs.one_judgement_stands.Goals as goal
+
+pub returns : goal.returns
+returns c = one
