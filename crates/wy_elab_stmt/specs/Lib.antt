@@ -1,10 +1,6 @@
-pub mod Places
-pub mod Making
-pub mod Parts
-pub mod Jumps
-pub mod Statements
-pub mod Views
-pub mod Library
-pub mod Bodies
 pub mod Classes
+pub mod ClassViews
 pub mod Program
+pub mod MainMethod
+pub mod Whole
+pub mod Elaborates

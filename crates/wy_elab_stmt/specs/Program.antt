@@ -14,10 +14,10 @@ use Rattle.wy_constant.specs.Scope.{FixedText}
 use Rattle.wy_members.specs.Declarations.{CompilationUnit, classes_of, has, parameter_types}
 use Rattle.wy_elab_expr.specs.Operators.{Judgement}
 use Rattle.wy_elab_expr.specs.Meaning.{Gets, give, ◌>>=◌}
-use Rattle.wy_elab_stmt.specs.Places.{places_of, library_statements}
-use Rattle.wy_elab_stmt.specs.Statements.{Setting}
+use Rattle.wy_statement.specs.Places.{places_of, library_statements}
+use Rattle.wy_statement.specs.Statements.{Setting}
 use Rattle.wy_elab_stmt.specs.Classes.{ClassBodies, class_bodies}
-use Rattle.wy_elab_stmt.specs.Library.{library_bodies, library_init_bodies}
+use Rattle.wy_library.specs.Library.{library_bodies, library_init_bodies}
 
 -- ---- bodies
 

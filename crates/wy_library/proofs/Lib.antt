@@ -1,0 +1,2 @@
+pub mod FormViews
+pub mod Superclasses

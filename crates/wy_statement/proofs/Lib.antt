@@ -1,0 +1,12 @@
+pub mod SourceViews
+pub mod Taken
+pub mod PlaceArms
+pub mod Numbering
+pub mod Each
+pub mod TargetArms
+pub mod Sizes
+pub mod Rows
+pub mod Clauses
+pub mod Expressed
+pub mod Walks
+pub mod Blocks
