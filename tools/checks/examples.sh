@@ -34,7 +34,9 @@ expect_line() { # NAME STATUS LINE WORD..
 }
 
 for source in examples/*.java; do
-  expect "$source" 0 "${source%.java}.out" run "$source"
+  status=0
+  [ "$source" = examples/refused.java ] && status=4
+  expect "$source" "$status" "${source%.java}.out" run "$source"
 done
 
 printf 'class Main { public static void main(String[] a) { while (1 < 2) { } } }' >"$scratch/endless.java"
@@ -43,6 +45,10 @@ printf 'class A { int x = 0x; }' >"$scratch/literal.java"
 printf 'class A { } /*' >"$scratch/comment.java"
 printf 'class A { } // \377' >"$scratch/bytes.java"
 printf 'class Main { int x = ; }' >"$scratch/syntax.java"
+printf 'class Main { public static void main(String[] a) { int x = 7 / 2 * a.length; } }' >"$scratch/later.java"
+printf 'interface I { void f(); }\nclass A implements I { }\n' >"$scratch/missing.java"
+printf 'class A {\n  void f() {\n    int i = 0;\n    while (i < 3) { break out; }\n  }\n}\n' >"$scratch/jump.java"
+: >"$scratch/empty.java"
 head -c 1048577 /dev/zero | tr '\0' ' ' >"$scratch/long.java"
 
 expect_line "the step limit" 0 '-- step limit' run "$scratch/endless.java"
@@ -51,7 +57,11 @@ expect_line "a word too many" 2 'usage: whyline run SRC' run examples/first.java
 expect_line "a name that begins with a minus sign" 2 'usage: whyline run SRC' run -x
 expect_line "a word that isn't UTF-8" 2 'usage: whyline run SRC' run "$(printf '\377')"
 expect_line "no such file" 3 "absent: $scratch/none.java" run "$scratch/none.java"
-expect_line "a name without a declaration" 4 'program: NotYet' run "$scratch/unknown.java"
+expect_line "a name without a declaration" 4 'program: UnknownName at line 1 token 17' run "$scratch/unknown.java"
+expect_line "a method that is missing" 4 'program: NotImplemented at line 2 token 10' run "$scratch/missing.java"
+expect_line "a jump without a target" 4 'program: BadJump at line 4 token 20' run "$scratch/jump.java"
+expect_line "an empty file" 4 'program: NoMain at line 1 token 0' run "$scratch/empty.java"
+expect_line "a program that can't be run yet" 4 'program: NotYet' run "$scratch/later.java"
 expect_line "a literal with a fault" 4 'program: BadLiteral at byte 18' run "$scratch/literal.java"
 expect_line "a comment that isn't closed" 4 'program: BadToken at byte 12' run "$scratch/comment.java"
 expect_line "a text that isn't UTF-8" 4 'program: NotUtf8 at byte 15' run "$scratch/bytes.java"

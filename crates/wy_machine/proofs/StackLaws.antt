@@ -1,5 +1,5 @@
 -- What each start comes to, over a stack of frames.
-use Rattle.std.proofs.Common.{◌≡◌, ℕ, Bool, true, false, List, [], ◌∷◌, ◌++◌, refl, ap, sym, subst, ◌∙◌, length, replicate, Bor, Option, Some, None, Result, IfOk, if◌then◌else◌}
+use Rattle.std.proofs.Common.{◌≡◌, ℕ, ◌-◌, Bool, true, false, List, [], ◌∷◌, ◌++◌, refl, ap, sym, subst, ◌∙◌, length, replicate, Bor, Option, Some, None, Result, IfOk, if◌then◌else◌}
 use Rattle.std.specs.Option.{option_map}
 use Rattle.std.specs.declared.alloc.AllocError.{AllocError}
 use Rattle.std.specs.declared.boxed.Box.{Box}
@@ -15,10 +15,10 @@ use Rattle.wy_smallforms.specs.declared.form.Stmt.TheVariants as stmt_form
 use Rattle.wy_smallforms.specs.declared.form.Program.{Program}
 use Rattle.wy_smallforms.specs.Kernel.{expression, statement, statements, whole}
 use Rattle.wy_smallforms.specs.Operations.{default_value}
-use Rattle.wy_smallforms.specs.Meaning.{State, StepLimit, Outcome, Done, Stopped, go_on, return, read, assign, print_line, value_at, with_value, text_of, is_true, eval, exec, program, start}
-use Rattle.wy_smallforms.proofs.Views.{view_const, view_read, view_set, view_bin, view_block, view_eval, view_if, view_if_else, view_while, view_print}
+use Rattle.wy_smallforms.specs.Meaning.{State, StepLimit, Outcome, Done, Stopped, go_on, return, read, assign, line_end, print, value_at, with_value, text_of, is_true, eval, exec, program, start}
+use Rattle.wy_smallforms.proofs.Views.{view_const, view_read, view_set, view_bin, view_block, view_eval, view_if, view_if_else, view_while, view_print, view_print_nothing}
 use Rattle.wy_smallforms.proofs.Runs.{go_on-go_on, taken, loop_goes, eval_spends, exec_spends, spends_keeps}
-use Rattle.wy_smallforms.proofs.Equations.{eval_stops, exec_stops, eval-constant, eval-read, eval-set, eval-binary, exec-block, exec-eval, exec-if, exec-if_else, exec-while, exec-print, exec_all-none, exec_all-more}
+use Rattle.wy_smallforms.proofs.Equations.{eval_stops, exec_stops, eval-constant, eval-read, eval-set, eval-binary, exec-block, exec-eval, exec-if, exec-if_else, exec-while, exec-print, exec-print_nothing, exec_all-none, exec_all-more}
 use Rattle.wy_machine.specs.declared.frame.Frame.{Frame}
 use Rattle.wy_machine.specs.declared.frame.Frame.TheVariants.{Do, DoAll, Find, Apply, Store, Forget, Choose, Turn, Decide, Show}
 use Rattle.wy_machine.specs.declared.machine.Machine.{Machine}
@@ -73,9 +73,15 @@ module _ (s : State) (some : s.left ≡ 0 → ⊥) (ws : List Frame) (vs : List 
         fs ≡ ws ++ Forget ∷ [] → gs ≡ fs ++ Find b ∷ [] → after gs vs (taken s) ≡ frame_of (Do x) (after ws) vs s
     eval_starts e b fs gs is now first second = rw (second, after-push, first, after-push, is, view_eval, now, exec-eval s some (expression e)) (simp go_on-go_on)
 
-    pub print_starts : (e : Expr) (b : Bor Expr) (fs gs : List Frame) → x.now ≡ stmt_form.Print e → b.now ≡ e →
-        fs ≡ ws ++ Show ∷ [] → gs ≡ fs ++ Find b ∷ [] → after gs vs (taken s) ≡ frame_of (Do x) (after ws) vs s
-    print_starts e b fs gs is now first second = rw (second, after-push, first, after-push, is, view_print, now, exec-print s some (expression e)) (simp go_on-go_on)
+    pub print_starts : (operand : Option Expr) (ends_line : Bool) (e : Expr) (b : Bor Expr) (fs gs : List Frame) → x.now ≡ stmt_form.Print operand ends_line → operand ≡ Some e → b.now ≡ e →
+        fs ≡ ws ++ Show ends_line ∷ [] → gs ≡ fs ++ Find b ∷ [] → after gs vs (taken s) ≡ frame_of (Do x) (after ws) vs s
+    print_starts operand ends_line e b fs gs is there now first second =
+        rw (second, after-push, first, after-push, is, there, view_print, now, exec-print s some (expression e) ends_line) (simp go_on-go_on)
+
+    pub print_nothing_starts : (operand : Option Expr) (ends_line : Bool) (out : List ℕ) → x.now ≡ stmt_form.Print operand ends_line → operand ≡ None → out ≡ s.output ++ line_end ends_line →
+        after ws vs (record s { output = out; left = s.left - 1 }) ≡ frame_of (Do x) (after ws) vs s
+    unfolding print
+    print_nothing_starts operand ends_line out is absent printed = rw (printed, is, absent, view_print_nothing, exec-print_nothing s some ends_line) refl
 
     pub while_starts : (e : Expr) (box : Box Stmt Global) (a : Bor Expr) (b : Bor Stmt) (fs : List Frame) → x.now ≡ stmt_form.While e box → a.now ≡ e → b.now ≡ box.value →
         fs ≡ ws ++ Turn a b ∷ [] → after fs vs (taken s) ≡ frame_of (Do x) (after ws) vs s
@@ -142,10 +148,10 @@ module _ (s : State) (ws : List Frame) (vs : List Const) where
   unfolding assign
   stored f place v us ks kept is found now store pushed = rw (is, pushed, now, store, found) refl
 
-  pub shown : (f : Frame) (v : Const) (us : List Const) (out : List ℕ) → f ≡ Show → v ≡ top vs → us ≡ under vs → out ≡ s.output ++ (text_of v ++ 10 ∷ []) →
+  pub shown : (f : Frame) (ends_line : Bool) (v : Const) (us : List Const) (out : List ℕ) → f ≡ Show ends_line → v ≡ top vs → us ≡ under vs → out ≡ s.output ++ (text_of v ++ line_end ends_line) →
       after ws us (record s { output = out }) ≡ frame_of f (after ws) vs s
-  unfolding print_line
-  shown f v us out is found now printed = rw (is, now, printed, found) refl
+  unfolding print
+  shown f ends_line v us out is found now printed = rw (is, now, printed, found) refl
 
 -- an outcome that is another
 pub carry : (r : Result Bool AllocError) (m : Machine) (y z : Outcome Unit) → y ≡ z → IfOk r (λ goes. outcome_of goes m ≡ y) → IfOk r (λ goes. outcome_of goes m ≡ z)

@@ -1,5 +1,5 @@
 -- What a stack of frames is left to do with a stack of values.
-use Rattle.std.specs.Prelude.{ℕ, ◌+◌, ◌*◌, vec_len, Bool, true, false, List, [], ◌∷◌, reverse, Option, Some, None, if◌then◌else◌}
+use Rattle.std.specs.Prelude.{ℕ, ◌+◌, ◌*◌, vec_len, Bool, true, false, List, [], ◌∷◌, ◌++◌, reverse, Option, Some, None, if◌then◌else◌}
 use Rattle.std.specs.Borrow.{Bor}
 use Rattle.std.specs.declared.vec.Vec.{Vec}
 use Rattle.std.specs.declared.alloc.Global.{Global}
@@ -7,7 +7,7 @@ use Rattle.wy_smallforms.specs.declared.form.Const.{Const}
 use Rattle.wy_smallforms.specs.declared.form.Stmt.{Stmt}
 use Rattle.wy_smallforms.specs.Kernel.{expression, statement, statements}
 use Rattle.wy_smallforms.specs.Operations.{default_value, result_of}
-use Rattle.wy_smallforms.specs.Meaning.{State, StepLimit, Outcome, Stopped, Run, ◌>>=◌, ◌>>◌, return, assign, print_line, is_true, eval, loop_of, exec, exec_all}
+use Rattle.wy_smallforms.specs.Meaning.{State, StepLimit, Outcome, Stopped, Run, ◌>>=◌, ◌>>◌, return, assign, text_of, line_end, print, is_true, eval, loop_of, exec, exec_all}
 use Rattle.wy_machine.specs.declared.frame.Frame.{Frame}
 use Rattle.wy_machine.specs.declared.frame.Frame.TheVariants.{Do, DoAll, Find, Apply, Store, Forget, Choose, Turn, Decide, Show}
 use Rattle.wy_machine.specs.declared.machine.Machine.{Machine}
@@ -48,7 +48,7 @@ frame_of (Choose main other) rest vs = (if is_true (top vs) then exec (statement
 frame_of (Turn test body) rest vs = loop_of (eval (expression test.now)) (exec (statement body.now)) >> rest vs
 frame_of (Decide test body) rest vs =
     (if is_true (top vs) then exec (statement body.now) >> loop_of (eval (expression test.now)) (exec (statement body.now)) else return tt) >> rest (under vs)
-frame_of Show rest vs = print_line (top vs) >> rest (under vs)
+frame_of (Show ends_line) rest vs = print (text_of (top vs) ++ line_end ends_line) >> rest (under vs)
 
 -- the frames from the last to the first, and then what comes after them
 abbrev pub after_then : List Frame → Rest → Rest

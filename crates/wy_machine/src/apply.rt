@@ -1,7 +1,7 @@
 //! The operators on values (JLS 15.17, 15.18, 15.20, 15.21).
 
 ghost use Rattle.std.specs.Prelude.{◌≡◌};
-ghost use Rattle.wy_smallforms.specs.Operations.{int_result, result_of};
+ghost use Rattle.wy_smallforms.specs.Operations.{int_result, result_of, truth_result};
 
 use wy_kernel::operator::BinOp;
 use wy_smallforms::form::Const;
@@ -23,11 +23,23 @@ fn apply_to_ints(op: BinOp, left: i32, right: i32) -> Const
     }
 }
 
+fn apply_to_truths(op: BinOp, left: bool, right: bool) -> Const
+    ensures { result ≡ truth_result op left right }
+{
+    match op {
+        BinOp::Eq => Const::Bool(left == right),
+        BinOp::Ne => Const::Bool(left != right),
+        _ => Const::Bool(false),
+    }
+}
+
 pub fn apply(op: BinOp, left: Const, right: Const) -> Const
     ensures { result ≡ result_of op left right }
 {
     match (left, right) {
         (Const::Int(left), Const::Int(right)) => apply_to_ints(op, left, right),
-        _ => Const::Int(0),
+        (Const::Bool(left), Const::Bool(right)) => apply_to_truths(op, left, right),
+        (Const::Int(_), Const::Bool(_)) => apply_to_truths(op, true, false),
+        (Const::Bool(_), Const::Int(_)) => apply_to_truths(op, true, false),
     }
 }

@@ -25,5 +25,5 @@ pub enum Frame<'a> {
     /// A loop, from where its test's value is on the stack.
     Decide { test: &'a Expr, body: &'a Stmt },
     /// Takes the last value off, and prints it.
-    Show,
+    Show { ends_line: bool },
 }

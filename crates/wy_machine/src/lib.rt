@@ -37,7 +37,7 @@ pub fn run(alloc: Global, program: &Program, input: &[u8], steps: u32) -> Result
     let mut machine = Machine {
         work: Vec::new(alloc),
         values: Vec::new(alloc),
-        store: vec![in alloc; Const::Int(0); program.main.locals as usize]?,
+        store: vec![in alloc; Const::Int(0); program.main.locals]?,
         output: Vec::new(alloc),
         left: steps,
     };

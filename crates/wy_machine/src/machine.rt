@@ -9,7 +9,7 @@ ghost use Rattle.wy_machine.specs.Stack.{measure_of, outcome_of, outcome_with, s
 
 use crate::apply::apply;
 use crate::frame::Frame;
-use crate::print::print_line;
+use crate::print::{print_nothing, print_value};
 use std::alloc::AllocError;
 use wy_smallforms::form::{Const, Expr, Place, Stmt};
 
@@ -133,10 +133,15 @@ impl<'a> Machine<'a> {
                     body: &**body,
                 })?;
             }
-            Stmt::Print { operand } => {
-                self.work.push(Frame::Show)?;
-                self.work.push(Frame::Find(operand))?;
-            }
+            Stmt::Print { operand, ends_line } => match operand {
+                Some(operand) => {
+                    self.work.push(Frame::Show {
+                        ends_line: *ends_line,
+                    })?;
+                    self.work.push(Frame::Find(operand))?;
+                }
+                None => print_nothing(&mut self.output, *ends_line)?,
+            },
         }
         Ok(true)
     }
@@ -223,9 +228,9 @@ impl<'a> Machine<'a> {
             Frame::Choose { yes, no } => self.choose(yes, no),
             Frame::Turn { test, body } => self.turn(test, body),
             Frame::Decide { test, body } => self.decide(test, body),
-            Frame::Show => {
+            Frame::Show { ends_line } => {
                 let value = pop_value(&mut self.values);
-                print_line(&mut self.output, value)?;
+                print_value(&mut self.output, value, ends_line)?;
                 Ok(true)
             }
         }

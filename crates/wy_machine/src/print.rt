@@ -1,15 +1,24 @@
-//! A value as text (JLS 15.18.1.1).
+//! What is printed: a value as text (JLS 15.18.1.1), and the line feed behind it.
 
-ghost use Rattle.std.specs.Prelude.{◌≡◌, ◌++◌, ◌∷◌, [], OnOk};
-ghost use Rattle.wy_smallforms.specs.Meaning.{text_of};
+ghost use Rattle.std.specs.Prelude.{◌≡◌, ◌++◌, OnOk};
+ghost use Rattle.wy_smallforms.specs.Meaning.{line_end, text_of};
 
 use itoa::Buffer;
 use std::alloc::AllocError;
 use wy_smallforms::form::Const;
 
-/// Appends the value's text and a line feed.
-pub fn print_line(output: &mut Vec<u8>, value: Const) -> Result<(), AllocError>
-    ensures { OnOk result (output.new.items ≡ output.old.items ++ (text_of value ++ 10 ∷ [])) }
+/// Appends a line feed, if the line ends.
+pub fn print_nothing(output: &mut Vec<u8>, ends_line: bool) -> Result<(), AllocError>
+    ensures { OnOk result (output.new.items ≡ output.old.items ++ line_end ends_line) }
+{
+    if ends_line {
+        output.push(b'\n')?;
+    }
+    Ok(())
+}
+
+fn print_text(output: &mut Vec<u8>, value: Const) -> Result<(), AllocError>
+    ensures { OnOk result (output.new.items ≡ output.old.items ++ text_of value) }
 {
     match value {
         Const::Int(number) => {
@@ -19,6 +28,13 @@ pub fn print_line(output: &mut Vec<u8>, value: Const) -> Result<(), AllocError>
         Const::Bool(true) => output.extend_from_slice(b"true")?,
         Const::Bool(false) => output.extend_from_slice(b"false")?,
     }
-    output.push(b'\n')?;
     Ok(())
+}
+
+/// Appends the value's text, and a line feed if the line ends.
+pub fn print_value(output: &mut Vec<u8>, value: Const, ends_line: bool) -> Result<(), AllocError>
+    ensures { OnOk result (output.new.items ≡ output.old.items ++ (text_of value ++ line_end ends_line)) }
+{
+    print_text(output, value)?;
+    print_nothing(output, ends_line)
 }

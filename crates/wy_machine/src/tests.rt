@@ -11,6 +11,12 @@ fn number(value: i32) -> Expr {
     }
 }
 
+fn truth(value: bool) -> Expr {
+    Expr::Const {
+        value: Const::Bool(value),
+    }
+}
+
 fn read(index: u32) -> Expr {
     Expr::Read {
         place: Place::Local { index },
@@ -30,6 +36,13 @@ fn assign(alloc: Global, index: u32, value: Expr) -> Result<Stmt, AllocError> {
     })
 }
 
+fn println(operand: Expr) -> Stmt {
+    Stmt::Print {
+        operand: Some(operand),
+        ends_line: true,
+    }
+}
+
 fn binary(alloc: Global, op: BinOp, left: Expr, right: Expr) -> Result<Expr, AllocError> {
     Ok(Expr::Bin {
         op,
@@ -39,7 +52,7 @@ fn binary(alloc: Global, op: BinOp, left: Expr, right: Expr) -> Result<Expr, All
 }
 
 /// A class without an initializer, whose main has these statements.
-fn program(alloc: Global, locals: u32, parts: Vec<Stmt>) -> Program {
+fn program(alloc: Global, locals: usize, parts: Vec<Stmt>) -> Program {
     Program {
         init: Stmt::Block {
             parts: Vec::new(alloc),
@@ -63,7 +76,7 @@ fn small_program(alloc: Global) -> Result<Program, AllocError> {
         yes: Box::new(alloc, Stmt::Block { parts: branch })?,
         no: None,
     })?;
-    parts.push(Stmt::Print { operand: read(2) })?;
+    parts.push(println(read(2)))?;
     Ok(program(alloc, 3, parts))
 }
 
@@ -114,19 +127,11 @@ fn operands_are_found_from_left_to_right(rt: HostRuntime) -> Result<(), Fail> {
     let mut parts = Vec::new(alloc);
     parts.push(assign(alloc, 1, number(2))?)?;
     let right = set(alloc, 1, number(5))?;
-    parts.push(Stmt::Print {
-        operand: binary(alloc, BinOp::Sub, read(1), right)?,
-    })?;
+    parts.push(println(binary(alloc, BinOp::Sub, read(1), right)?))?;
     let left = set(alloc, 1, number(7))?;
-    parts.push(Stmt::Print {
-        operand: binary(alloc, BinOp::Sub, left, read(1))?,
-    })?;
-    parts.push(Stmt::Print {
-        operand: binary(alloc, BinOp::Add, number(2147483647), number(1))?,
-    })?;
-    parts.push(Stmt::Print {
-        operand: binary(alloc, BinOp::Lt, number(1), number(2))?,
-    })?;
+    parts.push(println(binary(alloc, BinOp::Sub, left, read(1))?))?;
+    parts.push(println(binary(alloc, BinOp::Add, number(2147483647), number(1))?))?;
+    parts.push(println(binary(alloc, BinOp::Lt, number(1), number(2))?))?;
     let ended = run(alloc, &program(alloc, 2, parts), b"", 1000)?;
     assert_eq!(rt;
         ended.output.as_slice(),
@@ -135,5 +140,27 @@ fn operands_are_found_from_left_to_right(rt: HostRuntime) -> Result<(), Fail> {
     assert_eq!(rt; ended.stop, 0);
     // init 1, main 1; Eval, Set, Const 3; Print, Bin, Read, Set, Const 5 twice; Print, Bin, Const, Const 4 twice
     assert_eq!(rt; ended.steps, 23);
+    Ok(())
+}
+
+/// `print(1); println(true == false); println();`
+#[test]
+fn a_print_leaves_its_line_open(rt: HostRuntime) -> Result<(), Fail> {
+    let alloc = rt.alloc();
+    let mut parts = Vec::new(alloc);
+    parts.push(Stmt::Print {
+        operand: Some(number(1)),
+        ends_line: false,
+    })?;
+    parts.push(println(binary(alloc, BinOp::Eq, truth(true), truth(false))?))?;
+    parts.push(Stmt::Print {
+        operand: None,
+        ends_line: true,
+    })?;
+    let ended = run(alloc, &program(alloc, 1, parts), b"", 1000)?;
+    assert_eq!(rt; ended.output.as_slice(), b"1false\n\n".as_slice());
+    assert_eq!(rt; ended.stop, 0);
+    // init 1, main 1; Print, Const 2; Print, Bin, Const, Const 4; Print 1
+    assert_eq!(rt; ended.steps, 9);
     Ok(())
 }

@@ -1,9 +1,3 @@
-pub mod Tokens
-pub mod Words
-pub mod Trees
-pub mod Elaboration
 pub mod Small
-pub mod Reading
-pub mod Outcome
-pub mod Whole
+pub mod Forms
 pub mod Laws

@@ -1,19 +1,12 @@
-//! Laws of the small form. Each function does nothing: its contract is the law.
+//! What holds of the definitions, whatever the program: laws without code.
 
-ghost use Rattle.wy_small.specs.Laws.{SumsFold, TestsFold, LocalsCounted, OneProgram};
+ghost use Rattle.std.specs.Prelude.{IsTrue};
+ghost use Rattle.wy_kernel.specs.Program.{Program};
+ghost use Rattle.wy_small.specs.Laws.{BeginsWithMain, IsMainsForm};
+ghost use Rattle.wy_small.specs.Small.{is_small};
 
-/// Tokens are those of at most one program: the grammar can't be taken two ways.
-pub fn a_token_list_has_one_program()
-    ensures { OneProgram }
-{}
-
-/// What has no name is one constant, and what has a name is none (JLS 15.28).
-pub fn what_has_no_name_is_one_constant()
-    ensures sums { SumsFold }
-    ensures tests { TestsFold }
-{}
-
-/// Main has a local for its parameter and one for each declaration, also in blocks that have ended.
-pub fn each_declaration_has_a_number()
-    ensures { LocalsCounted }
+/// What the machine runs of a small program is the body of its main, with as many locals; the initializer does nothing.
+pub fn a_small_program_is_its_main()
+    ensures main { (p : Program) → IsTrue (is_small p) → IsMainsForm p }
+    ensures init { (p : Program) → IsTrue (is_small p) → BeginsWithMain p }
 {}

@@ -1,11 +1,11 @@
 -- What each form does once it has its step, and where no step is left.
-use Rattle.std.proofs.Common.{◌≡◌, refl, ap, if◌then◌else◌}
+use Rattle.std.proofs.Common.{◌≡◌, Bool, ◌++◌, refl, ap, if◌then◌else◌}
 use Rattle.wy_kernel.specs.declared.operator.BinOp.{BinOp}
 use Rattle.wy_smallforms.specs.declared.form.Const.{Const}
 use Rattle.wy_smallforms.specs.declared.form.Place.{Place}
-use Rattle.wy_smallforms.specs.Kernel.{Expression, Constant, Read, Set, Binary, Statement, Block, Eval, If, IfElse, While, Print, Statements, none, more}
+use Rattle.wy_smallforms.specs.Kernel.{Expression, Constant, Read, Set, Binary, Statement, Block, Eval, If, IfElse, While, Print, PrintNothing, Statements, none, more}
 use Rattle.wy_smallforms.specs.Operations.{result_of}
-use Rattle.wy_smallforms.specs.Meaning.{State, StepLimit, Done, Stopped, Run, go_on, ◌>>=◌, ◌>>◌, return, tick, read, assign, print_line, is_true, eval, loop_of, exec, exec_all}
+use Rattle.wy_smallforms.specs.Meaning.{State, StepLimit, Done, Stopped, Run, go_on, ◌>>=◌, ◌>>◌, return, tick, read, assign, text_of, line_end, print, is_true, eval, loop_of, exec, exec_all}
 use Rattle.wy_smallforms.proofs.Runs.{taken, tick_goes, tick_stops}
 
 -- a step, and what comes after it
@@ -29,7 +29,8 @@ exec_stops (Eval e) s spent = stopped _ s spent
 exec_stops (If e main) s spent = stopped _ s spent
 exec_stops (IfElse e main other) s spent = stopped _ s spent
 exec_stops (While e body) s spent = stopped _ s spent
-exec_stops (Print e) s spent = stopped _ s spent
+exec_stops (Print e ends_line) s spent = stopped _ s spent
+exec_stops (PrintNothing ends_line) s spent = stopped _ s spent
 
 module _ (s : State) (some : s.left ≡ 0 → ⊥) where
   pub eval-constant : (v : Const) → eval (Constant v) s ≡ Done v (taken s)
@@ -68,9 +69,13 @@ module _ (s : State) (some : s.left ≡ 0 → ⊥) where
   unfolding exec
   exec-while e body = ticked _ s some
 
-  pub exec-print : (e : Expression) → exec (Print e) s ≡ go_on (eval e (taken s)) print_line
+  pub exec-print : (e : Expression) (ends_line : Bool) → exec (Print e ends_line) s ≡ go_on (eval e (taken s)) (λ v. print (text_of v ++ line_end ends_line))
   unfolding exec
-  exec-print e = ticked _ s some
+  exec-print e ends_line = ticked _ s some
+
+  pub exec-print_nothing : (ends_line : Bool) → exec (PrintNothing ends_line) s ≡ print (line_end ends_line) (taken s)
+  unfolding exec
+  exec-print_nothing ends_line = ticked _ s some
 
 pub exec_all-none : (s : State) → exec_all none s ≡ Done tt s
 unfolding exec_all

@@ -1,8 +1,8 @@
 -- A run stops only where no step is left.
 use Rattle.std.proofs.Common.{◌≡◌, ℕ, zero, suc, ◌<◌, ◌≤◌, Bool, true, false, refl, if◌then◌else◌, arith}
 use Rattle.wy_smallforms.specs.declared.form.Const.{Const}
-use Rattle.wy_smallforms.specs.Kernel.{Expression, Constant, Read, Set, Binary, Statement, Block, Eval, If, IfElse, While, Print, Statements, none, more, Whole}
-use Rattle.wy_smallforms.specs.Meaning.{State, Outcome, Done, Stopped, Run, go_on, ◌>>=◌, pay, tick, steps_left, read, assign, print_line, is_true, eval, turns, loop_of, exec, exec_all, program, start, ending, run_of}
+use Rattle.wy_smallforms.specs.Kernel.{Expression, Constant, Read, Set, Binary, Statement, Block, Eval, If, IfElse, While, Print, PrintNothing, Statements, none, more, Whole}
+use Rattle.wy_smallforms.specs.Meaning.{State, Outcome, Done, Stopped, Run, go_on, ◌>>=◌, pay, tick, steps_left, read, assign, print, is_true, eval, turns, loop_of, exec, exec_all, program, start, ending, run_of}
 use Rattle.wy_smallforms.proofs.Runs.{IsBelow, Spends, Keeps, spends_keeps, eval_spends, exec_spends}
 
 abbrev IsSpent : {A : Type 0} → Outcome A → Type 0
@@ -56,7 +56,7 @@ unfolding loop_of steps_left
 loop_spent test body p k h g s = turns_spent (suc s.left) test body p k h g s (omega arith)
 
 mutual
-  unfolding exec exec_all print_line
+  unfolding exec exec_all print
 
   exec_spent : (x : Statement) → StopsSpent (exec x)
   exec_spent (Block parts) s = spent_then tick _ tick_spent (λ _. exec_all_spent parts) s
@@ -67,7 +67,8 @@ mutual
       (λ v t. spent_choice (is_true v) _ _ t (exec_spent main t) (exec_spent other t))) s
   exec_spent (While e body) s = spent_then tick _ tick_spent
       (λ _. loop_spent (eval e) (exec body) (eval_spends e) (spends_keeps (exec body) (exec_spends body)) (eval_spent e) (exec_spent body)) s
-  exec_spent (Print e) s = spent_then tick _ tick_spent (λ _. spent_then (eval e) _ (eval_spent e) (λ v t. tt)) s
+  exec_spent (Print e ends_line) s = spent_then tick _ tick_spent (λ _. spent_then (eval e) _ (eval_spent e) (λ v t. tt)) s
+  exec_spent (PrintNothing ends_line) s = spent_then tick _ tick_spent (λ _ t. tt) s
 
   exec_all_spent : (xs : Statements) → StopsSpent (exec_all xs)
   exec_all_spent none s = tt

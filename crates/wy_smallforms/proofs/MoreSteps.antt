@@ -1,9 +1,9 @@
 -- A run with more steps goes on where the one with fewer stopped, and else is the same.
-use Rattle.std.proofs.Common.{◌≡◌, ℕ, zero, suc, ◌+◌, ◌-◌, ◌≤◌, Bool, true, false, List, [], ◌∷◌, ◌++◌, refl, ap, sym, ◌∙◌, append_assoc, append-nil, if◌then◌else◌, arith}
+use Rattle.std.proofs.Common.{◌≡◌, ℕ, zero, suc, ◌+◌, ◌-◌, ◌≤◌, Bool, true, false, List, [], ◌++◌, refl, ap, sym, ◌∙◌, append_assoc, append-nil, if◌then◌else◌, arith}
 use Rattle.wy_smallforms.specs.declared.form.Const.{Const}
-use Rattle.wy_smallforms.specs.Kernel.{Expression, Constant, Read, Set, Binary, Statement, Block, Eval, If, IfElse, While, Print, Statements, none, more, Whole}
+use Rattle.wy_smallforms.specs.Kernel.{Expression, Constant, Read, Set, Binary, Statement, Block, Eval, If, IfElse, While, Print, PrintNothing, Statements, none, more, Whole}
 use Rattle.wy_smallforms.specs.Laws.{Continues}
-use Rattle.wy_smallforms.specs.Meaning.{State, StepLimit, Outcome, Done, Stopped, Run, go_on, ◌>>=◌, pay, tick, steps_left, read, assign, print_line, text_of, is_true, eval, turns, loop_of, exec, exec_all, program, start, ending, run_of}
+use Rattle.wy_smallforms.specs.Meaning.{State, StepLimit, Outcome, Done, Stopped, Run, go_on, ◌>>=◌, pay, tick, steps_left, read, assign, print, text_of, line_end, is_true, eval, turns, loop_of, exec, exec_all, program, start, ending, run_of}
 
 abbrev output_of : {A : Type 0} → Outcome A → List ℕ
 output_of (Done a s) = s.output
@@ -56,7 +56,7 @@ unfolding loop_of steps_left
 loop_grows test body h k s = turns_grow (suc s.left) test body h k s
 
 mutual
-  unfolding exec exec_all print_line
+  unfolding exec exec_all print
 
   exec_grows : (x : Statement) → Grows (exec x)
   exec_grows (Block parts) s = grows_then tick _ tick_grows (λ _. exec_all_grows parts) s
@@ -66,7 +66,8 @@ mutual
   exec_grows (IfElse e main other) s = grows_then tick _ tick_grows (λ _. grows_then (eval e) _ (eval_grows e)
       (λ v. grows_choice (is_true v) _ _ (exec_grows main) (exec_grows other))) s
   exec_grows (While e body) s = grows_then tick _ tick_grows (λ _. loop_grows (eval e) (exec body) (eval_grows e) (exec_grows body)) s
-  exec_grows (Print e) s = grows_then tick _ tick_grows (λ _. grows_then (eval e) _ (eval_grows e) (λ v t. (text_of v ++ 10 ∷ [], refl))) s
+  exec_grows (Print e ends_line) s = grows_then tick _ tick_grows (λ _. grows_then (eval e) _ (eval_grows e) (λ v t. (text_of v ++ line_end ends_line, refl))) s
+  exec_grows (PrintNothing ends_line) s = grows_then tick _ tick_grows (λ _ t. (line_end ends_line, refl)) s
 
   exec_all_grows : (xs : Statements) → Grows (exec_all xs)
   exec_all_grows none s = the_same s.output
@@ -131,7 +132,7 @@ module _ (k : ℕ) where
       rw (← same) (turns_further (suc s.left) test body gt gb ft fb s)
 
   mutual
-    unfolding exec exec_all print_line
+    unfolding exec exec_all print
 
     exec_further : (x : Statement) → Further (exec x) (exec x)
     exec_further (Block parts) s = further_then tick tick _ _ tick_further (λ _. exec_all_grows parts) (λ _. exec_all_further parts) s
@@ -148,9 +149,10 @@ module _ (k : ℕ) where
     exec_further (While e body) s = further_then tick tick _ _ tick_further
         (λ _. loop_grows (eval e) (exec body) (eval_grows e) (exec_grows body))
         (λ _. loop_further (eval e) (exec body) (eval_grows e) (exec_grows body) (eval_further e) (exec_further body)) s
-    exec_further (Print e) s = further_then tick tick _ _ tick_further
-        (λ _. grows_then (eval e) _ (eval_grows e) (λ v t. (text_of v ++ 10 ∷ [], refl)))
-        (λ _. further_then (eval e) (eval e) _ _ (eval_further e) (λ v t. (text_of v ++ 10 ∷ [], refl)) (λ v t. refl)) s
+    exec_further (Print e ends_line) s = further_then tick tick _ _ tick_further
+        (λ _. grows_then (eval e) _ (eval_grows e) (λ v t. (text_of v ++ line_end ends_line, refl)))
+        (λ _. further_then (eval e) (eval e) _ _ (eval_further e) (λ v t. (text_of v ++ line_end ends_line, refl)) (λ v t. refl)) s
+    exec_further (PrintNothing ends_line) s = further_then tick tick _ _ tick_further (λ _ t. (line_end ends_line, refl)) (λ _ t. refl) s
 
     exec_all_further : (xs : Statements) → Further (exec_all xs) (exec_all xs)
     exec_all_further none s = refl

@@ -1,8 +1,8 @@
 -- The laws of runs: what comes after a run, and the steps that it takes.
 use Rattle.std.proofs.Common.{◌≡◌, ℕ, zero, suc, ◌-◌, ◌<◌, ◌≤◌, Bool, true, false, refl, ap, if◌then◌else◌, arith}
 use Rattle.wy_smallforms.specs.declared.form.Const.{Const}
-use Rattle.wy_smallforms.specs.Kernel.{Expression, Constant, Read, Set, Binary, Statement, Block, Eval, If, IfElse, While, Print, Statements, none, more}
-use Rattle.wy_smallforms.specs.Meaning.{State, StepLimit, Outcome, Done, Stopped, Run, go_on, ◌>>=◌, ◌>>◌, return, pay, tick, steps_left, read, assign, print_line, is_true, eval, turns, loop_of, exec, exec_all}
+use Rattle.wy_smallforms.specs.Kernel.{Expression, Constant, Read, Set, Binary, Statement, Block, Eval, If, IfElse, While, Print, PrintNothing, Statements, none, more}
+use Rattle.wy_smallforms.specs.Meaning.{State, StepLimit, Outcome, Done, Stopped, Run, go_on, ◌>>=◌, ◌>>◌, return, pay, tick, steps_left, read, assign, print, is_true, eval, turns, loop_of, exec, exec_all}
 
 -- what comes after what comes after
 pub go_on-go_on : {A B C : Type 0} (o : Outcome A) (f : A → Run B) (g : B → Run C) → go_on (go_on o f) g ≡ go_on o (λ a s. go_on (f a s) g)
@@ -99,7 +99,7 @@ unfolding loop_of steps_left
 loop_keeps test body h k s = turns_keep (suc s.left) test body h k s
 
 mutual
-  unfolding exec exec_all print_line
+  unfolding exec exec_all print
 
   pub exec_spends : (x : Statement) → Spends (exec x)
   exec_spends (Block parts) s = ticked s _ (exec_all_keeps parts)
@@ -109,7 +109,8 @@ mutual
   exec_spends (IfElse e main other) s = ticked s _ (then_keeps (eval e) _ (spends_keeps (eval e) (eval_spends e))
       (λ v. choice_keeps (is_true v) _ _ (spends_keeps (exec main) (exec_spends main)) (spends_keeps (exec other) (exec_spends other))))
   exec_spends (While e body) s = ticked s _ (loop_keeps (eval e) (exec body) (spends_keeps (eval e) (eval_spends e)) (spends_keeps (exec body) (exec_spends body)))
-  exec_spends (Print e) s = ticked s _ (then_keeps (eval e) _ (spends_keeps (eval e) (eval_spends e)) (λ v t. omega arith))
+  exec_spends (Print e ends_line) s = ticked s _ (then_keeps (eval e) _ (spends_keeps (eval e) (eval_spends e)) (λ v t. omega arith))
+  exec_spends (PrintNothing ends_line) s = ticked s _ (λ t. omega arith)
 
   pub exec_all_keeps : (xs : Statements) → Keeps (exec_all xs)
   exec_all_keeps none s = omega arith

@@ -1,5 +1,5 @@
 -- What a form says, at each variant.
-use Rattle.std.proofs.Common.{◌≡◌, ap, sym, ◌∙◌, Some, None}
+use Rattle.std.proofs.Common.{◌≡◌, Bool, ap, sym, ◌∙◌, Some, None}
 use Rattle.std.specs.declared.alloc.Global.{Global}
 use Rattle.std.specs.declared.boxed.Box.{Box}
 use Rattle.std.specs.declared.vec.Vec.{Vec}
@@ -14,7 +14,7 @@ use Rattle.wy_smallforms.specs.declared.form.Stmt.{Stmt}
 use Rattle.wy_smallforms.specs.declared.form.Stmt.TheOpen as stmt_layer
 use Rattle.wy_smallforms.specs.declared.form.Stmt.TheVariants as stmt_form
 use Rattle.wy_smallforms.specs.declared.form.Stmt.TheFolds.{fold-roll-Stmt}
-use Rattle.wy_smallforms.specs.Kernel.{Expression, Constant, Read, Set, Binary, Statement, Block, Eval, If, IfElse, While, Print, expression, expression_step, statement, statements, statement_step}
+use Rattle.wy_smallforms.specs.Kernel.{Expression, Constant, Read, Set, Binary, Statement, Block, Eval, If, IfElse, While, Print, PrintNothing, expression, expression_step, statement, statements, statement_step}
 
 pub view_const : (v : Const) → expression (form.Const v) ≡ Constant v
 unfolding expression
@@ -52,6 +52,10 @@ pub view_while : (test : Expr) (body : Box Stmt Global) → statement (stmt_form
 unfolding statement
 view_while test body = ap statement (sym (stmt_form.rolls-While test body)) ∙ fold-roll-Stmt Statement statement_step (stmt_layer.While test body)
 
-pub view_print : (e : Expr) → statement (stmt_form.Print e) ≡ Print (expression e)
+pub view_print : (e : Expr) (ends_line : Bool) → statement (stmt_form.Print (Some e) ends_line) ≡ Print (expression e) ends_line
 unfolding statement
-view_print e = ap statement (sym (stmt_form.rolls-Print e)) ∙ fold-roll-Stmt Statement statement_step (stmt_layer.Print e)
+view_print e ends_line = ap statement (sym (stmt_form.rolls-Print (Some e) ends_line)) ∙ fold-roll-Stmt Statement statement_step (stmt_layer.Print (Some e) ends_line)
+
+pub view_print_nothing : (ends_line : Bool) → statement (stmt_form.Print None ends_line) ≡ PrintNothing ends_line
+unfolding statement
+view_print_nothing ends_line = ap statement (sym (stmt_form.rolls-Print None ends_line)) ∙ fold-roll-Stmt Statement statement_step (stmt_layer.Print None ends_line)

@@ -1,5 +1,5 @@
 -- Kernel forms as what they say, without where they lie in memory.
-use Rattle.std.specs.Prelude.{ℕ, List, [], ◌∷◌, map, Option, Some, None}
+use Rattle.std.specs.Prelude.{ℕ, Bool, List, [], ◌∷◌, map, Option, Some, None}
 use Rattle.std.specs.declared.boxed.Box.{Box}
 use Rattle.std.specs.declared.alloc.Global.{Global}
 use Rattle.wy_kernel.specs.declared.operator.BinOp.{BinOp}
@@ -28,7 +28,8 @@ mutual
     If : Expression → Statement → Statement
     IfElse : Expression → Statement → Statement → Statement
     While : Expression → Statement → Statement
-    Print : Expression → Statement
+    Print : Expression → Bool → Statement
+    PrintNothing : Bool → Statement
 
   pub data Statements : Type 0 where
     none : Statements
@@ -58,12 +59,17 @@ abbrev pub if_of : Expression → Statement → Option (Box Statement Global) �
 if_of test main None = If test main
 if_of test main (Some other) = IfElse test main other.value
 
+-- whether it ends the line comes last
+abbrev pub print_of : Option Expr → Bool → Statement
+print_of None ends_line = PrintNothing ends_line
+print_of (Some operand) ends_line = Print (expression operand) ends_line
+
 abbrev pub statement_step : Stmt-F Statement → Statement
 statement_step (stmt_layer.Block parts) = Block (row parts.items)
 statement_step (stmt_layer.Eval value) = Eval (expression value)
 statement_step (stmt_layer.If test main other) = if_of (expression test) main.value other
 statement_step (stmt_layer.While test body) = While (expression test) body.value
-statement_step (stmt_layer.Print operand) = Print (expression operand)
+statement_step (stmt_layer.Print operand ends_line) = print_of operand ends_line
 
 -- what a statement says
 unfoldable pub statement : Stmt → Statement

@@ -5,7 +5,7 @@ use Rattle.wy_smallforms.specs.declared.form.Const.{Const}
 use Rattle.wy_smallforms.specs.declared.form.Const.TheVariants.{Bool as Truth, Int as Number}
 use Rattle.wy_smallforms.specs.declared.form.Place.{Place}
 use Rattle.wy_smallforms.specs.declared.form.Place.TheVariants.{Local}
-use Rattle.wy_smallforms.specs.Kernel.{Expression, Constant, Read, Set, Binary, Statement, Block, Eval, If, IfElse, While, Print, Statements, none, more, Whole}
+use Rattle.wy_smallforms.specs.Kernel.{Expression, Constant, Read, Set, Binary, Statement, Block, Eval, If, IfElse, While, Print, PrintNothing, Statements, none, more, Whole}
 use Rattle.wy_smallforms.specs.Operations.{default_value, result_of}
 
 -- the values of the locals, what was printed, and the steps that are left
@@ -73,9 +73,13 @@ text_of (Number n) = signed_decimal n
 text_of (Truth true) = codes "true"
 text_of (Truth false) = codes "false"
 
--- a value and a line feed
-unfoldable pub print_line : Const → Run Unit
-print_line v s = Done tt (record s { output = s.output ++ (text_of v ++ 10 ∷ []) })
+-- a line feed, for a print that ends the line
+abbrev pub line_end : Bool → List ℕ
+line_end true = 10 ∷ []
+line_end false = []
+
+unfoldable pub print : List ℕ → Run Unit
+print bytes s = Done tt (record s { output = s.output ++ bytes })
 
 abbrev pub is_true : Const → Bool
 is_true (Truth b) = b
@@ -134,10 +138,13 @@ unfoldable mutual
   exec (While test body) = do
     tick
     loop_of (eval test) (exec body)
-  exec (Print e) = do
+  exec (Print e ends_line) = do
     tick
     v ← eval e
-    print_line v
+    print (text_of v ++ line_end ends_line)
+  exec (PrintNothing ends_line) = do
+    tick
+    print (line_end ends_line)
 
   -- one after another
   pub exec_all : Statements → Run Unit

@@ -1,5 +1,5 @@
--- What the operators on int give: the exact whole number, brought into the range of int (JLS 4.2.2, 15.17, 15.18, 15.20, 15.21).
-use Rattle.std.specs.Prelude.{◌≡◌, ℤ, pos, ◌+ℤ◌, ◌-ℤ◌, ◌*ℤ◌, ◌^◌, not, int_lt, FitsSigned}
+-- What the operators give: on int the exact whole number, brought into the range of int (JLS 4.2.2, 15.17, 15.18, 15.20, 15.21).
+use Rattle.std.specs.Prelude.{◌≡◌, ℤ, pos, ◌+ℤ◌, ◌-ℤ◌, ◌*ℤ◌, ◌^◌, Bool, true, false, not, if◌then◌else◌, int_lt, FitsSigned}
 use Rattle.std.specs.Ordering.{int_eq}
 use Rattle.std.specs.Int.{w32, int_wrap}
 use Rattle.wy_kernel.specs.declared.operator.BinOp.{BinOp}
@@ -32,8 +32,19 @@ int_result Eq a b = Truth (int_eq a b)
 int_result Ne a b = Truth (not (int_eq a b))
 int_result _ a b = default_value
 
--- an operator on two values
+-- both or neither is true
+abbrev pub same_truth : Bool → Bool → Bool
+same_truth a b = if a then b else not b
+
+-- `==` and `!=` on two booleans (JLS 15.21.2)
+abbrev pub truth_result : BinOp → Bool → Bool → Const
+truth_result Eq a b = Truth (same_truth a b)
+truth_result Ne a b = Truth (not (same_truth a b))
+truth_result _ a b = Truth false
+
+-- an operator on two values; those of different types, which no program compares, are never the same
 abbrev pub result_of : BinOp → Const → Const → Const
 result_of op (Number a) (Number b) = int_result op a b
-result_of op (Number a) (Truth b) = default_value
-result_of op (Truth a) b = default_value
+result_of op (Number a) (Truth b) = truth_result op true false
+result_of op (Truth a) (Number b) = truth_result op true false
+result_of op (Truth a) (Truth b) = truth_result op a b

@@ -56,9 +56,10 @@ pub enum Stmt {
         test: Expr,
         body: Box<Stmt>,
     },
-    /// A `println` of its operand.
+    /// A `println`, or a `print` where it doesn't end the line, of its operand if it has one.
     Print {
-        operand: Expr,
+        operand: Option<Expr>,
+        ends_line: bool,
     },
 }
 
@@ -66,7 +67,7 @@ pub enum Stmt {
 #[derive(Drop)]
 pub struct Body {
     pub block: Stmt,
-    pub locals: u32,
+    pub locals: usize,
 }
 
 /// A program: the initializer of its class, and the body of `main`.

@@ -1,25 +1,25 @@
 -- What is due for a source, by how it is read.
-use Rattle.std.proofs.Common.{◌≡◌, ◌∙◌, sym, ap, subst, refl, ℕ, suc, ◌+◌, ◌≤◌, List, [], ◌∷◌, length, map, arith}
-use Rattle.wy_smallforms.specs.Kernel.{Whole}
-use Rattle.wy_smallforms.specs.Meaning.{run_of}
-use Rattle.wy_tree.specs.Seen.{Tok}
-use Rattle.wy_tree.specs.Ast.{tokens, view}
-use Rattle.wy_tree.specs.Grammar.{WellFormed}
+use Rattle.std.proofs.Common.{◌≡◌, ◌∙◌, sym, ap, subst, refl, ℕ, suc, ◌+◌, ◌≤◌, List, [], ◌∷◌, length, map, arith, Result, Ok, Err, IfOk}
+use Rattle.std.specs.Prelude.{IfErr}
+use Rattle.wy_kernel.specs.declared.program.Program as memory
+use Rattle.wy_kernel.specs.Parts.{program_of}
+use Rattle.wy_constant.specs.declared.rule.Rule.{Rule}
+use Rattle.wy_constant.specs.Refusal.{refused}
+use Rattle.wy_tree.specs.Seen.{seen}
+use Rattle.wy_tree.specs.Ast.{Ast, tokens, view}
 use Rattle.wy_tree.specs.Lines.{line_of}
 use Rattle.wy_tree.specs.Tokens.{Placed, placed, Tokens}
 use Rattle.wy_tree.specs.TokenLaws.{InOrder, TokensInOrder}
 use Rattle.wy_tree.specs.declared.token.Spanned.{Spanned}
 use Rattle.wy_tree.specs.declared.tree.Tree.{Tree}
 use Rattle.wy_parser.specs.Symbols.{spanned_seen}
-use Rattle.wy_tree.specs.Trees.{HasNoTree}
-use Rattle.wy_small.specs.Small.{IsSmall}
-use Rattle.wy_small.specs.Tokens.{spoken}
-use Rattle.wy_top.specs.declared.program.ProgramError.{ProgramError}
-use Rattle.wy_top.specs.declared.program.ProgramError.TheVariants.{Rejected, NoMemory}
-use Rattle.wy_top.specs.declared.program.Rejection.TheVariants.{NotUtf8, BadToken, BadLiteral, Syntax, NotYet}
-use Rattle.wy_top.specs.Lines.{syntax_line, not_yet_line, report}
-use Rattle.wy_top.specs.Due.{DueFor, syntax, not_yet, ran, HasTree, unplaced, source_limit, step_budget}
-use Rattle.wy_top.specs.Programs.{IsRejected, LacksTree}
+use Rattle.wy_tree.specs.Trees.{HasNoTree, IsTreeOf}
+use Rattle.wy_syntax.specs.Declarations.{unit}
+use Rattle.wy_elab_stmt.specs.Elaborates.{Elaborates}
+use Rattle.wy_top.specs.declared.reading.FrontError.{FrontError}
+use Rattle.wy_top.specs.declared.reading.FrontError.TheVariants.{Lex, Parse, Typing, NoMemory}
+use Rattle.wy_top.specs.Due.{HasTree, unplaced, source_limit}
+use Rattle.wy_top.specs.Fronts.{IsCauseOf, IsProgramOf, IsTypedAs, LacksTree, LacksTypes}
 
 -- tokens in order are at most as many as the bytes
 few : (place line size : ℕ) (spans : List Placed) → place ≤ size → InOrder place line size spans → place + length spans ≤ size
@@ -48,37 +48,69 @@ no_tree : (ts : List Spanned) → HasNoTree (map spanned_seen ts) → ¬ HasTree
 no_tree ts none (t, w, is) = none t (w, is ∙ unplaced_placed ts)
 
 -- the tokens of a tree that was found
-pub has_tree : (t : Tree) (ts : List Spanned) → WellFormed (view t) × (tokens (view t) ≡ map spanned_seen ts) → HasTree (unplaced (map placed ts))
-has_tree t ts (w, is) = (view t, w, is ∙ sym (unplaced_placed ts))
+pub has_tree : (t : Tree) (ts : List Spanned) → IsTreeOf (map spanned_seen ts) (view t) → IsTreeOf (unplaced (map placed ts)) (view t)
+has_tree t ts (w, is) = (w, is ∙ sym (unplaced_placed ts))
 
-pub lacks_tree : (ts : List Spanned) (line token : ℕ) → HasNoTree (map spanned_seen ts) → token ≤ length ts → line ≡ line_of (map placed ts) token → LacksTree (map placed ts) (Rejected (Syntax line token))
+-- the tokens of a tree, as they are asked for
+pub leaves : (t : Ast) (ts : List Spanned) → IsTreeOf (unplaced (map placed ts)) t → tokens t ≡ map (λ (s : Spanned). seen s.token) ts
+leaves t ts (w, is) = is ∙ unplaced_placed ts
+
+pub lacks_tree : (ts : List Spanned) (line token : ℕ) → HasNoTree (map spanned_seen ts) → token ≤ length ts → line ≡ line_of (map placed ts) token → LacksTree (map placed ts) (Parse line token)
 lacks_tree ts line token none within is = (no_tree ts none, subst (λ n. token ≤ n) (sym (length_placed ts)) within, is)
 
--- where the tokens have no tree, the refusal that says so is due
-syntax_due : (source : List ℕ) (ts : List Spanned) (e : ProgramError) → Tokens source (map placed ts) → LacksTree (map placed ts) e → IsRejected source e
-syntax_due source ts (Rejected (NotUtf8 byte)) read lacks = absurd lacks
-syntax_due source ts (Rejected (BadToken byte)) read lacks = absurd lacks
-syntax_due source ts (Rejected (BadLiteral byte)) read lacks = absurd lacks
-syntax_due source ts (Rejected (Syntax line token)) read (none, within, is) =
-    syntax (map placed ts) (syntax_line line token) read none (token, within, ap (λ l. syntax_line l token) is)
-syntax_due source ts (Rejected NotYet) read lacks = absurd lacks
-syntax_due source ts NoMemory read lacks = tt
+lines_placed : (ts : List Spanned) → map (λ (t : Placed). t.line) (map placed ts) ≡ map (λ (t : Spanned). t.line) ts
+lines_placed [] = refl
+lines_placed (t ∷ ts) = ap (λ z. t.line ∷ z) (lines_placed ts)
 
-pub syntax_passes : (source : List ℕ) (ts slice : List Spanned) (e f : ProgramError) → f ≡ e → slice ≡ ts → Tokens source (map placed ts) → LacksTree (map placed slice) e → IsRejected source f
+-- what a tree becomes, by the number of its tokens
+pub typed_as : (ts : List Spanned) (t : Ast) (p : memory.Program) → Elaborates (unit 0 t) (length ts) (Ok (program_of p)) → p.lines.items ≡ map (λ (s : Spanned). s.line) ts → IsTypedAs (map placed ts) t p
+typed_as ts t p made lines =
+    (subst (λ n. Elaborates (unit 0 t) n (Ok (program_of p))) (sym (length_placed ts)) made, lines ∙ sym (lines_placed ts))
+
+pub lacks_types : (ts : List Spanned) (t : Ast) (rule : Rule) (line token : ℕ) → Elaborates (unit 0 t) (length ts) (Err (refused rule token)) → line ≡ line_of (map placed ts) token →
+    LacksTypes (map placed ts) t (Typing rule line token)
+lacks_types ts t rule line token made is = (subst (λ n. Elaborates (unit 0 t) n (Err (refused rule token))) (sym (length_placed ts)) made, is)
+
+-- ---- the whole way
+
+syntax_cause : (source : List ℕ) (ts : List Spanned) (e : FrontError) → Tokens source (map placed ts) → LacksTree (map placed ts) e → IsCauseOf source e
+syntax_cause source ts (Lex fault) read lacks = absurd lacks
+syntax_cause source ts (Parse line token) read (none, within, is) = record { spans = map placed ts; read = read; none = none; within = within; at = is }
+syntax_cause source ts (Typing rule line token) read lacks = absurd lacks
+syntax_cause source ts NoMemory read lacks = tt
+
+pub syntax_passes : (source : List ℕ) (ts slice : List Spanned) (e f : FrontError) → f ≡ e → slice ≡ ts → Tokens source (map placed ts) → LacksTree (map placed slice) e → IsCauseOf source f
 syntax_passes source ts slice e f same is read lacks =
-    subst (IsRejected source) (sym same) (syntax_due source ts e read (subst (λ (z : List Spanned). LacksTree (map placed z) e) is lacks))
+    subst (IsCauseOf source) (sym same) (syntax_cause source ts e read (subst (λ (z : List Spanned). LacksTree (map placed z) e) is lacks))
 
-tree_of : (ts slice : List Spanned) → slice ≡ ts → HasTree (unplaced (map placed slice)) → HasTree (unplaced (map placed ts))
-tree_of ts slice is tree = subst (λ (z : List Spanned). HasTree (unplaced (map placed z))) is tree
+types_cause : (source : List ℕ) (ts : List Spanned) (t : Ast) (e : FrontError) → Tokens source (map placed ts) → IsTreeOf (unplaced (map placed ts)) t → LacksTypes (map placed ts) t e → IsCauseOf source e
+types_cause source ts t (Lex fault) read reads lacks = absurd lacks
+types_cause source ts t (Parse line token) read reads lacks = absurd lacks
+types_cause source ts t (Typing rule line token) read reads (made, is) = (map placed ts, read, record { tree = t; reads = reads; elaborated = made }, is)
+types_cause source ts t NoMemory read reads lacks = tt
 
-small_of : (ts slice : List Spanned) (w : Whole) → slice ≡ ts → IsSmall (map spoken slice) w → IsSmall (unplaced (map placed ts)) w
-small_of ts slice w is small = subst (λ (z : List Tok). IsSmall z w) (ap (map spoken) is ∙ sym (unplaced_placed ts)) small
+pub types_pass : (source : List ℕ) (ts first second : List Spanned) (t : Ast) (e : FrontError) → first ≡ ts → second ≡ ts → Tokens source (map placed ts) → IsTreeOf (unplaced (map placed first)) t →
+    LacksTypes (map placed second) t e → IsCauseOf source e
+types_pass source ts first second t e is same read reads lacks =
+    types_cause source ts t e read (subst (λ (z : List Spanned). IsTreeOf (unplaced (map placed z)) t) is reads) (subst (λ (z : List Spanned). LacksTypes (map placed z) t e) same lacks)
 
-pub ran_due : (source : List ℕ) (ts slice again : List Spanned) (w : Whole) → slice ≡ ts → again ≡ ts → Tokens source (map placed ts) → HasTree (unplaced (map placed slice)) → IsSmall (map spoken again) w
-    → DueFor source 0 (report (run_of w step_budget))
-ran_due source ts slice again w is same read tree small = ran (map placed ts) w read (tree_of ts slice is tree) (small_of ts again w same small)
+pub program_read : (source : List ℕ) (ts first second : List Spanned) (t : Ast) (p : memory.Program) → first ≡ ts → second ≡ ts → Tokens source (map placed ts) → IsTreeOf (unplaced (map placed first)) t →
+    IsTypedAs (map placed second) t p → IsProgramOf source p
+program_read source ts first second t p is same read reads typed =
+    let there : IsTypedAs (map placed ts) t p = subst (λ (z : List Spanned). IsTypedAs (map placed z) t p) same typed in
+    record {
+      spans = map placed ts;
+      read = read;
+      becomes = record { tree = t; reads = subst (λ (z : List Spanned). IsTreeOf (unplaced (map placed z)) t) is reads; elaborated = there.0 };
+      lines = there.1;
+    }
 
-pub not_yet_due : (source : List ℕ) (ts slice again : List Spanned) → slice ≡ ts → again ≡ ts → Tokens source (map placed ts) → HasTree (unplaced (map placed slice)) → ((w : Whole) → ¬ IsSmall (map spoken again) w)
-    → DueFor source 4 not_yet_line
-not_yet_due source ts slice again is same read tree none =
-    not_yet (map placed ts) read (tree_of ts slice is tree) (λ w small. none w (subst (λ (z : List Tok). IsSmall z w) (unplaced_placed ts ∙ ap (map spoken) (sym same)) small))
+pub program_goes_on : (source : List ℕ) (ts first second : List Spanned) (t : Ast) (r : Result memory.Program FrontError) → first ≡ ts → second ≡ ts → Tokens source (map placed ts) →
+    IsTreeOf (unplaced (map placed first)) t → IfOk r (λ p. IsTypedAs (map placed second) t p) → IfOk r (λ p. IsProgramOf source p)
+program_goes_on source ts first second t (Ok p) is same read reads typed = program_read source ts first second t p is same read reads typed
+program_goes_on source ts first second t (Err e) is same read reads typed = tt
+
+pub types_go_on : (source : List ℕ) (ts first second : List Spanned) (t : Ast) (r : Result memory.Program FrontError) → first ≡ ts → second ≡ ts → Tokens source (map placed ts) →
+    IsTreeOf (unplaced (map placed first)) t → IfErr r (λ e. LacksTypes (map placed second) t e) → IfErr r (λ e. IsCauseOf source e)
+types_go_on source ts first second t (Ok p) is same read reads lacks = tt
+types_go_on source ts first second t (Err e) is same read reads lacks = types_pass source ts first second t e is same read reads lacks

@@ -1,16 +1,21 @@
 -- What a call of the program has to answer: its status and its text, by the words and the files alone.
-use Rattle.std.specs.Prelude.{◌≡◌, ◌<◌, ◌≤◌, ℕ, List, ◌++◌, length, map, Option, Some, None}
-use Rattle.wy_smallforms.specs.Kernel.{Whole}
+use Rattle.std.specs.Prelude.{◌≡◌, ◌<◌, ◌≤◌, ℕ, List, ◌++◌, length, map, false, true, Option, Some, None, Result, Ok, Err}
+use Rattle.wy_kernel.specs.Program.{Program}
 use Rattle.wy_smallforms.specs.Meaning.{run_of}
+use Rattle.wy_constant.specs.Refusal as typing
 use Rattle.wy_outside.specs.Shelf.{Files}
 use Rattle.wy_tree.specs.Seen.{Tok}
 use Rattle.wy_tree.specs.Tokens.{Placed, Refusal, Tokens, Refuses, IsNotUtf8}
 use Rattle.wy_tree.specs.Ast.{Ast, tokens}
 use Rattle.wy_tree.specs.Grammar.{WellFormed}
 use Rattle.wy_tree.specs.Lines.{line_of}
-use Rattle.wy_small.specs.Small.{IsSmall}
+use Rattle.wy_tree.specs.Trees.{IsTreeOf}
+use Rattle.wy_syntax.specs.Declarations.{unit}
+use Rattle.wy_elab_stmt.specs.Elaborates.{Elaborates}
+use Rattle.wy_small.specs.Small.{is_small}
+use Rattle.wy_small.specs.Forms.{small_program}
 use Rattle.wy_top.specs.Words.{AsksToRun, IsNoCommand}
-use Rattle.wy_top.specs.Lines.{usage_line, absent_line, not_utf8_line, fault_line, syntax_line, not_yet_line, too_long_line, report}
+use Rattle.wy_top.specs.Lines.{usage_line, absent_line, not_utf8_line, fault_line, syntax_line, rule_line, not_yet_line, too_long_line, report}
 
 -- the bytes that a source may have, and the steps that a run may take
 abbrev pub source_limit : ℕ
@@ -31,13 +36,24 @@ HasTree said = (tree : Ast) × WellFormed tree × (tokens tree ≡ said)
 abbrev pub IsSyntaxLine : List Placed → List ℕ → Type 0
 IsSyntaxLine spans line = (token : ℕ) × (token ≤ length spans) × (line ≡ syntax_line (line_of spans token) token)
 
+-- a well-formed tree has these tokens, and what it declares becomes this program, or breaks this rule
+pub record Becomes (spans : List Placed) (outcome : Result Program typing.Refusal) : Type 0 where
+  pub tree : Ast
+  pub reads : IsTreeOf (unplaced spans) tree
+  pub elaborated : Elaborates (unit 0 tree) (length spans) outcome
+
+-- the status and the text that are due for a program: the report of its run, if it is one that runs today
+pub data DueForProgram (p : Program) : ℕ → List ℕ → Type 0 where
+  not_yet : is_small p ≡ false → DueForProgram p 4 not_yet_line
+  ran : is_small p ≡ true → DueForProgram p 0 (report (run_of (small_program p) step_budget))
+
 -- the status and the text that are due for a source
 pub data DueFor (source : List ℕ) : ℕ → List ℕ → Type 0 where
   not_utf8 : (byte : ℕ) → IsNotUtf8 source byte → DueFor source 4 (not_utf8_line byte)
   refused : (fault : Refusal) → Refuses source fault → DueFor source 4 (fault_line fault)
   syntax : (spans : List Placed) (line : List ℕ) → Tokens source spans → ¬ HasTree (unplaced spans) → IsSyntaxLine spans line → DueFor source 4 line
-  not_yet : (spans : List Placed) → Tokens source spans → HasTree (unplaced spans) → ((w : Whole) → ¬ IsSmall (unplaced spans) w) → DueFor source 4 not_yet_line
-  ran : (spans : List Placed) (w : Whole) → Tokens source spans → HasTree (unplaced spans) → IsSmall (unplaced spans) w → DueFor source 0 (report (run_of w step_budget))
+  broken : (spans : List Placed) (e : typing.Refusal) → Tokens source spans → Becomes spans (Err e) → DueFor source 4 (rule_line e.rule (line_of spans e.token) e.token)
+  program : (spans : List Placed) (p : Program) (status : ℕ) (text : List ℕ) → Tokens source spans → Becomes spans (Ok p) → DueForProgram p status text → DueFor source status text
 
 -- the words ask for a run of a file, and the shelf tells that it holds this text under its name
 pub record Finds (words : List (List ℕ)) (held : Option Files) (name text : List ℕ) : Type 0 where

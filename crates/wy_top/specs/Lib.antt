@@ -3,7 +3,8 @@ pub mod Words
 pub mod Lines
 pub mod Refusals
 pub mod Due
-pub mod Programs
+pub mod Fronts
+pub mod ErrorLines
 pub mod Answers
 pub mod Call
 pub mod Deliveries

@@ -3,6 +3,8 @@ use Rattle.std.specs.Prelude.{ℕ, List, [], ◌∷◌, ◌++◌, ◌==◌, Bool
 use Rattle.std.specs.Fmt.{decimal}
 use Rattle.wy_smallforms.specs.Meaning.{Ending}
 use Rattle.wy_tree.specs.Tokens.{Refusal, BadToken, BadLiteral}
+use Rattle.wy_constant.specs.declared.rule.Rule.{Rule}
+use Rattle.wy_constant.specs.declared.rule.Rule.TheVariants as rule
 
 abbrev pub line_of : List ℕ → List ℕ
 line_of text = text ++ 10 ∷ []
@@ -24,8 +26,33 @@ abbrev pub fault_line : Refusal → List ℕ
 fault_line (BadToken byte) = at_byte (codes "BadToken") byte
 fault_line (BadLiteral byte) = at_byte (codes "BadLiteral") byte
 
+-- the rule that a source breaks, and the token at which it does, with its line
+abbrev pub at_token : List ℕ → ℕ → ℕ → List ℕ
+at_token name line token = line_of (codes "program: " ++ (name ++ (codes " at line " ++ (decimal line ++ (codes " token " ++ decimal token)))))
+
 abbrev pub syntax_line : ℕ → ℕ → List ℕ
-syntax_line line token = line_of (codes "program: Syntax at line " ++ (decimal line ++ (codes " token " ++ decimal token)))
+syntax_line line token = at_token (codes "Syntax") line token
+
+unfoldable pub name_of : Rule → List ℕ
+name_of rule.Duplicate = codes "Duplicate"
+name_of rule.UnknownName = codes "UnknownName"
+name_of rule.Cycle = codes "Cycle"
+name_of rule.BadOverride = codes "BadOverride"
+name_of rule.NotImplemented = codes "NotImplemented"
+name_of rule.NoMethod = codes "NoMethod"
+name_of rule.Ambiguous = codes "Ambiguous"
+name_of rule.BadOperand = codes "BadOperand"
+name_of rule.BadAssign = codes "BadAssign"
+name_of rule.BadCast = codes "BadCast"
+name_of rule.Private = codes "Private"
+name_of rule.NotInStatic = codes "NotInStatic"
+name_of rule.NotOffered = codes "NotOffered"
+name_of rule.BadJump = codes "BadJump"
+name_of rule.BadReturn = codes "BadReturn"
+name_of rule.NoMain = codes "NoMain"
+
+abbrev pub rule_line : Rule → ℕ → ℕ → List ℕ
+rule_line r line token = at_token (name_of r) line token
 
 abbrev pub not_yet_line : List ℕ
 not_yet_line = line_of (codes "program: NotYet")

@@ -1,22 +1,22 @@
 -- The line of each refusal.
 use Rattle.std.specs.Prelude.{ℕ, List}
 use Rattle.wy_tree.specs.Tokens as fault
-use Rattle.wy_top.specs.Lines.{usage_line, absent_line, not_utf8_line, fault_line, syntax_line, not_yet_line, shelf_fault_line, too_long_line}
-use Rattle.wy_top.specs.declared.program.Rejection.{Rejection}
-use Rattle.wy_top.specs.declared.program.Rejection.TheVariants.{NotUtf8, BadToken, BadLiteral, Syntax, NotYet}
+use Rattle.wy_top.specs.Lines.{usage_line, absent_line, not_utf8_line, fault_line, at_byte, at_token, not_yet_line, shelf_fault_line, too_long_line}
+use Rattle.wy_top.specs.declared.reading.LexFault.{LexFault}
+use Rattle.wy_top.specs.declared.reading.LexFault.TheVariants.{NotUtf8, BadToken, BadLiteral}
 use Rattle.wy_top.specs.declared.lines.Refusal.{Refusal}
-use Rattle.wy_top.specs.declared.lines.Refusal.TheVariants.{Usage, Absent, Program, FaultShelf, LongFile}
+use Rattle.wy_top.specs.declared.lines.Refusal.TheVariants.{Usage, Absent, ProgramByte, ProgramToken, NotYet, FaultShelf, LongFile}
 
-abbrev pub rejection_text : Rejection → List ℕ
-rejection_text (NotUtf8 byte) = not_utf8_line byte
-rejection_text (BadToken byte) = fault_line (fault.BadToken byte)
-rejection_text (BadLiteral byte) = fault_line (fault.BadLiteral byte)
-rejection_text (Syntax line token) = syntax_line line token
-rejection_text NotYet = not_yet_line
+abbrev pub lex_line : LexFault → List ℕ
+lex_line (NotUtf8 byte) = not_utf8_line byte
+lex_line (BadToken byte) = fault_line (fault.BadToken byte)
+lex_line (BadLiteral byte) = fault_line (fault.BadLiteral byte)
 
 abbrev pub refusal_text : Refusal → List ℕ
 refusal_text Usage = usage_line
 refusal_text (Absent name) = absent_line name.now
-refusal_text (Program rejection) = rejection_text rejection
+refusal_text (ProgramByte rule byte) = at_byte rule.now byte
+refusal_text (ProgramToken rule line token) = at_token rule.now line token
+refusal_text NotYet = not_yet_line
 refusal_text FaultShelf = shelf_fault_line
 refusal_text (LongFile name) = too_long_line name.now

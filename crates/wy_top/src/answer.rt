@@ -1,20 +1,25 @@
 //! What a call answers: its status and its text, before any byte of it is written.
-ghost use Rattle.std.specs.Prelude.{◌≡◌, ◌≤◌, IfOk, map, string_bytes, length};
+ghost use Rattle.std.specs.Prelude.{◌≡◌, ◌≤◌, ℕ, List, IfOk, map, string_bytes, length};
+ghost use Rattle.wy_kernel.specs.Parts.{program_of};
 ghost use Rattle.wy_outside.specs.Counts.{Rose};
-ghost use Rattle.wy_top.specs.Due.{DueFor, source_limit};
+ghost use Rattle.wy_top.specs.Due.{DueFor, DueForProgram, source_limit};
+ghost use Rattle.wy_top.specs.ErrorLines.{IsRefusalOf};
+ghost use Rattle.wy_top.specs.Fronts.{IsCauseOf};
 ghost use Rattle.wy_top.specs.declared.status.Status.TheVariants.{Absent, TooLong, Usage, Fault};
 ghost use Rattle.wy_top.specs.Lines.{shelf_fault_line};
 ghost use Rattle.wy_top.specs.Statuses.{code_of};
 ghost use Rattle.wy_top.specs.Words.{IsNoCommand};
 ghost use Rattle.wy_top.specs.Answers.{IsAnswer};
 
-use crate::lines::{Refusal, refusal_line, report};
-use crate::program::{ProgramError, program};
+use crate::lines::{Refusal, lex_refusal, refusal_line, report, rule_name};
+use crate::reading::{FrontError, front};
 use crate::status::Status;
 use crate::words::source_of;
 use std::alloc::{AllocError, Global};
+use wy_kernel::program::Program;
 use wy_machine::run;
 use wy_outside::shelf::{Shelf, ShelfError};
+use wy_small::{small, small_program};
 
 /// The bytes that a source may have.
 const SOURCE_LIMIT: u32 = 1_048_576;
@@ -41,24 +46,60 @@ impl Answer {
     }
 }
 
-/// What the source gives: the report of its run, or why it can't be run.
+/// What a program gives: the report of its run, or that it can't be run yet.
+fn answer_to_program(alloc: Global, program: &Program) -> Result<Answer, AllocError>
+    ensures { IfOk result (λ answer. DueForProgram (program_of program.now) (code_of answer.status) answer.text.items) }
+{
+    if !small(program) {
+        return Answer::refused(alloc, Status::Program, Refusal::NotYet);
+    }
+    let program = small_program(alloc, program)?;
+    let ended = run(alloc, &program, &[], STEP_BUDGET)?;
+    let text = report(ended)?;
+    Ok(Answer {
+        status: Status::Done,
+        text,
+    })
+}
+
+/// The refusal of a source that is no program, and none where memory ran out.
+fn front_refusal(error: FrontError) -> Option<Refusal<'static>>
+    ensures { IsRefusalOf error result }
+{
+    match error {
+        FrontError::Lex { fault } => Some(lex_refusal(fault)),
+        FrontError::Parse { line, token } => Some(Refusal::ProgramToken {
+            rule: "Syntax",
+            line,
+            token,
+        }),
+        FrontError::Typing { rule, line, token } => Some(Refusal::ProgramToken {
+            rule: rule_name(rule),
+            line,
+            token,
+        }),
+        FrontError::NoMemory => None,
+    }
+}
+
+/// The answer to a source that is no program.
+fn answer_to_error(alloc: Global, error: FrontError) -> Result<Answer, AllocError>
+    ensures { IfOk result (λ answer. (source : List ℕ) → IsCauseOf source error → DueFor source (code_of answer.status) answer.text.items) }
+{
+    match front_refusal(error) {
+        Some(refusal) => Answer::refused(alloc, Status::Program, refusal),
+        None => Err(AllocError),
+    }
+}
+
+/// What the source gives: what its program does, or why it is none.
 fn answer_to_source(alloc: Global, source: &[u8]) -> Result<Answer, AllocError>
     requires { length source.now ≤ source_limit }
     ensures { IfOk result (λ answer. DueFor source.now (code_of answer.status) answer.text.items) }
 {
-    match program(alloc, source) {
-        Ok(program) => {
-            let ended = run(alloc, &program, &[], STEP_BUDGET)?;
-            let text = report(ended)?;
-            Ok(Answer {
-                status: Status::Done,
-                text,
-            })
-        }
-        Err(ProgramError::Rejected(rejection)) => {
-            Answer::refused(alloc, Status::Program, Refusal::Program { rejection })
-        }
-        Err(ProgramError::NoMemory) => Err(AllocError),
+    match front(alloc, source) {
+        Ok(program) => answer_to_program(alloc, &program),
+        Err(error) => answer_to_error(alloc, error),
     }
 }
 

@@ -4,7 +4,8 @@ ghost use Rattle.std.specs.Prelude.{◌≡◌, ◌⊎◌, ℕ, List, Option};
 ghost use Rattle.wy_outside.specs.Shelf.{Files};
 ghost use Rattle.wy_top.specs.Due.{Due, AreSyntaxLines};
 
-use wy_small::laws::a_token_list_has_one_program;
+use wy_elab_stmt::laws::a_text_has_one_program;
+use wy_parser::laws::a_token_list_has_one_tree;
 use wy_tree::laws::{a_refused_text_has_no_tokens, a_text_has_one_token_list};
 
 /// For the same words and files one status is due, and one text, but that Syntax may name any token.
@@ -15,5 +16,6 @@ pub fn one_answer_is_due()
 {
     a_text_has_one_token_list();
     a_refused_text_has_no_tokens();
-    a_token_list_has_one_program();
+    a_token_list_has_one_tree();
+    a_text_has_one_program();
 }

@@ -5,11 +5,12 @@
 mod answer;
 pub mod laws;
 mod lines;
-mod program;
+pub mod reading;
 pub mod status;
 #[cfg(test)]
 mod tests;
 pub mod top;
 mod words;
 
+pub use reading::front;
 pub use top::whyline;

@@ -1,21 +1,38 @@
 //! The texts that a command writes: refusals, and what is written of a run.
 ghost use Rattle.std.specs.Prelude.{◌≡◌, ◌++◌, IfOk};
 ghost use Rattle.wy_machine.specs.Ended.{ending_of};
-ghost use Rattle.wy_top.specs.Lines.{line_of, at_byte, syntax_line, stop_line, ends_its_line as ends_line, report as report_of};
-ghost use Rattle.wy_top.specs.Refusals.{refusal_text, rejection_text};
+ghost use Rattle.wy_top.specs.Lines.{line_of, at_byte, at_token, name_of, stop_line, ends_its_line as ends_line, report as report_of};
+ghost use Rattle.wy_top.specs.Refusals.{lex_line, refusal_text};
 
-use crate::program::Rejection;
+use crate::reading::LexFault;
 use std::alloc::{AllocError, Global};
 use wy_machine::Ended;
+use wy_members::Rule;
 
 /// Why a command did not do what it says.
 #[derive(Clone, Copy)]
 pub enum Refusal<'a> {
     Usage,
-    Absent { name: &'a str },
-    Program { rejection: Rejection },
+    Absent {
+        name: &'a str,
+    },
+    /// What the source breaks at a byte.
+    ProgramByte {
+        rule: &'a str,
+        byte: u32,
+    },
+    /// What the source breaks at a token.
+    ProgramToken {
+        rule: &'a str,
+        line: u32,
+        token: u32,
+    },
+    /// The source is a program that can't be run yet.
+    NotYet,
     FaultShelf,
-    LongFile { name: &'a str },
+    LongFile {
+        name: &'a str,
+    },
 }
 
 /// The line of a refusal.
@@ -25,22 +42,56 @@ pub fn refusal_line(alloc: Global, refusal: Refusal<'_>) -> Result<Vec<u8>, Allo
     match refusal {
         Refusal::Usage => line(alloc, "usage: whyline run SRC", ""),
         Refusal::Absent { name } => line(alloc, "absent: ", name),
-        Refusal::Program { rejection } => rejection_line(alloc, rejection),
+        Refusal::ProgramByte { rule, byte } => at_byte(alloc, rule, byte),
+        Refusal::ProgramToken { rule, line, token } => at_token(alloc, rule, line, token),
+        Refusal::NotYet => line(alloc, "program: NotYet", ""),
         Refusal::FaultShelf => line(alloc, "fault: shelf", ""),
         Refusal::LongFile { name } => line(alloc, "too long: ", name),
     }
 }
 
-// The line of a source that is no program.
-fn rejection_line(alloc: Global, rejection: Rejection) -> Result<Vec<u8>, AllocError>
-    ensures { IfOk result (λ line. line.items ≡ rejection_text rejection) }
+/// The refusal of a text without tokens.
+pub fn lex_refusal(fault: LexFault) -> Refusal<'static>
+    ensures { refusal_text result ≡ lex_line fault }
 {
-    match rejection {
-        Rejection::NotUtf8 { byte } => at_byte(alloc, "NotUtf8", byte),
-        Rejection::BadToken { byte } => at_byte(alloc, "BadToken", byte),
-        Rejection::BadLiteral { byte } => at_byte(alloc, "BadLiteral", byte),
-        Rejection::Syntax { line, token } => syntax(alloc, line, token),
-        Rejection::NotYet => line(alloc, "program: NotYet", ""),
+    match fault {
+        LexFault::NotUtf8 { byte } => Refusal::ProgramByte {
+            rule: "NotUtf8",
+            byte,
+        },
+        LexFault::BadToken { byte } => Refusal::ProgramByte {
+            rule: "BadToken",
+            byte,
+        },
+        LexFault::BadLiteral { byte } => Refusal::ProgramByte {
+            rule: "BadLiteral",
+            byte,
+        },
+    }
+}
+
+/// The name of a rule.
+#[tactic(auto, unfolding(crate::specs::Lines::name_of))]
+pub fn rule_name(rule: Rule) -> &'static str
+    ensures { result.now ≡ name_of rule }
+{
+    match rule {
+        Rule::Duplicate => "Duplicate",
+        Rule::UnknownName => "UnknownName",
+        Rule::Cycle => "Cycle",
+        Rule::BadOverride => "BadOverride",
+        Rule::NotImplemented => "NotImplemented",
+        Rule::NoMethod => "NoMethod",
+        Rule::Ambiguous => "Ambiguous",
+        Rule::BadOperand => "BadOperand",
+        Rule::BadAssign => "BadAssign",
+        Rule::BadCast => "BadCast",
+        Rule::Private => "Private",
+        Rule::NotInStatic => "NotInStatic",
+        Rule::NotOffered => "NotOffered",
+        Rule::BadJump => "BadJump",
+        Rule::BadReturn => "BadReturn",
+        Rule::NoMain => "NoMain",
     }
 }
 
@@ -51,10 +102,10 @@ fn at_byte(alloc: Global, rule: &str, byte: u32) -> Result<Vec<u8>, AllocError>
     Ok(line.into_bytes())
 }
 
-fn syntax(alloc: Global, line: u32, token: u32) -> Result<Vec<u8>, AllocError>
-    ensures { IfOk result (λ text. text.items ≡ syntax_line line token) }
+fn at_token(alloc: Global, rule: &str, line: u32, token: u32) -> Result<Vec<u8>, AllocError>
+    ensures { IfOk result (λ text. text.items ≡ at_token rule.now line token) }
 {
-    let text = format!(in alloc; "program: Syntax at line {line} token {token}\n")?;
+    let text = format!(in alloc; "program: {rule} at line {line} token {token}\n")?;
     Ok(text.into_bytes())
 }
 

@@ -67,7 +67,7 @@ fn a_run_writes_what_java_prints_and_how_it_ended(rt: HostRuntime) -> Result<(),
     let rows: [(&[u8], u8, &[u8]); 4] = [
         (WORKED, 0, b"5\n-- finished\n"),
         (ENDLESS, 0, b"-- step limit\n"),
-        (b"", 4, b"program: NotYet\n"),
+        (b"", 4, b"program: NoMain at line 1 token 0\n"),
         (
             b"class Main { public static void main(String[] a) { System.out.println(2147483647 + 1); } }",
             0,
@@ -157,35 +157,141 @@ fn with_body(alloc: Global, body: &str) -> Result<Vec<u8>, AllocError> {
     Ok(text)
 }
 
-#[test]
-fn a_text_that_breaks_one_rule_is_not_yet_a_program(rt: HostRuntime) -> Result<(), Fail> {
-    let bodies = [
-        "int y = x; int x = 1;",
-        "if (1 < 2) { int x = 1; } System.out.println(x);",
-        "int x = x;",
-        "int x = 1; if (1 < 2) { int x = 2; }",
-        "int args = 1;",
-        "int System = 1;",
-        "System.out.println(args);",
-        "System.out.println(1L);",
-        "System.out.println('1');",
+// Bodies of main, and what is written: of programs that run today, of those that don't yet, and of those that break a rule.
+static BODIES: [(&str, &str); 16] = [
+    ("int System = 1;", "-- finished\n"),
+    (
         "System.out.println(-2147483648);",
-        "int x = 1; x++;",
-        "System.out.print(1);",
-    ];
-    for body in bodies {
+        "-2147483648\n-- finished\n",
+    ),
+    (
+        "System.out.print(1); System.out.println(); System.out.print(2);",
+        "1\n2\n-- finished\n",
+    ),
+    (
+        "boolean b = 1 < 2; if (b == true) System.out.println(b); else ;",
+        "true\n-- finished\n",
+    ),
+    (
+        "final int N = 3; int i = 0; while (i < N) i = i + 1; System.out.println(i);",
+        "3\n-- finished\n",
+    ),
+    ("int x = x;", "program: NotYet\n"),
+    ("System.out.println(args);", "program: NotYet\n"),
+    ("System.out.println(1L);", "program: NotYet\n"),
+    ("System.out.println('1');", "program: NotYet\n"),
+    ("int x = 1; x++;", "program: NotYet\n"),
+    ("int x = 7 / 2; int y = x / 2;", "program: NotYet\n"),
+    (
+        "int y = x; int x = 1;",
+        "program: UnknownName at line 1 token 17\n",
+    ),
+    (
+        "if (1 < 2) { int x = 1; } System.out.println(x);",
+        "program: UnknownName at line 1 token 33\n",
+    ),
+    (
+        "int x = 1; if (1 < 2) { int x = 2; }",
+        "program: Duplicate at line 1 token 27\n",
+    ),
+    ("int args = 1;", "program: Duplicate at line 1 token 15\n"),
+    (
+        "int x = 2147483647 + true;",
+        "program: BadOperand at line 1 token 18\n",
+    ),
+];
+
+#[test]
+fn a_main_runs_or_is_answered_by_the_rule_that_it_breaks(rt: HostRuntime) -> Result<(), Fail> {
+    for (body, written) in BODIES {
         let text = with_body(rt.alloc(), body)?;
         let seen = call(rt.alloc(), &["run", "Main.java"], text.as_slice(), &[], &[])?;
-        assert_eq!(rt; seen.status, 4, "{body}");
-        assert_eq!(rt;
-            seen.written.as_slice(),
-            b"program: NotYet\n".as_slice(),
-            "{body}"
-        );
+        assert_eq!(rt; seen.written.as_slice(), written.as_bytes(), "{body}");
     }
-    let named: &[u8] = b"class String { public static void main(String[] args) { } }";
-    let seen = call(rt.alloc(), &["run", "Main.java"], named, &[], &[])?;
-    assert_eq!(rt; seen.status, 4);
+    Ok(())
+}
+
+// Sources, and the rule that each breaks first.
+static REFUSED: [(&str, &str); 21] = [
+    ("class A { } class A { }", "Duplicate at line 1 token 5"),
+    (
+        "class String { public static void main(String[] args) { } }",
+        "Duplicate at line 1 token 1",
+    ),
+    ("class A extends B { }", "UnknownName at line 1 token 3"),
+    ("class A extends A { }", "Cycle at line 1 token 1"),
+    (
+        "class A { int f() { return 1; } } class B extends A { void f() { } }",
+        "BadOverride at line 1 token 19",
+    ),
+    (
+        "interface I { void f(); } class A implements I { }",
+        "NotImplemented at line 1 token 10",
+    ),
+    (
+        "class A { void f() { f(1); } }",
+        "NoMethod at line 1 token 9",
+    ),
+    (
+        "class A { void f(int a, long b) { f(1, 2); } void f(long a, int b) { } }",
+        "Ambiguous at line 1 token 14",
+    ),
+    (
+        "class A { boolean f() { return 1 + true; } }",
+        "BadOperand at line 1 token 10",
+    ),
+    (
+        "class Main { public static void main(String[] a) { int x = true; } }",
+        "BadAssign at line 1 token 15",
+    ),
+    ("class A { byte b = 128; }", "BadAssign at line 1 token 4"),
+    (
+        "class A { final int x = 1; void f() { x = 2; } }",
+        "BadAssign at line 1 token 15",
+    ),
+    (
+        "class A { Object f(Integer i) { return (String) this; } }",
+        "UnknownName at line 1 token 6",
+    ),
+    (
+        "class A { Object f() { return (String) this; } }",
+        "BadCast at line 1 token 9",
+    ),
+    (
+        "class A { private int x; } class B { int f() { return new A().x; } }",
+        "Private at line 1 token 22",
+    ),
+    (
+        "class A { static Object f() { return this; } }",
+        "NotInStatic at line 1 token 10",
+    ),
+    (
+        "class A { void f() { \"a\".trim(); } }",
+        "NotOffered at line 1 token 11",
+    ),
+    (
+        "class A { void f() { break; } }",
+        "BadJump at line 1 token 8",
+    ),
+    (
+        "class A {\n  int f() {\n    return true;\n  }\n}",
+        "BadReturn at line 3 token 8",
+    ),
+    ("class A { }", "NoMain at line 1 token 4"),
+    (
+        "interface Main { void main(String[] args); }",
+        "NoMain at line 1 token 13",
+    ),
+];
+
+#[test]
+fn a_program_that_breaks_a_rule_is_refused_by_it_at_its_token(rt: HostRuntime) -> Result<(), Fail> {
+    for (text, rule) in REFUSED {
+        let seen = call(rt.alloc(), &["run", "Main.java"], text.as_bytes(), &[], &[])?;
+        let wanted = format!(in rt.alloc(); "program: {rule}\n")?;
+        assert_eq!(rt; seen.status, 4, "{text}");
+        assert_eq!(rt; seen.written.as_slice(), wanted.as_bytes(), "{text}");
+    }
     Ok(())
 }
 
@@ -199,30 +305,15 @@ fn repeated(alloc: Global, part: &str, times: u32) -> Result<String, AllocError>
 }
 
 #[test]
-fn twenty_braces_and_a_hundred_tokens_are_the_most(rt: HostRuntime) -> Result<(), Fail> {
-    // The class and main have two of the braces. A sum of n operands has 2n - 1 tokens, and two more
-    // with parentheses.
-    for (blocks, status) in [(18, 0), (19, 4)] {
-        let mut body = repeated(rt.alloc(), "if (1 < 2) { ", blocks)?;
-        body.push_str(repeated(rt.alloc(), "} ", blocks)?.as_str())?;
-        let text = with_body(rt.alloc(), body.as_str())?;
-        let seen = call(rt.alloc(), &["run", "Main.java"], text.as_slice(), &[], &[])?;
-        assert_eq!(rt; seen.status, status);
-    }
-    for (ends, operands, status, written) in [
-        ("(1)", 48, 0, b"49\n-- finished\n".as_slice()),
-        ("1", 49, 0, b"50\n-- finished\n".as_slice()),
-        ("1", 50, 4, b"program: NotYet\n".as_slice()),
-    ] {
-        let mut body = String::from_str(rt.alloc(), "System.out.println(")?;
-        body.push_str(repeated(rt.alloc(), "1+", operands)?.as_str())?;
-        body.push_str(ends)?;
-        body.push_str(");")?;
-        let text = with_body(rt.alloc(), body.as_str())?;
-        let seen = call(rt.alloc(), &["run", "Main.java"], text.as_slice(), &[], &[])?;
-        assert_eq!(rt; seen.status, status);
-        assert_eq!(rt; seen.written.as_slice(), written);
-    }
+fn blocks_and_sums_run_as_deep_as_a_tree_may_be(rt: HostRuntime) -> Result<(), Fail> {
+    let mut body = repeated(rt.alloc(), "if (1 < 2) { ", 60)?;
+    body.push_str("System.out.println(")?;
+    body.push_str(repeated(rt.alloc(), "1+", 120)?.as_str())?;
+    body.push_str("1);")?;
+    body.push_str(repeated(rt.alloc(), "} ", 60)?.as_str())?;
+    let text = with_body(rt.alloc(), body.as_str())?;
+    let seen = call(rt.alloc(), &["run", "Main.java"], text.as_slice(), &[], &[])?;
+    assert_eq!(rt; seen.written.as_slice(), b"121\n-- finished\n".as_slice());
     Ok(())
 }
 
@@ -294,9 +385,9 @@ fn tokens_without_a_tree_are_refused_at_a_token_with_its_line(rt: HostRuntime) -
     Ok(())
 }
 
-/// A class with a field whose value is 1 in so many parentheses: its tree is four levels deeper.
+/// A class below one that isn't there, with a field whose value is 1 in so many parentheses: its tree is four levels deeper.
 fn grouped(alloc: Global, groups: u32) -> Result<String, AllocError> {
-    let mut text = String::from_str(alloc, "class A { int f = ")?;
+    let mut text = String::from_str(alloc, "class A extends B { int f = ")?;
     text.push_str(repeated(alloc, "(", groups)?.as_str())?;
     text.push_str("1")?;
     text.push_str(repeated(alloc, ")", groups)?.as_str())?;
@@ -309,14 +400,17 @@ fn a_tree_of_300_levels_is_read_and_one_of_301_is_not(rt: HostRuntime) -> Result
     let alloc = rt.alloc();
     let text = grouped(alloc, 296)?;
     let seen = call(alloc, &["run", "Main.java"], text.as_bytes(), &[], &[])?;
-    assert_eq!(rt; seen.written.as_slice(), b"program: NotYet\n".as_slice());
+    assert_eq!(rt;
+        seen.written.as_slice(),
+        b"program: UnknownName at line 1 token 3\n".as_slice()
+    );
     for groups in [297, 100_000] {
         let text = grouped(alloc, groups)?;
         let seen = call(alloc, &["run", "Main.java"], text.as_bytes(), &[], &[])?;
         assert_eq!(rt; seen.status, 4);
         let (line, token) = syntax_place(seen.written.as_slice()).unwrap_or((0, u32::MAX));
         assert_eq!(rt; line, 1);
-        assert!(rt; token <= 2 * groups + 9);
+        assert!(rt; token <= 2 * groups + 11);
     }
     Ok(())
 }
@@ -342,23 +436,31 @@ class A extends B implements I {
     return this.f(n);
   }
   void g() { }
+  public static void main(String[] args) { new A().g(); }
 }
 ";
 
 #[test]
-fn a_well_formed_text_that_is_not_small_is_not_yet_a_program(rt: HostRuntime) -> Result<(), Fail> {
-    let rows: [&[u8]; 6] = [
-        EVERY_KIND,
-        b"",
-        b" // nothing\n/* at all */",
-        b";",
-        b"class Main { }",
-        b"interface Main { void main(String[] args); }",
+fn a_program_with_every_kind_of_token_is_typed_and_not_run_yet(
+    rt: HostRuntime,
+) -> Result<(), Fail> {
+    let seen = call(rt.alloc(), &["run", "Main.java"], EVERY_KIND, &[], &[])?;
+    assert_eq!(rt; seen.status, 4);
+    assert_eq!(rt; seen.written.as_slice(), b"program: NotYet\n".as_slice());
+    Ok(())
+}
+
+#[test]
+fn a_text_without_a_class_has_no_main(rt: HostRuntime) -> Result<(), Fail> {
+    let rows: [(&[u8], &str); 3] = [
+        (b" // nothing\n/* at all */", "NoMain at line 1 token 0"),
+        (b"\n\n;", "NoMain at line 3 token 1"),
+        (b"class Main { }\n", "NoMain at line 1 token 4"),
     ];
-    for text in rows {
+    for (text, rule) in rows {
         let seen = call(rt.alloc(), &["run", "Main.java"], text, &[], &[])?;
-        assert_eq!(rt; seen.status, 4);
-        assert_eq!(rt; seen.written.as_slice(), b"program: NotYet\n".as_slice());
+        let wanted = format!(in rt.alloc(); "program: {rule}\n")?;
+        assert_eq!(rt; seen.written.as_slice(), wanted.as_bytes());
     }
     Ok(())
 }

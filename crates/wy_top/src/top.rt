@@ -24,7 +24,7 @@ use wy_outside::source::Source;
 /// | 0 | the program ran to its end or to the step limit |
 /// | 2 | the words are no command |
 /// | 3 | there is no such file |
-/// | 4 | the source has no tokens or no tree, or is no program that can be run yet |
+/// | 4 | the source has no tokens or no tree, breaks a rule of classes and types, or can't be run yet |
 /// | 7 | a read or a write failed |
 /// | 8 | the file has more than 1,048,576 bytes |
 /// | 9 | memory ran out |

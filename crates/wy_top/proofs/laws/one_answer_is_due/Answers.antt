@@ -1,15 +1,17 @@
-use Rattle.std.proofs.Common.{◌≡◌, ◌∙◌, sym, ap, subst, refl, inl, inr, ◌⊎◌, ℕ, ◌<◌, ◌≤◌, List, length, Option, Some, None, arith}
-use Rattle.wy_smallforms.specs.Kernel.{Whole}
-use Rattle.wy_smallforms.specs.Meaning.{run_of}
+use Rattle.std.proofs.Common.{◌≡◌, ◌∙◌, sym, ap, subst, refl, inl, inr, ◌⊎◌, ℕ, ◌<◌, ◌≤◌, true, false, List, length, Option, Some, None, Result, Ok, Err, arith}
+use Rattle.wy_kernel.specs.Program.{Program}
+use Rattle.wy_constant.specs.Refusal as typing
 use Rattle.wy_outside.specs.Shelf.{Files}
-use Rattle.wy_tree.specs.Seen.{Tok}
-use Rattle.wy_tree.specs.Tokens.{Placed, Refusal, Tokens}
+use Rattle.wy_tree.specs.Ast.{Ast}
+use Rattle.wy_tree.specs.Lines.{line_of}
+use Rattle.wy_tree.specs.Tokens.{Placed, Tokens}
 use Rattle.wy_tree.specs.TokenLaws.{OneTokenList, TokensOrRefusal, OneRefusal, NotUtf8Alone}
-use Rattle.wy_small.specs.Laws.{OneProgram}
-use Rattle.wy_small.specs.Small.{IsSmall}
+use Rattle.wy_tree.specs.Trees.{OneTree}
+use Rattle.wy_syntax.specs.Declarations.{unit}
+use Rattle.wy_elab_stmt.specs.Elaborates.{Elaborates, OneElaboration}
 use Rattle.wy_top.specs.Words.{AsksToRun}
-use Rattle.wy_top.specs.Lines.{absent_line, too_long_line, not_utf8_line, fault_line, report}
-use Rattle.wy_top.specs.Due.{Due, DueFor, usage, absent, too_long, read, not_utf8, refused, syntax, not_yet, ran, Finds, HasTree, IsSyntaxLine, AreSyntaxLines, unplaced, source_limit, step_budget}
+use Rattle.wy_top.specs.Lines.{absent_line, too_long_line, not_utf8_line, fault_line, rule_line}
+use Rattle.wy_top.specs.Due.{Due, DueFor, DueForProgram, not_yet, ran, usage, absent, too_long, read, not_utf8, refused, syntax, broken, program, Becomes, Finds, HasTree, IsSyntaxLine, AreSyntaxLines, unplaced, source_limit}
 use Rattle.wy_top.proofs.laws.one_answer_is_due.Goals as goal
 
 same_name : (words : List (List ℕ)) (n m : List ℕ) → AsksToRun words n → AsksToRun words m → n ≡ m
@@ -37,48 +39,86 @@ not_both words held n m t u a b more within =
     let e : length t ≡ length u = ap length (same_text words held n m t u a b) in
     omega arith
 
--- what is known of texts and tokens
+-- what is known of texts, tokens and programs
 record Known : Type 0 where
   lists : OneTokenList
   tokens : TokensOrRefusal
   one : OneRefusal
   utf8 : NotUtf8Alone
-  programs : OneProgram
+  trees : OneTree
+  programs : OneElaboration
 
 -- the two texts are one, or both are lines of Syntax for the tokens of the source
 abbrev SameFor : List ℕ → ℕ → ℕ → List ℕ → List ℕ → Type 0
 SameFor source s t x y = (s ≡ t) × ((x ≡ y) ⊎ ((spans : List Placed) × Tokens source spans × IsSyntaxLine spans x × IsSyntaxLine spans y))
 
+-- what the tokens of one source become is one
+one_outcome : Known → (source : List ℕ) (p q : List Placed) (a b : Result Program typing.Refusal) → Tokens source p → Tokens source q → Becomes p a → Becomes q b → a ≡ b
+one_outcome known source p q a b us ts x y =
+    let e : q ≡ p = known.lists source q p ts us in
+    let z : Becomes p b = subst (λ (r : List Placed). Becomes r b) e y in
+    let t : x.tree ≡ z.tree = known.trees x.tree z.tree x.reads.0 z.reads.0 (x.reads.1 ∙ sym z.reads.1) in
+    known.programs (unit 0 z.tree) (length p) a b (subst (λ (r : Ast). Elaborates (unit 0 r) (length p) a) t x.elaborated) z.elaborated
+
+-- tokens that become something have a tree
+becoming : (p : List Placed) (a : Result Program typing.Refusal) → Becomes p a → HasTree (unplaced p)
+becoming p a x = (x.tree, x.reads.0, x.reads.1)
+
+treeless : Known → (source : List ℕ) (p q : List Placed) (a : Result Program typing.Refusal) → Tokens source p → Tokens source q → ¬ HasTree (unplaced p) → Becomes q a → ⊥
+treeless known source p q a us ts none x = none (subst (λ (z : List Placed). HasTree (unplaced z)) (known.lists source q p ts us) (becoming q a x))
+
+one_line : Known → (source : List ℕ) (p q : List Placed) (e f : typing.Refusal) → Tokens source p → Tokens source q → Becomes p (Err e) → Becomes q (Err f) →
+    rule_line e.rule (line_of p e.token) e.token ≡ rule_line f.rule (line_of q f.token) f.token
+one_line known source p q e f us ts x y =
+    let both : Err e ≡ Err f = one_outcome known source p q (Err e) (Err f) us ts x y in
+    let same : e ≡ f = cc in
+    let spans : p ≡ q = known.lists source p q us ts in
+    λ i. rule_line (same i).rule (line_of (spans i) (same i).token) (same i).token
+
+one_due : (p : Program) (s t : ℕ) (x y : List ℕ) → DueForProgram p s x → DueForProgram p t y → (s ≡ t) × (x ≡ y)
+one_due p _ _ _ _ (not_yet a) (not_yet b) = (refl, refl)
+one_due p _ _ _ _ (not_yet a) (ran b) = (let no : true ≡ false = sym b ∙ a in absurd (cc))
+one_due p _ _ _ _ (ran a) (not_yet b) = (let no : true ≡ false = sym a ∙ b in absurd (cc))
+one_due p _ _ _ _ (ran a) (ran b) = (refl, refl)
+
+one_program : Known → (source : List ℕ) (p q : List Placed) (v w : Program) (s t : ℕ) (x y : List ℕ) → Tokens source p → Tokens source q → Becomes p (Ok v) → Becomes q (Ok w) →
+    DueForProgram v s x → DueForProgram w t y → SameFor source s t x y
+one_program known source p q v w s t x y us ts a b due other =
+    let both : Ok v ≡ Ok w = one_outcome known source p q (Ok v) (Ok w) us ts a b in
+    let same : w ≡ v = cc in
+    let one = one_due v s t x y due (subst (λ (z : Program). DueForProgram z t y) same other) in (one.0, inl one.1)
+
+not_both_ways : Known → (source : List ℕ) (p q : List Placed) (v : Program) (e : typing.Refusal) → Tokens source p → Tokens source q → Becomes p (Ok v) → Becomes q (Err e) → ⊥
+not_both_ways known source p q v e us ts a b = let both : Ok v ≡ Err e = one_outcome known source p q (Ok v) (Err e) us ts a b in cc
+
 one_for : Known → (source : List ℕ) (s t : ℕ) (x y : List ℕ) → DueFor source s x → DueFor source t y → SameFor source s t x y
 one_for known source _ _ _ _ (not_utf8 b at) (not_utf8 c also) = (refl, inl (ap not_utf8_line ((known.utf8 source b at).2 c also)))
 one_for known source _ _ _ _ (not_utf8 b at) (refused g also) = absurd ((known.utf8 source b at).1 g also)
 one_for known source _ _ _ _ (not_utf8 b at) (syntax q l ts none is) = absurd ((known.utf8 source b at).0 q ts)
-one_for known source _ _ _ _ (not_utf8 b at) (not_yet q ts tree none) = absurd ((known.utf8 source b at).0 q ts)
-one_for known source _ _ _ _ (not_utf8 b at) (ran q w ts tree small) = absurd ((known.utf8 source b at).0 q ts)
+one_for known source _ _ _ _ (not_utf8 b at) (broken q f ts y) = absurd ((known.utf8 source b at).0 q ts)
+one_for known source _ _ _ _ (not_utf8 b at) (program q w t y ts becomes due) = absurd ((known.utf8 source b at).0 q ts)
 one_for known source _ _ _ _ (refused f at) (not_utf8 c also) = absurd ((known.utf8 source c also).1 f at)
 one_for known source _ _ _ _ (refused f at) (refused g also) = (refl, inl (ap fault_line (known.one source f g at also)))
 one_for known source _ _ _ _ (refused f at) (syntax q l ts none is) = absurd (known.tokens source q f ts at)
-one_for known source _ _ _ _ (refused f at) (not_yet q ts tree none) = absurd (known.tokens source q f ts at)
-one_for known source _ _ _ _ (refused f at) (ran q w ts tree small) = absurd (known.tokens source q f ts at)
+one_for known source _ _ _ _ (refused f at) (broken q g ts y) = absurd (known.tokens source q f ts at)
+one_for known source _ _ _ _ (refused f at) (program q w t y ts becomes due) = absurd (known.tokens source q f ts at)
 one_for known source _ _ _ _ (syntax p k us lacks at) (not_utf8 c also) = absurd ((known.utf8 source c also).0 p us)
 one_for known source _ _ _ _ (syntax p k us lacks at) (refused g also) = absurd (known.tokens source p g us also)
 one_for known source _ _ _ _ (syntax p k us lacks at) (syntax q l ts none is) =
     let e : q ≡ p = known.lists source q p ts us in
     (refl, inr (p, us, at, subst (λ (z : List Placed). IsSyntaxLine z l) e is))
-one_for known source _ _ _ _ (syntax p k us lacks at) (not_yet q ts tree none) = absurd (lacks (subst (λ (z : List Placed). HasTree (unplaced z)) (known.lists source q p ts us) tree))
-one_for known source _ _ _ _ (syntax p k us lacks at) (ran q w ts tree small) = absurd (lacks (subst (λ (z : List Placed). HasTree (unplaced z)) (known.lists source q p ts us) tree))
-one_for known source _ _ _ _ (not_yet p us shape never) (not_utf8 c also) = absurd ((known.utf8 source c also).0 p us)
-one_for known source _ _ _ _ (not_yet p us shape never) (refused g also) = absurd (known.tokens source p g us also)
-one_for known source _ _ _ _ (not_yet p us shape never) (syntax q l ts none is) = absurd (none (subst (λ (z : List Placed). HasTree (unplaced z)) (known.lists source p q us ts) shape))
-one_for known source _ _ _ _ (not_yet p us shape never) (not_yet q ts tree none) = (refl, inl refl)
-one_for known source _ _ _ _ (not_yet p us shape never) (ran q w ts tree small) = absurd (never w (subst (λ (z : List Placed). IsSmall (unplaced z) w) (known.lists source q p ts us) small))
-one_for known source _ _ _ _ (ran p v us shape is) (not_utf8 c also) = absurd ((known.utf8 source c also).0 p us)
-one_for known source _ _ _ _ (ran p v us shape is) (refused g also) = absurd (known.tokens source p g us also)
-one_for known source _ _ _ _ (ran p v us shape is) (syntax q l ts none at) = absurd (none (subst (λ (z : List Placed). HasTree (unplaced z)) (known.lists source p q us ts) shape))
-one_for known source _ _ _ _ (ran p v us shape is) (not_yet q ts tree none) = absurd (none v (subst (λ (z : List Placed). IsSmall (unplaced z) v) (known.lists source p q us ts) is))
-one_for known source _ _ _ _ (ran p v us shape is) (ran q w ts tree small) =
-    let same : v ≡ w = known.programs (unplaced p) v w is (subst (λ (z : List Placed). IsSmall (unplaced z) w) (known.lists source q p ts us) small) in
-    (refl, inl (ap (λ (r : Whole). report (run_of r step_budget)) same))
+one_for known source _ _ _ _ (syntax p k us lacks at) (broken q f ts y) = absurd (treeless known source p q (Err f) us ts lacks y)
+one_for known source _ _ _ _ (syntax p k us lacks at) (program q w t y ts becomes due) = absurd (treeless known source p q (Ok w) us ts lacks becomes)
+one_for known source _ _ _ _ (broken p e us x) (not_utf8 c also) = absurd ((known.utf8 source c also).0 p us)
+one_for known source _ _ _ _ (broken p e us x) (refused g also) = absurd (known.tokens source p g us also)
+one_for known source _ _ _ _ (broken p e us x) (syntax q l ts none is) = absurd (treeless known source q p (Err e) ts us none x)
+one_for known source _ _ _ _ (broken p e us x) (broken q f ts y) = (refl, inl (one_line known source p q e f us ts x y))
+one_for known source _ _ _ _ (broken p e us x) (program q w t y ts becomes due) = absurd (not_both_ways known source q p w e ts us becomes x)
+one_for known source _ _ _ _ (program p v s x us became due) (not_utf8 c also) = absurd ((known.utf8 source c also).0 p us)
+one_for known source _ _ _ _ (program p v s x us became due) (refused g also) = absurd (known.tokens source p g us also)
+one_for known source _ _ _ _ (program p v s x us became due) (syntax q l ts none is) = absurd (treeless known source q p (Ok v) ts us none became)
+one_for known source _ _ _ _ (program p v s x us became due) (broken q f ts y) = absurd (not_both_ways known source p q v f us ts became y)
+one_for known source _ _ _ _ (program p v s x us became due) (program q w t y ts becomes other) = one_program known source p q v w s t x y us ts became becomes due other
 
 abbrev Same : List (List ℕ) → Option Files → ℕ → ℕ → List ℕ → List ℕ → Type 0
 Same words held s t x y = (s ≡ t) × ((x ≡ y) ⊎ AreSyntaxLines words held x y)
@@ -114,5 +154,6 @@ returns c =
       tokens = c.a_refused_text_has_no_tokens.ensures.tokens;
       one = c.a_refused_text_has_no_tokens.ensures.one;
       utf8 = c.a_refused_text_has_no_tokens.ensures.utf8;
-      programs = c.a_token_list_has_one_program.ensures;
+      trees = c.a_token_list_has_one_tree.ensures;
+      programs = c.a_text_has_one_program.ensures;
     })

@@ -8,7 +8,7 @@ returns-in_ok-push_value-in-Store-clause-outcome c =
     c.in-Store.is c.pop_value-value.ensures.value c.pop_value-value.ensures.rest
     c.set_value.ensures c.in_ok-push_value-in-Store.ensures
 
-pub returns-in_ok-print_line-in-Show-clause-outcome : goal.returns-in_ok-print_line-in-Show-clause-outcome
-returns-in_ok-print_line-in-Show-clause-outcome c =
-    shown (state_of c.args.self.now) c.args.self.now.work.items (stack_of c.args.self.now.values) c.args.frame _ _ _
-    c.in-Show.is c.pop_value-value-in-Show.ensures.value c.pop_value-value-in-Show.ensures.rest c.in_ok-print_line-in-Show.ensures
+pub returns-in_ok-print_value-in-Show-clause-outcome : goal.returns-in_ok-print_value-in-Show-clause-outcome
+returns-in_ok-print_value-in-Show-clause-outcome c =
+    shown (state_of c.args.self.now) c.args.self.now.work.items (stack_of c.args.self.now.values) c.args.frame _ _ _ _
+    c.in-Show.is c.pop_value-value-in-Show.ensures.value c.pop_value-value-in-Show.ensures.rest c.in_ok-print_value-in-Show.ensures

@@ -1,0 +1,103 @@
+//! From a text to its program: its tokens, the tree that they must have, and what that declares.
+ghost use Rattle.std.specs.Prelude.{◌≡◌, ◌≤◌, map, length, IfOk, IfErr};
+ghost use Rattle.wy_syntax.specs.Declarations.{unit};
+ghost use Rattle.wy_top.specs.Due.{source_limit, unplaced};
+ghost use Rattle.wy_top.specs.Fronts.{IsCauseOf, IsProgramOf, IsTypedAs, LacksTree, LacksTypes};
+ghost use Rattle.wy_tree.specs.Ast.{view};
+ghost use Rattle.wy_tree.specs.Tokens.{placed, Tokens};
+ghost use Rattle.wy_tree.specs.Trees.{IsTreeOf};
+
+use std::alloc::Global;
+use wy_elab_stmt::elaborate;
+use wy_kernel::program::Program;
+use wy_lexer::{LexError, lex};
+use wy_members::{Rule, TypeError};
+use wy_parser::parse::{ParseError, parse};
+use wy_tree::laws::tokens_stand_in_order;
+use wy_tree::line::line_of;
+use wy_tree::token::Spanned;
+use wy_tree::tree::Tree;
+
+/// Why a text has no tokens, and the byte at which no piece fits.
+#[derive(Clone, Copy, Debug, PartialEq, Eq)]
+pub enum LexFault {
+    NotUtf8 { byte: u32 },
+    BadToken { byte: u32 },
+    BadLiteral { byte: u32 },
+}
+
+/// Why a text is no program. Tokens count from 0; one that is as great as their number stands behind them.
+#[derive(Clone, Copy, Debug, PartialEq, Eq)]
+pub enum FrontError {
+    /// It has no tokens.
+    Lex { fault: LexFault },
+    /// Its tokens have no tree.
+    Parse { line: u32, token: u32 },
+    /// It breaks a rule of declarations, types or jumps at a token.
+    Typing { rule: Rule, line: u32, token: u32 },
+    NoMemory,
+}
+
+fn lexed(alloc: Global, source: &[u8]) -> Result<Vec<Spanned>, FrontError>
+    requires { length source.now ≤ source_limit }
+    ensures found { IfOk result (λ v. Tokens source.now (map placed v.items)) }
+    ensures few { IfOk result (λ v. length v.items ≤ source_limit) }
+    ensures refused { IfErr result (λ e. IsCauseOf source.now e) }
+{
+    tokens_stand_in_order();
+    match lex(alloc, source) {
+        Ok(tokens) => Ok(tokens),
+        Err(LexError::NotUtf8 { byte }) => Err(FrontError::Lex {
+            fault: LexFault::NotUtf8 { byte },
+        }),
+        Err(LexError::BadToken { byte }) => Err(FrontError::Lex {
+            fault: LexFault::BadToken { byte },
+        }),
+        Err(LexError::BadLiteral { byte }) => Err(FrontError::Lex {
+            fault: LexFault::BadLiteral { byte },
+        }),
+        Err(LexError::NoMemory) => Err(FrontError::NoMemory),
+    }
+}
+
+fn parsed(alloc: Global, tokens: &[Spanned]) -> Result<Tree, FrontError>
+    requires { length tokens.now ≤ source_limit }
+    ensures found { IfOk result (λ t. IsTreeOf (unplaced (map placed tokens.now)) (view t)) }
+    ensures refused { IfErr result (λ e. LacksTree (map placed tokens.now) e) }
+{
+    match parse(alloc, tokens) {
+        Ok(tree) => Ok(tree),
+        Err(ParseError::Syntax { token }) => {
+            let line = line_of(tokens, token);
+            Err(FrontError::Parse { line, token })
+        }
+        Err(ParseError::NoMemory) => Err(FrontError::NoMemory),
+    }
+}
+
+fn typed(alloc: Global, tree: &Tree, tokens: &[Spanned]) -> Result<Program, FrontError>
+    requires few { length tokens.now ≤ source_limit }
+    requires read { IsTreeOf (unplaced (map placed tokens.now)) (view tree.now) }
+    ensures found { IfOk result (λ p. IsTypedAs (map placed tokens.now) (view tree.now) p) }
+    ensures refused { IfErr result (λ e. LacksTypes (map placed tokens.now) (view tree.now) e) }
+{
+    match elaborate(alloc, tree, tokens) {
+        Ok(program) => Ok(program),
+        Err(TypeError::Broken { rule, token }) => {
+            let line = line_of(tokens, token);
+            Err(FrontError::Typing { rule, line, token })
+        }
+        Err(TypeError::NoMemory) => Err(FrontError::NoMemory),
+    }
+}
+
+/// The program of a text, or why it is none: the first of its tokens, their tree, and the rules.
+pub fn front(alloc: Global, source: &[u8]) -> Result<Program, FrontError>
+    requires { length source.now ≤ source_limit }
+    ensures program { IfOk result (λ p. IsProgramOf source.now p) }
+    ensures refused { IfErr result (λ e. IsCauseOf source.now e) }
+{
+    let tokens = lexed(alloc, source)?;
+    let tree = parsed(alloc, tokens.as_slice())?;
+    typed(alloc, &tree, tokens.as_slice())
+}
