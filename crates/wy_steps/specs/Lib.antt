@@ -1,3 +1,4 @@
 pub mod Sets
 pub mod State
 pub mod Steps
+pub mod Laws
