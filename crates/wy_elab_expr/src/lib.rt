@@ -27,6 +27,7 @@ mod refusal;
 mod sizes;
 mod spot;
 mod texts;
+mod tree;
 mod typed;
 
 pub use allowed::is_below;
@@ -41,4 +42,5 @@ pub use names::{class_for_new, stream_in, type_written, with_brackets};
 pub use printing::{Printed, Stream, print_operand};
 pub use refusal::refused;
 pub use texts::Texts;
-pub use typed::{Typed, expr};
+pub use tree::{constant, expr};
+pub use typed::{Typed, typed_expression};

@@ -26,7 +26,7 @@ pub struct Typed {
 
 /// The form of an expression in its own type; the texts that it holds are those of the scope. An `Err` leaves the scope as it is.
 #[tactic(auto, unfolding(crate::specs::Elaboration::typed))]
-pub fn expr(
+pub fn typed_expression(
     alloc: Global,
     table: &ClassTable,
     scope: &mut Scope,

@@ -27,12 +27,10 @@ use wy_kernel::program::Program;
 use wy_kernel::table::ClassTable;
 use wy_library::{library_bodies, library_init_bodies};
 use wy_statement::class_places::places_of;
-use wy_statement::numbers::numbers_of;
+use wy_statement::numbers::{LIBRARY_STATEMENTS, numbers_of};
 use wy_statement::place::Place;
 use wy_statement::setting::Setting;
 use wy_syntax::declaration::{ClassSyntax, Declaration};
-
-const LIBRARY_STATEMENTS: u32 = 74;
 
 /// The bodies of methods by their numbers, and the initializers of classes by theirs.
 #[derive(Drop)]

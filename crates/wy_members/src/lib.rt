@@ -5,7 +5,6 @@
 mod broken;
 mod choice;
 mod class_row;
-mod class_table;
 mod constant_field;
 mod counting;
 mod field_row;
@@ -21,11 +20,14 @@ mod signature;
 mod subtyping;
 #[cfg(test)]
 mod tests;
+mod tree_table;
+mod unit_table;
 mod written_type;
 
 pub use choice::choose;
-pub use class_table::class_table_of;
 pub use method_row::{initializes_objects, is_constructor};
 pub use subtyping::subtype;
+pub use tree_table::class_table;
+pub use unit_table::class_table_of;
 pub use written_type::has as has_modifier;
 pub use wy_constant::{Rule, TypeError};

@@ -8,7 +8,8 @@ ghost use Rattle.wy_statement.specs.declared.place.Role.{Role};
 use crate::place::{Place, Role};
 use std::alloc::AllocError;
 
-const LIBRARY_STATEMENTS: u32 = 74;
+/// How many statements the bodies of the library have: those of a text are numbered behind them.
+pub const LIBRARY_STATEMENTS: u32 = 74;
 
 /// The places of all statements, in order.
 #[derive(Drop)]

@@ -3,7 +3,7 @@ use Rattle.std.specs.Prelude.{map}
 use Rattle.wy_syntax.specs.declared.declaration.Declaration.{Declaration}
 use Rattle.wy_syntax.specs.View.{declaration_of}
 use Rattle.wy_members.specs.Refusal.{IsRefusal}
-use Rattle.wy_members.proofs.class_table.class_table_of.Goals as goal
+use Rattle.wy_members.proofs.unit_table.class_table_of.Goals as goal
 
 pub returns-in-Ok-clause-refused : goal.returns-in-Ok-clause-refused
 returns-in-Ok-clause-refused c = λ rule token e.

@@ -4,7 +4,7 @@ use Rattle.wy_members.specs.declared.broken.breach.Breach.{Breach}
 use Rattle.wy_members.specs.Names.{unit_of}
 use Rattle.wy_members.specs.Refusal.{IsRefusal, KeepsRules}
 use Rattle.wy_members.proofs.InRange.{acyclic}
-use Rattle.wy_members.proofs.class_table.table_or_refusal.Goals as goal
+use Rattle.wy_members.proofs.unit_table.table_or_refusal.Goals as goal
 
 pub program_table-requires-clause-acyclic : goal.program_table-requires-clause-acyclic
 program_table-requires-clause-acyclic c =
