@@ -1,0 +1,12 @@
+pub mod Sequence
+pub mod Bringing
+pub mod Operations
+pub mod Finding
+pub mod Ranges
+pub mod Texts
+pub mod Forms
+pub mod Operating
+pub mod Naming
+pub mod Calling
+pub mod Elaborating
+pub mod Inducting

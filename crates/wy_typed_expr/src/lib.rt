@@ -1,0 +1,13 @@
+//! What an expression becomes has the type that it is found to have, and every number in it is that of a part of the program.
+//! The function does nothing: its contract is the law.
+#![tactic(auto)]
+
+ghost use Rattle.wy_typed_expr.specs.Typed.{ExpressionsAreTyped, InitialsFit};
+
+/// The form of an expression has the type that the expression is found to have, and what a variable is given first may
+/// stand where the variable's type is wanted: in a scope whose variables are the locals of the body, by a judgement that
+/// the table settles, where the constant texts of the forms are those of the program.
+pub fn what_is_elaborated_has_its_type()
+    ensures expressions { ExpressionsAreTyped }
+    ensures initials { InitialsFit }
+{}
