@@ -4,4 +4,16 @@ pub mod Sound
 pub mod Fits
 pub mod Made
 pub mod Bodies
+pub mod Elaborated
 pub mod Programs
+pub mod Marks
+pub mod ClassMarks
+pub mod Spread
+pub mod Trees
+pub mod ClassTrees
+pub mod Dense
+pub mod Tallies
+pub mod Numbered
+pub mod Productions
+pub mod Interfaces
+pub mod Texts

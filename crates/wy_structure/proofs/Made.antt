@@ -69,7 +69,7 @@ evaluated_calm j t s e =
     then_found (elaborated j t s e) _ (λ m. Unit {0}) Calm (anything _) (λ m x.
     then_found (formed m) _ (λ p. Unit {0}) Calm (anything _) (λ form y. given Calm (kernel.Eval form) tt))
 
-performed_calm : (j : Judgement) (t : Table) (e : Expression) (s : Scope) → Yields (performed j t e s) Calm
+pub performed_calm : (j : Judgement) (t : Table) (e : Expression) (s : Scope) → Yields (performed j t e s) Calm
 unfolding performed
 performed_calm j t e s = of_choice (is_output_call t s e) (printing j t s e) (evaluated j t s e) Calm (printing_calm j t s e) (evaluated_calm j t s e)
 

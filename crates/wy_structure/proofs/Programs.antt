@@ -1,5 +1,5 @@
 -- All bodies of every program are sound.
-use Rattle.std.proofs.Common.{◌≡◌, refl, subst, inl, inr, ℕ, suc, ◌+◌, ◌*◌, ◌-◌, true, false, not, if◌then◌else◌, List, [], ◌∷◌, ◌++◌, Result, Ok, Err}
+use Rattle.std.proofs.Common.{refl, subst, inl, inr, ℕ, suc, ◌+◌, ◌*◌, ◌-◌, true, false, not, if◌then◌else◌, List, [], ◌∷◌, ◌++◌, Ok}
 use Rattle.std.specs.Prelude.{Option, Some, None, flat_map, map}
 use Rattle.std.specs.List.{All}
 use Rattle.std.proofs.lemmas.List.Elements.{All-nil, All-cons, All-append, All-push, All-contains}
@@ -9,12 +9,10 @@ use Rattle.wy_kernel.specs.Builtin as builtin
 use Rattle.wy_kernel.specs.Table.{Table}
 use Rattle.wy_syntax.specs.Syntax.{Braced, Header, Member, ClassSyntax}
 use Rattle.wy_syntax.specs.Syntax as source
-use Rattle.wy_constant.specs.Refusal.{Refusal}
 use Rattle.wy_constant.specs.Scope.{FixedText}
 use Rattle.wy_members.specs.Declarations.{CompilationUnit, classes_of}
 use Rattle.wy_elab_expr.specs.Meaning.{Gets}
 use Rattle.wy_elab_expr.specs.Meaning as found
-use Rattle.wy_elab_expr.specs.Operators.{Judgement}
 use Rattle.wy_statement.specs.declared.place.Role.{Role}
 use Rattle.wy_statement.specs.declared.place.Role.TheVariants.{InitializerBody, FieldsBody}
 use Rattle.wy_statement.specs.Places.{has_fields_unit, declares_constructor}
@@ -23,11 +21,12 @@ use Rattle.wy_statement.specs.Statements.{Setting}
 use Rattle.wy_statement.specs.Bodies.{Growing, Growth, number_of, body_of, end_of, method_block, constructor_block, implied_constructor_block, initializer_block, field_initials, implied_body}
 use Rattle.wy_library.specs.Library.{library_bodies, library_init_bodies, above_in_library, object_to_string, object_equals, plain_throwable, throwable_with_message, get_message, throwable_to_string, plain_constructor, constructor_with_message, constructors_of, below_throwable}
 use Rattle.wy_elab_stmt.specs.Classes.{ClassBodies, whole, with_body, grown, in_initializer, in_fields, is_static, member, members, implied_constructor, none_yet, fields_body, finished, of_class, of_interface, class_bodies}
-use Rattle.wy_elab_stmt.specs.Program.{Bodies, bodies_from, bodies_of, setting, program, program_with, with_main, main_of, again, from_texts, library_text, in_order}
-use Rattle.wy_elab_stmt.specs.Elaborates.{Elaborates, by_declarations, by_bodies}
+use Rattle.wy_elab_stmt.specs.Program.{Bodies, bodies_from, setting, program_with}
+use Rattle.wy_elab_stmt.specs.Elaborates.{Elaborates}
 use Rattle.wy_structure.specs.Within.{IsBodyOf}
 use Rattle.wy_structure.specs.Jumps.{AllJumpsGoOut}
 use Rattle.wy_structure.specs.Reaches.{AllReach}
+use Rattle.wy_structure.proofs.Elaborated.{MadeFrom, made_from}
 use Rattle.wy_structure.proofs.Yields.{Yields, given, then_found, of_choice, of_resumed}
 use Rattle.wy_structure.proofs.Sound.{and_one, nowhere, Sound, jumps_of_sound, reaches_of_sound}
 use Rattle.wy_structure.proofs.Made.{row_sound}
@@ -196,28 +195,12 @@ with_sound t unit main bs texts h =
     All-append SoundBody (library_bodies ++ bs.methods) (library_init_bodies ++ bs.initializers)
     (All-append SoundBody library_bodies bs.methods library_sound h.methods) (All-append SoundBody library_init_bodies bs.initializers library_init_sound h.initializers)
 
-main_sound : (t : Table) (unit : CompilationUnit) (tokens : ℕ) (main : Option ℕ) (bs : Bodies) (texts : List FixedText) → BodiesSound bs → (p : Program) → with_main t unit tokens main bs texts ≡ Ok p → ProgramSound p
-main_sound t unit tokens None bs texts h p e = absurd cc
-main_sound t unit tokens (Some main) bs texts h p e = let same : program_with t unit main bs texts ≡ p = cc in subst ProgramSound same (with_sound t unit main bs texts h)
-
-again_sound : (j : Judgement) (t : Table) (unit : CompilationUnit) (tokens : ℕ) (texts : List FixedText) (r : Result (Bodies × List FixedText) Refusal) → bodies_of (setting j t unit) unit texts ≡ r → (p : Program) → again j t unit tokens r ≡ Ok p → ProgramSound p
-again_sound j t unit tokens texts (Ok q) is p e = main_sound t unit tokens (main_of t unit) q.0 q.1 ((bodies_sound (setting j t unit) first_source_class (classes_of unit)).by texts q.1 q.0 is) p e
-again_sound j t unit tokens texts (Err x) is p e = absurd cc
-
-from_sound : (j : Judgement) (t : Table) (unit : CompilationUnit) (tokens : ℕ) (r : Result (Bodies × List FixedText) Refusal) (p : Program) → from_texts j t unit tokens r ≡ Ok p → ProgramSound p
-from_sound j t unit tokens (Ok q) p e = again_sound j t unit tokens (in_order q.1) (bodies_of (setting j t unit) unit (in_order q.1)) refl p e
-from_sound j t unit tokens (Err x) p e = absurd cc
-
-program_sound : (j : Judgement) (t : Table) (unit : CompilationUnit) (tokens : ℕ) (p : Program) → program j t unit tokens ≡ Ok p → ProgramSound p
-unfolding program
-program_sound j t unit tokens p e = from_sound j t unit tokens (bodies_of (setting j t unit) unit (library_text ∷ [])) p e
-
-elaborated_sound : (unit : CompilationUnit) (tokens : ℕ) (r : Result Program Refusal) → Elaborates unit tokens r → (p : Program) → r ≡ Ok p → ProgramSound p
-elaborated_sound unit tokens r (by_declarations rule token is) p e = absurd cc
-elaborated_sound unit tokens r (by_bodies t j keeps is settles) p e = program_sound j t unit tokens p e
+elaborated_sound : (unit : CompilationUnit) (p : Program) → MadeFrom unit p → ProgramSound p
+elaborated_sound unit p m =
+    subst ProgramSound m.is (with_sound m.table unit m.main m.bodies m.after ((bodies_sound (setting m.judgement m.table unit) first_source_class (classes_of unit)).by m.texts m.after m.bodies m.made))
 
 body_sound : (unit : CompilationUnit) (tokens : ℕ) (p : Program) → Elaborates unit tokens (Ok p) → (b : Body) → IsBodyOf p b → Sound nowhere nowhere b.block
-body_sound unit tokens p h b c = All-contains SoundBody (p.bodies ++ p.init_bodies) (Some b) (elaborated_sound unit tokens (Ok p) h p refl) c
+body_sound unit tokens p h b c = All-contains SoundBody (p.bodies ++ p.init_bodies) (Some b) (elaborated_sound unit p (made_from unit tokens p h)) c
 
 pub all_jumps_go_out : (unit : CompilationUnit) (tokens : ℕ) (p : Program) → Elaborates unit tokens (Ok p) → AllJumpsGoOut p
 all_jumps_go_out unit tokens p h b c = jumps_of_sound b.block (body_sound unit tokens p h b c)

@@ -84,3 +84,8 @@ of_choice false f g P h i = i
 
 pub refused_found : {A : Type 0} (P : A → Type 0) (rule : Rule) (token : ℕ) → Yields (found.refuse {A = A} rule token) P
 refused_found P rule token = record { by = λ s after y e. absurd cc }
+
+-- what holds may depend on the choice
+pub of_either : {S A : Type 0} (b : Bool) (f g : S → Result (A × S) Refusal) (P : Bool → A → Type 0) → Yields f (P true) → Yields g (P false) → Yields (if b then f else g) (P b)
+of_either true f g P h i = h
+of_either false f g P h i = i

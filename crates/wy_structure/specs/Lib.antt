@@ -1,3 +1,4 @@
 pub mod Within
 pub mod Jumps
 pub mod Reaches
+pub mod Numbers
