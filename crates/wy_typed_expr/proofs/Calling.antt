@@ -110,7 +110,7 @@ module _ (p : Program) (constants : List (Option ConstantValue)) (j : Judgement)
       (λ xs. given (GivesRow (q ∷ qs)) (more x xs) (λ h. typing.and_more h.0.1 h.1)))
 
   -- what is known of a method that is chosen
-  abbrev IsFor : Ty → List ℕ → List Meaning → ℕ → Type 0
+  abbrev pub IsFor : Ty → List ℕ → List Meaning → ℕ → Type 0
   IsFor ty name ms k = Chosen T ty name (types_of ms) k × (some_void ms ≡ false)
 
   chosen_sound : {H : Type 0} (ty : Ty) (name : List ℕ) (ms : List Meaning) (token : ℕ) (r : Result ℕ Rule) → j.choice ty name (types_of ms) ≡ r → some_void ms ≡ false → Sound n H (IsFor ty name ms) (of_choice r token)

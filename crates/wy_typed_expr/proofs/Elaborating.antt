@@ -141,9 +141,10 @@ module _ (p : Program) (constants : List (Option ConstantValue)) (j : Judgement)
   abbrev pub PrintedFits : Printed → Type 0
   PrintedFits x = IsPrinted x.ty × Has x.ty x.form
 
-  abbrev pub OptionPrinted : Option Printed → Type 0
-  OptionPrinted None = Unit {0}
-  OptionPrinted (Some x) = PrintedFits x
+  -- nothing, where only the end of a line is written
+  abbrev pub OptionPrinted : List ℕ → Option Printed → Type 0
+  OptionPrinted name None = bytes_eq name (codes "println") ≡ true
+  OptionPrinted name (Some x) = PrintedFits x
 
   abbrev Prints : Ty → Type 0
   Prints a = IsPrinted (printed_type a) × Brings p.classes a (printed_type a) × IsExact a (printed_type a)
@@ -174,19 +175,19 @@ module _ (p : Program) (constants : List (Option ConstantValue)) (j : Judgement)
       (λ x. given PrintedFits (record { form = x; ty = printed_type (type_of m) }) (λ h. (k.0, h.1)))))
       (λ f. none_found PrintedFits NotOffered token))
 
-  pub print_operand_sound : (name : List ℕ) (ms : List Meaning) (token : ℕ) → Sound n (AllFit ms) OptionPrinted (print_operand name ms token)
+  pub print_operand_sound : (name : List ℕ) (ms : List Meaning) (token : ℕ) → Sound n (AllFit ms) (OptionPrinted name) (print_operand name ms token)
   unfolding print_operand
-  print_operand_sound name [] token = if_either OptionPrinted (bytes_eq name (codes "println")) _ _ (λ e. given OptionPrinted None (λ h. tt)) (λ e. none_found OptionPrinted _ token)
+  print_operand_sound name [] token = if_either (OptionPrinted name) (bytes_eq name (codes "println")) _ _ (λ e. given (OptionPrinted name) None (λ h. e)) (λ e. none_found (OptionPrinted name) _ token)
   print_operand_sound name (m ∷ []) token =
-      if_either OptionPrinted (is_print name) _ _
-      (λ e. next PrintedFits (printed m token) some_printed (under PrintedFits (printed m token) (λ h. h.0) (printed_sound m token)) (λ x. given OptionPrinted (Some x) (λ h. h.1)))
-      (λ e. none_found OptionPrinted _ token)
-  print_operand_sound name (m ∷ m2 ∷ ms) token = none_found OptionPrinted _ token
+      if_either (OptionPrinted name) (is_print name) _ _
+      (λ e. next PrintedFits (printed m token) some_printed (under PrintedFits (printed m token) (λ h. h.0) (printed_sound m token)) (λ x. given (OptionPrinted name) (Some x) (λ h. h.1)))
+      (λ e. none_found (OptionPrinted name) _ token)
+  print_operand_sound name (m ∷ m2 ∷ ms) token = none_found (OptionPrinted name) _ token
 
   pub on_stream_sound : (stream : Stream) (name : List ℕ) (ms : List Meaning) (token : ℕ) → Sound n (AllFit ms) Fit (called_on_stream stream name ms token)
   on_stream_sound Input name ms token = if_either Fit (some_void ms) _ _ (λ e. none_found Fit BadOperand token) (λ e. byte_sound name ms token)
   on_stream_sound Output name ms token =
-      next OptionPrinted (print_operand name ms token) (λ x. give (Formed (kernel.Const kernel.Null) Void)) (print_operand_sound name ms token)
+      next (OptionPrinted name) (print_operand name ms token) (λ x. give (Formed (kernel.Const kernel.Null) Void)) (print_operand_sound name ms token)
       (λ x. given Fit (Formed (kernel.Const kernel.Null) Void) (λ h. (Null, typing.constant, inr refl)))
 
   -- ---- elements and sizes of arrays
@@ -239,7 +240,7 @@ module _ (p : Program) (constants : List (Option ConstantValue)) (j : Judgement)
 
   -- ---- assignment
 
-  assignable : (to : Ty) (m : Meaning) → is_assignable j to m ≡ true → operating.IsTaken p constants j locals s g to m
+  pub assignable : (to : Ty) (m : Meaning) → is_assignable j to m ≡ true → operating.IsTaken p constants j locals s g to m
   unfolding is_assignable
   assignable to m e =
       let h = both_true (not (is_void (type_of m))) _ e in

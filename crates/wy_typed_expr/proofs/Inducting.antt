@@ -51,7 +51,7 @@ module _ (p : Program) (constants : List (Option ConstantValue)) (j : Judgement)
   ListingFits = rules.ListingFits p constants j locals s g
 
   -- as many as there are expressions, so some where there is one
-  abbrev RowFits : Row → List Meaning → Type 0
+  abbrev pub RowFits : Row → List Meaning → Type 0
   RowFits args ms = AllFit ms × (IsSome args → 0 < length ms)
 
   abbrev Finds : {A : Type 0} → (A → Type 0) → Gets A → Type 0

@@ -54,7 +54,7 @@ module _ (p : Program) (constants : List (Option ConstantValue)) (j : Judgement)
   abbrev n : ℕ
   n = length p.fixed_texts
 
-  top : HasTop p.classes
+  pub top : HasTop p.classes
   top = top_of T g.table
 
   -- what is found fits the types
