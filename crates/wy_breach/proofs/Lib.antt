@@ -1,0 +1,13 @@
+pub mod Walk
+pub mod Contained
+pub mod Tests
+pub mod Casts
+pub mod Taken
+pub mod Forms
+pub mod Rows
+pub mod Fields
+pub mod Invoked
+pub mod Created
+pub mod Parts
+pub mod Refused
+pub mod Exact

@@ -1,0 +1,5 @@
+pub mod Operands
+pub mod Found
+pub mod Calls
+pub mod Ways
+pub mod Laws

@@ -1,0 +1,21 @@
+//! Each refusal of an expression is right: the rule that it names is broken at its token, in one of the ways that specs/Ways.antt lists in the
+//! words of the Java Language Specification. The functions do nothing: their contracts are the laws.
+#![tactic(auto)]
+
+ghost use Rattle.wy_breach.specs.Laws.{AssignmentsAreExact, BinaryIsExact, CastsAreExact, ChoicesAreExact, RefusalsAreDue, RulesAreEnough, UnaryIsExact, UpdatesAreExact};
+
+/// Where an expression is refused, an expression that stands in it breaks the rule at the token. So one that breaks no rule is not refused.
+pub fn refusals_are_due()
+    ensures due { RefusalsAreDue }
+    ensures enough { RulesAreEnough }
+{}
+
+/// The casts, assignments and operands that are allowed are exactly those that the elaboration lets through.
+pub fn operands_are_exact()
+    ensures casts { CastsAreExact }
+    ensures assignments { AssignmentsAreExact }
+    ensures unary { UnaryIsExact }
+    ensures binary { BinaryIsExact }
+    ensures updates { UpdatesAreExact }
+    ensures choices { ChoicesAreExact }
+{}
