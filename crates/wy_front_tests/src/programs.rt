@@ -437,6 +437,93 @@ main 37 of 94
 ",
 );
 
+// Jumps whose targets lie within the guarded part, and those that lie around it.
+const TARGETS: (&str, &str) = (
+    "class Inner {
+  public static void main(String[] args) {
+    int i = 0;
+    if (i == 0) { try { throw new Error(); } catch (Error e) { } }
+    if (i == 1) { while (true) { break; } }
+    if (i == 2) out: { break out; }
+    while (i < 3) { if (i == 4) return; i++; }
+    do { do { if (i == 5) break; } while (i == 6); } while (i == 7);
+    if (i == 8) i = 9; else return;
+  }
+}
+",
+    "m36 new @1 to 1: this@1 #18
+75 Block @1: []
+m37 main @6 to 132: args@11 #1[], i@15 int, e@38 #4
+76 Block @13: [77 78 84 89 93 98 104]
+77 Eval @15 ask: (=@15 l1 0)
+78 If @19 ask reach 78: (==@22 l1 0) 79 -
+79 Block @25: [80]
+80 Try @26 ask: 81 catch #4 l2@38 83 finally -
+81 Block @27: [82]
+82 Throw @28 ask: (new@29 #4 m8)
+83 Block @40: []
+84 If @43 ask reach 84: (==@46 l1 1) 85 -
+85 Block @49: [86]
+86 While @50 ask reach 86: true 87
+87 Block @54: [88]
+88 Jump @55 ask: 86
+89 If @59 ask reach 89: (==@62 l1 2) 90 -
+90 Labelled @65 ask: 91
+91 Block @67: [92]
+92 Jump @68 ask: 90
+93 While @72 ask reach 76: (<@75 l1 3) 94
+94 Block @78: [95 97]
+95 If @79 ask reach 76: (==@82 l1 4) 96 -
+96 Return @85 ask: -
+97 Eval @87 ask: (old +=@88 int int int l1 -)
+98 Do @91 ask reach 98: 99 (==@115 l1 7)
+99 Block @92: [100]
+100 Do @93 ask reach 100: 101 (==@107 l1 6)
+101 Block @94: [102]
+102 If @95 ask reach 100: (==@98 l1 5) 103 -
+103 Jump @101 ask: 100
+104 If @119 ask reach 76: (==@122 l1 8) 105 106
+105 Eval @125 ask: (=@126 l1 9)
+106 Return @130 ask: -
+init 18 to 1:
+74 Block @1: []
+texts \": \"
+main 37 of 107
+",
+);
+
+// Arrays: an initializer's own token, and the token before each element.
+const ARRAYS: (&str, &str) = (
+    "class Grid {
+  int cells[] = { 4 }, size;
+  public static void main(String args[]) {
+    int[][] m = { { 1 }, { } }, k[] = new int[][][] { m };
+    m[1] = new int[] { 2, 3 };
+    m[0][0]++;
+    new Grid().cells[0] = m[1][0];
+  }
+}
+",
+    "m36 <fields> @1 to 1: this@1 #18
+75 Block @1: [78]
+78 Eval @4 ask: (=@4 (f1@4 l0) (new@8 int[] of@8 4))
+m37 new @1 to 1: this@1 #18
+76 Block @1: [77]
+77 Eval @1: (direct@1 m36 l0)
+m38 main @17 to 99: args@20 #1[], m@30 int[][], k@41 int[][][]
+79 Block @24: [80 81 82 83 84]
+80 Eval @30 ask: (=@30 l1 (new@32 int[][] of@32@36 (new@33 int[] of@33 1) (new@37 int[] of)))
+81 Eval @41 ask: (=@41 l2 (new@45 int[][][] of@53 l1))
+82 Eval @57 ask: (=@61 (at@58 l1 1) (new@62 int[] of@66@68 2 3))
+83 Eval @72 ask: (old +=@79 int int int (at@76 (at@73 l1 0) 0) -)
+84 Eval @81 ask: (=@90 (at@87 (f1@86 (new@81 #18 m37)) 0) (at@95 (at@92 l1 1) 0))
+init 18 to 1:
+74 Block @1: []
+texts \": \"
+main 38 of 85
+",
+);
+
 #[test]
 fn a_program_has_the_statements_that_its_text_says(rt: HostRuntime) -> Result<(), Fail> {
     let rows = [
@@ -450,6 +537,8 @@ fn a_program_has_the_statements_that_its_text_says(rt: HostRuntime) -> Result<()
         ABSTRACT,
         INITIALIZERS,
         ASKABLE,
+        TARGETS,
+        ARRAYS,
     ];
     for (text, wanted) in rows {
         let seen = match read(rt.alloc(), text) {
