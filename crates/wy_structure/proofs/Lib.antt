@@ -17,3 +17,13 @@ pub mod Numbered
 pub mod Productions
 pub mod Interfaces
 pub mod Texts
+pub mod Clear
+pub mod ClearMembers
+pub mod Elaborations
+pub mod Apart
+pub mod ApartClasses
+pub mod Deciding
+pub mod Seen
+pub mod SeenStatements
+pub mod SeenClasses
+pub mod TokenKinds

@@ -64,7 +64,7 @@ number_is all p =
 
 -- ---- lists
 
-contains_in : {X : Type 0} (xs : List X) (x : X) → Contains xs x → In x xs
+pub contains_in : {X : Type 0} (xs : List X) (x : X) → Contains xs x → In x xs
 contains_in [] x c = none_in x c
 contains_in (y ∷ ys) x c = elim (head_or_behind y ys x c) [ inl e ↦ inl (sym e) | inr h ↦ inr (contains_in ys x h) ]
 

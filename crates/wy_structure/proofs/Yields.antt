@@ -15,7 +15,7 @@ pub record Yields {S A : Type 0} (f : S → Result (A × S) Refusal) (P : A → 
 abbrev pub found_ok : {X : Type 0} → X → Result X Refusal
 found_ok x = Ok x
 
-ok_same : {X : Type 0} (p q : X) → found_ok p ≡ Ok q → p ≡ q
+pub ok_same : {X : Type 0} (p q : X) → found_ok p ≡ Ok q → p ≡ q
 ok_same p q e = cc
 
 pub given : {S A : Type 0} (P : A → Type 0) (x : A) → P x → Yields (λ (s : S). found_ok (x, s)) P

@@ -2,3 +2,4 @@ pub mod Within
 pub mod Jumps
 pub mod Reaches
 pub mod Numbers
+pub mod Sites

@@ -1,8 +1,8 @@
 //! What holds of the statements of every program that a text becomes. The functions do nothing: their contracts are the laws.
 #![tactic(auto)]
 
-ghost use Rattle.std.specs.Prelude.{ℕ, Ok};
-ghost use Rattle.wy_tree.specs.Ast.{Ast};
+ghost use Rattle.std.specs.Prelude.{ℕ, ◌≤◌, length, Ok};
+ghost use Rattle.wy_tree.specs.Ast.{Ast, tokens};
 ghost use Rattle.wy_tree.specs.Grammar.{WellFormed};
 ghost use Rattle.wy_kernel.specs.Program.{Program};
 ghost use Rattle.wy_syntax.specs.Declarations.{unit};
@@ -11,25 +11,31 @@ ghost use Rattle.wy_elab_stmt.specs.Elaborates.{Elaborates};
 ghost use Rattle.wy_structure.specs.Numbers.{AreDense, AreInOrder};
 ghost use Rattle.wy_structure.specs.Jumps.{AllJumpsGoOut};
 ghost use Rattle.wy_structure.specs.Reaches.{AllReach};
+ghost use Rattle.wy_structure.specs.Sites.{TestsStandApart};
 
 /// The numbers of a program's statements are those below their count, and each is the number of one statement.
 pub fn each_number_is_one_statement()
-    ensures { (tree : Ast) → WellFormed tree → (tokens : ℕ) (p : Program) → Elaborates (unit 0 tree) tokens (Ok p) → AreDense p }
+    ensures { (tree : Ast) → WellFormed tree → (count : ℕ) (p : Program) → Elaborates (unit 0 tree) count (Ok p) → AreDense p }
 {}
 
 /// The library's statements have the first numbers, and those of the text follow in the order of their sites.
 pub fn numbers_follow_the_text()
-    ensures { (tree : Ast) → WellFormed tree → (tokens : ℕ) (p : Program) → Elaborates (unit 0 tree) tokens (Ok p) → AreInOrder p }
+    ensures { (tree : Ast) → WellFormed tree → (count : ℕ) (p : Program) → Elaborates (unit 0 tree) count (Ok p) → AreInOrder p }
 {}
 
 /// A `break` or a `continue` goes to the end of a statement of its body that it stands in, or that it is: of a loop, of a labelled
 /// statement, or of the body of a loop.
 pub fn jumps_go_out()
-    ensures { (unit : CompilationUnit) (tokens : ℕ) (p : Program) → Elaborates unit tokens (Ok p) → AllJumpsGoOut p }
+    ensures { (unit : CompilationUnit) (count : ℕ) (p : Program) → Elaborates unit count (Ok p) → AllJumpsGoOut p }
 {}
 
 /// The test of a statement reaches to the end of a statement of its body that it stands in, or of its own; a statement without a
 /// test has no reach.
 pub fn tests_reach_out()
-    ensures { (unit : CompilationUnit) (tokens : ℕ) (p : Program) → Elaborates unit tokens (Ok p) → AllReach p }
+    ensures { (unit : CompilationUnit) (count : ℕ) (p : Program) → Elaborates unit count (Ok p) → AllReach p }
+{}
+
+/// No `&&`, `||` or `?:` has the site of a statement with a test: the one has that of its sign, the other that of its word.
+pub fn tests_stand_apart()
+    ensures { (tree : Ast) → WellFormed tree → length (tokens tree) ≤ 1048576 → (count : ℕ) (p : Program) → Elaborates (unit 0 tree) count (Ok p) → TestsStandApart p }
 {}
