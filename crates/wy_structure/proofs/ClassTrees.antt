@@ -45,7 +45,7 @@ row_wider less low [] high a h = let there : low ≤ high = h in omega arith
 row_wider less low (p ∷ rest) high a h = let here : low ≤ p.at = h.0 in (omega arith, h.1, h.2)
 
 -- without the first
-row_behind : (low : ℕ) (p : Part) (rest : Parts) (high : ℕ) → Row low (p ∷ rest) high → Row low rest high
+pub row_behind : (low : ℕ) (p : Part) (rest : Parts) (high : ℕ) → Row low (p ∷ rest) high → Row low rest high
 row_behind low p rest high h = let here : low ≤ p.at = h.0 in row_wider low (p.at + width p.what) rest high (omega arith) h.2
 
 pub placed_row : (n : ℕ) (ts : Asts) → AllFull ts → Row n (placed n ts) (n + widths ts)
@@ -55,7 +55,7 @@ placed_row n (tree.more t rest) f =
     let P : ℕ → Type 0 = λ high. Row (n + width t) (placed (n + width t) rest) high in
     (omega arith, f.0, subst P (omega arith) (placed_row (n + width t) rest f.1))
 
-modifiers_row : (low : ℕ) (ps : Parts) (high : ℕ) → Row low ps high → Row low (behind_modifiers ps) high
+pub modifiers_row : (low : ℕ) (ps : Parts) (high : ℕ) → Row low ps high → Row low (behind_modifiers ps) high
 unfolding behind_modifiers
 modifiers_row low [] high h = h
 modifiers_row low (p ∷ rest) high h = elim (is_modifier p.what) as (λ b. Row low (if b then behind_modifiers rest else p ∷ rest) high) [
@@ -63,7 +63,7 @@ modifiers_row low (p ∷ rest) high h = elim (is_modifier p.what) as (λ b. Row 
   | false ↦ h
 ]
 
-throws_row : (low : ℕ) (ps : Parts) (high : ℕ) → Row low ps high → Row low (behind_throws ps) high
+pub throws_row : (low : ℕ) (ps : Parts) (high : ℕ) → Row low ps high → Row low (behind_throws ps) high
 throws_row low [] high h = h
 throws_row low (p ∷ rest) high h = elim (is_throws p.what) as (λ b. Row low (if b then rest else p ∷ rest) high) [
   | true ↦ row_behind low p rest high h
@@ -91,7 +91,7 @@ no_more_places k false q = omega arith
 fewer_sum : (x y a b s t : ℕ) → s ≡ x + a → t ≡ y + b → x ≤ y → a ≤ b → s ≤ t
 fewer_sum x y a b s t e f h i = omega arith
 
-initialized_fewer : (n : ℕ) (all : List Declarator) → times n (initialized_places all) ≤ times n (declarator_places all)
+pub initialized_fewer : (n : ℕ) (all : List Declarator) → times n (initialized_places all) ≤ times n (declarator_places all)
 initialized_fewer n [] = omega arith
 initialized_fewer n (d ∷ rest) =
     fewer_sum (times n (place_if (is_some d.initial) d.name.token Written)) (times n (written d.name.token ∷ [])) (times n (initialized_places rest)) (times n (declarator_places rest)) _ _
@@ -118,7 +118,7 @@ unfolding order_of
 fields_spread n b = place_if_once (8 * n) (8 * (n + 1)) b n FieldsCall (omega arith) (omega arith)
 
 -- the call that is written at the head
-abbrev own_front : Option OwnCall → List Place
+abbrev pub own_front : Option OwnCall → List Place
 own_front None = []
 own_front (Some call) = written call.token ∷ []
 
@@ -199,7 +199,7 @@ lone_call low p q high h e =
     let P : List Place → Type 0 = λ xs. Spread low high (written p.at ∷ (xs ++ [])) in
     subst P (sym (own_nothing p.at p.what (both_true (is_own (leaf_kind p.what)) (is_arguments q.what) e))) (one_spread low high p.at Written (omega arith) (omega arith))
 
-own_rows : (low : ℕ) (ps : Parts) (high : ℕ) → Row low ps high → Spread low high (own_front (own_call_in ps) ++ all_places (statements_in (behind_own_call ps)))
+pub own_rows : (low : ℕ) (ps : Parts) (high : ℕ) → Row low ps high → Spread low high (own_front (own_call_in ps) ++ all_places (statements_in (behind_own_call ps)))
 own_rows low [] high h = statements_in_spread low [] high h
 own_rows low (p ∷ []) high h = statements_in_spread low (p ∷ []) high h
 own_rows low (p ∷ q ∷ []) high h =
@@ -275,14 +275,14 @@ in_spread t c k low (word ∷ p ∷ []) high r =
     (behind_spread t c k (modifiers_of (word ∷ p ∷ [])) low (behind_modifiers (word ∷ p ∷ [])) high (modifiers_row low (word ∷ p ∷ []) high r))
 in_spread t c k low (x ∷ y ∷ z ∷ rest) high r = behind_spread t c k (modifiers_of (x ∷ y ∷ z ∷ rest)) low (behind_modifiers (x ∷ y ∷ z ∷ rest)) high (modifiers_row low (x ∷ y ∷ z ∷ rest) high r)
 
-member_spread : (t : Table) (c : ℕ) (k : ClassSyntax) (n : ℕ) (x : Ast) → Full x → MemberSpreads t c k n (n + width x) (member_seen n x)
+pub member_spread : (t : Table) (c : ℕ) (k : ClassSyntax) (n : ℕ) (x : Ast) → Full x → MemberSpreads t c k n (n + width x) (member_seen n x)
 unfolding member_places
 member_spread t c k n (Leaf o) f = one_member t c k n (n + 1) (is_leaf kinds.Semicolon (Leaf o)) syntax.Member.Nothing syntax.Member.Unknown (none_spread n (n + 1) (omega arith)) (none_spread n (n + 1) (omega arith))
 member_spread t c k n (Node form.Block parts) f = block_spread n (Node form.Block parts) f
 member_spread t c k n (Node form.Member parts) f = in_spread t c k n (placed n parts) (n + widths parts) (placed_row n parts (parts_full parts f))
 member_spread t c k n (Node g parts) f = none_spread n (n + widths parts) (omega arith)
 
-members_spread : (t : Table) (c : ℕ) (k : ClassSyntax) (low : ℕ) (ps : Parts) (high : ℕ) → Row low ps high → Spread low high (flat_map (member_places t c k) (members_in ps))
+pub members_spread : (t : Table) (c : ℕ) (k : ClassSyntax) (low : ℕ) (ps : Parts) (high : ℕ) → Row low ps high → Spread low high (flat_map (member_places t c k) (members_in ps))
 unfolding members_in
 members_spread t c k low [] high r = none_spread low high r
 members_spread t c k low (p ∷ []) high r = none_spread low high (row_rises low (p ∷ []) high r)

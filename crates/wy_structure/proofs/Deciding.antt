@@ -15,19 +15,19 @@ use Rattle.wy_structure.proofs.Clear.{Clear, ClearPlace, ClearPart, ClearRow}
 use Rattle.wy_structure.proofs.Apart.{Apart, ApartAct, ApartOther, ApartAll, ApartCatches}
 use Rattle.wy_structure.proofs.ApartClasses.{ApartBody, ApartBodies}
 
-abbrev EachIn : {X : Type 0} → (X → Type 0) → List X → Type 0
+abbrev pub EachIn : {X : Type 0} → (X → Type 0) → List X → Type 0
 EachIn P xs = (x : _) → In x xs → P x
 
-both_in : {X : Type 0} (P : X → Type 0) (xs ys : List X) → EachIn P xs → EachIn P ys → EachIn P (xs ++ ys)
+pub both_in : {X : Type 0} (P : X → Type 0) (xs ys : List X) → EachIn P xs → EachIn P ys → EachIn P (xs ++ ys)
 both_in P [] ys h i x m = i x m
 both_in P (y ∷ xs) ys h i x (inl e) = h x (inl e)
 both_in P (y ∷ xs) ys h i x (inr m) = both_in P xs ys (λ z n. h z (inr n)) i x m
 
-head_in : {X : Type 0} (P : X → Type 0) (y : X) (ys : List X) → P y → EachIn P ys → EachIn P (y ∷ ys)
+pub head_in : {X : Type 0} (P : X → Type 0) (y : X) (ys : List X) → P y → EachIn P ys → EachIn P (y ∷ ys)
 head_in P y ys h i x (inl e) = subst P (sym e) h
 head_in P y ys h i x (inr m) = i x m
 
-none_in_it : {X : Type 0} (P : X → Type 0) → EachIn P []
+pub none_in_it : {X : Type 0} (P : X → Type 0) → EachIn P []
 none_in_it P x m = absurd m
 
 -- ---- expressions

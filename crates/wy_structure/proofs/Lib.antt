@@ -16,7 +16,6 @@ pub mod Tallies
 pub mod Numbered
 pub mod Productions
 pub mod Interfaces
-pub mod Texts
 pub mod Clear
 pub mod ClearMembers
 pub mod Elaborations
@@ -27,3 +26,7 @@ pub mod Seen
 pub mod SeenStatements
 pub mod SeenClasses
 pub mod TokenKinds
+pub mod Turns
+pub mod TurnClasses
+pub mod TurnTexts
+pub mod Texts

@@ -18,7 +18,7 @@ use Rattle.wy_statement.specs.Statements.{Setting}
 use Rattle.wy_library.specs.Library.{library_bodies, library_init_bodies}
 use Rattle.wy_elab_stmt.specs.Classes.{class_bodies}
 use Rattle.wy_elab_stmt.specs.Program.{Bodies, no_bodies, and_more, bodies_from, setting}
-use Rattle.wy_structure.specs.Numbers.{site_of, AreDense, numbers_from, AreInOrder}
+use Rattle.wy_structure.specs.Numbers.{site_of, AreDense, numbers_from}
 use Rattle.wy_structure.proofs.Yields.{Yields, given, then_found}
 use Rattle.wy_structure.proofs.Members.{none_in, head_or_behind}
 use Rattle.wy_structure.proofs.Elaborated.{MadeFrom}
@@ -54,10 +54,10 @@ before_is_less s t a b h k = grind (arith, nat_tests)
 key_before : (q p : Place) → stands_before q p ≡ nat_lt (key_of q) (key_of p)
 key_before q p = before_is_less q.site p.site (order_of q.role) (order_of p.role) (few_orders q.role) (few_orders p.role)
 
-abbrev keys : List Place → List ℕ
+abbrev pub keys : List Place → List ℕ
 keys qs = map key_of qs
 
-number_is : (all : List Place) (p : Place) → number_at all p ≡ 74 + rank (keys all) (key_of p)
+pub number_is : (all : List Place) (p : Place) → number_at all p ≡ 74 + rank (keys all) (key_of p)
 unfolding number_at
 number_is all p =
     ap (λ n. 74 + n) (sym (tally_is (λ q. stands_before q p) all) ∙ tally_alike (λ q. stands_before q p) (λ q. nat_lt (key_of q) (key_of p)) all (λ q m. key_before q p) ∙ sym (tally_map (λ x. nat_lt x (key_of p)) key_of all))
@@ -68,12 +68,12 @@ pub contains_in : {X : Type 0} (xs : List X) (x : X) → Contains xs x → In x 
 contains_in [] x c = none_in x c
 contains_in (y ∷ ys) x c = elim (head_or_behind y ys x c) [ inl e ↦ inl (sym e) | inr h ↦ inr (contains_in ys x h) ]
 
-in_map : {X Y : Type 0} (f : X → Y) (xs : List X) (x : X) → In x xs → In (f x) (map f xs)
+pub in_map : {X Y : Type 0} (f : X → Y) (xs : List X) (x : X) → In x xs → In (f x) (map f xs)
 in_map f [] x m = m
 in_map f (y ∷ ys) x (inl e) = inl (ap f e)
 in_map f (y ∷ ys) x (inr m) = inr (in_map f ys x m)
 
-map_in : {X Y : Type 0} (f : X → Y) (xs : List X) (y : Y) → In y (map f xs) → (x : X) × In x xs × (f x ≡ y)
+pub map_in : {X Y : Type 0} (f : X → Y) (xs : List X) (y : Y) → In y (map f xs) → (x : X) × In x xs × (f x ≡ y)
 map_in f [] y m = absurd m
 map_in f (x ∷ xs) y (inl e) = (x, inl refl, sym e)
 map_in f (x ∷ xs) y (inr m) = let found = map_in f xs y m in (found.0, inr found.1, found.2)
@@ -86,7 +86,7 @@ or_more : (b : Bool) (n : ℕ) → 1 ≤ n → 1 ≤ cond b 1 0 + n
 or_more true n e = omega arith
 or_more false n e = omega arith
 
-tally_in : {X : Type 0} (f : X → Bool) (xs : List X) (x : X) → In x xs → f x ≡ true → 1 ≤ tally f xs
+pub tally_in : {X : Type 0} (f : X → Bool) (xs : List X) (x : X) → In x xs → f x ≡ true → 1 ≤ tally f xs
 tally_in f [] x m e = absurd m
 tally_in f (y ∷ ys) x (inl i) e = one_more (f y) (tally f ys) (ap f (sym i) ∙ e)
 tally_in f (y ∷ ys) x (inr m) e = or_more (f y) (tally f ys) (tally_in f ys x m e)
@@ -104,7 +104,7 @@ in_tally {X} f (x ∷ xs) h = by (f x) refl h (in_tally f xs)
 same_key : (k x n : ℕ) → x ≡ k → 1 ≤ n → cond (k == x) 1 0 + n ≤ 1 → ⊥
 same_key k x n e h i = grind (arith, nat_tests)
 
-is_itself : (x : ℕ) → (x == x) ≡ true
+pub is_itself : (x : ℕ) → (x == x) ≡ true
 is_itself x = grind (arith, nat_tests)
 
 fewer : (b : Bool) (n : ℕ) → cond b 1 0 + n ≤ 1 → n ≤ 1
@@ -169,10 +169,10 @@ library_inits = no_statements builtin.classes
 
 -- ---- the numbers of a program
 
-number_of_mark : (s : Statement) → (mark_of s).0 ≡ number_of s
+pub number_of_mark : (s : Statement) → (mark_of s).0 ≡ number_of s
 number_of_mark (Stmt number site askable reach act) = refl
 
-site_of_mark : (s : Statement) → (mark_of s).1 ≡ site_of s
+pub site_of_mark : (s : Statement) → (mark_of s).1 ≡ site_of s
 site_of_mark (Stmt number site askable reach act) = refl
 
 -- as many statements have a number as places
@@ -246,22 +246,22 @@ one_each w is bs methods initializers h n less =
 abbrev HasPlace : Setting → Statement → Type 0
 HasPlace w s = (q : Place) × In (key_of q) (keys w.places) × (number_at w.places q ≡ number_of s) × (q.site ≡ site_of s)
 
-is_same : (q : Place) → has_key (key_of q) q ≡ true
+pub is_same : (q : Place) → has_key (key_of q) q ≡ true
 is_same q = is_itself (key_of q)
 
 two_numbers : (a b : ℕ) → (a == b) ≡ true → a ≡ b
 two_numbers a b e = grind (arith, nat_tests)
 
-key_among : (w : Setting) (n : ℕ) → 1 ≤ tally (has_key n) w.places → In n (keys w.places)
+pub key_among : (w : Setting) (n : ℕ) → 1 ≤ tally (has_key n) w.places → In n (keys w.places)
 key_among w n h =
     let found = in_tally (has_key n) w.places h in
     let P : ℕ → Type 0 = λ k. In k (keys w.places) in
     subst P (two_numbers (key_of found.0) n found.2) (in_map key_of w.places found.0 found.1)
 
-some_first : (a b all : ℕ) → all ≡ a + b → 1 ≤ a → 1 ≤ all
+pub some_first : (a b all : ℕ) → all ≡ a + b → 1 ≤ a → 1 ≤ all
 some_first a b all e h = omega arith
 
-some_second : (a b all : ℕ) → all ≡ a + b → 1 ≤ b → 1 ≤ all
+pub some_second : (a b all : ℕ) → all ≡ a + b → 1 ≤ b → 1 ≤ all
 some_second a b all e h = omega arith
 
 place_of : (w : Setting) (qs : List Place) (xs : List Statement) → Marked w qs xs → ((q : Place) → In q qs → In (key_of q) (keys w.places)) → (s : Statement) → In s xs → HasPlace w s
@@ -331,7 +331,7 @@ all_below w is bs methods initializers h s c = elim (Contains-append_cases (stat
 ]
 
 -- the bodies of a program, where its classes have different places and its interfaces no bodies
-stand : (unit : CompilationUnit) (p : Program) (m : MadeFrom unit p) (low high : ℕ) → ((t : Table) → Once low high (places_of t unit)) → AllBodiless (classes_of unit) →
+pub stand : (unit : CompilationUnit) (p : Program) (m : MadeFrom unit p) (low high : ℕ) → ((t : Table) → Once low high (places_of t unit)) → AllBodiless (classes_of unit) →
     Stand (setting m.judgement m.table unit) (all_initializers (classes_of unit)) (all_bodies m.table first_source_class (classes_of unit)) m.bodies.methods m.bodies.initializers
 stand unit p m low high once free =
     let all = (bodies_stand (setting m.judgement m.table unit) first_source_class (classes_of unit)).by m.texts m.after m.bodies m.made in
@@ -351,21 +351,4 @@ are_dense unit p m low high once free =
     subst AreDense m.is (record {
       each = λ n less. sym (tally_is (has_number n) _) ∙ one_each w is bs m.bodies.methods m.bodies.initializers h n less;
       below = all_below w is bs m.bodies.methods m.bodies.initializers h;
-    })
-
-pub are_in_order : (unit : CompilationUnit) (p : Program) → MadeFrom unit p → (low high : ℕ) → ((t : Table) → Once low high (places_of t unit)) → AllBodiless (classes_of unit) → AreInOrder p
-are_in_order unit p m low high once free =
-    let w = setting m.judgement m.table unit in
-    let h = stand unit p m low high once free in
-    let is = all_initializers (classes_of unit) in
-    let bs = all_bodies m.table first_source_class (classes_of unit) in
-    let place = has_place w is bs m.bodies.methods m.bodies.initializers h in
-    subst AreInOrder m.is (record {
-      bodies = m.bodies.methods;
-      initializers = m.bodies.initializers;
-      has_bodies = refl;
-      has_initializers = refl;
-      library = library_numbers;
-      behind = λ s c. placed_behind w s (place s c);
-      by_site = λ s t c d less. placed_by_site w s t (place s c) (place t d) less;
     })

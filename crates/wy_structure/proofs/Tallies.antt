@@ -54,7 +54,7 @@ second_only a = omega arith
 third_only : (a : ℕ) → a ≡ 0 + 0 + a
 third_only a = omega arith
 
-member_tally : (f : Place → Bool) (t : Table) (c : ℕ) (k : ClassSyntax) (m : Member) → tally f (member_places t c k m) ≡ tally f (static_places m) + tally f (instance_places m) + tally f (own_places t c k m)
+pub member_tally : (f : Place → Bool) (t : Table) (c : ℕ) (k : ClassSyntax) (m : Member) → tally f (member_places t c k m) ≡ tally f (static_places m) + tally f (instance_places m) + tally f (own_places t c k m)
 unfolding member_places
 member_tally f t c k (source.Initializer true b) = first_only (tally f (block_places b))
 member_tally f t c k (source.Initializer false b) = second_only (tally f (block_places b))
