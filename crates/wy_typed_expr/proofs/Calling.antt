@@ -322,7 +322,7 @@ module _ (p : Program) (constants : List (Option ConstantValue)) (j : Judgement)
       let lt : m.class < length p.classes = (all_at (IsMethodOf (length p.classes)) p.methods k m g.table.methods_in_range h.found).class in subst (λ x. x < length p.classes) h.own lt
 
   pub constructor_body : (c k : ℕ) (m : Method) (ms : List Meaning) → Constructs c k m ms → HasBody p k
-  constructor_body c k m ms h = body_of k m h.found (g.methods.never_abstract k m h.found (inl h.form))
+  constructor_body c k m ms h = body_of k m h.found (g.methods.never_abstract k m h.found (inl (inl h.form)))
 
   constructed_by : (c k : ℕ) (m : Method) (ms : List Meaning) (token : ℕ) (x y : Bool) → is_interface (slice_get p.classes c) ≡ false → is_abstract (slice_get p.classes c) ≡ y →
       Sound n (AllFit ms × Constructs c k m ms) Fit (if x then refuse Private token else (if y then refuse NotImplemented token else (brought_all m.params ms >>= λ es. give (Formed (New c (Some k) es token) (class_type c)))))

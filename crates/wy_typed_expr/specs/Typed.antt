@@ -1,6 +1,6 @@
 -- When what an expression becomes fits the types of a program: in a scope whose variables are the locals of the body, by a judgement that the table
 -- settles.
-use Rattle.std.specs.Prelude.{◌≡◌, ◌⊎◌, ◌↔◌, ℕ, ◌≤◌, true, false, List, length, Option, Some, Ok, codes, slice_get}
+use Rattle.std.specs.Prelude.{◌≡◌, ◌⊎◌, ◌↔◌, ℕ, ◌≤◌, true, false, List, [], length, Option, Some, Ok, codes, slice_get}
 use Rattle.std.specs.List.{All, AllByRecursion}
 use Rattle.wy_kernel.specs.declared.types.Ty.{Ty}
 use Rattle.wy_kernel.specs.declared.types.Ty.TheVariants.{Void}
@@ -13,7 +13,7 @@ use Rattle.wy_syntax.specs.Syntax.{Expression, Initial}
 use Rattle.wy_constant.specs.Scope.{Scope, Variable, FixedText}
 use Rattle.wy_elab_expr.specs.Operators.{Judgement, Settles}
 use Rattle.wy_elab_expr.specs.Elaboration.{Typed, typed, initialized}
-use Rattle.wy_typing.specs.Expressions.{HasType, Gives, IsMethod, HasBody}
+use Rattle.wy_typing.specs.Expressions.{HasType, Gives, IsMethod, HasBody, MakesReady}
 use Rattle.wy_typing.specs.Programs.{IsTypeIn}
 use Rattle.wy_typed_expr.specs.Written.{IsWritten, InitialWritten}
 
@@ -21,15 +21,17 @@ use Rattle.wy_typed_expr.specs.Written.{IsWritten, InitialWritten}
 abbrev pub table_of : Program → List (Option ConstantValue) → Table
 table_of p constants = record { classes = p.classes; methods = p.methods; fields = p.fields; constants = constants }
 
--- it has a body wherever it is written: a constructor, a static method, or one that is private (JLS 8.4.3, 8.4.7, 8.8)
+-- it has a body wherever it is written: a constructor, a class's instance initializers, a static method, or one that is private (JLS 8.4.3,
+-- 8.4.7, 8.6, 8.8)
 abbrev pub IsNeverAbstract : Method → Type 0
-IsNeverAbstract m = (m.form ≡ kind.Constructor) ⊎ (m.form ≡ kind.Static) ⊎ (m.is_private ≡ true)
+IsNeverAbstract m = MakesReady m.form ⊎ (m.form ≡ kind.Static) ⊎ (m.is_private ≡ true)
 
 -- what holds of the methods of a program whose declarations break no rule
 pub record MethodsFit (p : Program) : Type 0 where
   pub bodies : (k : ℕ) (m : Method) → IsMethod p k m → m.is_abstract ≡ false → HasBody p k
   pub never_abstract : (k : ℕ) (m : Method) → IsMethod p k m → IsNeverAbstract m → m.is_abstract ≡ false
   pub constructors : (k : ℕ) (m : Method) → IsMethod p k m → (m.name ≡ codes "new") ↔ (m.form ≡ kind.Constructor)
+  pub units : (k : ℕ) (m : Method) → IsMethod p k m → m.form ≡ kind.Fields → m.params ≡ []
 
 -- the variables of the scope are among the locals, and `this` is the first of them
 pub record Agrees (locals : List Ty) (s : Scope) : Type 0 where

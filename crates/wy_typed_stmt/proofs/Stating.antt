@@ -46,22 +46,22 @@ use Rattle.wy_typed_stmt.proofs.Steps.{Sure, all_behind}
 use Rattle.wy_typed_stmt.proofs.Numbers.{number_below, reach_among}
 use Rattle.wy_typed_stmt.proofs.Parting as parts
 
-of_contained : {X : Type 0} (P : X → Type 0) (xs : List X) (x : X) → AllByRecursion P xs → Contains xs x → P x
+pub of_contained : {X : Type 0} (P : X → Type 0) (xs : List X) (x : X) → AllByRecursion P xs → Contains xs x → P x
 of_contained P xs x h c = All-contains P xs x (All-from_recursion P xs h) c
 
 of_map : {X Y : Type 0} (P : Y → Type 0) (f : X → Y) (xs : List X) → AllByRecursion P (map f xs) → AllByRecursion (λ x. P (f x)) xs
 of_map P f [] h = tt
 of_map P f (x ∷ xs) h = (h.0, of_map P f xs h.1)
 
-of_front : {X : Type 0} (P : X → Type 0) (xs ys : List X) → AllByRecursion P (xs ++ ys) → AllByRecursion P xs
+pub of_front : {X : Type 0} (P : X → Type 0) (xs ys : List X) → AllByRecursion P (xs ++ ys) → AllByRecursion P xs
 of_front P [] ys h = tt
 of_front P (x ∷ xs) ys h = (h.0, of_front P xs ys h.1)
 
-of_back : {X : Type 0} (P : X → Type 0) (xs ys : List X) → AllByRecursion P (xs ++ ys) → AllByRecursion P ys
+pub of_back : {X : Type 0} (P : X → Type 0) (xs ys : List X) → AllByRecursion P (xs ++ ys) → AllByRecursion P ys
 of_back P [] ys h = h
 of_back P (x ∷ xs) ys h = of_back P xs ys h.1
 
-with_more : (p : Program) (ty : Ty) (k : ℕ) → IsTypeIn p ty → IsTypeIn p (with_brackets ty k)
+pub with_more : (p : Program) (ty : Ty) (k : ℕ) → IsTypeIn p ty → IsTypeIn p (with_brackets ty k)
 with_more p Void k h = h
 with_more p Null k h = h
 with_more p (Of (Named_class c) m) k h = record { variable = tt; known = h.known }
@@ -90,10 +90,10 @@ module _ (p : Program) (constants : List (Option ConstantValue)) (j : Judgement)
 
   -- ---- numbers
 
-  numbered : (site : ℕ) → Contains all (written site) → IsNumbered W (number w site)
+  pub numbered : (site : ℕ) → Contains all (written site) → IsNumbered W (number w site)
   numbered site h = let lt = number_below all (written site) h in omega (arith, lt, made.statements)
 
-  plain_typed : (site : ℕ) (askable : Bool) (act : kernel.Act) → Contains all (written site) → Acts W act → IsTyped W (plain w site askable act)
+  pub plain_typed : (site : ℕ) (askable : Bool) (act : kernel.Act) → Contains all (written site) → Acts W act → IsTyped W (plain w site askable act)
   plain_typed site askable act h k = (numbered site h, inl refl, k)
 
   abbrev LoopFits : Option Loop → Type 0
@@ -234,7 +234,7 @@ module _ (p : Program) (constants : List (Option ConstantValue)) (j : Judgement)
   type_sure ty = steps.expressed_sure p constants j L class has_this made.table made.settled made.methods (IsTypeIn p) (λ x. Unit {0}) (λ s. type_written T ty) (λ s texts. written_given ty texts) (λ s g c b. base_grows (length p.fixed_texts) ty.base ty.brackets ty.token)
 
   -- what an expression in a statement is made into
-  part_sure : {A : Type 0} {K H : Type 0} (Q : A → Type 0) (f : Scope → Gets A) → ((s : Scope) → Stands p constants j L s → s.class ≡ class → s.has_this ≡ has_this → Sound (length p.fixed_texts) (K × H) Q (f s)) → Surely K Nothing_known H Q (expressed f)
+  pub part_sure : {A : Type 0} {K H : Type 0} (Q : A → Type 0) (f : Scope → Gets A) → ((s : Scope) → Stands p constants j L s → s.class ≡ class → s.has_this ≡ has_this → Sound (length p.fixed_texts) (K × H) Q (f s)) → Surely K Nothing_known H Q (expressed f)
   part_sure Q f h = steps.expressed_sure p constants j L class has_this made.table made.settled made.methods Nothing_known Q f (λ s texts. nothing (f s texts)) h
     where
       nothing : {B : Type 0} (r : Result (B × List FixedText) Refusal) → steps.IsGiven p constants j L class has_this Nothing_known r
@@ -248,6 +248,13 @@ module _ (p : Program) (constants : List (Option ConstantValue)) (j : Judgement)
 
   none_known : {A : Type 0} {K H : Type 0} {R : A → Type 0} {Q : A → Type 0} (f : Makes A) → Surely K R H Q f → Surely K Nothing_known H Q f
   none_known {R = R} f h = record { keeps = λ y m i. forget R m (f m) (h.keeps y m i); grows = h.grows; finds = h.finds }
+
+  pub no_finding : {A : Type 0} {K H : Type 0} {R : A → Type 0} {Q : A → Type 0} (f : Makes A) → Surely K R H Q f → Surely K R H Nothing_known f
+  no_finding {Q = Q} f h = record { keeps = h.keeps; grows = h.grows; finds = λ y v m i. unfound Q (f m) (h.finds y v m i) }
+    where
+      unfound : {B : Type 0} (Q : B → Type 0) (r : Result (B × Making) Refusal) → steps.HasAt p constants j L class has_this Q r → steps.HasAt p constants j L class has_this Nothing_known r
+      unfound Q (Ok q) h = λ e lt. tt
+      unfound Q (Err e) h = tt
 
   -- ---- declarations
 

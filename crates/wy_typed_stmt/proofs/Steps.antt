@@ -32,7 +32,7 @@ get_last : {X : Type 0} (xs : List X) (x : X) → slice_get (xs ++ x ∷ []) (le
 get_last [] x = refl
 get_last (y ∷ xs) x = get_last xs x
 
-with_none : {X : Type 0} (xs : List X) → xs ++ [] ≡ xs
+pub with_none : {X : Type 0} (xs : List X) → xs ++ [] ≡ xs
 with_none [] = refl
 with_none (x ∷ xs) = ap (λ l. x ∷ l) (with_none xs)
 
@@ -60,7 +60,7 @@ all_with_last P f [] e h = tt
 all_with_last P f (x ∷ []) e h = (e x h.0, tt)
 all_with_last P f (x ∷ y ∷ rest) e h = (h.0, all_with_last P f (y ∷ rest) e h.1)
 
-types_behind : (ls : List Local) (l : Local) → types (ls ++ l ∷ []) ≡ types ls ++ l.ty ∷ []
+pub types_behind : (ls : List Local) (l : Local) → types (ls ++ l ∷ []) ≡ types ls ++ l.ty ∷ []
 types_behind [] l = refl
 types_behind (x ∷ ls) l = ap (λ k. x.ty ∷ k) (types_behind ls l)
 
@@ -114,7 +114,7 @@ module _ (p : Program) (constants : List (Option ConstantValue)) (j : Judgement)
     pub grows : K → (m : Making) → Inv m → Longer m (f m)
     pub finds : K → H → (m : Making) → Inv m → HasAt Q (f m)
 
-  earlier : (m after : Making) → Grown m after → Ends after → Ends m
+  pub earlier : (m after : Making) → Grown m after → Ends after → Ends m
   earlier m after h e = record { front = begins_again (types m.locals) (types after.locals) L h e.front; known = e.known }
 
   grown_more : {B : Type 0} (S : B → Type 0) (m m1 : Making) (r : Result (B × Making) Refusal) → Grown m m1 → After S m1 r → After S m r
@@ -175,7 +175,7 @@ module _ (p : Program) (constants : List (Option ConstantValue)) (j : Judgement)
 
   -- ---- expressions
 
-  agrees : (m : Making) → Inv m → Ends m → Agrees L m.scope
+  pub agrees : (m : Making) → Inv m → Ends m → Agrees L m.scope
   agrees m i e = record {
     variables = all_weaker (Among (types m.locals)) (Among L) m.scope.variables (λ v h. at_front v.number v.ty h) i.variables;
     own = λ h. at_front 0 (class_type m.scope.class) (i.own h);
