@@ -2,3 +2,4 @@ pub mod Types
 pub mod Expressions
 pub mod Statements
 pub mod Programs
+pub mod Laws
