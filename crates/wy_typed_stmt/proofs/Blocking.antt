@@ -45,6 +45,17 @@ at_end p constants j class has_this Q f m after x h i e lt =
     let known = kept.0.known in
     (subst R e (S.finds tt tt m (i L)) (record { front = begins_self L; known = known }) lt, known, kept.1)
 
+-- no text is lost up to the end
+pub grown_at_end : {A : Type 0} (p : Program) (constants : List (Option ConstantValue)) (j : Judgement) (class : ℕ) (has_this : Bool) (Q : List Ty → A → Type 0) (f : Makes A) (m after : Making) (x : A) →
+    ((L : List Ty) → Sure p constants j L class has_this Unit (λ y. Unit {0}) Unit (Q L) f) → ((L : List Ty) → steps.Inv p constants j L class has_this m) → f m ≡ Ok (x, after) → length m.texts ≤ length after.texts
+grown_at_end {A} p constants j class has_this Q f m after x h i e =
+    let L : List Ty = types after.locals in
+    let S = h L in
+    let P : Result (A × Making) Refusal → Type 0 = λ r. steps.After p constants j L class has_this (λ y. Unit {0}) m r in
+    let R : Result (A × Making) Refusal → Type 0 = λ r. steps.Longer p constants j L class has_this m r in
+    let kept = subst P e (S.keeps tt m (i L)) in
+    subst R e (S.grows tt m (i L)) (record { front = begins_self L; known = kept.0.known })
+
 pub blocks_are_typed : BlocksAreTyped
 unfolding begun
 blocks_are_typed p constants j all outcome class has_this site n b x after made fits ok places known e lt =

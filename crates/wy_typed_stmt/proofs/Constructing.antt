@@ -44,7 +44,7 @@ use Rattle.wy_typed_stmt.proofs.Steps.{Sure}
 use Rattle.wy_typed_stmt.proofs.Numbers.{number_below}
 use Rattle.wy_typed_stmt.proofs.Parting as parts
 use Rattle.wy_typed_stmt.proofs.Stating as stating
-use Rattle.wy_typed_stmt.proofs.Blocking.{begun_inv, at_end}
+use Rattle.wy_typed_stmt.proofs.Blocking.{begun_inv, at_end, grown_at_end}
 use Rattle.wy_typed_stmt.proofs.Embodying as whole
 
 no_row : {X : Type 0} (xs : List X) (c : ℕ) → slice_get xs c ≡ None → length xs ≤ c
@@ -255,6 +255,26 @@ module _ (p : Program) (constants : List (Option ConstantValue)) (j : Judgement)
       (λ L. implied_sure L k places here) (λ L. begun_inv p constants j L c true site texts (whole.begun_known p constants j all made c true site lt)) e fit in
       let P : List Ty → Type 0 = λ l. steps.BeginsAt (types after.locals) l in
       record { locals = block.1; begins = subst P (whole.begun_types p constants j all made c true site texts) block.2; block = block.0 }
+
+  pub constructor_grown : (k : ClassSyntax) (site : ℕ) (h : Header) (own : Option OwnCall) (brace : ℕ) (parts : Statements) (texts : List FixedText) (x : kernel.Statement) (after : Making) → c < length p.classes → CallWritten own → AllWritten parts →
+      AreAmong all (standing.first_calls T c k h.name.token own) → AreAmong all (written brace ∷ all_places parts) →
+      constructor_block w c k h own brace parts (with_texts (begun c true site) texts) ≡ Ok (x, after) → length texts ≤ length after.texts
+  unfolding constructor_block
+  constructor_grown k site h own brace parts texts x after lt ok good places here e =
+      let m : Making = with_texts (begun c true site) texts in
+      let d = whole.made_on (λ ps. Rest [] k h.name.token own brace parts) (parameters w h.params m) (x, after) e in
+      let begin : (L : List Ty) → steps.Inv p constants j L c true m = λ L. begun_inv p constants j L c true site texts (whole.begun_known p constants j all made c true site lt) in
+      let at_params : (L : List Ty) → steps.Inv p constants j L c true d.0.1 = λ L. whole.kept_by p constants j all made L c true (λ y. Unit {0}) (parameters w h.params) m d.0 (whole.parameters_sure p constants j all made L c true h.params) (begin L) d.1 in
+      let in_params = grown_at_end p constants j c true (λ L y. Unit {0}) (parameters w h.params) m d.0.1 d.0.0 (λ L. whole.parameters_sure p constants j all made L c true h.params) begin d.1 in
+      let in_rest = grown_at_end p constants j c true (λ L. stating.TypedIn p constants j all L c true NoValue made tt) (Rest [] k h.name.token own brace parts) d.0.1 after x
+      (λ L. rest_sure L k h.name.token own brace parts ok good places here) at_params d.2 in
+      omega (arith, in_params, in_rest)
+
+  pub implied_grown : (k : ClassSyntax) (site : ℕ) (texts : List FixedText) (x : kernel.Statement) (after : Making) → c < length p.classes → AreAmong all (standing.first_calls T c k k.name.token None) → Contains all (at k.name.token ConstructorBody) →
+      implied_constructor_block w c k (with_texts (begun c true site) texts) ≡ Ok (x, after) → length texts ≤ length after.texts
+  implied_grown k site texts x after lt places here e =
+      grown_at_end p constants j c true (λ L. stating.TypedIn p constants j all L c true NoValue made tt) (implied_constructor_block w c k) (with_texts (begun c true site) texts) after x
+      (λ L. implied_sure L k places here) (λ L. begun_inv p constants j L c true site texts (whole.begun_known p constants j all made c true site lt)) e
 
 pub constructors_are_typed : ConstructorsAreTyped
 constructors_are_typed p constants j all c k site h own brace parts texts x after end made lt ok good places here e fit =

@@ -1,5 +1,5 @@
 -- Whole bodies, by their headers.
-use Rattle.std.proofs.Common.{◌≡◌, ℕ, ◌+◌, ◌<◌, ◌≤◌, Bool, true, false, refl, sym, ◌∙◌, ap, subst, List, [], ◌∷◌, ◌++◌, length, Option, Some, None, Result, Ok, Err, append_assoc}
+use Rattle.std.proofs.Common.{arith, ◌≡◌, ℕ, ◌+◌, ◌<◌, ◌≤◌, Bool, true, false, refl, sym, ◌∙◌, ap, subst, List, [], ◌∷◌, ◌++◌, length, Option, Some, None, Result, Ok, Err, append_assoc}
 use Rattle.std.specs.List.{All}
 use Rattle.std.proofs.lemmas.List.Elements.{All-nil, All-cons}
 use Rattle.wy_kernel.specs.declared.types.Base.{Base}
@@ -33,7 +33,7 @@ use Rattle.wy_typed_stmt.specs.Written.{BlockWritten}
 use Rattle.wy_typed_stmt.proofs.Steps as steps
 use Rattle.wy_typed_stmt.proofs.Steps.{Sure, types_behind}
 use Rattle.wy_typed_stmt.proofs.Stating as stating
-use Rattle.wy_typed_stmt.proofs.Blocking.{begun_inv, at_end}
+use Rattle.wy_typed_stmt.proofs.Blocking.{begun_inv, at_end, grown_at_end}
 
 -- what was made last, and what was made before it
 pub made_on : {A B : Type 0} (k : A → Makes B) (r : Result (A × Making) Refusal) (z : B × Making) → onward k r ≡ Ok z → (q : A × Making) × (r ≡ Ok q) × (k q.0 q.1 ≡ Ok z)
@@ -185,6 +185,24 @@ module _ (p : Program) (constants : List (Option ConstantValue)) (j : Judgement)
       let first : types d.0.1.locals ≡ this_of has_this c ++ ps.0 = ps.2 ∙ ap (λ (y : Making). types y.locals ++ ps.0) o.4 ∙ ap (λ (l : List Ty). l ++ ps.0) (begun_types c has_this site texts) in
       let P : Option Ty → Type 0 = λ r. IsBody p (this_of has_this c ++ ps.0) r (body_of x after end) in
       (ps.0, o.0, ps.1, o.1, subst P o.3 (record { locals = made_block.1; begins = begins_with (types after.locals) (types d.0.1.locals) (this_of has_this c) ps.0 made_block.2 first; block = made_block.0 }))
+
+  pub method_grown : (c : ℕ) (has_this : Bool) (site : ℕ) (h : Header) (result : Option WrittenType) (b : Braced) (texts : List FixedText) (x : kernel.Statement) (after : Making) → c < length p.classes → BlockWritten b → AreAmong all (block_places b) →
+      method_block w h result b (with_texts (begun c has_this site) texts) ≡ Ok (x, after) → length texts ≤ length after.texts
+  unfolding method_block
+  method_grown c has_this site h result b texts x after lt ok places e =
+      let m : Making = with_texts (begun c has_this site) texts in
+      let a = made_on (λ o. parameters w h.params >>= λ ps. block w (alone (number w (brace_of b)) o) b) (outcome_of w result m) (x, after) e in
+      let o = outcome_made result m a.0 a.1 in
+      let d = made_on (λ ps. block w (alone (number w (brace_of b)) a.0.0) b) (parameters w h.params a.0.1) (x, after) a.2 in
+      let kept : (L : List Ty) → Keeps L c has_this m = λ L. begun_inv p constants j L c has_this site texts (begun_known c has_this site lt) in
+      let moved : (L : List Ty) → Keeps L c has_this a.0.1 = λ L. (let P : Making → Type 0 = λ y. Keeps L c has_this y in subst P (sym o.4) (kept L)) in
+      let at : (L : List Ty) → Keeps L c has_this d.0.1 = λ L. kept_by L c has_this (λ y. Unit {0}) (parameters w h.params) a.0.1 d.0 (parameters_sure L c has_this h.params) (moved L) d.1 in
+      let in_params = grown_at_end p constants j c has_this (λ L y. Unit {0}) (parameters w h.params) a.0.1 d.0.1 d.0.0 (λ L. parameters_sure L c has_this h.params) moved d.1 in
+      let in_block' = grown_at_end p constants j c has_this (λ L. stating.TypedIn p constants j all L c has_this a.0.0 made o.2) (block w (alone (number w (brace_of b)) a.0.0) b) d.0.1 after x
+      (λ L. stating.blocked p constants j all L c has_this a.0.0 made o.2 (alone (number w (brace_of b)) a.0.0) b (stating.alone_fits p constants j all L c has_this a.0.0 made o.2 (number w (brace_of b))) places ok)
+      at d.2 in
+      let start = ap (λ (y : Making). length y.texts) o.4 in
+      omega (arith, in_params, in_block', start)
 
 pub methods_are_typed : MethodsAreTyped
 methods_are_typed p constants j all c has_this site h result b texts x after end made lt ok places e fit =
