@@ -1,0 +1,5 @@
+pub mod Written
+pub mod Standing
+pub mod Missteps
+pub mod Members
+pub mod Laws
