@@ -11,3 +11,7 @@ pub mod Created
 pub mod Parts
 pub mod Refused
 pub mod Exact
+pub mod Likewise
+pub mod LikeForms
+pub mod LikeFields
+pub mod Once

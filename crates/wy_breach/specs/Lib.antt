@@ -2,4 +2,5 @@ pub mod Operands
 pub mod Found
 pub mod Calls
 pub mod Ways
+pub mod Alike
 pub mod Laws

@@ -2,6 +2,7 @@
 //! words of the Java Language Specification. The functions do nothing: their contracts are the laws.
 #![tactic(auto)]
 
+ghost use Rattle.wy_breach.specs.Alike.{IsDenotedOnce, IsFoundOnce, IsRefusedAlways};
 ghost use Rattle.wy_breach.specs.Laws.{AssignmentsAreExact, BinaryIsExact, CastsAreExact, ChoicesAreExact, RefusalsAreDue, RulesAreEnough, UnaryIsExact, UpdatesAreExact};
 
 /// Where an expression is refused, an expression that stands in it breaks the rule at the token. So one that breaks no rule is not refused.
@@ -18,4 +19,11 @@ pub fn operands_are_exact()
     ensures binary { BinaryIsExact }
     ensures updates { UpdatesAreExact }
     ensures choices { ChoicesAreExact }
+{}
+
+/// What an expression is found to be, which variable it denotes and whether it is refused does not depend on the texts of other expressions.
+pub fn what_is_found_is_one()
+    ensures found { IsFoundOnce }
+    ensures denoted { IsDenotedOnce }
+    ensures refused { IsRefusedAlways }
 {}
