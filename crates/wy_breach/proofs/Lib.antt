@@ -15,3 +15,4 @@ pub mod Likewise
 pub mod LikeForms
 pub mod LikeFields
 pub mod Once
+pub mod Silent

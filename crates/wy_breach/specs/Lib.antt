@@ -3,4 +3,5 @@ pub mod Found
 pub mod Calls
 pub mod Ways
 pub mod Alike
+pub mod Quiet
 pub mod Laws

@@ -4,6 +4,7 @@
 
 ghost use Rattle.wy_breach.specs.Alike.{IsDenotedOnce, IsFoundOnce, IsRefusedAlways};
 ghost use Rattle.wy_breach.specs.Laws.{AssignmentsAreExact, BinaryIsExact, CastsAreExact, ChoicesAreExact, RefusalsAreDue, RulesAreEnough, UnaryIsExact, UpdatesAreExact};
+ghost use Rattle.wy_breach.specs.Quiet.{QuietFormsBreakNothing};
 
 /// Where an expression is refused, an expression that stands in it breaks the rule at the token. So one that breaks no rule is not refused.
 pub fn refusals_are_due()
@@ -26,4 +27,9 @@ pub fn what_is_found_is_one()
     ensures found { IsFoundOnce }
     ensures denoted { IsDenotedOnce }
     ensures refused { IsRefusedAlways }
+{}
+
+/// Literals and parentheses break no rule themselves; neither does what is no expression, so that the laws above ask for wholes.
+pub fn quiet_forms_break_nothing()
+    ensures { QuietFormsBreakNothing }
 {}
