@@ -24,7 +24,7 @@ use Rattle.wy_elab_stmt.specs.Elaborates.{Elaborates, by_declarations, by_bodies
 use Rattle.wy_breach.proofs.Walk.{Only, only_give, only_bind, only_weaker}
 use Rattle.wy_breach_unit.specs.Units.{IsWrittenClass, IsWrittenUnit, IsBrokenClass, HasNoMain, IsBrokenUnit}
 use Rattle.wy_breach_unit.specs.Units as units
-use Rattle.wy_breach_unit.specs.Laws.{ProgramRefusalsAreDue}
+use Rattle.wy_breach_unit.specs.Laws.{ProgramRefusalsAreDue, UnbrokenProgramsAreAccepted}
 use Rattle.wy_breach_unit.proofs.Classes.{class_only}
 use Rattle.wy_breach_unit.proofs.Main.{no_main_found}
 
@@ -100,3 +100,7 @@ due_by unit tokens _ x written (by_bodies t j keeps is_table settles) e = progra
 
 pub due : ProgramRefusalsAreDue
 due unit tokens rule token written h = due_by unit tokens (Err (refused rule token)) (refused rule token) written h refl
+
+pub accepted : UnbrokenProgramsAreAccepted
+accepted unit tokens (Ok p) written unbroken h = (p, refl)
+accepted unit tokens (Err x) written unbroken h = absurd (unbroken x.rule x.token (due_by unit tokens (Err x) x written h refl))

@@ -2,9 +2,10 @@
 //! nothing: its contract is the law.
 #![tactic(auto)]
 
-ghost use Rattle.wy_breach_unit.specs.Laws.{ProgramRefusalsAreDue};
+ghost use Rattle.wy_breach_unit.specs.Laws.{ProgramRefusalsAreDue, UnbrokenProgramsAreAccepted};
 
-/// Where a program is refused, something in it breaks the rule at the token.
+/// Where a program is refused, something in it breaks the rule at the token. So one in which nothing does is accepted.
 pub fn program_refusals_are_due()
-    ensures { ProgramRefusalsAreDue }
+    ensures due { ProgramRefusalsAreDue }
+    ensures accepted { UnbrokenProgramsAreAccepted }
 {}

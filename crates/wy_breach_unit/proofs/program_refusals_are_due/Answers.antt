@@ -1,5 +1,5 @@
-use Rattle.wy_breach_unit.proofs.Programs.{due}
+use Rattle.wy_breach_unit.proofs.Programs.{due, accepted}
 use Rattle.wy_breach_unit.proofs.program_refusals_are_due.Goals as goal
 
 pub returns : goal.returns
-returns c = due
+returns c = record { due = due; accepted = accepted }
