@@ -30,3 +30,6 @@ pub mod Turns
 pub mod TurnClasses
 pub mod TurnTexts
 pub mod Texts
+pub mod Far
+pub mod FarBodies
+pub mod FarPrograms

@@ -3,3 +3,4 @@ pub mod Jumps
 pub mod Reaches
 pub mod Numbers
 pub mod Sites
+pub mod Outermost

@@ -20,7 +20,7 @@ abbrev pub numbers_from : ℕ → ℕ → List ℕ
 numbers_from n zero = []
 numbers_from n (suc more) = n ∷ numbers_from (n + 1) more
 
--- a statement of the site of another has the less number
+-- where both have one site, the first has the less number
 abbrev pub ComesFirst : Statement → Statement → Type 0
 ComesFirst s t = site_of s ≡ site_of t → number_of s < number_of t
 

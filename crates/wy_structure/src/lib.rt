@@ -11,6 +11,7 @@ ghost use Rattle.wy_elab_stmt.specs.Elaborates.{Elaborates};
 ghost use Rattle.wy_structure.specs.Numbers.{AreDense, AreInOrder};
 ghost use Rattle.wy_structure.specs.Jumps.{AllJumpsGoOut};
 ghost use Rattle.wy_structure.specs.Reaches.{AllReach};
+ghost use Rattle.wy_structure.specs.Outermost.{AllTestsReachAsFar};
 ghost use Rattle.wy_structure.specs.Sites.{TestsStandApart};
 
 /// The numbers of a program's statements are those below their count, and each is the number of one statement.
@@ -33,6 +34,12 @@ pub fn jumps_go_out()
 /// test has no reach.
 pub fn tests_reach_out()
     ensures { (unit : CompilationUnit) (count : ℕ) (p : Program) → Elaborates unit count (Ok p) → AllReach p }
+{}
+
+/// The test of a statement reaches to the end of the outermost statement around it that a jump in its guarded part goes to, and to
+/// its own end where none does.
+pub fn tests_reach_as_far_as_jumps_lead()
+    ensures { (unit : CompilationUnit) (count : ℕ) (p : Program) → Elaborates unit count (Ok p) → AllTestsReachAsFar p }
 {}
 
 /// No `&&`, `||` or `?:` has the site of a statement with a test: the one has that of its sign, the other that of its word.
