@@ -20,7 +20,7 @@ class Main {
   public static void main(String[] args) {
 ";
 
-static ROWS: [(&str, &str); 20] = [
+static ROWS: [(&str, &str); 24] = [
     ("int x = 2 + 3 * 4;", "Eval: (= l1 14)\n"),
     (
         "long x = 5; x = 'a';",
@@ -218,6 +218,68 @@ Eval: (= l4 null)
 Eval: (chosen #20 m39 l4)
 Eval: (= l3 (chosen #20 m0 l4))
 Eval: (= l3 (++ int #1 (ArrayLength l0) (chosen #0 m0 l3)))
+",
+    ),
+    (
+        "boolean t = args == null; byte b = 1; short s = 2; int i = t ? (byte) 1 : 'a'; b = t ? 1 : b;
+i = t ? s : 70000; System.out.println(t ? 1 : 'a'); System.out.println(true ? 1 : 'a'); i = true ? b : 5;",
+        "Eval: (= l1 (== l0 null))
+Eval: (= l2 1b)
+Eval: (= l3 2s)
+Eval: (= l4 (? l1 1 97))
+Eval: (= l2 (? l1 1b l2))
+Eval: (= l4 (? l1 (to int l3) 70000))
+Print: (? l1 1c 97c) char line
+Print: 1c char line
+Eval: (= l4 (to int (? true l2 5b)))
+",
+    ),
+    (
+        "int i = 1 << 33; i = -7 % 3; byte b = (byte) 200; char c = (char) 97; boolean t = false && 1 / 0 == 1;
+String s = \"\" + 'c' + 1L + (short) 2; s = (String) s; Object o = (Object) \"a\"; final long L = 5; b = (byte) L;
+final byte B = 5; c = B; final int D = 1, E = D + 1; i = E; t = \"a\" != \"b\";",
+        "Eval: (= l1 2)
+Eval: (= l1 -1)
+Eval: (= l2 -56b)
+Eval: (= l3 97c)
+Eval: (= l4 (&& false (== (/ 1 0) 1) -))
+Eval: (= l5 $1)
+Eval: (= l5 (cast #1 l5))
+Eval: (= l6 (cast #0 $2))
+Eval: (= l7 5L)
+Eval: (= l2 5b)
+Eval: (= l8 5b)
+Eval: (= l3 5c)
+Eval: (= l9 1)
+Eval: (= l10 2)
+Eval: (= l1 2)
+Eval: (= l4 true)
+",
+    ),
+    (
+        "Object o = args; String s = o.toString(); boolean t = args.equals(s); s = args.toString(); t = \"a\".equals(null);
+Exception e = new Error() == null ? null : new RuntimeException(\"m\"); s = e.getMessage() + e.toString(); t = e.equals(o);
+System.out.println(e);",
+        "Eval: (= l1 l0)
+Eval: (= l2 (chosen #0 m0 l1))
+Eval: (= l3 (chosen #1[] m1 l0 l2))
+Eval: (= l2 (chosen #1[] m0 l0))
+Eval: (= l3 (Same $1 null))
+Eval: (= l4 (? (== (new #4 m8) null) null (new #5 m11 $2)))
+Eval: (= l2 (++ #1 #1 (chosen #3 m4 l4) (chosen #3 m5 l4)))
+Eval: (= l3 (chosen #3 m1 l4 l1))
+Print: l4 #3 line
+",
+    ),
+    (
+        "B b = new B(); b.n = 1; B.made = 2; A a = b; int i = b.n + B.made; boolean t = a == b; t = a instanceof B;",
+        "Eval: (= l1 (new #19 m37))
+Eval: (= (f1 l1) 1)
+Eval: (= s2 2)
+Eval: (= l2 l1)
+Eval: (= l3 (+ (f1 l1) s2))
+Eval: (= l4 (== l2 l1))
+Eval: (= l4 (is #19 l2))
 ",
     ),
 ];
