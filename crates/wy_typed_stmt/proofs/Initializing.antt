@@ -68,7 +68,7 @@ module _ (p : Program) (constants : List (Option ConstantValue)) (j : Judgement)
   abbrev w : Setting
   w = setting p constants j all
 
-  abbrev W : Within
+  abbrev pub W : Within
   W = stating.W p constants j all L c has_this NoReturn made tt
 
   abbrev Surely : {A : Type 0} → Type 0 → (A → Type 0) → Type 0 → (A → Type 0) → Makes A → Type 0

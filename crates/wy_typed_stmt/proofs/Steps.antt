@@ -39,7 +39,7 @@ with_none (x ∷ xs) = ap (λ l. x ∷ l) (with_none xs)
 pub begins_self : {X : Type 0} (xs : List X) → BeginsWith xs xs
 begins_self xs = ([], sym (with_none xs))
 
-begins_again : {X : Type 0} (xs ys zs : List X) → BeginsWith ys xs → BeginsWith zs ys → BeginsWith zs xs
+pub begins_again : {X : Type 0} (xs ys zs : List X) → BeginsWith ys xs → BeginsWith zs ys → BeginsWith zs xs
 begins_again xs ys zs (a, e) (b, f) = (a ++ b, f ∙ ap (λ l. l ++ b) e ∙ append_assoc xs a b)
 
 all_taken : {X : Type 0} (P : X → Type 0) (n : ℕ) (xs : List X) → AllByRecursion P xs → AllByRecursion P (take n xs)
