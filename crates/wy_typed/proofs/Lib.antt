@@ -1,2 +1,4 @@
 pub mod Growing
 pub mod Members
+pub mod Rows
+pub mod Bodies

@@ -286,5 +286,15 @@ module _ (p : Program) (constants : List (Option ConstantValue)) (j : Judgement)
         initializer_fits = implied_typed false InitializerBody d.0.0.initializer (length d.0.1) stands.initializer ms.growth.initializer less;
       }) lt
 
+  -- no text is lost in a class
+  pub class_grown : (texts after : List FixedText) (x : ClassBodies) → of_class w c k texts ≡ Ok (x, after) → length texts ≤ length after
+  class_grown texts after x e =
+      let a = found_on (λ implied. members w c k (none_yet c k) k.members >>= λ g. meaning.give (finished w k implied g)) (implied_constructor w c k texts) (x, after) e in
+      let d = found_on (λ g. meaning.give (finished w k a.0.0 g)) (members w c k (none_yet c k) k.members a.0.1) (x, after) a.2 in
+      let implied = implied_done texts a.0 a.1 in
+      let ms = members_done k.members (none_yet c k) a.0.1 d.0 stands.members (record { initializer = start_fits false a.0.1; fields = start_fits true a.0.1 }) d.1 in
+      let same = ap (λ (z : ClassBodies × List FixedText). length z.1) (one_found (finished w k a.0.0 d.0.0, d.0.1) (x, after) _ refl d.2) in
+      omega (arith, implied.grows, ms.grows, same)
+
 pub classes_are_typed : ClassesAreTyped
 classes_are_typed p constants j all c k texts after x made stands e lt = class_typed p constants j all c k made stands texts after x e lt

@@ -1,12 +1,25 @@
-//! What the bodies of a class become fits the types of the program.
-//! The function does nothing: its contract is the law.
+//! What the bodies of a text become fits the types of the program.
+//! The functions do nothing: their contracts are the laws.
 #![tactic(auto)]
 
 ghost use Rattle.wy_typed.specs.Classes.{ClassesAreTyped};
+ghost use Rattle.wy_typed.specs.Rows.{BodiesFitRows, BodiesAreTyped};
 
 /// The bodies of a class's methods and constructors, those that it declares and the one that it doesn't, begin with the
 /// locals that their headers say and give back what these say; its instance initializers and its initializer give nothing
 /// back; and the forms of each body fit these types.
 pub fn what_a_class_becomes_fits_its_types()
     ensures { ClassesAreTyped }
+{}
+
+/// The bodies of a class stand side by side with its methods in the table: each fits its method, and a method without a
+/// body is abstract.
+pub fn the_bodies_of_a_class_fit_its_methods()
+    ensures { BodiesFitRows }
+{}
+
+/// The bodies of all classes and interfaces of a text stand side by side with their methods in the table, and each fits its
+/// method.
+pub fn the_bodies_of_a_text_fit_its_methods()
+    ensures { BodiesAreTyped }
 {}
