@@ -2,3 +2,4 @@ pub mod Growing
 pub mod Members
 pub mod Rows
 pub mod Bodies
+pub mod Shapes

@@ -4,6 +4,7 @@
 
 ghost use Rattle.wy_typed.specs.Classes.{ClassesAreTyped};
 ghost use Rattle.wy_typed.specs.Rows.{BodiesFitRows, BodiesAreTyped};
+ghost use Rattle.wy_typed.specs.Shapes.{BodiesStand};
 
 /// The bodies of a class's methods and constructors, those that it declares and the one that it doesn't, begin with the
 /// locals that their headers say and give back what these say; its instance initializers and its initializer give nothing
@@ -22,4 +23,10 @@ pub fn the_bodies_of_a_class_fit_its_methods()
 /// method.
 pub fn the_bodies_of_a_text_fit_its_methods()
     ensures { BodiesAreTyped }
+{}
+
+/// The bodies of a text have a place for each method of its table, in their order, and a method that isn't abstract has a
+/// body.
+pub fn each_method_that_is_not_abstract_has_a_body()
+    ensures { BodiesStand }
 {}
