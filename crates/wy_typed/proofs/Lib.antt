@@ -3,3 +3,4 @@ pub mod Members
 pub mod Rows
 pub mod Bodies
 pub mod Shapes
+pub mod Programs

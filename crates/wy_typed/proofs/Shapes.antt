@@ -24,7 +24,7 @@ use Rattle.wy_typed.specs.Rows.{MayLackBody, IsHeader, rows_from}
 use Rattle.wy_typed.specs.Shapes.{RowsStand, DeclarationKeeps, AllKeep, BodiesStand}
 use Rattle.wy_typed.proofs.Growing.{found_on, one_found}
 
-join : (ms ns : List Method) (bs cs : List (Option Body)) → RowsStand ms bs → RowsStand ns cs → RowsStand (ms ++ ns) (bs ++ cs)
+pub join : (ms ns : List Method) (bs cs : List (Option Body)) → RowsStand ms bs → RowsStand ns cs → RowsStand (ms ++ ns) (bs ++ cs)
 join [] ns [] cs h k = k
 join (m ∷ ms) ns (b ∷ bs) cs h k = (h.0, join ms ns bs cs h.1 k)
 join [] ns (b ∷ bs) cs h k = absurd h

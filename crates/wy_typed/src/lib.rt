@@ -3,6 +3,7 @@
 #![tactic(auto)]
 
 ghost use Rattle.wy_typed.specs.Classes.{ClassesAreTyped};
+ghost use Rattle.wy_typed.specs.Programs.{MethodsHaveBodies, ProgramsAreTyped};
 ghost use Rattle.wy_typed.specs.Rows.{BodiesFitRows, BodiesAreTyped};
 ghost use Rattle.wy_typed.specs.Shapes.{BodiesStand};
 
@@ -29,4 +30,11 @@ pub fn the_bodies_of_a_text_fit_its_methods()
 /// body.
 pub fn each_method_that_is_not_abstract_has_a_body()
     ensures { BodiesStand }
+{}
+
+/// In the program that a text becomes each method that isn't abstract has a body, and each body, of the library or of the
+/// text, fits its method; the initializers give nothing back.
+pub fn what_a_text_becomes_fits_its_types()
+    ensures bodies { MethodsHaveBodies }
+    ensures types { ProgramsAreTyped }
 {}
