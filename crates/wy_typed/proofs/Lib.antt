@@ -4,3 +4,4 @@ pub mod Rows
 pub mod Bodies
 pub mod Shapes
 pub mod Programs
+pub mod Names

@@ -3,7 +3,7 @@ use Rattle.std.specs.Prelude.{◌≡◌, ◌++◌, ℕ, false, [], Some, None, O
 use Rattle.wy_kernel.specs.Program.{Program, Method, Body, first_source_class}
 use Rattle.wy_kernel.specs.Table.{Table}
 use Rattle.wy_kernel.specs.Builtin as builtin
-use Rattle.wy_members.specs.Declarations.{CompilationUnit, classes_of}
+use Rattle.wy_members.specs.Declarations.{CompilationUnit, classes_of, table}
 use Rattle.wy_elab_expr.specs.Operators.{Judgement}
 use Rattle.wy_statement.specs.Places.{places_of}
 use Rattle.wy_elab_stmt.specs.Program.{program}
@@ -33,3 +33,7 @@ abbrev pub ProgramsAreTyped : Type 0
 ProgramsAreTyped =
     (j : Judgement) (t : Table) (unit : CompilationUnit) (tokens : ℕ) (p : Program) → HasRows t unit → HasLibrary p → Makes p t.constants j (places_of t unit) → NamesAgree p unit
     → AllStand p t.constants (places_of t unit) first_source_class (classes_of unit) → program j t unit tokens ≡ Ok p → BodiesFit p
+
+-- the table of a text has these methods
+abbrev pub TablesHaveRows : Type 0
+TablesHaveRows = (t : Table) (unit : CompilationUnit) → t.methods ≡ (table unit).methods → HasRows t unit

@@ -5,7 +5,7 @@ use Rattle.wy_kernel.specs.Program.{Program, Method, Body}
 use Rattle.wy_syntax.specs.Syntax.{Member, ClassSyntax}
 use Rattle.wy_syntax.specs.Syntax as source
 use Rattle.wy_constant.specs.Fields.{class_named}
-use Rattle.wy_members.specs.Declarations.{CompilationUnit, denoted, is_abstract_in, methods_of}
+use Rattle.wy_members.specs.Declarations.{CompilationUnit, denoted, is_abstract_in, methods_of, table}
 use Rattle.wy_kernel.specs.Table.{ConstantValue}
 use Rattle.wy_constant.specs.Scope.{FixedText}
 use Rattle.wy_elab_expr.specs.Operators.{Judgement}
@@ -73,3 +73,7 @@ BodiesAreTyped =
     (p : Program) (constants : List (Option ConstantValue)) (j : Judgement) (all : List Place) (unit : CompilationUnit) (c : ℕ) (ks : List ClassSyntax) (texts after : List FixedText) (x : Bodies)
     → Makes p constants j all → NamesAgree p unit → AllStand p constants all c ks → bodies_from (setting p constants j all) c ks texts ≡ Ok (x, after) → length after ≤ length p.fixed_texts
     → RowsFit p (rows_from unit c ks) x.methods × AllByRecursion (InitFits p) x.initializers
+
+-- in the program that the table of a text is of, names denote what they do in the text
+abbrev pub NamesAgreeInTables : Type 0
+NamesAgreeInTables = (p : Program) (unit : CompilationUnit) → p.classes ≡ (table unit).classes → NamesAgree p unit

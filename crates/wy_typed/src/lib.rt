@@ -3,8 +3,8 @@
 #![tactic(auto)]
 
 ghost use Rattle.wy_typed.specs.Classes.{ClassesAreTyped};
-ghost use Rattle.wy_typed.specs.Programs.{MethodsHaveBodies, ProgramsAreTyped};
-ghost use Rattle.wy_typed.specs.Rows.{BodiesFitRows, BodiesAreTyped};
+ghost use Rattle.wy_typed.specs.Programs.{MethodsHaveBodies, ProgramsAreTyped, TablesHaveRows};
+ghost use Rattle.wy_typed.specs.Rows.{BodiesFitRows, BodiesAreTyped, NamesAgreeInTables};
 ghost use Rattle.wy_typed.specs.Shapes.{BodiesStand};
 
 /// The bodies of a class's methods and constructors, those that it declares and the one that it doesn't, begin with the
@@ -37,4 +37,11 @@ pub fn each_method_that_is_not_abstract_has_a_body()
 pub fn what_a_text_becomes_fits_its_types()
     ensures bodies { MethodsHaveBodies }
     ensures types { ProgramsAreTyped }
+{}
+
+/// A name denotes in the table of a text what it denotes in the text, and the table has the text's methods behind those of
+/// the library.
+pub fn the_table_of_a_text_says_what_the_text_says()
+    ensures names { NamesAgreeInTables }
+    ensures rows { TablesHaveRows }
 {}
