@@ -52,7 +52,7 @@ fn a_body_that_breaks_a_rule_is_refused_at_its_token(rt: HostRuntime) -> Result<
 }
 
 // Whole texts.
-static TEXTS: [(&str, Rule, u32); 17] = [
+static TEXTS: [(&str, Rule, u32); 20] = [
     (
         "class A extends B { } class B extends A { }",
         Rule::Cycle,
@@ -72,6 +72,21 @@ static TEXTS: [(&str, Rule, u32); 17] = [
         "abstract class A { abstract int g(); } class B extends A { int g() { return super.g(); } }",
         Rule::NotImplemented,
         25,
+    ),
+    (
+        "class A { void f() { } } abstract class B extends A { abstract void f(); } class C extends B { }",
+        Rule::NotImplemented,
+        24,
+    ),
+    (
+        "abstract class B extends A { abstract void f(); } class A { void f() { } } class C extends B { }",
+        Rule::NotImplemented,
+        24,
+    ),
+    (
+        "abstract class A { public abstract String toString(); } class B extends A { }",
+        Rule::NotImplemented,
+        13,
     ),
     (
         "class A { A(int n) { } } class B extends A { }",

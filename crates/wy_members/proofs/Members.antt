@@ -37,6 +37,10 @@ counted_by_result t type k m true exact low none =
 counted_by_result t type k m false exact low none =
     (λ e. lowest (λ h. let x = exact.1 h in cc) low, λ c. refl)
 
+pub unless_nearest : (t : Table) (type : Ty) (m : Method) (r : Bool) → IsTrue r ↔ NearestHasBody t type m → IsTrue (not r) ↔ (NearestHasBody t type m → ⊥)
+unless_nearest t type m true exact = (λ e. absurd (cc), λ none. absurd (none (exact.0 refl)))
+unless_nearest t type m false exact = (λ e h. let x = exact.1 h in cc, λ none. refl)
+
 pub chosen_exact : (t : Table) (type : Ty) (name : List ℕ) (arguments : List Ty) (k : ℕ) (m : Method) (r : Bool) → IsMethod t k m → Applies t.classes type name arguments m →
     IsMostSpecific t type name arguments m → IsTrue r ↔ Counts t type k m → IsTrue r ↔ Chosen t type name arguments k
 chosen_exact t type name arguments k m r there applies specific exact = (

@@ -10,7 +10,7 @@ use Rattle.wy_kernel.specs.Subtyping.{Below, direct_supertypes, class_type, prim
 use Rattle.wy_syntax.specs.declared.declaration.Modifier.TheVariants as modifier
 use Rattle.wy_syntax.specs.Syntax.{Method}
 use Rattle.wy_constant.specs.declared.rule.Rule.TheVariants as rule
-use Rattle.wy_members.specs.Choice.{lowest, NearestHasBody, HasLowestResult, HasHigherResult}
+use Rattle.wy_members.specs.Choice.{NearestHasBody}
 use Rattle.wy_members.specs.Declarations.{CompilationUnit, table, denoted}
 use Rattle.wy_members.specs.Broken.{Breaks, compared, Inherits, declares_abstract, left_in, body_missing, body_too_much, abstract_constructor, static_without_body, private_without_body}
 use Rattle.wy_members.proofs.Written.{at, int_type, the, header, empty, constructor, class, interface}
@@ -81,15 +81,10 @@ unfolding table denoted compared builtin.classes builtin.methods builtin.first_m
 no_body_above_c (j, other, same, nearest, body) =
     of_each_named (λ n m. m.is_abstract ≡ false → ⊥) (codes "k") (compared unimplemented).methods j other ((λ e. absurd (cc)), tt) same.0 same.1.member.named body
 
-lowest_in_c : HasLowestResult (compared unimplemented) (class_type 21) 42 k_of_i
-unfolding table denoted compared builtin.classes builtin.methods builtin.first_methods
-lowest_in_c j other same =
-    of_each_named (λ n m. HasHigherResult (compared unimplemented).classes 42 k_of_i n m) (codes "k") (compared unimplemented).methods j other (record { higher = inl refl; behind = λ e. omega arith }, tt) same.0 same.1.member.named
-
 an_abstract_method_left_in : Breaks unimplemented rule.NotImplemented 57
 unfolding table denoted compared builtin.classes
 an_abstract_method_left_in = (
   21,
   judged unimplemented 21 refl,
-  left_in {row = record { name = codes "C"; site = 57; is_interface = false; is_abstract = false; is_final = false; above = Some 0; interfaces = 20 ∷ [] }} refl refl inherited_by_c (lowest no_body_above_c lowest_in_c) refl,
+  left_in {row = record { name = codes "C"; site = 57; is_interface = false; is_abstract = false; is_final = false; above = Some 0; interfaces = 20 ∷ [] }} refl refl inherited_by_c no_body_above_c refl,
 )

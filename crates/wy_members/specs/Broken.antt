@@ -11,7 +11,7 @@ use Rattle.wy_syntax.specs.Syntax.{Named, WrittenType, Placed, Parameter, Header
 use Rattle.wy_syntax.specs.Syntax as syntax
 use Rattle.wy_constant.specs.declared.rule.Rule.{Rule}
 use Rattle.wy_constant.specs.declared.rule.Rule.TheVariants as rule
-use Rattle.wy_members.specs.Choice.{Has, Equivalent, Counts}
+use Rattle.wy_members.specs.Choice.{Has, Equivalent, Counts, NearestHasBody}
 use Rattle.wy_members.specs.Declarations.{CompilationUnit, classes_of, denoted, has, is_abstract_in, table}
 
 -- ---- what stands in a class
@@ -229,8 +229,9 @@ pub data HasWrongMethod (t : Table) (c : ℕ) : ℕ → Type 0 where
 pub data IsNotImplemented (unit : CompilationUnit) (c : ℕ) : ℕ → Type 0 where
   -- a class that isn't abstract declares an abstract method (JLS 8.1.1.1)
   declares_abstract : {row : Class} {m : Method} → IsRow (table unit) c row → row.is_abstract ≡ false → Contains (table unit).methods m → m.class ≡ c → m.is_abstract ≡ true → IsNotImplemented unit c m.site
-  -- a class that isn't abstract inherits methods of which the one that counts is abstract (JLS 8.1.1.1)
-  left_in : {row : Class} {k : ℕ} {m : Method} → IsRow (compared unit) c row → row.is_abstract ≡ false → Inherits (compared unit) c k m → Counts (compared unit) (class_type c) k m → m.is_abstract ≡ true → IsNotImplemented unit c row.site
+  -- a class that isn't abstract inherits an abstract method, and the nearest class that declares one like it has no body for it, or
+  -- no class declares one (JLS 8.1.1.1, 8.4.8.1)
+  left_in : {row : Class} {k : ℕ} {m : Method} → IsRow (compared unit) c row → row.is_abstract ≡ false → Inherits (compared unit) c k m → (NearestHasBody (compared unit) (class_type c) m → ⊥) → m.is_abstract ≡ true → IsNotImplemented unit c row.site
   -- a method that isn't abstract has no body (JLS 8.4.7)
   body_missing : {k : ClassSyntax} {m : Member} {h : Header} → HasMember unit c k m → header_without_body m ≡ Some h → is_abstract_in k h ≡ false → IsNotImplemented unit c h.name.token
   -- an abstract method has a body (JLS 8.4.7)

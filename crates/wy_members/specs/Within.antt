@@ -9,7 +9,7 @@ use Rattle.wy_syntax.specs.declared.declaration.Modifier.TheVariants as modifier
 use Rattle.wy_kernel.specs.Subtyping.{Supertype, Substitutable, class_type}
 use Rattle.wy_kernel.specs.Table.{Table}
 use Rattle.wy_kernel.specs.declared.types.Ty.{Ty}
-use Rattle.wy_members.specs.Choice.{IsMethod, IsEquivalent, Counts}
+use Rattle.wy_members.specs.Choice.{IsMethod, IsEquivalent, Counts, NearestHasBody}
 use Rattle.wy_members.specs.Least.{Either, Here, Among, IsAgain}
 use Rattle.wy_members.specs.Declarations.{CompilationUnit, denoted, has}
 use Rattle.wy_members.specs.Broken.{reserved_names, IsAboveItself, Inherits, HasNoCommonResult, StandsForEach}
@@ -117,9 +117,9 @@ IsCommonResult t type m j other = IsEquivalent t.classes type m other × Counts 
 -- ---- NotImplemented
 
 abbrev pub IsLeftAbstract : Table → ℕ → ℕ → Method → Type 0
-IsLeftAbstract t c k m = Inherits t c k m × Counts t (class_type c) k m × (m.is_abstract ≡ true)
+IsLeftAbstract t c k m = Inherits t c k m × (NearestHasBody t (class_type c) m → ⊥) × (m.is_abstract ≡ true)
 
--- class c inherits an abstract method that counts
+-- class c inherits an abstract method that no nearest class gives a body
 abbrev pub LeavesAbstract : Table → ℕ → Type 0
 LeavesAbstract t c = SomeMethod t (IsLeftAbstract t c)
 

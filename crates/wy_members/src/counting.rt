@@ -72,7 +72,8 @@ fn has_higher_result(lineage: &Lineage, k: u32, m: &Method, j: u32, other: &Meth
     is_substitutable(lineage, &m.result, &other.result)
 }
 
-fn nearest_has_body(lineage: &Lineage, ty: &Ty, m: &Method) -> bool
+/// Whether a class declares an equal method with a body, and no class nearer to the type declares one.
+pub fn nearest_has_body(lineage: &Lineage, ty: &Ty, m: &Method) -> bool
     ensures { IsTrue result ↔ NearestHasBody (lineage_of lineage.now) ty.now (method_of m.now) }
 {
     for j in 0..lineage.methods() {

@@ -9,7 +9,7 @@ ghost use Rattle.wy_members.specs.Choice.{IsEquivalent, IsMethod};
 ghost use Rattle.wy_members.specs.LineageView.{lineage_of};
 ghost use Rattle.wy_members.specs.Within.{Conflicts, DiffersInForm, InheritsWrongly, IsCommonResult, IsLeftAbstract, LeavesAbstract, OverridesWrongly, SomeMethod, StandsWrongly, WrongToOverride};
 
-use crate::counting::is_counted;
+use crate::counting::{is_counted, nearest_has_body};
 use crate::lineage::Lineage;
 use crate::member::{is_member, type_of_class};
 use crate::signature::{is_equivalent, is_substitutable};
@@ -143,7 +143,7 @@ fn stands_for(lineage: &Lineage, ty: &Ty, m: &Method, other: &Method) -> bool
     !is_equivalent(lineage, ty, m, other) || is_substitutable(lineage, &m.result, &other.result)
 }
 
-/// Whether a class inherits an abstract method that counts among its equals.
+/// Whether a class inherits an abstract method, and the nearest class that declares an equal one gives it no body.
 pub fn leaves_abstract(lineage: &Lineage, c: u32) -> bool
     ensures { IsTrue result ↔ LeavesAbstract (lineage_of lineage.now) c }
 {
@@ -160,5 +160,7 @@ fn is_left_abstract(lineage: &Lineage, c: u32, k: u32, m: &Method) -> bool
     requires { IsMethod (lineage_of lineage.now) k (method_of m.now) }
     ensures { IsTrue result ↔ IsLeftAbstract (lineage_of lineage.now) c k (method_of m.now) }
 {
-    m.is_abstract && is_inherited(lineage, c, k, m) && is_counted(lineage, &type_of_class(c), k, m)
+    m.is_abstract
+        && is_inherited(lineage, c, k, m)
+        && !nearest_has_body(lineage, &type_of_class(c), m)
 }
