@@ -1,0 +1,11 @@
+pub mod Whole
+pub mod Leaves
+pub mod Expressions
+pub mod Declarators
+pub mod Statements
+pub mod Marks
+pub mod Members
+pub mod Interfaces
+pub mod Texts
+pub mod Missing
+pub mod Keywords

@@ -1,0 +1,15 @@
+//! What the abstract syntax of a well-formed tree says is what a text can say: nothing is missing in it, no called name is a keyword, each array
+//! that is made has a size or its elements, and no comparison is a compound assignment. The functions do nothing: their contracts are the laws.
+#![tactic(auto)]
+
+ghost use Rattle.wy_written.specs.Laws.{NothingIsMissing, NamesAreNoKeywords};
+
+/// Nothing is missing in the abstract syntax of a well-formed tree.
+pub fn nothing_is_missing()
+    ensures { NothingIsMissing }
+{}
+
+/// No name of a text is a keyword.
+pub fn names_are_no_keywords()
+    ensures { NamesAreNoKeywords }
+{}
