@@ -7,5 +7,8 @@ pub mod Marks
 pub mod Members
 pub mod Interfaces
 pub mod Texts
+pub mod Lists
 pub mod Missing
+pub mod Named
 pub mod Keywords
+pub mod Sayings

@@ -1,8 +1,7 @@
 -- Where abstract syntax is whole nothing is missing in it.
-use Rattle.std.proofs.Common.{Bool, true, false, List, [], ◌∷◌}
+use Rattle.std.proofs.Common.{Bool, true, false, List}
 use Rattle.std.specs.Prelude.{Option, Some, None}
 use Rattle.std.specs.List.{All, AllByRecursion}
-use Rattle.std.proofs.lemmas.List.Elements.{All-nil, All-cons}
 use Rattle.wy_tree.specs.Ast.{Ast, Asts, Leaf, Node}
 use Rattle.wy_tree.specs.Ast as tree
 use Rattle.wy_tree.specs.Grammar.{WellFormed}
@@ -18,11 +17,7 @@ use Rattle.wy_breach_unit.specs.Units.{IsWrittenMember, IsWrittenClass, IsWritte
 use Rattle.wy_written.proofs.Whole.{Names, Whole, WholeRow, WholeInitial, WholeElements, WholePart, WholeOption, WholeDeclarators, WholeEffects, WholeInit, WholeStatement, WholeBlock, WholeStatements, WholeOther, WholeLast, WholeCatches, WholeCall, WholeMember}
 use Rattle.wy_written.proofs.Leaves.{Worded, AllWorded}
 use Rattle.wy_written.proofs.Texts.{unit_told}
-
--- what holds of each holds of all
-pub each : {X : Type 0} (Q R : X → Type 0) → ((x : X) → Q x → R x) → (xs : List X) → AllByRecursion Q xs → All R xs
-each Q R f [] h = All-nil R
-each Q R f (x ∷ xs) h = All-cons R x xs (f x h.0) (each Q R f xs h.1)
+use Rattle.wy_written.proofs.Lists.{each}
 
 mutual
   is_written : (P : Names) (e : Expression) → Whole P e → IsWritten e
