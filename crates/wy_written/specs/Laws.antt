@@ -1,11 +1,16 @@
 -- What the abstract syntax of a well-formed tree says is what a text can say (JLS 3.8, 14.4, 15.9, 15.12, 15.26).
-use Rattle.std.specs.Prelude.{ℕ, List, map}
+use Rattle.std.specs.Prelude.{◌≡◌, ℕ, List, map, Err, Result, Ok}
 use Rattle.wy_tree.specs.Ast.{Ast, tokens}
 use Rattle.wy_tree.specs.Grammar.{WellFormed}
 use Rattle.wy_tree.specs.Tokens.{Placed, Tokens}
 use Rattle.wy_tree.specs.Trees.{IsTreeOf}
+use Rattle.wy_kernel.specs.Program.{Program}
 use Rattle.wy_syntax.specs.Declarations.{unit}
-use Rattle.wy_breach_unit.specs.Units.{IsWrittenUnit}
+use Rattle.wy_constant.specs.declared.rule.Rule.{Rule}
+use Rattle.wy_constant.specs.Refusal.{Refusal, refused}
+use Rattle.wy_elab_stmt.specs.Elaborates.{Elaborates}
+use Rattle.wy_breach_unit.specs.Units.{IsWrittenUnit, IsBrokenUnit}
+use Rattle.wy_breach_unit.specs.Laws.{IsUnbroken}
 use Rattle.wy_written.specs.Written.{UnitWritten, HasNoKeyword}
 
 -- nothing is missing in it
@@ -23,3 +28,11 @@ NamesAreNoKeywords = (text : List ℕ) (spans : List Placed) → Tokens text spa
 -- so the tree of a text's tokens is what a text can say
 abbrev pub TextsAreWritten : Type 0
 TextsAreWritten = (text : List ℕ) (spans : List Placed) (tree : Ast) → Tokens text spans → IsTreeOf (map (λ (s : Placed). s.token) spans) tree → UnitWritten (unit 0 tree)
+
+-- where the program of a well-formed tree is refused, something in it breaks the named rule at the named token
+abbrev pub RefusalsOfTreesAreDue : Type 0
+RefusalsOfTreesAreDue = (tree : Ast) → WellFormed tree → (count : ℕ) (rule : Rule) (token : ℕ) → Elaborates (unit 0 tree) count (Err (refused rule token)) → IsBrokenUnit (unit 0 tree) count rule token
+
+-- and where nothing in it breaks a rule, it is accepted
+abbrev pub UnbrokenTreesAreAccepted : Type 0
+UnbrokenTreesAreAccepted = (tree : Ast) → WellFormed tree → (count : ℕ) (r : Result Program Refusal) → IsUnbroken (unit 0 tree) count → Elaborates (unit 0 tree) count r → (p : Program) × (r ≡ Ok p)

@@ -2,7 +2,9 @@
 //! that is made has a size or its elements, and no comparison is a compound assignment. The functions do nothing: their contracts are the laws.
 #![tactic(auto)]
 
-ghost use Rattle.wy_written.specs.Laws.{NothingIsMissing, TreesAreWritten, NamesAreNoKeywords, TextsAreWritten};
+ghost use Rattle.wy_written.specs.Laws.{NamesAreNoKeywords, NothingIsMissing, RefusalsOfTreesAreDue, TextsAreWritten, TreesAreWritten, UnbrokenTreesAreAccepted};
+
+use wy_breach_unit::program_refusals_are_due;
 
 /// Nothing is missing in the abstract syntax of a well-formed tree.
 pub fn nothing_is_missing()
@@ -23,3 +25,13 @@ pub fn names_are_no_keywords()
 pub fn texts_are_written()
     ensures { TextsAreWritten }
 {}
+
+/// Where the program of a well-formed tree is refused, a declaration, a body or the want of a main breaks the named rule at the
+/// named token; where nothing in it breaks a rule, it is accepted.
+pub fn refusals_of_trees_are_due()
+    ensures due { RefusalsOfTreesAreDue }
+    ensures accepted { UnbrokenTreesAreAccepted }
+{
+    nothing_is_missing();
+    program_refusals_are_due();
+}
