@@ -129,11 +129,11 @@ member_written P source.Member.Unknown h = tt
 
 -- ---- nothing is asked of names
 
-abbrev Any : Names
+abbrev pub Any : Names
 Any name = Unit {0}
 
 mutual
-  any_worded : (t : Ast) → Worded Any t
+  pub any_worded : (t : Ast) → Worded Any t
   any_worded (Leaf o) = tt
   any_worded (Node f parts) = all_worded parts
 
