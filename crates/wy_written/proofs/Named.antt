@@ -149,7 +149,7 @@ abbrev Nonempty : List ℕ → Type 0
 Nonempty [] = ⊥
 Nonempty (c ∷ rest) = Unit {0}
 
-no_name : IsName []
+pub no_name : IsName []
 no_name e = subst Nonempty (sym e) tt
 
 word_name : (w : List ℕ) → is_key w ≡ false → IsName w
@@ -166,7 +166,7 @@ token_name (Text units) h = no_name
 token_name (Sign s) h = no_name
 
 mutual
-  named_worded : (t : Ast) → HasNoKeyword (tokens t) → Worded IsName t
+  pub named_worded : (t : Ast) → HasNoKeyword (tokens t) → Worded IsName t
   named_worded (Leaf o) h = token_name o (All-head IsNoKeyword o [] h)
   named_worded (Node f parts) h = all_worded parts h
 
