@@ -64,7 +64,7 @@ method_is (q ∷ before) p rest = refl
 
 method_behind : (Q : Member → Type 0) (before : written.Parts) (p : written.Part) (rest : written.Parts) → AllModifiers before → is_modifier p.what ≡ false → ((ms : List Placed) → Q (member_behind ms (p ∷ rest))) → Q (method_in (before ++ p ∷ rest))
 method_behind Q before p rest h e i =
-        subst Q (sym (method_is before p rest ∙ ap (member_behind (modifiers_of (before ++ p ∷ rest))) (behind_them before p rest h e))) (i (modifiers_of (before ++ p ∷ rest)))
+    subst Q (sym (method_is before p rest ∙ ap (member_behind (modifiers_of (before ++ p ∷ rest))) (behind_them before p rest h e))) (i (modifiers_of (before ++ p ∷ rest)))
 
 no_body : (Q : Member → Type 0) → OfHeaders Q → (b : Bool) (h : Header) (ms : List Placed) (result : Option WrittenType) (ty : WrittenType) (all : List Declarator) → b ≡ true → Q (if b then syntax.Method h result None else syntax.Fields ms ty all)
 no_body Q g true h ms result ty all e = g.header h result
