@@ -1,0 +1,15 @@
+//! What holds of the declarations of every program that a text becomes. The functions do nothing: their contracts are the laws.
+#![tactic(auto)]
+
+ghost use Rattle.wy_declared.specs.Laws.{DeclarationsStand, LibraryStands};
+
+/// The classes, methods and fields of a program begin with those of the library and are of its own classes; no class is above
+/// itself; parameters and fields have types of variables.
+pub fn declarations_stand()
+    ensures { DeclarationsStand }
+{}
+
+/// The bodies of a program begin with those of the library, and its statements include those of the library.
+pub fn the_library_stands()
+    ensures { LibraryStands }
+{}
