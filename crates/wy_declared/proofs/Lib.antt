@@ -1,2 +1,3 @@
 mod Rows
 mod Made
+mod Lengths

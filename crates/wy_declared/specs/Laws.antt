@@ -1,8 +1,10 @@
 -- What the declarations of every program that a text becomes are.
-use Rattle.std.specs.Prelude.{◌≤◌, ℕ, Ok}
+use Rattle.std.specs.Prelude.{◌≡◌, ◌≤◌, ℕ, Bool, true, false, List, length, Ok}
+use Rattle.std.specs.List.{AllByRecursion, list_any}
 use Rattle.wy_kernel.specs.Program.{Program}
 use Rattle.wy_kernel.specs.Table.{BeginsWith}
-use Rattle.wy_members.specs.Declarations.{CompilationUnit}
+use Rattle.wy_syntax.specs.Syntax.{ClassSyntax}
+use Rattle.wy_members.specs.Declarations.{CompilationUnit, classes_of, initializes_objects}
 use Rattle.wy_library.specs.Library.{library_bodies}
 use Rattle.wy_elab_stmt.specs.Elaborates.{Elaborates}
 use Rattle.wy_typing.specs.Programs.{IsDeclared}
@@ -18,3 +20,21 @@ pub record HasLibraryBodies (p : Program) : Type 0 where
 
 abbrev pub LibraryStands : Type 0
 LibraryStands = (unit : CompilationUnit) (tokens : ℕ) (p : Program) → Elaborates unit tokens (Ok p) → HasLibraryBodies p
+
+-- ---- places
+
+-- there is one for the initializer of each class
+abbrev pub InitializersHavePlaces : Type 0
+InitializersHavePlaces = (unit : CompilationUnit) (tokens : ℕ) (p : Program) → Elaborates unit tokens (Ok p) → length p.init_bodies ≡ length p.classes
+
+-- an interface has no instance initializer, and no instance field with a value
+abbrev pub InitializesNothing : ClassSyntax → Bool → Type 0
+InitializesNothing k true = list_any initializes_objects k.members ≡ false
+InitializesNothing k false = Unit {0}
+
+abbrev pub AllInterfacesAreBare : List ClassSyntax → Type 0
+AllInterfacesAreBare ks = AllByRecursion (λ (k : ClassSyntax). InitializesNothing k k.is_interface) ks
+
+-- there is one for the body of each method
+abbrev pub BodiesHavePlaces : Type 0
+BodiesHavePlaces = (unit : CompilationUnit) (tokens : ℕ) (p : Program) → AllInterfacesAreBare (classes_of unit) → Elaborates unit tokens (Ok p) → length p.bodies ≡ length p.methods

@@ -1,7 +1,7 @@
 //! What holds of the declarations of every program that a text becomes. The functions do nothing: their contracts are the laws.
 #![tactic(auto)]
 
-ghost use Rattle.wy_declared.specs.Laws.{DeclarationsStand, LibraryStands};
+ghost use Rattle.wy_declared.specs.Laws.{BodiesHavePlaces, DeclarationsStand, InitializersHavePlaces, LibraryStands};
 
 /// The classes, methods and fields of a program begin with those of the library and are of its own classes; no class is above
 /// itself; parameters and fields have types of variables.
@@ -12,4 +12,10 @@ pub fn declarations_stand()
 /// The bodies of a program begin with those of the library, and its statements include those of the library.
 pub fn the_library_stands()
     ensures { LibraryStands }
+{}
+
+/// A program has a place for the initializer of each class, and one for the body of each method.
+pub fn each_class_and_each_method_has_a_place()
+    ensures initializers { InitializersHavePlaces }
+    ensures bodies { BodiesHavePlaces }
 {}
