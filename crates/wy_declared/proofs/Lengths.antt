@@ -1,8 +1,8 @@
 -- A program has a place for the body of each method, and one for the initializer of each class.
-use Rattle.std.proofs.Common.{◌≡◌, ℕ, zero, suc, ◌+◌, Bool, true, false, refl, sym, ◌∙◌, ap, subst, List, [], ◌∷◌, ◌++◌, length, Option, Some, None, Ok, if◌then◌else◌, ◌||◌, add-one, arith}
+use Rattle.std.proofs.Common.{◌≡◌, ℕ, suc, ◌+◌, Bool, true, false, refl, sym, ◌∙◌, ap, subst, List, [], ◌∷◌, ◌++◌, length, Option, Some, None, Ok, if◌then◌else◌, ◌||◌, add-one, arith}
 use Rattle.std.specs.Prelude.{codes, not, flat_map}
-use Rattle.std.specs.List.{AllByRecursion, cons_option, enumerate_from, list_any}
-use Rattle.std.proofs.lemmas.List.{length-append, length-map}
+use Rattle.std.specs.List.{cons_option, enumerate_from, list_any}
+use Rattle.std.proofs.lemmas.List.{length-append}
 use Rattle.wy_kernel.specs.declared.types.MethodForm.TheVariants as kind
 use Rattle.wy_kernel.specs.Form as kernel
 use Rattle.wy_kernel.specs.Program.{Method, Body, Program, first_source_class}
@@ -11,9 +11,8 @@ use Rattle.wy_kernel.specs.Table.{Table}
 use Rattle.wy_syntax.specs.Syntax.{Member, ClassSyntax}
 use Rattle.wy_syntax.specs.Syntax as source
 use Rattle.wy_constant.specs.Scope.{FixedText}
-use Rattle.wy_members.specs.Declarations.{CompilationUnit, classes_of, table, initializes_objects, is_constructor, implied, fields_unit, class_by_class, implied_constructor, method_in, methods_in, methods_of}
+use Rattle.wy_members.specs.Declarations.{CompilationUnit, classes_of, table, initializes_objects, is_constructor, implied, fields_unit, implied_constructor, method_in, methods_in, methods_of}
 use Rattle.wy_members.proofs.InRange.{many_classes}
-use Rattle.wy_members.proofs.Library.{how_many}
 use Rattle.wy_elab_expr.specs.Meaning.{Gets, ◌>>=◌}
 use Rattle.wy_elab_expr.specs.Meaning as meaning
 use Rattle.wy_statement.specs.declared.place.Role.TheVariants.{InitializerBody, FieldsBody}
@@ -28,7 +27,7 @@ use Rattle.wy_elab_stmt.specs.Program.{Bodies, no_bodies, and_more, bodies_from}
 use Rattle.wy_typed.specs.Rows.{rows_from}
 use Rattle.wy_typed.proofs.Growing.{found_on, one_found}
 use Rattle.wy_declared.specs.Laws.{InitializesNothing, AllInterfacesAreBare, InitializersHavePlaces, BodiesHavePlaces}
-use Rattle.wy_declared.proofs.Made.{Comes, comes}
+use Rattle.wy_declared.proofs.Made.{comes}
 
 cons_many : (o : Option Method) (l : List Method) → length (cons_option o l) ≡ length (cons_option o []) + length l
 cons_many None l = omega arith

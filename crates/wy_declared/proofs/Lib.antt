@@ -1,3 +1,4 @@
 mod Rows
 mod Made
 mod Lengths
+mod Interfaces

@@ -1,13 +1,17 @@
 -- What the declarations of every program that a text becomes are.
 use Rattle.std.specs.Prelude.{◌≡◌, ◌≤◌, ℕ, Bool, true, false, List, length, Ok}
 use Rattle.std.specs.List.{AllByRecursion, list_any}
+use Rattle.wy_tree.specs.Ast.{Ast}
+use Rattle.wy_tree.specs.Grammar.{WellFormed}
 use Rattle.wy_kernel.specs.Program.{Program}
 use Rattle.wy_kernel.specs.Table.{BeginsWith}
 use Rattle.wy_syntax.specs.Syntax.{ClassSyntax}
+use Rattle.wy_syntax.specs.Declarations.{unit}
 use Rattle.wy_members.specs.Declarations.{CompilationUnit, classes_of, initializes_objects}
 use Rattle.wy_library.specs.Library.{library_bodies}
 use Rattle.wy_elab_stmt.specs.Elaborates.{Elaborates}
 use Rattle.wy_typing.specs.Programs.{IsDeclared}
+use Rattle.wy_typed.specs.Rows.{IsHeader}
 
 -- they begin with the library's, name classes of the program, and no class is above itself
 abbrev pub DeclarationsStand : Type 0
@@ -38,3 +42,18 @@ AllInterfacesAreBare ks = AllByRecursion (λ (k : ClassSyntax). InitializesNothi
 -- there is one for the body of each method
 abbrev pub BodiesHavePlaces : Type 0
 BodiesHavePlaces = (unit : CompilationUnit) (tokens : ℕ) (p : Program) → AllInterfacesAreBare (classes_of unit) → Elaborates unit tokens (Ok p) → length p.bodies ≡ length p.methods
+
+-- ---- well-formed trees
+
+-- an interface has headers of methods alone
+abbrev pub HasHeadersAlone : ClassSyntax → Bool → Type 0
+HasHeadersAlone k true = AllByRecursion IsHeader k.members
+HasHeadersAlone k false = Unit {0}
+
+-- so has each of a well-formed tree (JLS 9.4)
+abbrev pub InterfacesHaveHeadersAlone : Type 0
+InterfacesHaveHeadersAlone = (tree : Ast) → WellFormed tree → AllByRecursion (λ (k : ClassSyntax). HasHeadersAlone k k.is_interface) (classes_of (unit 0 tree))
+
+-- so there is a place for the body of each method of a tree
+abbrev pub BodiesOfTreesHavePlaces : Type 0
+BodiesOfTreesHavePlaces = (tree : Ast) → WellFormed tree → (tokens : ℕ) (p : Program) → Elaborates (unit 0 tree) tokens (Ok p) → length p.bodies ≡ length p.methods

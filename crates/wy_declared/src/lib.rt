@@ -1,7 +1,7 @@
 //! What holds of the declarations of every program that a text becomes. The functions do nothing: their contracts are the laws.
 #![tactic(auto)]
 
-ghost use Rattle.wy_declared.specs.Laws.{BodiesHavePlaces, DeclarationsStand, InitializersHavePlaces, LibraryStands};
+ghost use Rattle.wy_declared.specs.Laws.{BodiesHavePlaces, BodiesOfTreesHavePlaces, DeclarationsStand, InitializersHavePlaces, InterfacesHaveHeadersAlone, LibraryStands};
 
 /// The classes, methods and fields of a program begin with those of the library and are of its own classes; no class is above
 /// itself; parameters and fields have types of variables.
@@ -18,4 +18,10 @@ pub fn the_library_stands()
 pub fn each_class_and_each_method_has_a_place()
     ensures initializers { InitializersHavePlaces }
     ensures bodies { BodiesHavePlaces }
+{}
+
+/// An interface of a well-formed tree has headers of methods alone, so the program of a tree has a place for the body of each method.
+pub fn each_method_of_a_tree_has_a_place()
+    ensures interfaces { InterfacesHaveHeadersAlone }
+    ensures bodies { BodiesOfTreesHavePlaces }
 {}
