@@ -2,3 +2,4 @@ mod Rows
 mod Made
 mod Lengths
 mod Interfaces
+mod Texts

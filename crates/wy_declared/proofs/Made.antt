@@ -35,15 +35,15 @@ comes unit tokens p h = comes_of unit tokens p (Ok p) h refl
 
 -- ---- declarations
 
-begins_classes : (unit : CompilationUnit) → BeginsWith (table unit).classes builtin.classes
+pub begins_classes : (unit : CompilationUnit) → BeginsWith (table unit).classes builtin.classes
 unfolding table
 begins_classes unit = (class_rows unit unit, refl)
 
-begins_methods : (unit : CompilationUnit) → BeginsWith (table unit).methods builtin.methods
+pub begins_methods : (unit : CompilationUnit) → BeginsWith (table unit).methods builtin.methods
 unfolding table
 begins_methods unit = (class_by_class (methods_of unit) unit, refl)
 
-begins_fields : (unit : CompilationUnit) → BeginsWith (table unit).fields builtin.fields
+pub begins_fields : (unit : CompilationUnit) → BeginsWith (table unit).fields builtin.fields
 unfolding table
 begins_fields unit = (class_by_class (fields_of unit) unit, refl)
 

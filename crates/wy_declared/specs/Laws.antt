@@ -3,15 +3,21 @@ use Rattle.std.specs.Prelude.{◌≡◌, ◌≤◌, ℕ, Bool, true, false, List
 use Rattle.std.specs.List.{AllByRecursion, list_any}
 use Rattle.wy_tree.specs.Ast.{Ast}
 use Rattle.wy_tree.specs.Grammar.{WellFormed}
-use Rattle.wy_kernel.specs.Program.{Program}
-use Rattle.wy_kernel.specs.Table.{BeginsWith}
+use Rattle.wy_kernel.specs.Program.{Program, first_source_class}
+use Rattle.wy_kernel.specs.Table.{BeginsWith, Table}
 use Rattle.wy_syntax.specs.Syntax.{ClassSyntax}
 use Rattle.wy_syntax.specs.Declarations.{unit}
 use Rattle.wy_members.specs.Declarations.{CompilationUnit, classes_of, initializes_objects}
 use Rattle.wy_library.specs.Library.{library_bodies}
+use Rattle.wy_members.specs.Constants.{IsTableOf}
+use Rattle.wy_elab_expr.specs.Operators.{Judgement}
+use Rattle.wy_statement.specs.Places.{places_of}
 use Rattle.wy_elab_stmt.specs.Elaborates.{Elaborates}
+use Rattle.wy_elab_stmt.specs.Program.{program}
 use Rattle.wy_typing.specs.Programs.{IsDeclared}
-use Rattle.wy_typed.specs.Rows.{IsHeader}
+use Rattle.wy_typed_stmt.specs.Typed.{Makes}
+use Rattle.wy_typed_library.specs.Library.{HasLibrary}
+use Rattle.wy_typed.specs.Rows.{AllStand, IsHeader}
 
 -- they begin with the library's, name classes of the program, and no class is above itself
 abbrev pub DeclarationsStand : Type 0
@@ -57,3 +63,11 @@ InterfacesHaveHeadersAlone = (tree : Ast) → WellFormed tree → AllByRecursion
 -- so there is a place for the body of each method of a tree
 abbrev pub BodiesOfTreesHavePlaces : Type 0
 BodiesOfTreesHavePlaces = (tree : Ast) → WellFormed tree → (tokens : ℕ) (p : Program) → Elaborates (unit 0 tree) tokens (Ok p) → length p.bodies ≡ length p.methods
+
+-- ---- the library
+
+-- a program whose text stands so has the whole library, and the text that the library's bodies hold
+abbrev pub ProgramsHaveLibrary : Type 0
+ProgramsHaveLibrary =
+    (j : Judgement) (t : Table) (unit : CompilationUnit) (tokens : ℕ) (p : Program) → IsTableOf unit t → Makes p t.constants j (places_of t unit) → AllStand p t.constants (places_of t unit) first_source_class (classes_of unit)
+    → program j t unit tokens ≡ Ok p → HasLibrary p

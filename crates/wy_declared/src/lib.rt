@@ -1,7 +1,7 @@
 //! What holds of the declarations of every program that a text becomes. The functions do nothing: their contracts are the laws.
 #![tactic(auto)]
 
-ghost use Rattle.wy_declared.specs.Laws.{BodiesHavePlaces, BodiesOfTreesHavePlaces, DeclarationsStand, InitializersHavePlaces, InterfacesHaveHeadersAlone, LibraryStands};
+ghost use Rattle.wy_declared.specs.Laws.{BodiesHavePlaces, BodiesOfTreesHavePlaces, DeclarationsStand, InitializersHavePlaces, InterfacesHaveHeadersAlone, LibraryStands, ProgramsHaveLibrary};
 
 /// The classes, methods and fields of a program begin with those of the library and are of its own classes; no class is above
 /// itself; parameters and fields have types of variables.
@@ -24,4 +24,9 @@ pub fn each_class_and_each_method_has_a_place()
 pub fn each_method_of_a_tree_has_a_place()
     ensures interfaces { InterfacesHaveHeadersAlone }
     ensures bodies { BodiesOfTreesHavePlaces }
+{}
+
+/// A program whose text stands in it begins with the library's declarations and bodies, and has its text and its statements.
+pub fn programs_have_the_library()
+    ensures { ProgramsHaveLibrary }
 {}
