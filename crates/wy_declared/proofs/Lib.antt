@@ -3,3 +3,4 @@ mod Made
 mod Lengths
 mod Interfaces
 mod Texts
+mod Mains

@@ -2,6 +2,7 @@
 #![tactic(auto)]
 
 ghost use Rattle.wy_declared.specs.Laws.{BodiesHavePlaces, BodiesOfTreesHavePlaces, DeclarationsStand, InitializersHavePlaces, InterfacesHaveHeadersAlone, LibraryStands, ProgramsHaveLibrary};
+ghost use Rattle.wy_declared.specs.Mains.{MainsAreFound};
 
 /// The classes, methods and fields of a program begin with those of the library and are of its own classes; no class is above
 /// itself; parameters and fields have types of variables.
@@ -29,4 +30,10 @@ pub fn each_method_of_a_tree_has_a_place()
 /// A program whose text stands in it begins with the library's declarations and bodies, and has its text and its statements.
 pub fn programs_have_the_library()
     ensures { ProgramsHaveLibrary }
+{}
+
+/// A text that becomes a program has a `public static void main(String[])` with a body, and the program's main is a method at the
+/// token of its name.
+pub fn the_main_is_written()
+    ensures { MainsAreFound }
 {}
