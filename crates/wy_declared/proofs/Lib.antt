@@ -4,3 +4,4 @@ mod Lengths
 mod Interfaces
 mod Texts
 mod Mains
+mod MainRows

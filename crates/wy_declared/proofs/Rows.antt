@@ -75,7 +75,7 @@ denoted_below : (unit : CompilationUnit) (name : List ℕ) → IfSome (denoted u
 unfolding denoted
 denoted_below unit name = position_below (bytes_eq name) (class_names unit) (length (table unit).classes) (denoted unit name) (let e = many_names unit in omega arith) refl
 
-class_below : (unit : CompilationUnit) (name : List ℕ) → class_or_object unit name < length (table unit).classes
+pub class_below : (unit : CompilationUnit) (name : List ℕ) → class_or_object unit name < length (table unit).classes
 class_below unit name = by (denoted unit name) (denoted_below unit name)
   where
     by : (o : Option ℕ) → IfSome o (λ c. c < length (table unit).classes) → unwrap_or o object_class < length (table unit).classes

@@ -2,7 +2,7 @@
 #![tactic(auto)]
 
 ghost use Rattle.wy_declared.specs.Laws.{BodiesHavePlaces, BodiesOfTreesHavePlaces, DeclarationsStand, InitializersHavePlaces, InterfacesHaveHeadersAlone, LibraryStands, ProgramsHaveLibrary};
-ghost use Rattle.wy_declared.specs.Mains.{MainsAreFound};
+ghost use Rattle.wy_declared.specs.Mains.{MainsAreFound, MainsRunFirst};
 
 /// The classes, methods and fields of a program begin with those of the library and are of its own classes; no class is above
 /// itself; parameters and fields have types of variables.
@@ -36,4 +36,9 @@ pub fn programs_have_the_library()
 /// token of its name.
 pub fn the_main_is_written()
     ensures { MainsAreFound }
+{}
+
+/// The method that is written as main is static, takes one array of texts and gives nothing.
+pub fn mains_run_first()
+    ensures { MainsRunFirst }
 {}
