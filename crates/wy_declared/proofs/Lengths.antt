@@ -192,7 +192,7 @@ rows_are unit c (k ∷ ks) =
     ap (λ (n : ℕ). methods_of unit c k ++ flat_map (λ (q : ℕ × ClassSyntax). methods_of unit q.0 q.1) (enumerate_from n ks)) (add-one c)
     ∙ ap (λ (l : List Method). methods_of unit c k ++ l) (rows_are unit (suc c) ks)
 
-rows_of_table : (unit : CompilationUnit) → (table unit).methods ≡ builtin.methods ++ rows_from unit first_source_class (classes_of unit)
+pub rows_of_table : (unit : CompilationUnit) → (table unit).methods ≡ builtin.methods ++ rows_from unit first_source_class (classes_of unit)
 unfolding table
 rows_of_table unit = ap (λ (l : List Method). builtin.methods ++ l) (rows_are unit first_source_class (classes_of unit))
 

@@ -5,3 +5,4 @@ mod Interfaces
 mod Texts
 mod Mains
 mod MainRows
+mod Kept

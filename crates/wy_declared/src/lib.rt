@@ -1,7 +1,7 @@
 //! What holds of the declarations of every program that a text becomes. The functions do nothing: their contracts are the laws.
 #![tactic(auto)]
 
-ghost use Rattle.wy_declared.specs.Laws.{BodiesHavePlaces, BodiesOfTreesHavePlaces, DeclarationsStand, InitializersHavePlaces, InterfacesHaveHeadersAlone, LibraryStands, ProgramsHaveLibrary};
+ghost use Rattle.wy_declared.specs.Laws.{BodiesHavePlaces, BodiesOfTreesHavePlaces, DeclarationsStand, InitializersHavePlaces, InterfacesHaveHeadersAlone, LibraryStands, MethodsOfTreesHaveBodies, ProgramsHaveLibrary, TreesKeep};
 ghost use Rattle.wy_declared.specs.Mains.{MainsAreFound, MainsRunFirst};
 
 /// The classes, methods and fields of a program begin with those of the library and are of its own classes; no class is above
@@ -41,4 +41,11 @@ pub fn the_main_is_written()
 /// The method that is written as main is static, takes one array of texts and gives nothing.
 pub fn mains_run_first()
     ensures { MainsRunFirst }
+{}
+
+/// In a well-formed tree that keeps the rules a method without a body is abstract, so in its program each method that isn't abstract
+/// has a body.
+pub fn methods_of_trees_have_bodies()
+    ensures trees { TreesKeep }
+    ensures bodies { MethodsOfTreesHaveBodies }
 {}
