@@ -13,7 +13,7 @@ use Rattle.wy_elab_stmt.specs.Program.{is_main, main_in, first_of, main_token, m
 use Rattle.wy_declared.specs.Mains.{FindsMain, MainsAreFound}
 use Rattle.wy_declared.proofs.Made.{comes}
 
-contained : {X : Type 0} (xs : List X) (n : ℕ) (x : X) → slice_get xs n ≡ Some x → Contains xs x
+pub contained : {X : Type 0} (xs : List X) (n : ℕ) (x : X) → slice_get xs n ≡ Some x → Contains xs x
 contained xs n x e = (n, slice_get_within xs n x e, get_or_from_slice_get xs n x x e)
 
 -- the first that passes a test

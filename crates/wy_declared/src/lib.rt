@@ -2,7 +2,7 @@
 #![tactic(auto)]
 
 ghost use Rattle.wy_declared.specs.Laws.{BodiesHavePlaces, BodiesOfTreesHavePlaces, DeclarationsStand, InitializersHavePlaces, InterfacesHaveHeadersAlone, LibraryStands, MethodsOfTreesHaveBodies, ProgramsHaveLibrary, TreesKeep};
-ghost use Rattle.wy_declared.specs.Mains.{MainsAreFound, MainsRunFirst};
+ghost use Rattle.wy_declared.specs.Mains.{MainsAreFound, MainsRunFirst, TreesHaveMain};
 
 /// The classes, methods and fields of a program begin with those of the library and are of its own classes; no class is above
 /// itself; parameters and fields have types of variables.
@@ -48,4 +48,10 @@ pub fn mains_run_first()
 pub fn methods_of_trees_have_bodies()
     ensures trees { TreesKeep }
     ensures bodies { MethodsOfTreesHaveBodies }
+{}
+
+/// The main of a well-formed tree's program is `static void` with one array of texts, and has a body, where nothing else has its name
+/// at the token of a main.
+pub fn trees_have_a_main()
+    ensures { TreesHaveMain }
 {}

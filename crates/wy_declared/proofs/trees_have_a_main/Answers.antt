@@ -1,0 +1,5 @@
+use Rattle.wy_declared.proofs.TreeMains.{trees_have_main}
+use Rattle.wy_declared.proofs.trees_have_a_main.Goals as goal
+
+pub returns : goal.returns
+returns c = trees_have_main
