@@ -9,7 +9,7 @@ use Rattle.wy_event.specs.Record.{same_slot}
 use Rattle.wy_steps.specs.Sets.{Sets}
 use Rattle.wy_steps.specs.State.{Carried, Held, State, Stop, Outcome, Done, Left, Stopped, Run, EventLimit, UseLimit, ElementLimit, UnitLimit, stop, choose}
 use Rattle.wy_steps.specs.Steps.{event_limit, use_limit, element_limit, unit_limit, pay, tick, held_of, read, slot_with, no_value, declare, next_event, made, with_event, room_for, noting, note, held_by, with_stored, writing, note_write, if_empty, with_created, creating, note_new, active_again, scoped, frame_again, in_frame, with_elements, take_elements, with_units, take_units}
-use Rattle.wy_steps.specs.Laws.{IfDone, end_of, TakesOne, IsSlot, carried_of, ReadsWhatWasWritten, LeavesOthers, ReplacesNothing, emptied, TakesTheValue, AppendsOne, WritesOne, CreatesOne, EntriesComeBack, FrameComesBack, RecordsWithin, MakesWithin}
+use Rattle.wy_steps.specs.Laws.{IfDone, end_of, TakesOne, IsSlot, carried_of, ReadsWhatWasWritten, LeavesOthers, ReplacesNothing, emptied, TakesTheValue, AppendsOne, WritesOne, CreatesOne, EntriesComeBack, FrameComesBack, RecordsWithin, WritesWithin, CreatesWithin, MakesWithin}
 
 both_true : (a b : Bool) → a ≡ true → b ≡ true → (a && b) ≡ true
 both_true a b p q = ap (λ x. x && b) p ∙ q
@@ -127,6 +127,14 @@ module _ (A : Sets) where
   pub records_within : RecordsWithin A
   unfolding note noting with_event next_event
   records_within d c s = roomy c (noting d c) s _ (λ few fits. (few, fits))
+
+  pub writes_within : WritesWithin A
+  unfolding note_write writing with_stored with_event next_event
+  writes_within d c s = roomy c (writing d c) s _ (λ few fits. (few, fits))
+
+  pub creates_within : CreatesWithin A
+  unfolding note_new creating with_created with_event next_event
+  creates_within p d c s = roomy c (creating p d c) s _ (λ few fits. (few, fits))
 
   pub makes_within : MakesWithin A
   unfolding take_elements take_units with_elements with_units

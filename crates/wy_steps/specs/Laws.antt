@@ -97,10 +97,21 @@ FrameComesBack A X = (n : ℕ) (m : Run A X) (s : State A) → (end_of (in_frame
 
 -- ---- limits
 
+-- the records of a state, and its uses, are no more than their limits
+abbrev pub IsWithin : {A : Sets} → State A → Type 0
+IsWithin t = (length t.noted ≤ event_limit) × (t.uses ≤ use_limit)
+
 -- a run that records goes on within its limits
 abbrev pub RecordsWithin : Sets → Type 0
-RecordsWithin A = (d : Draft) (c : Carried A) (s : State A) → IfDone (note d c s) (λ e t. (length t.noted ≤ event_limit) × (t.uses ≤ use_limit))
+RecordsWithin A = (d : Draft) (c : Carried A) (s : State A) → IfDone (note d c s) (λ e t. IsWithin t)
 
+abbrev pub WritesWithin : Sets → Type 0
+WritesWithin A = (d : Draft) (c : Carried A) (s : State A) → IfDone (note_write d c s) (λ e t. IsWithin t)
+
+abbrev pub CreatesWithin : Sets → Type 0
+CreatesWithin A = (p : Program) (d : Draft) (c : Carried A) (s : State A) → IfDone (note_new p d c s) (λ e t. IsWithin t)
+
+-- so does a run that takes elements or units
 abbrev pub MakesWithin : Sets → Type 0
 MakesWithin A = (n : ℕ) (s : State A) →
     IfDone (take_elements n s) (λ x t. t.elements ≤ element_limit) × IfDone (take_units n s) (λ x t. t.units ≤ unit_limit)

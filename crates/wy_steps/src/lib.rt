@@ -2,7 +2,7 @@
 //! The functions do nothing: their contracts are laws of the steps, said with the sets of events that values carry.
 #![tactic(auto)]
 
-ghost use Rattle.wy_steps.specs.Laws.{AppendsOne, CreatesOne, EntriesComeBack, FrameComesBack, LeavesOthers, MakesWithin, ReadsWhatWasWritten, RecordsWithin, ReplacesNothing, TakesOne, TakesTheValue, WritesOne};
+ghost use Rattle.wy_steps.specs.Laws.{AppendsOne, CreatesOne, CreatesWithin, EntriesComeBack, FrameComesBack, LeavesOthers, MakesWithin, ReadsWhatWasWritten, RecordsWithin, ReplacesNothing, TakesOne, TakesTheValue, WritesOne, WritesWithin};
 ghost use Rattle.wy_steps.specs.Sets.{numbers};
 ghost use Rattle.wy_steps.specs.State.{Carried};
 
@@ -11,8 +11,9 @@ pub fn a_form_takes_one_step()
     ensures { TakesOne numbers }
 {}
 
-/// A slot holds what was last written to it, with what the write came from. A write changes no other slot, what is created replaces
-/// nothing, and a local that is declared has no value.
+/// What is read of a local, a field or an element just after a write to it is what was written, with what the write came from; its use
+/// is the slot, by the number of the next event. A write leaves all other slots. Where slots are created, each slot that held something
+/// holds the same. A local, a field or an element that is declared has no value then, and comes from what it came from before.
 pub fn a_slot_holds_what_was_written()
     ensures written { ReadsWhatWasWritten numbers }
     ensures others { LeavesOthers numbers }
@@ -28,9 +29,13 @@ pub fn a_record_is_one_more()
     ensures created { CreatesOne numbers }
 {}
 
-/// The records, uses, elements and units of a run that goes on are within their limits.
+/// A run that records goes on within its limits: after each event, be it one that is only recorded, that writes its slot or that
+/// creates slots, the records are no more than their limit, and the uses no more than theirs. Where elements are taken, the elements
+/// are no more than their limit then; where units are taken, the units.
 pub fn limits_are_kept()
     ensures records { RecordsWithin numbers }
+    ensures written { WritesWithin numbers }
+    ensures created { CreatesWithin numbers }
     ensures made { MakesWithin numbers }
 {}
 
