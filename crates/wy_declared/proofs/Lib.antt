@@ -6,4 +6,4 @@ mod Texts
 mod Mains
 mod MainRows
 mod Kept
-mod TreeMains
+pub mod TreeMains

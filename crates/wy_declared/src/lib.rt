@@ -15,7 +15,8 @@ pub fn the_library_stands()
     ensures { LibraryStands }
 {}
 
-/// A program has a place for the initializer of each class, and one for the body of each method.
+/// A program has a place for the initializer of each class, and, where no interface of its text has an instance initializer or an
+/// instance field with a value, one for the body of each method.
 pub fn each_class_and_each_method_has_a_place()
     ensures initializers { InitializersHavePlaces }
     ensures bodies { BodiesHavePlaces }
@@ -38,7 +39,8 @@ pub fn the_main_is_written()
     ensures { MainsAreFound }
 {}
 
-/// The method that is written as main is static, takes one array of texts and gives nothing.
+/// In a text with at most 1,048,594 classes, the library's among them, the method that is written as main is static, takes one array of
+/// texts and gives nothing.
 pub fn mains_run_first()
     ensures { MainsRunFirst }
 {}
@@ -51,7 +53,7 @@ pub fn methods_of_trees_have_bodies()
 {}
 
 /// The main of a well-formed tree's program is `static void` with one array of texts, and has a body, where nothing else has its name
-/// at the token of a main.
+/// at the token of a main and there are at most 1,048,594 classes, the library's among them.
 pub fn trees_have_a_main()
     ensures { TreesHaveMain }
 {}

@@ -1,0 +1,5 @@
+mod Rising
+mod Names
+mod Alone
+mod Few
+mod Main

@@ -1,0 +1,5 @@
+use Rattle.wy_first_method.proofs.Main.{texts_have_main}
+use Rattle.wy_first_method.proofs.programs_have_a_main.Goals as goal
+
+pub returns : goal.returns
+returns c = texts_have_main
