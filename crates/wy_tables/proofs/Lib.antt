@@ -1,0 +1,4 @@
+mod Weights
+mod Trees
+mod Rows
+pub mod Tables
