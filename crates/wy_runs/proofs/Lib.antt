@@ -1,0 +1,14 @@
+pub mod Lists
+pub mod Climb
+pub mod Codes
+pub mod Results
+pub mod Chains
+pub mod Dispatch
+pub mod Rules
+pub mod Alike
+pub mod Inherited
+pub mod Runs
+pub mod Hierarchy
+pub mod Compared
+pub mod Abstract
+pub mod Texts
