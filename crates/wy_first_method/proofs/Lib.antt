@@ -1,5 +1,4 @@
 mod Rising
 mod Names
 mod Alone
-mod Few
 mod Main

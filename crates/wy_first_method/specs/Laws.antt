@@ -4,7 +4,6 @@ use Rattle.wy_tree.specs.Ast.{Ast, tokens}
 use Rattle.wy_tree.specs.Grammar.{WellFormed}
 use Rattle.wy_kernel.specs.Program.{Program}
 use Rattle.wy_syntax.specs.Declarations.{unit}
-use Rattle.wy_members.specs.Declarations.{table}
 use Rattle.wy_elab_stmt.specs.Elaborates.{Elaborates}
 use Rattle.wy_typing.specs.Programs.{HasMain}
 use Rattle.wy_declared.specs.Mains.{MainsStandAlone}
@@ -13,10 +12,6 @@ use Rattle.wy_declared.specs.Mains.{MainsStandAlone}
 abbrev pub MainsOfTreesStandAlone : Type 0
 MainsOfTreesStandAlone = (tree : Ast) → WellFormed tree → length (tokens tree) ≤ 1048576 → MainsStandAlone (unit 0 tree)
 
--- the classes of such a tree are no more than its tokens, beside the 18 of the library
-abbrev pub ClassesAreFew : Type 0
-ClassesAreFew = (tree : Ast) → WellFormed tree → length (tokens tree) ≤ 1048576 → length (table (unit 0 tree)).classes ≤ 1048594
-
--- so the main of its program is `static void` with one array of texts, and has a body (JLS 12.1.4)
+-- so the main of such a tree's program is `static void` with one array of texts, and has a body (JLS 12.1.4)
 abbrev pub TextsHaveMain : Type 0
 TextsHaveMain = (tree : Ast) → WellFormed tree → length (tokens tree) ≤ 1048576 → (count : ℕ) (p : Program) → Elaborates (unit 0 tree) count (Ok p) → HasMain p

@@ -5,7 +5,6 @@ use Rattle.wy_kernel.specs.declared.program.Program as memory
 use Rattle.wy_kernel.specs.Parts.{program_of}
 use Rattle.wy_constant.specs.declared.rule.Rule.{Rule}
 use Rattle.wy_constant.specs.Refusal.{refused}
-use Rattle.wy_tree.specs.Seen.{seen}
 use Rattle.wy_tree.specs.Ast.{Ast, tokens, view}
 use Rattle.wy_tree.specs.Lines.{line_of}
 use Rattle.wy_tree.specs.Tokens.{Placed, placed, Tokens}
@@ -16,6 +15,8 @@ use Rattle.wy_parser.specs.Symbols.{spanned_seen}
 use Rattle.wy_tree.specs.Trees.{HasNoTree, IsTreeOf}
 use Rattle.wy_syntax.specs.Declarations.{unit}
 use Rattle.wy_elab_stmt.specs.Elaborates.{Elaborates}
+use Rattle.wy_program.specs.declared.typed.TypedProgram.{TypedProgram}
+use Rattle.wy_program.specs.Texts.{Reads}
 use Rattle.wy_top.specs.declared.reading.FrontError.{FrontError}
 use Rattle.wy_top.specs.declared.reading.FrontError.TheVariants.{Lex, Parse, Typing, NoMemory}
 use Rattle.wy_top.specs.Due.{HasTree, unplaced, source_limit}
@@ -50,10 +51,6 @@ no_tree ts none (t, w, is) = none t (w, is ∙ unplaced_placed ts)
 -- the tokens of a tree that was found
 pub has_tree : (t : Tree) (ts : List Spanned) → IsTreeOf (map spanned_seen ts) (view t) → IsTreeOf (unplaced (map placed ts)) (view t)
 has_tree t ts (w, is) = (w, is ∙ sym (unplaced_placed ts))
-
--- the tokens of a tree, as they are asked for
-pub leaves : (t : Ast) (ts : List Spanned) → IsTreeOf (unplaced (map placed ts)) t → tokens t ≡ map (λ (s : Spanned). seen s.token) ts
-leaves t ts (w, is) = is ∙ unplaced_placed ts
 
 pub lacks_tree : (ts : List Spanned) (line token : ℕ) → HasNoTree (map spanned_seen ts) → token ≤ length ts → line ≡ line_of (map placed ts) token → LacksTree (map placed ts) (Parse line token)
 lacks_tree ts line token none within is = (no_tree ts none, subst (λ n. token ≤ n) (sym (length_placed ts)) within, is)
@@ -105,12 +102,17 @@ program_read source ts first second t p is same read reads typed =
       lines = there.1;
     }
 
-pub program_goes_on : (source : List ℕ) (ts first second : List Spanned) (t : Ast) (r : Result memory.Program FrontError) → first ≡ ts → second ≡ ts → Tokens source (map placed ts) →
-    IsTreeOf (unplaced (map placed first)) t → IfOk r (λ p. IsTypedAs (map placed second) t p) → IfOk r (λ p. IsProgramOf source p)
-program_goes_on source ts first second t (Ok p) is same read reads typed = program_read source ts first second t p is same read reads typed
+-- the tree of a text's tokens
+pub is_read : (source : List ℕ) (ts first second : List Spanned) (t : Ast) → first ≡ ts → second ≡ ts → Tokens source (map placed ts) → IsTreeOf (unplaced (map placed first)) t → Reads (map placed second) t
+is_read source ts first second t is same read reads =
+    subst (λ (z : List Spanned). Reads (map placed z) t) (sym same) (record { text = source; tokens = read; reads = subst (λ (z : List Spanned). IsTreeOf (unplaced (map placed z)) t) is reads })
+
+pub program_goes_on : (source : List ℕ) (ts first second : List Spanned) (t : Ast) (r : Result TypedProgram FrontError) → first ≡ ts → second ≡ ts → Tokens source (map placed ts) →
+    IsTreeOf (unplaced (map placed first)) t → IfOk r (λ p. IsTypedAs (map placed second) t p.program) → IfOk r (λ p. IsProgramOf source p.program)
+program_goes_on source ts first second t (Ok p) is same read reads typed = program_read source ts first second t p.program is same read reads typed
 program_goes_on source ts first second t (Err e) is same read reads typed = tt
 
-pub types_go_on : (source : List ℕ) (ts first second : List Spanned) (t : Ast) (r : Result memory.Program FrontError) → first ≡ ts → second ≡ ts → Tokens source (map placed ts) →
+pub types_go_on : (source : List ℕ) (ts first second : List Spanned) (t : Ast) (r : Result TypedProgram FrontError) → first ≡ ts → second ≡ ts → Tokens source (map placed ts) →
     IsTreeOf (unplaced (map placed first)) t → IfErr r (λ e. LacksTypes (map placed second) t e) → IfErr r (λ e. IsCauseOf source e)
 types_go_on source ts first second t (Ok p) is same read reads lacks = tt
 types_go_on source ts first second t (Err e) is same read reads lacks = types_pass source ts first second t e is same read reads lacks

@@ -98,7 +98,7 @@ fn answer_to_source(alloc: Global, source: &[u8]) -> Result<Answer, AllocError>
     ensures { IfOk result (λ answer. DueFor source.now (code_of answer.status) answer.text.items) }
 {
     match front(alloc, source) {
-        Ok(program) => answer_to_program(alloc, &program),
+        Ok(typed) => answer_to_program(alloc, &typed.program),
         Err(error) => answer_to_error(alloc, error),
     }
 }

@@ -1,5 +1,6 @@
 //! From a text to its program: its tokens, the tree that they must have, and what that declares.
 ghost use Rattle.std.specs.Prelude.{◌≡◌, ◌≤◌, map, length, IfOk, IfErr};
+ghost use Rattle.wy_program.specs.Texts.{Reads};
 ghost use Rattle.wy_syntax.specs.Declarations.{unit};
 ghost use Rattle.wy_top.specs.Due.{source_limit, unplaced};
 ghost use Rattle.wy_top.specs.Fronts.{IsCauseOf, IsProgramOf, IsTypedAs, LacksTree, LacksTypes};
@@ -8,11 +9,10 @@ ghost use Rattle.wy_tree.specs.Tokens.{placed, Tokens};
 ghost use Rattle.wy_tree.specs.Trees.{IsTreeOf};
 
 use std::alloc::Global;
-use wy_elab_stmt::elaborate;
-use wy_kernel::program::Program;
 use wy_lexer::{LexError, lex};
 use wy_members::{Rule, TypeError};
 use wy_parser::parse::{ParseError, parse};
+use wy_program::{TypedProgram, typed_program};
 use wy_tree::laws::tokens_stand_in_order;
 use wy_tree::line::line_of;
 use wy_tree::token::Spanned;
@@ -75,13 +75,13 @@ fn parsed(alloc: Global, tokens: &[Spanned]) -> Result<Tree, FrontError>
     }
 }
 
-fn typed(alloc: Global, tree: &Tree, tokens: &[Spanned]) -> Result<Program, FrontError>
+fn typed(alloc: Global, tree: &Tree, tokens: &[Spanned]) -> Result<TypedProgram, FrontError>
     requires few { length tokens.now ≤ source_limit }
-    requires read { IsTreeOf (unplaced (map placed tokens.now)) (view tree.now) }
-    ensures found { IfOk result (λ p. IsTypedAs (map placed tokens.now) (view tree.now) p) }
+    requires read { Reads (map placed tokens.now) (view tree.now) }
+    ensures found { IfOk result (λ p. IsTypedAs (map placed tokens.now) (view tree.now) p.program) }
     ensures refused { IfErr result (λ e. LacksTypes (map placed tokens.now) (view tree.now) e) }
 {
-    match elaborate(alloc, tree, tokens) {
+    match typed_program(alloc, tree, tokens) {
         Ok(program) => Ok(program),
         Err(TypeError::Broken { rule, token }) => {
             let line = line_of(tokens, token);
@@ -91,10 +91,11 @@ fn typed(alloc: Global, tree: &Tree, tokens: &[Spanned]) -> Result<Program, Fron
     }
 }
 
-/// The program of a text, or why it is none: the first of its tokens, their tree, and the rules.
-pub fn front(alloc: Global, source: &[u8]) -> Result<Program, FrontError>
+/// The program of a text, which keeps that it fits its types, or why the text is none: the first of its tokens, their tree, and the
+/// rules.
+pub fn front(alloc: Global, source: &[u8]) -> Result<TypedProgram, FrontError>
     requires { length source.now ≤ source_limit }
-    ensures program { IfOk result (λ p. IsProgramOf source.now p) }
+    ensures program { IfOk result (λ p. IsProgramOf source.now p.program) }
     ensures refused { IfErr result (λ e. IsCauseOf source.now e) }
 {
     let tokens = lexed(alloc, source)?;

@@ -1,5 +1,5 @@
 use Rattle.std.proofs.lemmas.Result.{err_from_is_err_and}
-use Rattle.wy_top.proofs.Sources.{syntax_passes, types_go_on, program_goes_on}
+use Rattle.wy_top.proofs.Sources.{syntax_passes, types_go_on, program_goes_on, is_read}
 use Rattle.wy_top.proofs.reading.front.Goals as goal
 
 pub returns-in_err-tree-clause-refused : goal.returns-in_err-tree-clause-refused
@@ -12,3 +12,6 @@ returns-clause-program c = program_goes_on _ _ _ _ _ c.typed.result c.as_slice.e
 
 pub returns-clause-refused : goal.returns-clause-refused
 returns-clause-refused c = types_go_on _ _ _ _ _ c.typed.result c.as_slice.ensures.value c.as_slice-2.ensures.value c.in_ok-tokens.ensures.found c.in_ok-tree.ensures.found c.typed.ensures.refused
+
+pub typed-requires-clause-read : goal.typed-requires-clause-read
+typed-requires-clause-read c = is_read _ _ _ _ _ c.as_slice.ensures.value c.as_slice-2.ensures.value c.in_ok-tokens.ensures.found c.in_ok-tree.ensures.found
