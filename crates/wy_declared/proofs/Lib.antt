@@ -5,5 +5,4 @@ mod Interfaces
 mod Texts
 mod Mains
 mod MainRows
-mod Kept
-pub mod TreeMains
+mod TreeMains

@@ -6,13 +6,13 @@ use Rattle.wy_kernel.specs.Table.{Table}
 use Rattle.wy_syntax.specs.Syntax.{Braced, Header, ClassSyntax}
 use Rattle.wy_syntax.specs.Syntax as source
 use Rattle.wy_syntax.specs.Declarations.{unit}
-use Rattle.wy_constant.specs.declared.rule.Rule.TheVariants as rule
 use Rattle.wy_members.specs.Declarations.{CompilationUnit, is_abstract_in, table}
 use Rattle.wy_members.specs.Broken.{IsWritten, body_too_much}
 use Rattle.wy_members.specs.Refusal.{KeepsRules}
+use Rattle.wy_has_bodies.specs.Laws.{MethodsOfTreesHaveBodies}
+use Rattle.wy_has_bodies.proofs.Keeping.{implemented}
 use Rattle.wy_declared.specs.Mains.{FindsMain, RunsFirst, MainsStandAlone, TreesHaveMain}
 use Rattle.wy_declared.proofs.Made.{comes}
-use Rattle.wy_declared.proofs.Kept.{judged, methods_of_trees_have_bodies}
 use Rattle.wy_declared.proofs.Mains.{contained, mains_are_found}
 use Rattle.wy_declared.proofs.MainRows.{mains_run_first}
 
@@ -22,7 +22,7 @@ concrete text keeps c k h b stands there = by (is_abstract_in k h) refl
   where
     by : (x : Bool) → is_abstract_in k h ≡ x → is_abstract_in k h ≡ false
     by false e = e
-    by true e = absurd (keeps rule.NotImplemented h.name.token (c, judged text keeps c, body_too_much (record { written = stands; member = there }) refl e))
+    by true e = absurd (implemented text keeps c h.name.token (body_too_much (record { written = stands; member = there }) refl e))
 
 main_by : (text : CompilationUnit) (p : Program) → KeepsRules text → MainsStandAlone text → length (table text).classes ≤ 1048594 → (table text).methods ≡ p.methods → (f : FindsMain text p) → RunsFirst f.method × (f.method.is_abstract ≡ false)
 main_by text p keeps alone few same f =
@@ -31,8 +31,8 @@ main_by text p keeps alone few same f =
     let not_abstract = concrete text keeps a.0 f.class f.header f.block a.1 f.in_class in
     (subst RunsFirst (sym a.2) (mains_run_first text a.0 f.class f.header few f.written), ap (λ (m : Method). m.is_abstract) a.2 ∙ not_abstract)
 
-pub trees_have_main : TreesHaveMain
-trees_have_main tree w alone few tokens p h =
+pub trees_have_main : MethodsOfTreesHaveBodies → TreesHaveMain
+trees_have_main have_bodies tree w alone few tokens p h =
     let c = comes (unit 0 tree) tokens p h in
     let f = mains_are_found (unit 0 tree) tokens p h in
     let same : (table (unit 0 tree)).methods ≡ p.methods = sym (ap (λ (x : Table). x.methods) c.is_table.rows) ∙ ap (λ (x : Program). x.methods) c.made.is in
@@ -43,5 +43,5 @@ trees_have_main tree w alone few tokens p h =
       static = d.0.static;
       params = d.0.params;
       result = d.0.result;
-      body = methods_of_trees_have_bodies tree w tokens p h p.main f.method f.found d.1;
+      body = have_bodies tree w tokens p h p.main f.method f.found d.1;
     }

@@ -3,24 +3,21 @@ use Rattle.std.specs.Prelude.{◌≡◌, ◌≤◌, ℕ, Bool, true, false, List
 use Rattle.std.specs.List.{AllByRecursion, list_any}
 use Rattle.wy_tree.specs.Ast.{Ast}
 use Rattle.wy_tree.specs.Grammar.{WellFormed}
-use Rattle.wy_kernel.specs.Program.{Program, Method, first_source_class}
+use Rattle.wy_kernel.specs.Program.{Program, first_source_class}
 use Rattle.wy_kernel.specs.Table.{BeginsWith, Table}
 use Rattle.wy_syntax.specs.Syntax.{ClassSyntax}
 use Rattle.wy_syntax.specs.Declarations.{unit}
 use Rattle.wy_members.specs.Declarations.{CompilationUnit, classes_of, initializes_objects}
 use Rattle.wy_library.specs.Library.{library_bodies}
 use Rattle.wy_members.specs.Constants.{IsTableOf}
-use Rattle.wy_members.specs.Refusal.{KeepsRules}
 use Rattle.wy_elab_expr.specs.Operators.{Judgement}
 use Rattle.wy_statement.specs.Places.{places_of}
 use Rattle.wy_elab_stmt.specs.Elaborates.{Elaborates}
 use Rattle.wy_elab_stmt.specs.Program.{program}
-use Rattle.wy_typing.specs.Expressions.{IsMethod, HasBody}
 use Rattle.wy_typing.specs.Programs.{IsDeclared}
 use Rattle.wy_typed_stmt.specs.Typed.{Makes}
 use Rattle.wy_typed_library.specs.Library.{HasLibrary}
 use Rattle.wy_typed.specs.Rows.{AllStand, IsHeader}
-use Rattle.wy_typed.specs.Shapes.{AllKeep}
 
 -- they begin with the library's, name classes of the program, and no class is above itself
 abbrev pub DeclarationsStand : Type 0
@@ -74,14 +71,3 @@ abbrev pub ProgramsHaveLibrary : Type 0
 ProgramsHaveLibrary =
     (j : Judgement) (t : Table) (unit : CompilationUnit) (tokens : ℕ) (p : Program) → IsTableOf unit t → Makes p t.constants j (places_of t unit) → AllStand p t.constants (places_of t unit) first_source_class (classes_of unit)
     → program j t unit tokens ≡ Ok p → HasLibrary p
-
--- ---- which methods have bodies
-
--- in a well-formed tree that keeps the rules a method without a body is abstract (JLS 8.4.7)
-abbrev pub TreesKeep : Type 0
-TreesKeep = (tree : Ast) → WellFormed tree → KeepsRules (unit 0 tree) → AllKeep (classes_of (unit 0 tree))
-
--- so in the program of a tree each method that isn't abstract has a body
-abbrev pub MethodsOfTreesHaveBodies : Type 0
-MethodsOfTreesHaveBodies =
-    (tree : Ast) → WellFormed tree → (tokens : ℕ) (p : Program) → Elaborates (unit 0 tree) tokens (Ok p) → (k : ℕ) (m : Method) → IsMethod p k m → m.is_abstract ≡ false → HasBody p k

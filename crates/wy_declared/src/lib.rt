@@ -1,8 +1,10 @@
 //! What holds of the declarations of every program that a text becomes. The functions do nothing: their contracts are the laws.
 #![tactic(auto)]
 
-ghost use Rattle.wy_declared.specs.Laws.{BodiesHavePlaces, BodiesOfTreesHavePlaces, DeclarationsStand, InitializersHavePlaces, InterfacesHaveHeadersAlone, LibraryStands, MethodsOfTreesHaveBodies, ProgramsHaveLibrary, TreesKeep};
+ghost use Rattle.wy_declared.specs.Laws.{BodiesHavePlaces, BodiesOfTreesHavePlaces, DeclarationsStand, InitializersHavePlaces, InterfacesHaveHeadersAlone, LibraryStands, ProgramsHaveLibrary};
 ghost use Rattle.wy_declared.specs.Mains.{MainsAreFound, MainsRunFirst, TreesHaveMain};
+
+use wy_has_bodies::methods_of_programs_have_bodies;
 
 /// The classes, methods and fields of a program begin with those of the library and are of its own classes; no class is above
 /// itself; parameters and fields have types of variables.
@@ -45,15 +47,10 @@ pub fn mains_run_first()
     ensures { MainsRunFirst }
 {}
 
-/// In a well-formed tree that keeps the rules a method without a body is abstract, so in its program each method that isn't abstract
-/// has a body.
-pub fn methods_of_trees_have_bodies()
-    ensures trees { TreesKeep }
-    ensures bodies { MethodsOfTreesHaveBodies }
-{}
-
 /// The main of a well-formed tree's program is `static void` with one array of texts, and has a body, where nothing else has its name
 /// at the token of a main and there are at most 1,048,594 classes, the library's among them.
 pub fn trees_have_a_main()
     ensures { TreesHaveMain }
-{}
+{
+    methods_of_programs_have_bodies();
+}
