@@ -12,7 +12,9 @@ use Rattle.wy_kernel.specs.Program.{Class}
 use Rattle.wy_kernel.specs.Subtyping.{Below, IsReference, class_type}
 use Rattle.wy_kernel.specs.Table.{Table}
 use Rattle.wy_elab_expr.specs.Operators.{Judgement, Settles, primitive_in, class_of, is_interface, is_open, may_meet, is_related, can_cast, can_cast_by, can_cast_bases, can_cast_primitive, can_cast_reference, boolean_type}
-use Rattle.wy_breach.specs.Operands.{IsNumber, IsNullable, IsInterface, IsOpen, CastsTo, numbers, booleans, upward, downward, from_interface, to_interface, of_elements}
+use Rattle.wy_typing.specs.Types.{IsNullable, MayMeet}
+use Rattle.wy_typing.specs.Types as types
+use Rattle.wy_breach.specs.Operands.{IsNumber, CastsTo, numbers, booleans, references}
 use Rattle.wy_breach.proofs.Tests.{both_true, left_true, right_true, not_true, nullable_true, no_primitive, number_in}
 
 -- ---- what may be cast passes
@@ -46,15 +48,12 @@ related_cast j t (Of a m) Null e = e
 related_cast j t Void b e = e
 related_cast j t Null b e = e
 
-interface_true : (t : Table) (c : ℕ) → IsInterface t c → is_interface (class_of t c) ≡ true
-interface_true t c h = ap is_interface h.1 ∙ h.2
-
 open_row : (k : Class) → (k.is_interface ≡ true) ⊎ (k.is_final ≡ false) → is_open (Some k) ≡ true
 open_row k (inl e) = left_true (not k.is_final) e
 open_row k (inr e) = right_true k.is_interface (not_true e)
 
-open_true : (t : Table) (c : ℕ) → IsOpen t c → is_open (class_of t c) ≡ true
-open_true t c h = ap is_open h.1 ∙ open_row h.0 h.2
+meets : (t : Table) (c d : ℕ) → MayMeet t.classes c d → (is_interface (class_of t c) && is_open (class_of t d)) ≡ true
+meets t c d h = both_true (ap is_interface h.2 ∙ h.4) (ap is_open h.3 ∙ open_row h.1 h.5)
 
 pub reference_in_array : (a : Base) (m : ℕ) → IsReference (Of a (suc m))
 reference_in_array (Named c) m = tt
@@ -72,15 +71,18 @@ module _ (j : Judgement) (t : Table) (g : Settles t j) where
   nullables_cast : (a b : Ty) → IsNullable a → IsNullable b → Below t.classes a b ⊎ Below t.classes b a → can_cast j t a b ≡ true
   nullables_cast a b h k below = references_cast j t a b h k ∙ related_cast j t a b (related a b h k below)
 
+  reference_cast : {a b : Ty} → types.CastsTo t.classes a b → can_cast j t a b ≡ true
+  reference_cast (types.up {a = a} {b = b} h k below) = nullables_cast a b h k (inl below)
+  reference_cast (types.down {a = a} {b = b} h k below) = nullables_cast a b h k (inr below)
+  reference_cast (types.from_interface {c = c} {d = d} h) =
+      references_cast j t (class_type c) (class_type d) (inr tt) (inr tt) ∙ right_true (is_related j (class_type c) (class_type d)) (left_true (is_interface (class_of t d) && is_open (class_of t c)) (meets t c d h))
+  reference_cast (types.to_interface {c = c} {d = d} h) =
+      references_cast j t (class_type c) (class_type d) (inr tt) (inr tt) ∙ right_true (is_related j (class_type c) (class_type d)) (right_true (is_interface (class_of t c) && is_open (class_of t d)) (meets t d c h))
+  reference_cast (types.of_elements {a = a} {b = b} {m = m} {n = n} h k inner) =
+      references_cast j t (Of a (suc m)) (Of b (suc n)) (inr (reference_in_array a m)) (inr (reference_in_array b n))
+      ∙ right_true (is_related j (Of a (suc m)) (Of b (suc n))) (sym (references_cast j t (Of a m) (Of b n) (inr h) (inr k)) ∙ reference_cast inner)
+
   pub cast_true : {a b : Ty} → CastsTo t a b → can_cast j t a b ≡ true
   cast_true (numbers {a = a} {b = b} h k) = numbers_cast j t a b h k
   cast_true booleans = booleans_cast j t
-  cast_true (upward {a = a} {b = b} h k below) = nullables_cast a b h k (inl below)
-  cast_true (downward {a = a} {b = b} h k below) = nullables_cast a b h k (inr below)
-  cast_true (from_interface {c = c} {d = d} h k) =
-      references_cast j t (class_type c) (class_type d) (inl tt) (inl tt) ∙ right_true (is_related j (class_type c) (class_type d)) (left_true (is_interface (class_of t d) && is_open (class_of t c)) (both_true (interface_true t c h) (open_true t d k)))
-  cast_true (to_interface {c = c} {d = d} h k) =
-      references_cast j t (class_type c) (class_type d) (inl tt) (inl tt) ∙ right_true (is_related j (class_type c) (class_type d)) (right_true (is_interface (class_of t c) && is_open (class_of t d)) (both_true (interface_true t d k) (open_true t c h)))
-  cast_true (of_elements {a = a} {b = b} {m = m} {n = n} h k inner) =
-      references_cast j t (Of a (suc m)) (Of b (suc n)) (inl (reference_in_array a m)) (inl (reference_in_array b n))
-      ∙ right_true (is_related j (Of a (suc m)) (Of b (suc n))) (sym (references_cast j t (Of a m) (Of b n) (inl h) (inl k)) ∙ cast_true inner)
+  cast_true (references h) = reference_cast h

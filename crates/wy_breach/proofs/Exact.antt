@@ -12,7 +12,6 @@ use Rattle.wy_kernel.specs.declared.types.Base.{Base}
 use Rattle.wy_kernel.specs.declared.types.Base.TheVariants.{Primitive as Basic, Class as Named}
 use Rattle.wy_kernel.specs.declared.types.Ty.{Ty}
 use Rattle.wy_kernel.specs.declared.types.Ty.TheVariants.{Void, Null, Of}
-use Rattle.wy_kernel.specs.Form.{Constant}
 use Rattle.wy_kernel.specs.Form as plain
 use Rattle.wy_kernel.specs.Program.{Class}
 use Rattle.wy_kernel.specs.Subtyping.{IsReference, primitive_type, class_type, object_type}
@@ -23,10 +22,12 @@ use Rattle.wy_elab_expr.specs.Meaning.{Meaning, Known, Formed, type_of}
 use Rattle.wy_elab_expr.specs.Operators.{Judgement, Settles, primitive_in, is_void, is_nullable, is_boolean, is_text_type, number_type, both_numbers, wide, boolean_type, OperandTypes, of_one_type, of_number, of_shift, booleans as both_booleans, or_else, of_references, operand_types, joins, unary_type, class_of, is_interface, is_open, may_meet, is_related, can_cast, can_cast_by, can_cast_bases, can_cast_primitive, can_cast_reference, is_assignable, fits_into, choice_result, common_type, value_known}
 use Rattle.wy_elab_expr.specs.Elaboration.{adds_text, is_object_type, left_primitive}
 use Rattle.wy_elab_expr.proofs.Primitives.{primitive_is}
-use Rattle.wy_breach.specs.Operands.{IsNumeric, IsNumber, IsNullable, IsInterface, IsOpen, CastsTo, MayAssign, by_type, by_value, TakesOne, Takes, TakesInto, Chooses}
+use Rattle.wy_typing.specs.Types.{IsNumber as IsNumeric, IsValueType, IsNullable, MayMeet}
+use Rattle.wy_typing.specs.Types as types
+use Rattle.wy_breach.specs.Operands.{IsNumber, CastsTo, MayAssign, by_type, by_value, TakesOne, Takes, TakesInto, Chooses}
 use Rattle.wy_breach.specs.Operands as operands
 use Rattle.wy_breach.specs.Laws.{Given, CastsAreExact, AssignmentsAreExact, UnaryIsExact, BinaryIsExact, UpdatesAreExact, ChoicesAreExact}
-use Rattle.wy_breach.proofs.Tests.{first_true, second_true, one_true, not_false, is_number, nullable_is, not_void, text_is}
+use Rattle.wy_breach.proofs.Tests.{first_true, second_true, one_true, not_false, is_number, nullable_is, is_value, void_false, text_is}
 use Rattle.wy_breach.proofs.Casts.{cast_true, reference_in_array}
 use Rattle.wy_breach.proofs.Taken.{assign_true, one_taken, taken, taken_into, chosen}
 
@@ -48,20 +49,22 @@ reference_is (Named c) m e = tt
 reference_is (Basic p) (suc m) e = tt
 reference_is (Basic p) zero e = absurd (cc)
 
-meet : (t : Table) (c d : ℕ) → may_meet t (Named c) (Named d) ≡ true → CastsTo t (class_type c) (class_type d)
+meets : (t : Table) (c d : ℕ) → (is_interface (class_of t c) && is_open (class_of t d)) ≡ true → MayMeet t.classes c d
+meets t c d e =
+    let k = row_of (class_of t c) (first_true (is_interface (class_of t c)) (is_open (class_of t d)) e) in
+    let l = open_of (class_of t d) (second_true (is_interface (class_of t c)) (is_open (class_of t d)) e) in
+    (k.0, l.0, k.1, l.1, k.2, l.2)
+
+meet : (t : Table) (c d : ℕ) → may_meet t (Named c) (Named d) ≡ true → types.CastsTo t.classes (class_type c) (class_type d)
 meet t c d e =
-    let x : Bool = is_interface (class_of t c) in
-    let y : Bool = is_open (class_of t d) in
-    let z : Bool = is_interface (class_of t d) in
-    let w : Bool = is_open (class_of t c) in
-    elim (one_true (x && y) (z && w) e) [
-      | inl h ↦ operands.from_interface (row_of (class_of t c) (first_true x y h)) (open_of (class_of t d) (second_true x y h))
-      | inr h ↦ operands.to_interface (open_of (class_of t c) (second_true z w h)) (row_of (class_of t d) (first_true z w h))
+    elim (one_true (is_interface (class_of t c) && is_open (class_of t d)) (is_interface (class_of t d) && is_open (class_of t c)) e) [
+      | inl h ↦ types.from_interface (meets t c d h)
+      | inr h ↦ types.to_interface (meets t d c h)
     ]
 
 -- a cast between references, and that they are some
 record BasesCast (t : Table) (a b : Base) (m n : ℕ) : Type 0 where
-  casts : CastsTo t (Of a m) (Of b n)
+  casts : types.CastsTo t.classes (Of a m) (Of b n)
   left : IsReference (Of a m)
   right : IsReference (Of b n)
 
@@ -94,13 +97,13 @@ primitives_cast t p prim.Bool e = absurd (cc)
 primitives_cast t p q e = operands.CastsTo.numbers tt tt
 
 module _ (j : Judgement) (t : Table) (g : Settles t j) where
-  related_is : (a b : Ty) → is_related j a b ≡ true → CastsTo t a b × IsNullable a × IsNullable b
+  related_is : (a b : Ty) → is_related j a b ≡ true → types.CastsTo t.classes a b × IsNullable a × IsNullable b
   related_is a b e =
       let both = first_true (is_nullable a && is_nullable b) (j.below a b || j.below b a) e in
       let one = second_true (is_nullable a && is_nullable b) (j.below a b || j.below b a) e in
       let left = nullable_is a (first_true (is_nullable a) (is_nullable b) both) in
       let right = nullable_is b (second_true (is_nullable a) (is_nullable b) both) in
-      (elim (one_true (j.below a b) (j.below b a) one) [ inl h ↦ operands.upward left right ((g.below a b).0 h) | inr h ↦ operands.downward left right ((g.below b a).0 h) ], left, right)
+      (elim (one_true (j.below a b) (j.below b a) one) [ inl h ↦ types.up left right ((g.below a b).0 h) | inr h ↦ types.down left right ((g.below b a).0 h) ], left, right)
 
   related_bases_is : (a b : Base) (m n : ℕ) → is_related j (Of a m) (Of b n) ≡ true → BasesCast t a b m n
   related_bases_is a b m n e =
@@ -112,7 +115,7 @@ module _ (j : Judgement) (t : Table) (g : Settles t j) where
       }
 
   deeper_bases : (a b : Base) (m n : ℕ) → BasesCast t a b m n → BasesCast t a b (suc m) (suc n)
-  deeper_bases a b m n h = record { casts = operands.of_elements h.left h.right h.casts; left = reference_in_array a m; right = reference_in_array b n }
+  deeper_bases a b m n h = record { casts = types.of_elements h.left h.right h.casts; left = reference_in_array a m; right = reference_in_array b n }
 
   bases_cast : (a b : Base) (m n : ℕ) → can_cast_bases j t a m b n ≡ true → BasesCast t a b m n
   bases_cast a b zero zero e = elim (one_true (is_related j (Of a 0) (Of b 0)) (may_meet t a b) e) [ inl h ↦ related_bases_is a b 0 0 h | inr h ↦ meet_bases t a b h ]
@@ -121,7 +124,7 @@ module _ (j : Judgement) (t : Table) (g : Settles t j) where
   bases_cast a b zero (suc n) e = related_bases_is a b 0 (suc n) e
   bases_cast a b (suc m) zero e = related_bases_is a b (suc m) 0 e
 
-  reference_casts : (a b : Ty) → can_cast_reference j t a b ≡ true → CastsTo t a b
+  reference_casts : (a b : Ty) → can_cast_reference j t a b ≡ true → types.CastsTo t.classes a b
   reference_casts (Of a m) (Of b n) e = (bases_cast a b m n e).casts
   reference_casts (Of a m) Void e = (related_is (Of a m) Void e).0
   reference_casts (Of a m) Null e = (related_is (Of a m) Null e).0
@@ -135,7 +138,7 @@ module _ (j : Judgement) (t : Table) (g : Settles t j) where
       let C : Ty → Type 0 = λ z. CastsTo t z b in
       let D : Ty → Type 0 = λ z. CastsTo t (primitive_type p) z in
       subst C (sym left) (subst D (sym right) (primitives_cast t p q h))
-  cast_by a b Absent Absent e f h = reference_casts a b h
+  cast_by a b Absent Absent e f h = operands.CastsTo.references (reference_casts a b h)
   cast_by a b (Some p) Absent e f h = absurd (cc)
   cast_by a b Absent (Some q) e f h = absurd (cc)
 
@@ -269,11 +272,9 @@ texts_taken : (t : Table) (a b : Ty) → joins Add a b ≡ true → Takes t Add 
 texts_taken t a b e =
     let valued = first_true (not (is_void a) && not (is_void b)) (is_text_type a || is_text_type b) e in
     let one = second_true (not (is_void a) && not (is_void b)) (is_text_type a || is_text_type b) e in
-    let left : a ≡ Void → ⊥ = not_void a (not_false (first_true (not (is_void a)) (not (is_void b)) valued)) in
-    let right : b ≡ Void → ⊥ = not_void b (not_false (second_true (not (is_void a)) (not (is_void b)) valued)) in
-    let C : Ty → Type 0 = λ z. Takes t Add z b in
-    let D : Ty → Type 0 = λ z. Takes t Add a z in
-    elim (one_true (is_text_type a) (is_text_type b) one) [ inl h ↦ subst C (sym (text_is a h)) (operands.text_left right) | inr h ↦ subst D (sym (text_is b h)) (operands.text_right left) ]
+    let left = is_value a (not_false (first_true (not (is_void a)) (not (is_void b)) valued)) in
+    let right = is_value b (not_false (second_true (not (is_void a)) (not (is_void b)) valued)) in
+    operands.joined (elim (one_true (is_text_type a) (is_text_type b) one) [ inl h ↦ inl (text_is a h, right) | inr h ↦ inr (left, text_is b h) ])
 
 joined_taken : (t : Table) (op : BinOp) (a b : Ty) → joins op a b ≡ true → Takes t op a b
 joined_taken t Add a b e = texts_taken t a b e
@@ -290,7 +291,7 @@ object_is (Of (Basic p) n) e = absurd (cc)
 object_is Void e = absurd (cc)
 object_is Null e = absurd (cc)
 
-text_added : (a b : Ty) → (b ≡ Void → ⊥) → adds_text Add a b ≡ true → TakesInto Add a b
+text_added : (a b : Ty) → IsValueType b → adds_text Add a b ≡ true → TakesInto Add a b
 text_added a b n e =
     let C : Ty → Type 0 = λ z. TakesInto Add z b in
     let D : Ty → Type 0 = λ z. TakesInto Add object_type z in
@@ -299,7 +300,7 @@ text_added a b n e =
       | inr h ↦ subst C (sym (object_is a (first_true (is_object_type a) (is_text_type b) h))) (subst D (sym (text_is b (second_true (is_object_type a) (is_text_type b) h))) operands.to_object)
     ]
 
-added : (op : BinOp) (a b : Ty) → (b ≡ Void → ⊥) → adds_text op a b ≡ true → TakesInto op a b
+added : (op : BinOp) (a b : Ty) → IsValueType b → adds_text op a b ≡ true → TakesInto op a b
 added Add a b n e = text_added a b n e
 added _ a b n e = absurd (cc)
 
@@ -350,7 +351,7 @@ then_given f (Some x) h = (x, refl)
 then_given f Absent h = none_given h
 
 updates : (j : Judgement) (t : Table) (op : BinOp) (a b : Ty) → is_equality op ≡ false → (b ≡ Void → ⊥) → (adds_text op a b ≡ true) ⊎ Given (left_primitive j t op a b) → TakesInto op a b
-updates j t op a b n valued (inl e) = added op a b valued e
+updates j t op a b n valued (inl e) = added op a b (is_value b (void_false b valued)) e
 updates j t op a b n valued (inr h) = types_into j t op a b n (then_given (λ o. primitive_in o.left) (operand_types j t op a b) h)
 
 -- ---- `?:`

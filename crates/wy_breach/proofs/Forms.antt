@@ -22,7 +22,8 @@ use Rattle.wy_elab_expr.specs.Operators.{Judgement, Settles, OperandTypes, primi
 use Rattle.wy_elab_expr.specs.Members.{Spot, spot, int_type}
 use Rattle.wy_elab_expr.specs.Elaboration.{assigned_value, assigned, updated, updated_in, updated_by, stepped, stepped_in, adds_text, left_primitive, element_spot, element_at, element_of, is_index, is_int_number, sizes_of}
 use Rattle.wy_constant.specs.Constant.{combined, choice_constant}
-use Rattle.wy_breach.specs.Operands.{IsIndex, IsNullable, CastsTo, MayAssign, Takes, TakesInto}
+use Rattle.wy_typing.specs.Types.{IsNullable}
+use Rattle.wy_breach.specs.Operands.{IsIndex, CastsTo, MayAssign, Takes, TakesInto}
 use Rattle.wy_breach.specs.Found.{IsFound, AreFound, Denotes, IsType}
 use Rattle.wy_breach.specs.Ways.{Breaks, Needs, Decides, Assigns, Changes}
 use Rattle.wy_breach.specs.Ways as way

@@ -14,14 +14,15 @@ use Rattle.wy_kernel.specs.Subtyping.{primitive_type}
 use Rattle.wy_kernel.specs.Table.{Table, Simple}
 use Rattle.wy_value.specs.declared.value.Value.{Value}
 use Rattle.wy_value.specs.Operator.{is_shift, is_equality, is_comparison, is_logical}
-use Rattle.wy_elab_expr.specs.Meaning.{Meaning, Known, type_of, text_type}
-use Rattle.wy_elab_expr.specs.Operators.{Judgement, Settles, primitive_in, is_nullable, is_text_type, number_type, both_numbers, boolean_type, OperandTypes, of_one_type, of_number, of_shift, booleans as both_booleans, or_else, of_references, is_bitwise, operand_types, joins, unary_type, is_assignable, fits_into, choice_result, common_type, value_known}
+use Rattle.wy_elab_expr.specs.Meaning.{Meaning, Known, type_of}
+use Rattle.wy_elab_expr.specs.Operators.{Judgement, Settles, primitive_in, is_void, is_nullable, is_text_type, number_type, both_numbers, boolean_type, OperandTypes, of_one_type, of_number, of_shift, booleans as both_booleans, or_else, of_references, is_bitwise, operand_types, joins, unary_type, is_assignable, fits_into, choice_result, common_type, value_known}
 use Rattle.wy_elab_expr.specs.Elaboration.{adds_text, left_primitive}
 use Rattle.wy_constant.specs.Constant.{choice_type, joint, fits}
-use Rattle.wy_breach.specs.Operands.{IsNumber, IsNullable, CastsTo, MayAssign, by_type, by_value, TakesOne, Takes, TakesInto, Chooses}
+use Rattle.wy_typing.specs.Types.{IsNullable, Joins}
+use Rattle.wy_breach.specs.Operands.{IsNumber, CastsTo, MayAssign, by_type, by_value, TakesOne, Takes, TakesInto, Chooses}
 use Rattle.wy_breach.specs.Operands as operands
 use Rattle.wy_breach.specs.Laws.{Given}
-use Rattle.wy_breach.proofs.Tests.{both_true, left_true, right_true, has_number, both_are, nullable_true, void_false, no_primitive, number_in}
+use Rattle.wy_breach.proofs.Tests.{both_true, left_true, right_true, has_number, both_are, nullable_true, void_false, value_false, no_primitive, number_in}
 use Rattle.wy_breach.proofs.Casts.{cast_true}
 
 -- ---- assignment
@@ -126,19 +127,16 @@ references_taken j t g Gt a b e h k c = absurd (cc)
 references_taken j t g Le a b e h k c = absurd (cc)
 references_taken j t g Ge a b e h k c = absurd (cc)
 
-joins_left : (b : Ty) → (b ≡ Void → ⊥) → joins Add text_type b ≡ true
-joins_left b n = both_true (ap not (void_false b n)) refl
-
-joins_right : (a : Ty) → (a ≡ Void → ⊥) → joins Add a text_type ≡ true
-joins_right a n = both_true (both_true (ap not (void_false a n)) refl) (right_true (is_text_type a) refl)
+joins_texts : (a b : Ty) → Joins a b → joins Add a b ≡ true
+joins_texts a b (inl h) = both_true (both_true (ap (λ z. not (is_void z)) h.0) (ap not (value_false b h.1))) (left_true (is_text_type b) (ap is_text_type h.0))
+joins_texts a b (inr h) = both_true (both_true (ap not (value_false a h.0)) (ap (λ z. not (is_void z)) h.1)) (right_true (is_text_type a) (ap is_text_type h.1))
 
 -- two operands that are taken are joined, or have types to be brought to
 pub taken : (j : Judgement) (t : Table) → Settles t j → {op : BinOp} {a b : Ty} → Takes t op a b → (joins op a b ≡ true) ⊎ Given (operand_types j t op a b)
 taken j t g (operands.Takes.numbers {op = op} {a = a} {b = b} h k) = inr (numbers_taken j t op a b h k)
 taken j t g (operands.Takes.booleans {op = op} e) = inr (booleans_taken j t op e)
 taken j t g (operands.Takes.references {op = op} {a = a} {b = b} e h k c) = inr (references_taken j t g op a b e h k c)
-taken j t g (operands.text_left {b = b} n) = inl (joins_left b n)
-taken j t g (operands.text_right {a = a} n) = inl (joins_right a n)
+taken j t g (operands.joined {a = a} {b = b} h) = inl (joins_texts a b h)
 
 -- ---- compound assignment
 

@@ -9,7 +9,8 @@ use Rattle.wy_kernel.specs.declared.types.Ty.{Ty}
 use Rattle.wy_kernel.specs.declared.types.Ty.TheVariants.{Void, Null, Of}
 use Rattle.wy_elab_expr.specs.Meaning.{text_type}
 use Rattle.wy_elab_expr.specs.Operators.{primitive_in, is_void, is_nullable, is_boolean, is_text_type, number_type, both_numbers, wide, boolean_type}
-use Rattle.wy_breach.specs.Operands.{IsNumber, IsIndex, IsNullable}
+use Rattle.wy_typing.specs.Types.{IsValueType, IsNullable}
+use Rattle.wy_breach.specs.Operands.{IsNumber, IsIndex}
 
 -- ---- tests
 
@@ -98,19 +99,19 @@ is_index_type Void h = absurd h.0
 is_index_type Null h = absurd h.0
 
 pub nullable_true : (ty : Ty) → IsNullable ty → is_nullable ty ≡ true
-nullable_true Void (inl r) = absurd r
-nullable_true Void (inr e) = absurd (cc)
+nullable_true Void (inr r) = absurd r
+nullable_true Void (inl e) = absurd (cc)
 nullable_true Null h = refl
 nullable_true (Of (Named c) n) h = refl
 nullable_true (Of (Basic p) (suc n)) h = refl
-nullable_true (Of (Basic p) zero) (inl r) = absurd r
-nullable_true (Of (Basic p) zero) (inr e) = absurd (cc)
+nullable_true (Of (Basic p) zero) (inr r) = absurd r
+nullable_true (Of (Basic p) zero) (inl e) = absurd (cc)
 
 pub nullable_is : (ty : Ty) → is_nullable ty ≡ true → IsNullable ty
 nullable_is Void e = absurd (cc)
-nullable_is Null e = inr refl
-nullable_is (Of (Named c) n) e = inl tt
-nullable_is (Of (Basic p) (suc n)) e = inl tt
+nullable_is Null e = inl refl
+nullable_is (Of (Named c) n) e = inr tt
+nullable_is (Of (Basic p) (suc n)) e = inr tt
 nullable_is (Of (Basic p) zero) e = absurd (cc)
 
 pub void_is : (ty : Ty) → is_void ty ≡ true → ty ≡ Void
@@ -125,6 +126,16 @@ void_false (Of b n) h = refl
 
 pub not_void : (ty : Ty) → is_void ty ≡ false → ty ≡ Void → ⊥
 not_void ty e v = let t : is_void ty ≡ true = ap is_void v in cc
+
+pub is_value : (ty : Ty) → is_void ty ≡ false → IsValueType ty
+is_value Void e = cc
+is_value Null e = tt
+is_value (Of b n) e = tt
+
+pub value_false : (ty : Ty) → IsValueType ty → is_void ty ≡ false
+value_false Void h = absurd h
+value_false Null h = refl
+value_false (Of b n) h = refl
 
 pub not_boolean : (ty : Ty) → is_boolean ty ≡ false → ty ≡ boolean_type → ⊥
 not_boolean ty e v = let t : is_boolean ty ≡ true = ap is_boolean v in cc
@@ -144,13 +155,13 @@ text_is Void e = absurd (cc)
 text_is Null e = absurd (cc)
 
 pub no_primitive : (ty : Ty) → IsNullable ty → primitive_in ty ≡ Absent
-no_primitive Void (inl r) = absurd r
-no_primitive Void (inr e) = refl
+no_primitive Void (inr r) = absurd r
+no_primitive Void (inl e) = refl
 no_primitive Null h = refl
 no_primitive (Of (Named c) n) h = refl
 no_primitive (Of (Basic p) (suc n)) h = refl
-no_primitive (Of (Basic p) zero) (inl r) = absurd r
-no_primitive (Of (Basic p) zero) (inr e) = absurd (cc)
+no_primitive (Of (Basic p) zero) (inr r) = absurd r
+no_primitive (Of (Basic p) zero) (inl e) = absurd (cc)
 
 pub number_in : (ty : Ty) → IsNumber ty → (p : Primitive) × (primitive_in ty ≡ Some p) × (p ≡ prim.Bool → ⊥)
 number_in (Of (Basic prim.Bool) zero) h = absurd h

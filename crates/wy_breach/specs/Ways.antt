@@ -24,7 +24,8 @@ use Rattle.wy_elab_expr.specs.Meaning.{Meaning, type_of}
 use Rattle.wy_elab_expr.specs.Operators.{Judgement, boolean_type}
 use Rattle.wy_elab_expr.specs.Members.{Spot, LibraryMethod, types_of, has_name, is_library_name, is_length}
 use Rattle.wy_elab_expr.specs.Elaboration.{ClassName, class_in, Input, Output, stream_in, is_of_texts, is_print, element_of, above}
-use Rattle.wy_breach.specs.Operands.{IsNumber, IsIndex, IsNullable, IsInterface, CastsTo, MayAssign, TakesOne, Takes, TakesInto, Chooses}
+use Rattle.wy_typing.specs.Types.{IsNullable}
+use Rattle.wy_breach.specs.Operands.{IsNumber, IsIndex, IsInterface, CastsTo, MayAssign, TakesOne, Takes, TakesInto, Chooses}
 use Rattle.wy_breach.specs.Found.{IsFound, AreFound, Denotes, IsType, IsNoType, Fills}
 use Rattle.wy_breach.specs.Calls.{IsNoLocal, IsField, HasNoField, IsHidden, NamesClass, IsObject, Way, Plainly, OfObject, OfClass, OfSuper, HaveValues, Asks, Means, IsLibraryCall, Offers}
 
