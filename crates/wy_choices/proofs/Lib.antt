@@ -1,0 +1,12 @@
+pub mod Fewer
+pub mod FewForms
+pub mod FewMembers
+pub mod FewExpressions
+pub mod FewStatements
+pub mod FewClasses
+pub mod FewPrograms
+pub mod Rising
+pub mod RisingExpressions
+pub mod RisingStatements
+pub mod RisingClasses
+pub mod Distinct
