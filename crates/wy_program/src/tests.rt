@@ -6,18 +6,21 @@ use std::test::Fail;
 use wy_constant::{Rule, TypeError};
 use wy_lexer::lex;
 use wy_parser::parse::parse;
-use wy_tree::laws::tokens_stand_in_order;
 
 /// The program of a text that has a tree, or the rule that it breaks, and none where it has no tree.
 fn read(alloc: Global, text: &str) -> Option<Result<TypedProgram, TypeError>> {
     if text.len() > 1_048_576 {
         return None;
     }
-    let tokens = lex(alloc, text.as_bytes()).ok()?;
+    let Ok(tokens) = lex(alloc, text.as_bytes()) else {
+        return None;
+    };
     if tokens.len() > 1_048_576 {
         return None;
     }
-    let tree = parse(alloc, tokens.as_slice()).ok()?;
+    let Ok(tree) = parse(alloc, tokens.as_slice()) else {
+        return None;
+    };
     Some(typed_program(alloc, &tree, tokens.as_slice()))
 }
 
