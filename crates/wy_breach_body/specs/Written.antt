@@ -2,48 +2,28 @@
 -- What is read from a tree of the grammar is so (JLS 14.2, 14.4).
 use Rattle.std.specs.Prelude.{◌≡◌, Bool, true, false, Option, Some, None}
 use Rattle.std.specs.List.{All}
-use Rattle.wy_syntax.specs.Syntax.{Expression, Row, none, more, Initial, Value, Listed, Elements, no_more, element, Literal, Name, This, Group, Invoke, Field, InvokeOn, SuperField, SuperInvoke, Element, NewObject, NewArray, NewList, Unary, Step, Binary, Both, Either, InstanceOf, Cast, Choice, Assign, Update, Wrong}
+use Rattle.wy_syntax.specs.Syntax.{Expression, Row, Initial, Elements, Wrong}
 use Rattle.wy_syntax.specs.Syntax.{Declarator, Effect, ForInit, Effects, Statement, Block, Empty, Declare, Perform, If, While, Do, For, Labelled, Break, Continue, Return, Throw, Try, Unknown, Braced, braced, Statements, done, first, Other, absent, present, Last, nowhere, finally, Catches, uncaught, catch}
 use Rattle.wy_syntax.specs.Syntax as source
+use Rattle.wy_typed_expr.specs.Throughout.{Throughout, ThroughoutRow, ThroughoutInitial, ThroughoutElements}
 
-abbrev mutual
-  pub IsWritten : Expression → Type 0
-  IsWritten (Literal value token) = Unit {0}
-  IsWritten (Name name token) = Unit {0}
-  IsWritten (This token) = Unit {0}
-  IsWritten (Group inner token) = IsWritten inner
-  IsWritten (Invoke name args token) = AreWritten args
-  IsWritten (Field object name token) = IsWritten object
-  IsWritten (InvokeOn object name args token) = IsWritten object × AreWritten args
-  IsWritten (SuperField name token) = Unit {0}
-  IsWritten (SuperInvoke name args token) = AreWritten args
-  IsWritten (Element array index token) = IsWritten array × IsWritten index
-  IsWritten (NewObject class args token) = AreWritten args
-  IsWritten (NewArray base base_token sizes brackets token) = AreWritten sizes
-  IsWritten (NewList base base_token brackets elements brace token) = HasWrittenElements elements
-  IsWritten (Unary op operand token) = IsWritten operand
-  IsWritten (Step is_before is_up operand token) = IsWritten operand
-  IsWritten (Binary op left right token) = IsWritten left × IsWritten right
-  IsWritten (Both left right token) = IsWritten left × IsWritten right
-  IsWritten (Either left right token) = IsWritten left × IsWritten right
-  IsWritten (InstanceOf left ty token) = IsWritten left
-  IsWritten (Cast ty operand token) = IsWritten operand
-  IsWritten (Choice test main other token) = IsWritten test × IsWritten main × IsWritten other
-  IsWritten (Assign left value token) = IsWritten left × IsWritten value
-  IsWritten (Update op left value token) = IsWritten left × IsWritten value
-  IsWritten Wrong = ⊥
+-- it is an expression
+abbrev pub IsOne : Expression → Type 0
+IsOne Wrong = ⊥
+IsOne _ = Unit {0}
 
-  pub AreWritten : Row → Type 0
-  AreWritten none = Unit {0}
-  AreWritten (more e rest) = IsWritten e × AreWritten rest
+-- and so is each that stands in it
+abbrev pub IsWritten : Expression → Type 0
+IsWritten e = Throughout IsOne e
 
-  pub IsWrittenInitial : Initial → Type 0
-  IsWrittenInitial (Value e) = IsWritten e
-  IsWrittenInitial (Listed elements brace) = HasWrittenElements elements
+abbrev pub AreWritten : Row → Type 0
+AreWritten args = ThroughoutRow IsOne args
 
-  pub HasWrittenElements : Elements → Type 0
-  HasWrittenElements no_more = Unit {0}
-  HasWrittenElements (element before given rest) = IsWrittenInitial given × HasWrittenElements rest
+abbrev pub IsWrittenInitial : Initial → Type 0
+IsWrittenInitial i = ThroughoutInitial IsOne i
+
+abbrev pub HasWrittenElements : Elements → Type 0
+HasWrittenElements all = ThroughoutElements IsOne all
 
 abbrev pub IsWrittenOption : Option Expression → Type 0
 IsWrittenOption None = Unit {0}

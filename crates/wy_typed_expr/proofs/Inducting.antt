@@ -141,22 +141,22 @@ module _ (p : Program) (constants : List (Option ConstantValue)) (j : Judgement)
     expression (Literal value token) w = rules.literal_sound p constants j locals s g value token
     expression (Name name token) w = naming.named_sound p constants j locals s g name token
     expression (This token) w = if_either Fit s.has_this _ _ (λ e. given Fit (Formed this_form (class_type s.class)) (λ u. (class_type s.class, typing.read (typing.local (g.scope.own e)), inl refl))) (λ e. none_found Fit NotInStatic token)
-    expression (Group inner token) w = expression inner w
+    expression (Group inner token) w = expression inner w.1
     expression (Invoke name args token) w =
         args_first args (λ ms. called j T s Nothing (class_type s.class) name ms token) (arguments args w.1)
         (λ ms. under Fit (called j T s Nothing (class_type s.class) name ms token) (λ u. (u, refl)) (calling.called_sound p constants j locals s g Nothing (class_type s.class) name ms token w.0))
-    expression (Field object name token) w = field_by (class_in T s object) object name token (expression object w)
+    expression (Field object name token) w = field_by (class_in T s object) object name token (expression object w.1)
     expression (InvokeOn object name args token) w = call_by (stream_in T s object) (class_in T s object) object name args token w.0 (expression object w.1) (arguments args w.2)
     expression (SuperField name token) w = read_spot (super_spot T s name token) (naming.super_spot_sound p constants j locals s g name token)
     expression (SuperInvoke name args token) w =
         args_first args (λ ms. called j T s Super (class_type (above T s)) name ms token) (arguments args w.1)
         (λ ms. under Fit (called j T s Super (class_type (above T s)) name ms token) (λ u. (u, refl)) (calling.called_sound p constants j locals s g Super (class_type (above T s)) name ms token w.0))
     expression (Element array index token) w =
-        two array index (expression array w.0) (expression index w.1)
+        two array index (expression array w.1) (expression index w.2)
         (λ a i. next SpotFits (element_spot a i token) (λ x. give (read x)) (rules.element_sound p constants j locals s g a i token) (λ x. given Fit (read x) (λ u. naming.read_fits p constants j locals s g None x 0 u.1)))
     expression (NewObject class args token) w =
         next (λ c. Unit {0}) (class_for_new (class_named T.classes class.name) class.token) (λ c. elaborated_all j T s args >>= λ ms. created j T s c ms token) (class_sound (class_named T.classes class.name) class.token)
-        (λ c. under Fit (elaborated_all j T s args >>= λ ms. created j T s c ms token) (λ u. tt) (args_first args (λ ms. created j T s c ms token) (arguments args w) (λ ms. calling.created_sound p constants j locals s g c ms token)))
+        (λ c. under Fit (elaborated_all j T s args >>= λ ms. created j T s c ms token) (λ u. tt) (args_first args (λ ms. created j T s c ms token) (arguments args w.1) (λ ms. calling.created_sound p constants j locals s g c ms token)))
     expression (NewArray base base_token sizes brackets token) w =
         next (rules.IsWith p constants j locals s g 0) (type_with T base 0 base_token) (λ ty. elaborated_all j T s sizes >>= λ ms. sizes_of ms token >>= λ dims. give (Formed (kernel.NewArray (with_brackets ty (length ms + brackets)) dims kernel.none [] token) (with_brackets ty (length ms + brackets))))
         (rules.type_with_sound p constants j locals s g base 0 base_token)
@@ -172,33 +172,33 @@ module _ (p : Program) (constants : List (Option ConstantValue)) (j : Judgement)
         (λ ty. next (rules.IsArrayOf p constants j locals s g ty) (or_type (element_of ty) brace) (λ inner. elements_of j T s inner elements >>= λ all. give (Formed (kernel.NewArray ty kernel.none all.forms all.sites token) ty))
         (under (rules.IsArrayOf p constants j locals s g ty) (or_type (element_of ty) brace) (λ u. tt) (rules.element_type_sound p constants j locals s g (element_of ty) ty brace refl))
         (λ inner. next (ListingFits inner) (elements_of j T s inner elements) (λ all. give (Formed (kernel.NewArray ty kernel.none all.forms all.sites token) ty))
-        (under (ListingFits inner) (elements_of j T s inner elements) (λ u. rules.element_known p constants j locals s g ty inner u.0.1.2.known u.1) (listed inner elements w))
+        (under (ListingFits inner) (elements_of j T s inner elements) (λ u. rules.element_known p constants j locals s g ty inner u.0.1.2.known u.1) (listed inner elements w.1))
         (λ all. given Fit (Formed (kernel.NewArray ty kernel.none all.forms all.sites token) ty)
         (λ u. (ty, rules.filled_typed p constants j locals s g ty inner all token u.0.0.1.2.known u.0.1 u.1, inl refl)))))
-    expression (Unary op operand token) w = next Fit (elaborated j T s operand) (λ m. unary_of op m token) (expression operand w) (λ m. under Fit (unary_of op m token) (λ u. u.1) (operating.unary_sound p constants j locals s g op m token))
+    expression (Unary op operand token) w = next Fit (elaborated j T s operand) (λ m. unary_of op m token) (expression operand w.1) (λ m. under Fit (unary_of op m token) (λ u. u.1) (operating.unary_sound p constants j locals s g op m token))
     expression (Step is_before is_up operand token) w =
         next OptionSpot (if is_place operand then target j T s operand else elaborated j T s operand >>= λ m. give None) (λ x. stepped is_before is_up x token)
-        (if_either OptionSpot (is_place operand) _ _ (λ e. place operand w) (λ e. next Fit (elaborated j T s operand) (λ m. give None) (expression operand w) (λ m. given OptionSpot None (λ u. tt))))
+        (if_either OptionSpot (is_place operand) _ _ (λ e. place operand w.1) (λ e. next Fit (elaborated j T s operand) (λ m. give None) (expression operand w.1) (λ m. given OptionSpot None (λ u. tt))))
         (λ x. under Fit (stepped is_before is_up x token) (λ u. u.1) (rules.stepped_sound p constants j locals s g is_before is_up x token))
-    expression (Binary op left right token) w = two left right (expression left w.0) (expression right w.1) (λ a b. operating.binary_sound p constants j locals s g op a b token)
-    expression (Both left right token) w = two left right (expression left w.0) (expression right w.1) (λ a b. operating.lazy_sound p constants j locals s g cond.And (λ x y. x && y) a b token (λ e. cc))
-    expression (Either left right token) w = two left right (expression left w.0) (expression right w.1) (λ a b. operating.lazy_sound p constants j locals s g cond.Or (λ x y. x || y) a b token (λ e. cc))
+    expression (Binary op left right token) w = two left right (expression left w.1) (expression right w.2) (λ a b. operating.binary_sound p constants j locals s g op a b token)
+    expression (Both left right token) w = two left right (expression left w.1) (expression right w.2) (λ a b. operating.lazy_sound p constants j locals s g cond.And (λ x y. x && y) a b token (λ e. cc))
+    expression (Either left right token) w = two left right (expression left w.1) (expression right w.2) (λ a b. operating.lazy_sound p constants j locals s g cond.Or (λ x y. x || y) a b token (λ e. cc))
     expression (InstanceOf left ty token) w =
-        next Fit (elaborated j T s left) (λ m. type_written T ty >>= λ to. instance_of j T to m token) (expression left w)
+        next Fit (elaborated j T s left) (λ m. type_written T ty >>= λ to. instance_of j T to m token) (expression left w.1)
         (λ m. next (IsTypeIn p) (type_written T ty) (λ to. instance_of j T to m token) (under (IsTypeIn p) (type_written T ty) (λ u. tt) (rules.type_written_sound p constants j locals s g ty))
         (λ to. instance_known to m token))
     expression (Cast ty operand token) w =
         next (IsTypeIn p) (type_written T ty) (λ to. elaborated j T s operand >>= λ m. cast_of j T to m token) (rules.type_written_sound p constants j locals s g ty)
-        (λ to. next Fit (elaborated j T s operand) (λ m. cast_of j T to m token) (under Fit (elaborated j T s operand) (λ u. tt) (expression operand w))
+        (λ to. next Fit (elaborated j T s operand) (λ m. cast_of j T to m token) (under Fit (elaborated j T s operand) (λ u. tt) (expression operand w.1))
         (λ m. cast_known to m token))
     expression (Choice test main other token) w =
-        next Fit (elaborated j T s test) (λ z. elaborated j T s main >>= λ a. elaborated j T s other >>= λ b. choice_of j T z a b token) (expression test w.0)
-        (λ z. next Fit (elaborated j T s main) (λ a. elaborated j T s other >>= λ b. choice_of j T z a b token) (under Fit (elaborated j T s main) (λ u. tt) (expression main w.1))
-        (λ a. next Fit (elaborated j T s other) (λ b. choice_of j T z a b token) (under Fit (elaborated j T s other) (λ u. tt) (expression other w.2))
+        next Fit (elaborated j T s test) (λ z. elaborated j T s main >>= λ a. elaborated j T s other >>= λ b. choice_of j T z a b token) (expression test w.1)
+        (λ z. next Fit (elaborated j T s main) (λ a. elaborated j T s other >>= λ b. choice_of j T z a b token) (under Fit (elaborated j T s main) (λ u. tt) (expression main w.2))
+        (λ a. next Fit (elaborated j T s other) (λ b. choice_of j T z a b token) (under Fit (elaborated j T s other) (λ u. tt) (expression other w.3))
         (λ b. under Fit (choice_of j T z a b token) (λ u. (u.0.0.1, u.0.1, u.1)) (operating.choice_sound p constants j locals s g z a b token))))
     expression (Assign left value token) w =
-        next OptionSpot (target j T s left) (λ x. elaborated j T s value >>= λ m. assigned j x m token) (place left w.0)
-        (λ x. next Fit (elaborated j T s value) (λ m. assigned j x m token) (under Fit (elaborated j T s value) (λ u. tt) (expression value w.1))
+        next OptionSpot (target j T s left) (λ x. elaborated j T s value >>= λ m. assigned j x m token) (place left w.1)
+        (λ x. next Fit (elaborated j T s value) (λ m. assigned j x m token) (under Fit (elaborated j T s value) (λ u. tt) (expression value w.2))
         (λ m. under Fit (assigned j x m token) (λ u. (u.0.1, u.1)) (rules.assigned_sound p constants j locals s g x m token)))
     expression (Update op left value token) w =
         next OptionSpot (target j T s left) (λ x. elaborated j T s value >>= λ m. updated j T op x m token) (place left w.1)
@@ -216,12 +216,12 @@ module _ (p : Program) (constants : List (Option ConstantValue)) (j : Judgement)
     -- the variable that an expression is, if it is one
     place : (e : Expression) → IsWritten e → Finds OptionSpot (target j T s e)
     place (Name name token) w = rules.some_sound p constants j locals s g (named_spot T s name token) (naming.named_spot_sound p constants j locals s g name token)
-    place (Group inner token) w = place inner w
-    place (Field object name token) w = target_by (class_in T s object) object name token (expression object w)
+    place (Group inner token) w = place inner w.1
+    place (Field object name token) w = target_by (class_in T s object) object name token (expression object w.1)
     place (SuperField name token) w = rules.some_sound p constants j locals s g (super_spot T s name token) (naming.super_spot_sound p constants j locals s g name token)
     place (Element array index token) w =
-        next Fit (elaborated j T s array) (λ a. elaborated j T s index >>= λ i. just (element_spot a i token)) (expression array w.0)
-        (λ a. next Fit (elaborated j T s index) (λ i. just (element_spot a i token)) (under Fit (elaborated j T s index) (λ u. tt) (expression index w.1))
+        next Fit (elaborated j T s array) (λ a. elaborated j T s index >>= λ i. just (element_spot a i token)) (expression array w.1)
+        (λ a. next Fit (elaborated j T s index) (λ i. just (element_spot a i token)) (under Fit (elaborated j T s index) (λ u. tt) (expression index w.2))
         (λ i. rules.some_sound p constants j locals s g (element_spot a i token) (under SpotFits (element_spot a i token) (λ u. (u.0.1, u.1)) (rules.element_sound p constants j locals s g a i token))))
     place _ w = given OptionSpot None (λ u. tt)
 

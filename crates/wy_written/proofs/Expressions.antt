@@ -17,7 +17,8 @@ use Rattle.wy_tree.specs.declared.grammar.Item.TheVariants.{Parts}
 use Rattle.wy_syntax.specs.Syntax.{Base, Expression, Group, Field, InvokeOn, SuperField, SuperInvoke, Element, NewArray, NewList, Unary, Step, Binary, Both, Either, InstanceOf, Assign, Update, Row, none, more, Value, Listed, Elements, no_more, element}
 use Rattle.wy_syntax.specs.Names.{width, is_leaf, word_of, sign_of, written, operator, updating, prefix, is_up}
 use Rattle.wy_syntax.specs.Expressions.{joined, assigned, prefixed, is_mark, stepped, is_braced, expression, assignment, choice, binary, unary, cast, postfix, primary, creation, sizes, listed, elements, inside, arguments_of, arguments, initial}
-use Rattle.wy_written.proofs.Whole.{Names, HasOne, Whole, WholeRow, WholeInitial, WholeElements}
+use Rattle.wy_typed_expr.specs.Written.{IsSome}
+use Rattle.wy_written.proofs.Whole.{Names, Whole, WholeRow, WholeInitial, WholeElements}
 use Rattle.wy_written.proofs.Leaves.{Worded, AllWorded, parts_worded, alone, is_operand, operand, name_operand, Plain, plain_leaf, plain_mark, plain_braced, leaf_whole, big_whole, updating_plain}
 
 -- ---- one of two
@@ -46,7 +47,7 @@ no_sizes : (P : Names) (b : Bool) (r : Row) → b ≡ true → WholeRow P (if b 
 no_sizes P true r e = tt
 no_sizes P false r e = absurd cc
 
-some_sizes : (P : Names) (b : Bool) (e : Expression) (r : Row) → b ≡ false → Whole P e → WholeRow P r → HasOne (if b then none else more e r) × WholeRow P (if b then none else more e r)
+some_sizes : (P : Names) (b : Bool) (e : Expression) (r : Row) → b ≡ false → Whole P e → WholeRow P r → IsSome (if b then none else more e r) × WholeRow P (if b then none else more e r)
 some_sizes P true e r f h i = absurd cc
 some_sizes P false e r f h i = (tt, (h, i))
 
@@ -58,14 +59,14 @@ value_whole P false x n e f h = h
 -- ---- operators
 
 assigned_whole : (P : Names) (o : Tok) (l v : Expression) (n : ℕ) → Whole P l → Whole P v → Whole P (assigned o l v n)
-assigned_whole P o l v n h i = either P (same (kind_of o) kinds.Assign) (Assign l v n) (Update (updating (sign_of o)) l v n) (h, i) (updating_plain (sign_of o), h, i)
+assigned_whole P o l v n h i = either P (same (kind_of o) kinds.Assign) (Assign l v n) (Update (updating (sign_of o)) l v n) (tt, h, i) (updating_plain (sign_of o), h, i)
 
 prefixed_whole : (P : Names) (o : Tok) (e : Expression) (n : ℕ) → Whole P e → Whole P (prefixed o e n)
-prefixed_whole P o e n h = either P (same (kind_of o) kinds.Step) (Step true (is_up (sign_of o)) e n) (Unary (prefix (sign_of o)) e n) h h
+prefixed_whole P o e n h = either P (same (kind_of o) kinds.Step) (Step true (is_up (sign_of o)) e n) (Unary (prefix (sign_of o)) e n) (tt, h) (tt, h)
 
 joined_whole : (P : Names) (o : Tok) (l r : Expression) (n : ℕ) → Whole P l → Whole P r → Whole P (joined o l r n)
 joined_whole P o l r n h i =
-    either P (same (kind_of o) kinds.AndAlso) (Both l r n) _ (h, i) (either P (same (kind_of o) kinds.OrElse) (Either l r n) (Binary (operator (sign_of o)) l r n) (h, i) (h, i))
+    either P (same (kind_of o) kinds.AndAlso) (Both l r n) _ (tt, h, i) (either P (same (kind_of o) kinds.OrElse) (Either l r n) (Binary (operator (sign_of o)) l r n) (tt, h, i) (tt, h, i))
 
 -- ---- what a tree says
 
@@ -125,7 +126,7 @@ binary_told : (P : Names) (l r : Ast) (o : Tok) → Told P l → Told P r → To
 unfolding expression binary
 binary_told P l r o h i = (
   refl,
-  λ n. either P (same (kind_of o) kinds.Instanceof) (InstanceOf (expression n l) (written (n + width l + 1) r) (n + width l)) _ (h.1 n)
+  λ n. either P (same (kind_of o) kinds.Instanceof) (InstanceOf (expression n l) (written (n + width l + 1) r) (n + width l)) _ (tt, h.1 n)
       (joined_whole P o (expression n l) (expression (n + width l + 1) r) (n + width l) (h.1 n) (i.1 (n + width l + 1))),
 )
 
@@ -144,7 +145,7 @@ level_told P _ k l r o e h i = absurd cc
 
 steps_whole : (P : Names) (ts : Asts) → Match (Parts rows.Steps ∷ []) ts → (e : Expression) (n : ℕ) → Whole P e → Whole P (stepped e n ts)
 steps_whole P ts (grammar.chosen grammar.no_steps grammar.done) e n h = h
-steps_whole P ts (grammar.chosen grammar.steps (grammar.token {o} {ts = rest} m w)) e n h = steps_whole P rest w (Step false (is_up (sign_of o)) e n) (n + 1) h
+steps_whole P ts (grammar.chosen grammar.steps (grammar.token {o} {ts = rest} m w)) e n h = steps_whole P rest w (Step false (is_up (sign_of o)) e n) (n + 1) (tt, h)
 
 -- the parts are not none
 abbrev pub HasPart : Asts → Type 0
@@ -185,7 +186,7 @@ mutual
       subst (Told P) (sym q) (told P sorts.OrElse t refl v h.0)
   told P sorts.Cond whole i (grammar.made {ts} (grammar.part {t = c} v (grammar.chosen grammar.choice (grammar.token {o} m (grammar.part {t = l} u (grammar.token {o = p} k (grammar.part {t = r} w grammar.done)))))) e q) g =
       let h = parts_worded P (form_of sorts.Cond) ts (subst (Worded P) q g) in
-      subst (Told P) (sym q) (refl, λ n. ((told P sorts.OrElse c refl v h.0).1 n, (told P sorts.Expr l refl u h.1.1.0).1 (n + width c + 1), (told P sorts.Cond r refl w h.1.1.1.1.0).1 (n + width c + 1 + width l + 1)))
+      subst (Told P) (sym q) (refl, λ n. (tt, (told P sorts.OrElse c refl v h.0).1 n, (told P sorts.Expr l refl u h.1.1.0).1 (n + width c + 1), (told P sorts.Cond r refl w h.1.1.1.1.0).1 (n + width c + 1 + width l + 1)))
   told P sorts.OrElse whole i (grammar.made {ts} (grammar.part {t} v grammar.done) e q) g =
       let h = parts_worded P (form_of sorts.OrElse) ts (subst (Worded P) q g) in
       subst (Told P) (sym q) (told P sorts.AndAlso t refl v h.0)
@@ -233,10 +234,10 @@ mutual
       subst (Told P) (sym q) (told P sorts.Postfix t refl v h.0)
   told P sorts.Cast whole i (grammar.made {ts} (grammar.token m (grammar.chosen grammar.to_primitive (grammar.token k (grammar.token l (grammar.part {t} v grammar.done))))) e q) g =
       let h = parts_worded P (form_of sorts.Cast) ts (subst (Worded P) q g) in
-      subst (Told P) (sym q) (refl, λ n. (told P sorts.Unary t refl v h.1.1.1.0).1 _)
+      subst (Told P) (sym q) (refl, λ n. (tt, (told P sorts.Unary t refl v h.1.1.1.0).1 _))
   told P sorts.Cast whole i (grammar.made {ts} (grammar.token m (grammar.chosen grammar.to_reference (grammar.part u (grammar.token l (grammar.part {t} v grammar.done))))) e q) g =
       let h = parts_worded P (form_of sorts.Cast) ts (subst (Worded P) q g) in
-      subst (Told P) (sym q) (refl, λ n. (told P sorts.Operand t refl v h.1.1.1.0).1 _)
+      subst (Told P) (sym q) (refl, λ n. (tt, (told P sorts.Operand t refl v h.1.1.1.0).1 _))
   told P sorts.Operand whole i (grammar.made {ts} (grammar.part {t} v grammar.done) e q) g =
       let h = parts_worded P (form_of sorts.Operand) ts (subst (Worded P) q g) in
       subst (Told P) (sym q) (told P sorts.Unary t refl v h.0)
@@ -245,7 +246,7 @@ mutual
       subst (Told P) (sym q) (told P sorts.Primary t refl v h.0)
   told P sorts.Postfix whole i (grammar.made {ts} (grammar.part {t} v (grammar.chosen grammar.steps (grammar.token {o} {ts = rest} m w))) e q) g =
       let h = parts_worded P (form_of sorts.Postfix) ts (subst (Worded P) q g) in
-      subst (Told P) (sym q) (refl, λ n. steps_whole P rest w (Step false (is_up (sign_of o)) (expression n t) (n + width t)) (n + width t + 1) ((told P sorts.Primary t refl v h.0).1 n))
+      subst (Told P) (sym q) (refl, λ n. steps_whole P rest w (Step false (is_up (sign_of o)) (expression n t) (n + width t)) (n + width t + 1) (tt, (told P sorts.Primary t refl v h.0).1 n))
   told P sorts.Primary whole i (grammar.made {ts} (grammar.chosen grammar.literal (grammar.token {o} m grammar.done)) e q) g =
       let h = parts_worded P (form_of sorts.Primary) ts (subst (Worded P) q g) in
       subst (Told P) (sym q) (leaf_told P o (operand (kind_of o) kinds.Literal m refl))
@@ -260,7 +261,7 @@ mutual
       subst (Told P) (sym q) (refl, λ n. (h.0, arguments_told P t v h.1.0 (n + 1)))
   told P sorts.Primary whole i (grammar.made {ts} (grammar.chosen grammar.grouped (grammar.token {o} m (grammar.part {t} v (grammar.token k grammar.done)))) e q) g =
       let h = parts_worded P (form_of sorts.Primary) ts (subst (Worded P) q g) in
-      subst (Told P) (sym q) (refl, λ n. chosen_first P (same (kind_of o) kinds.OpenParen) (Group (expression (n + 1) t) n) _ m ((told P sorts.Expr t refl v h.1.0).1 (n + 1)))
+      subst (Told P) (sym q) (refl, λ n. chosen_first P (same (kind_of o) kinds.OpenParen) (Group (expression (n + 1) t) n) _ m (tt, (told P sorts.Expr t refl v h.1.0).1 (n + 1)))
   told P sorts.Primary whole i (grammar.made {ts} (grammar.chosen grammar.created (grammar.part {t} v grammar.done)) e q) g =
       let h = parts_worded P (form_of sorts.Primary) ts (subst (Worded P) q g) in
       subst (Told P) (sym q) (told P sorts.New t refl v h.0)
@@ -276,7 +277,7 @@ mutual
       )
   told P sorts.New whole i (grammar.made {ts} (grammar.token m (grammar.chosen grammar.an_object (grammar.token k (grammar.part {t} v grammar.done)))) e q) g =
       let h = parts_worded P (form_of sorts.New) ts (subst (Worded P) q g) in
-      subst (Told P) (sym q) (refl, λ n. arguments_told P t v h.1.1.0 _)
+      subst (Told P) (sym q) (refl, λ n. (tt, arguments_told P t v h.1.1.0 _))
   told P sorts.New whole i (grammar.made {ts} (grammar.token m (grammar.chosen grammar.sized (grammar.token {o = base} k (grammar.token l (grammar.part {t} v (grammar.token {ts = rest} r w)))))) e q) g =
       let h = parts_worded P (form_of sorts.New) ts (subst (Worded P) q g) in
       let x = told P sorts.Expr t refl v h.1.1.1.0 in
@@ -297,16 +298,16 @@ mutual
   grown_told P x l ts items (grammar.operator {k} e) (grammar.token {o} m (grammar.part {t = r} u grammar.done)) g h =
       level_told P x k l r o e g (told P (tighter x) r (tighter_expression x) u h.1.0)
   grown_told P x l ts items grammar.instance_of (grammar.token {o} m (grammar.part {t = r} u grammar.done)) g h =
-      (refl, λ n. chosen_first P (same (kind_of o) kinds.Instanceof) (InstanceOf (expression n l) (written (n + width l + 1) r) (n + width l)) _ m (g.1 n))
+      (refl, λ n. chosen_first P (same (kind_of o) kinds.Instanceof) (InstanceOf (expression n l) (written (n + width l + 1) r) (n + width l)) _ m (tt, g.1 n))
   grown_told P x l ts items grammar.member (grammar.token {o} m (grammar.token {o = p} k (grammar.chosen grammar.absent grammar.done))) g h =
-      (refl, λ n. chosen_second P (is_leaf kinds.OpenParen l) _ _ (plain_leaf kinds.OpenParen refl l g.0) (chosen_second P (is_leaf kinds.Super l) _ (Field (expression n l) (word_of p) _) (plain_leaf kinds.Super refl l g.0) (g.1 n)))
+      (refl, λ n. chosen_second P (is_leaf kinds.OpenParen l) _ _ (plain_leaf kinds.OpenParen refl l g.0) (chosen_second P (is_leaf kinds.Super l) _ (Field (expression n l) (word_of p) _) (plain_leaf kinds.Super refl l g.0) (tt, g.1 n)))
   grown_told P x l ts items grammar.member (grammar.token {o} m (grammar.token {o = p} k (grammar.chosen grammar.present (grammar.part {t} u grammar.done)))) g h = (
     refl,
     λ n. chosen_second P (same (kind_of o) kinds.OpenBracket) _ _ (alone (kind_of o) kinds.Dot kinds.OpenBracket m refl)
         (chosen_second P (is_leaf kinds.Super l) _ (InvokeOn (expression n l) (word_of p) (arguments_of _ t) _) (plain_leaf kinds.Super refl l g.0) (h.1.0, g.1 n, arguments_told P t u h.1.1.0 _)),
   )
   grown_told P x l ts items grammar.element (grammar.token {o} m (grammar.part {t} u (grammar.token k grammar.done))) g h =
-      (refl, λ n. chosen_first P (same (kind_of o) kinds.OpenBracket) (Element (expression n l) (expression (n + width l + 1) t) _) _ m (g.1 n, (told P sorts.Expr t refl u h.1.0).1 (n + width l + 1)))
+      (refl, λ n. chosen_first P (same (kind_of o) kinds.OpenBracket) (Element (expression n l) (expression (n + width l + 1) t) _) _ m (tt, g.1 n, (told P sorts.Expr t refl u h.1.0).1 (n + width l + 1)))
 
   -- the sizes behind the first
   sizes_told : (P : Names) (ts : Asts) → Match (Parts rows.Dimensions ∷ []) ts → AllWorded P ts → (n : ℕ) → WholeRow P (sizes n ts)
@@ -320,7 +321,7 @@ mutual
   -- an array with its elements, from the pairs behind the first on
   list_told : (P : Names) (ts : Asts) → Match (Parts rows.Brackets ∷ a kinds.OpenBrace ∷ listing) ts → AllWorded P ts → (n : ℕ) (base : Base) (at brackets m : ℕ) → Whole P (listed n base at brackets m ts)
   list_told P ts (grammar.chosen grammar.no_brackets (grammar.token {o} {ts = rest} e w)) h n base at brackets m =
-      chosen_first P (same (kind_of o) kinds.OpenBrace) (NewList base at brackets (elements m rest) m n) _ e (elements_told P rest w h.1 m)
+      chosen_first P (same (kind_of o) kinds.OpenBrace) (NewList base at brackets (elements m rest) m n) _ e (tt, elements_told P rest w h.1 m)
   list_told P ts (grammar.chosen grammar.brackets (grammar.token {o} e (grammar.token {o = p} {ts = rest} f w))) h n base at brackets m =
       chosen_second P (same (kind_of o) kinds.OpenBrace) _ _ (alone (kind_of o) kinds.OpenBracket kinds.OpenBrace e refl)
       (chosen_second P (same (kind_of p) kinds.OpenBrace) _ (listed n base at brackets (m + 1 + 1) rest) (alone (kind_of p) kinds.CloseBracket kinds.OpenBrace f refl) (list_told P rest w h.1.1 n base at brackets (m + 1 + 1)))

@@ -1,3 +1,4 @@
+pub mod Everywhere
 pub mod Whole
 pub mod Leaves
 pub mod Expressions

@@ -5,58 +5,27 @@ use Rattle.std.specs.List.{All, AllByRecursion}
 use Rattle.wy_tree.specs.Ast.{Ast, Asts, Leaf, Node}
 use Rattle.wy_tree.specs.Ast as tree
 use Rattle.wy_tree.specs.Grammar.{WellFormed}
-use Rattle.wy_syntax.specs.Syntax.{Expression, Literal, Name, This, Group, Invoke, Field, InvokeOn, SuperField, SuperInvoke, Element, NewObject, NewArray, NewList, Unary, Step, Binary, Both, Either, InstanceOf, Cast, Choice, Assign, Update, Wrong, Row, none, more, Initial, Value, Listed, Elements, no_more, element}
+use Rattle.wy_syntax.specs.Syntax.{Expression, Wrong, Initial}
 use Rattle.wy_syntax.specs.Syntax.{Declarator, Effect, ForInit, Statement, Block, Empty, Declare, Perform, If, While, Do, For, Labelled, Break, Continue, Return, Throw, Try, Unknown, Braced, braced, Statements, done, first, Other, absent, present, Last, nowhere, finally, Catches, uncaught, catch}
 use Rattle.wy_syntax.specs.Syntax.{OwnCall, Member, ClassSyntax}
 use Rattle.wy_syntax.specs.Syntax as source
 use Rattle.wy_syntax.specs.Declarations.{unit}
 use Rattle.wy_members.specs.Declarations.{classes_of}
-use Rattle.wy_breach_body.specs.Written.{IsWritten, AreWritten, IsWrittenInitial, HasWrittenElements, IsWrittenOption, HasWrittenInitial, IsWrittenDeclarator, IsWrittenEffect, IsWrittenInit, IsWrittenStatement, IsWrittenBlock, AreWrittenStatements, IsWrittenOther, IsWrittenLast, AreWrittenCatches}
+use Rattle.wy_breach_body.specs.Written.{IsOne, IsWritten, IsWrittenOption, HasWrittenInitial, IsWrittenDeclarator, IsWrittenEffect, IsWrittenInit, IsWrittenStatement, IsWrittenBlock, AreWrittenStatements, IsWrittenOther, IsWrittenLast, AreWrittenCatches}
 use Rattle.wy_breach_body.specs.Laws.{HasWrittenCall}
 use Rattle.wy_breach_unit.specs.Units.{IsWrittenMember, IsWrittenClass, IsWrittenUnit}
-use Rattle.wy_written.proofs.Whole.{Names, Whole, WholeRow, WholeInitial, WholeElements, WholePart, WholeOption, WholeDeclarators, WholeEffects, WholeInit, WholeStatement, WholeBlock, WholeStatements, WholeOther, WholeLast, WholeCatches, WholeCall, WholeMember}
+use Rattle.wy_written.proofs.Whole.{Names, IsSound, Whole, WholePart, WholeOption, WholeDeclarators, WholeEffects, WholeInit, WholeStatement, WholeBlock, WholeStatements, WholeOther, WholeLast, WholeCatches, WholeCall, WholeMember}
+use Rattle.wy_written.proofs.Everywhere.{everywhere, everywhere_row, everywhere_initial}
 use Rattle.wy_written.proofs.Leaves.{Worded, AllWorded}
 use Rattle.wy_written.proofs.Texts.{unit_told}
 use Rattle.wy_written.proofs.Lists.{each}
 
-mutual
-  is_written : (P : Names) (e : Expression) → Whole P e → IsWritten e
-  is_written P (Literal value token) h = tt
-  is_written P (Name name token) h = tt
-  is_written P (This token) h = tt
-  is_written P (Group inner token) h = is_written P inner h
-  is_written P (Invoke name args token) h = are_written P args h.1
-  is_written P (Field object name token) h = is_written P object h
-  is_written P (InvokeOn object name args token) h = (is_written P object h.1, are_written P args h.2)
-  is_written P (SuperField name token) h = tt
-  is_written P (SuperInvoke name args token) h = are_written P args h.1
-  is_written P (Element array index token) h = (is_written P array h.0, is_written P index h.1)
-  is_written P (NewObject class args token) h = are_written P args h
-  is_written P (NewArray base base_token sizes brackets token) h = are_written P sizes h.1
-  is_written P (NewList base base_token brackets elements brace token) h = elements_written P elements h
-  is_written P (Unary op operand token) h = is_written P operand h
-  is_written P (Step is_before is_up operand token) h = is_written P operand h
-  is_written P (Binary op left right token) h = (is_written P left h.0, is_written P right h.1)
-  is_written P (Both left right token) h = (is_written P left h.0, is_written P right h.1)
-  is_written P (Either left right token) h = (is_written P left h.0, is_written P right h.1)
-  is_written P (InstanceOf left ty token) h = is_written P left h
-  is_written P (Cast ty operand token) h = is_written P operand h
-  is_written P (Choice test main other token) h = (is_written P test h.0, is_written P main h.1, is_written P other h.2)
-  is_written P (Assign left value token) h = (is_written P left h.0, is_written P value h.1)
-  is_written P (Update op left value token) h = (is_written P left h.1, is_written P value h.2)
-  is_written P Wrong h = h
+is_one : (P : Names) (e : Expression) → IsSound P e → IsOne e
+is_one P Wrong h = h
+is_one P _ h = tt
 
-  are_written : (P : Names) (es : Row) → WholeRow P es → AreWritten es
-  are_written P none h = tt
-  are_written P (more e rest) h = (is_written P e h.0, are_written P rest h.1)
-
-  initial_written : (P : Names) (i : Initial) → WholeInitial P i → IsWrittenInitial i
-  initial_written P (Value e) h = is_written P e h
-  initial_written P (Listed elements brace) h = elements_written P elements h
-
-  elements_written : (P : Names) (es : Elements) → WholeElements P es → HasWrittenElements es
-  elements_written P no_more h = tt
-  elements_written P (element before given rest) h = (initial_written P given h.0, elements_written P rest h.1)
+is_written : (P : Names) (e : Expression) → Whole P e → IsWritten e
+is_written P e h = everywhere (IsSound P) IsOne (is_one P) e h
 
 part_written : (P : Names) (e : Option Expression) → WholePart P e → IsWrittenOption e
 part_written P None h = tt
@@ -64,7 +33,7 @@ part_written P (Some e) h = is_written P e h
 
 option_written : (P : Names) (i : Option Initial) → WholeOption P i → HasWrittenInitial i
 option_written P None h = tt
-option_written P (Some i) h = initial_written P i h
+option_written P (Some i) h = everywhere_initial (IsSound P) IsOne (is_one P) i h
 
 declarators_written : (P : Names) (all : List Declarator) → WholeDeclarators P all → All IsWrittenDeclarator all
 declarators_written P all h = each (λ (d : Declarator). WholeOption P d.initial) IsWrittenDeclarator (λ d g. option_written P d.initial g) all h
@@ -116,7 +85,7 @@ mutual
 
 call_written : (P : Names) (own : Option OwnCall) → WholeCall P own → HasWrittenCall own
 call_written P None h = tt
-call_written P (Some call) h = are_written P call.args h
+call_written P (Some call) h = everywhere_row (IsSound P) IsOne (is_one P) call.args h
 
 member_written : (P : Names) (m : Member) → WholeMember P m → IsWrittenMember m
 member_written P (source.Initializer is_static block) h = block_written P block h

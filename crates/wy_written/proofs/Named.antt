@@ -8,64 +8,33 @@ use Rattle.wy_tree.specs.Words.{keys, is_key}
 use Rattle.wy_tree.specs.Ast.{Ast, Asts, Leaf, Node, tokens, tokens_all}
 use Rattle.wy_tree.specs.Ast as tree
 use Rattle.wy_tree.specs.Grammar.{WellFormed}
-use Rattle.wy_syntax.specs.Syntax.{Expression, Literal, Name, This, Group, Invoke, Field, InvokeOn, SuperField, SuperInvoke, Element, NewObject, NewArray, NewList, Unary, Step, Binary, Both, Either, InstanceOf, Cast, Choice, Assign, Update, Wrong, Row, none, more, Initial, Value, Listed, Elements, no_more, element}
+use Rattle.wy_syntax.specs.Syntax.{Expression, Invoke, InvokeOn, SuperInvoke, NewArray, Update, Initial}
 use Rattle.wy_syntax.specs.Syntax.{Declarator, Effect, ForInit, Statement, Block, Empty, Declare, Perform, If, While, Do, For, Labelled, Break, Continue, Return, Throw, Try, Unknown, Braced, braced, Statements, done, first, Other, absent, present, Last, nowhere, finally, Catches, uncaught, catch}
 use Rattle.wy_syntax.specs.Syntax.{OwnCall, Member, ClassSyntax}
 use Rattle.wy_syntax.specs.Syntax as source
 use Rattle.wy_syntax.specs.Names.{word_of}
 use Rattle.wy_syntax.specs.Declarations.{unit}
 use Rattle.wy_members.specs.Declarations.{classes_of}
-use Rattle.wy_typed_expr.specs.Written.{IsName, IsSome, IsWritten, AreWritten, InitialWritten, ElementsWritten}
+use Rattle.wy_typed_expr.specs.Written.{IsName, IsSaid, IsWritten}
 use Rattle.wy_typed_stmt.specs.Written.{PartWritten, OptionWritten, DeclaratorsWritten, EffectsWritten, InitsWritten, IsNoDeclaration, StatementWritten, BlockWritten, AllWritten, OtherWritten, LastWritten, CatchesWritten}
 use Rattle.wy_typed_stmt.specs.Bodies.{CallWritten}
 use Rattle.wy_written.specs.Written.{MemberWritten, ClassWritten, UnitWritten, IsNoKeyword, HasNoKeyword}
-use Rattle.wy_written.proofs.Whole.{HasOne, Whole, WholeRow, WholeInitial, WholeElements, WholePart, WholeOption, WholeDeclarators, WholeEffects, WholeInit, WholeStatement, WholeBlock, WholeStatements, WholeOther, WholeLast, WholeCatches, WholeCall, WholeMember}
+use Rattle.wy_written.proofs.Whole.{IsSound, Whole, WholePart, WholeOption, WholeDeclarators, WholeEffects, WholeInit, WholeStatement, WholeBlock, WholeStatements, WholeOther, WholeLast, WholeCatches, WholeCall, WholeMember}
+use Rattle.wy_written.proofs.Everywhere.{everywhere, everywhere_row, everywhere_initial}
 use Rattle.wy_written.proofs.Leaves.{Worded, AllWorded}
 use Rattle.wy_written.proofs.Texts.{unit_told}
 use Rattle.wy_written.proofs.Lists.{each, weaker, front_all, rest_all}
 
-has_one : (es : Row) → HasOne es → IsSome es
-has_one none h = h
-has_one (more e rest) h = tt
+is_said : (e : Expression) → IsSound IsName e → IsSaid e
+is_said (Invoke name args token) h = h
+is_said (InvokeOn object name args token) h = h
+is_said (SuperInvoke name args token) h = h
+is_said (NewArray base base_token sizes brackets token) h = h
+is_said (Update op left value token) h = h
+is_said _ h = tt
 
-mutual
-  is_written : (e : Expression) → Whole IsName e → IsWritten e
-  is_written (Literal value token) h = tt
-  is_written (Name name token) h = tt
-  is_written (This token) h = tt
-  is_written (Group inner token) h = is_written inner h
-  is_written (Invoke name args token) h = (h.0, are_written args h.1)
-  is_written (Field object name token) h = is_written object h
-  is_written (InvokeOn object name args token) h = (h.0, is_written object h.1, are_written args h.2)
-  is_written (SuperField name token) h = tt
-  is_written (SuperInvoke name args token) h = (h.0, are_written args h.1)
-  is_written (Element array index token) h = (is_written array h.0, is_written index h.1)
-  is_written (NewObject class args token) h = are_written args h
-  is_written (NewArray base base_token sizes brackets token) h = (has_one sizes h.0, are_written sizes h.1)
-  is_written (NewList base base_token brackets elements brace token) h = elements_written elements h
-  is_written (Unary op operand token) h = is_written operand h
-  is_written (Step is_before is_up operand token) h = is_written operand h
-  is_written (Binary op left right token) h = (is_written left h.0, is_written right h.1)
-  is_written (Both left right token) h = (is_written left h.0, is_written right h.1)
-  is_written (Either left right token) h = (is_written left h.0, is_written right h.1)
-  is_written (InstanceOf left ty token) h = is_written left h
-  is_written (Cast ty operand token) h = is_written operand h
-  is_written (Choice test main other token) h = (is_written test h.0, is_written main h.1, is_written other h.2)
-  is_written (Assign left value token) h = (is_written left h.0, is_written value h.1)
-  is_written (Update op left value token) h = (h.0, is_written left h.1, is_written value h.2)
-  is_written Wrong h = tt
-
-  are_written : (es : Row) → WholeRow IsName es → AreWritten es
-  are_written none h = tt
-  are_written (more e rest) h = (is_written e h.0, are_written rest h.1)
-
-  initial_written : (i : Initial) → WholeInitial IsName i → InitialWritten i
-  initial_written (Value e) h = is_written e h
-  initial_written (Listed elements brace) h = elements_written elements h
-
-  elements_written : (es : Elements) → WholeElements IsName es → ElementsWritten es
-  elements_written no_more h = tt
-  elements_written (element before given rest) h = (initial_written given h.0, elements_written rest h.1)
+is_written : (e : Expression) → Whole IsName e → IsWritten e
+is_written e h = everywhere (IsSound IsName) IsSaid is_said e h
 
 part_written : (e : Option Expression) → WholePart IsName e → PartWritten e
 part_written None h = tt
@@ -73,7 +42,7 @@ part_written (Some e) h = is_written e h
 
 option_written : (i : Option Initial) → WholeOption IsName i → OptionWritten i
 option_written None h = tt
-option_written (Some i) h = initial_written i h
+option_written (Some i) h = everywhere_initial (IsSound IsName) IsSaid is_said i h
 
 declarators_written : (all : List Declarator) → WholeDeclarators IsName all → DeclaratorsWritten all
 declarators_written all h = weaker (λ (d : Declarator). WholeOption IsName d.initial) (λ (d : Declarator). OptionWritten d.initial) (λ d g. option_written d.initial g) all h
@@ -132,7 +101,7 @@ mutual
 
 call_written : (own : Option OwnCall) → WholeCall IsName own → CallWritten own
 call_written None h = tt
-call_written (Some call) h = are_written call.args h
+call_written (Some call) h = everywhere_row (IsSound IsName) IsSaid is_said call.args h
 
 member_written : (m : Member) → WholeMember IsName m → MemberWritten m
 member_written (source.Initializer is_static block) h = block_written block h

@@ -2,57 +2,38 @@
 use Rattle.std.specs.Prelude.{◌≡◌, ℕ, Bool, true, false, List, Option, Some, None}
 use Rattle.std.specs.List.{AllByRecursion}
 use Rattle.wy_value.specs.Operator.{is_comparison}
-use Rattle.wy_syntax.specs.Syntax.{Expression, Literal, Name, This, Group, Invoke, Field, InvokeOn, SuperField, SuperInvoke, Element, NewObject, NewArray, NewList, Unary, Step, Binary, Both, Either, InstanceOf, Cast, Choice, Assign, Update, Wrong, Row, none, more, Initial, Value, Listed, Elements, no_more, element}
+use Rattle.wy_syntax.specs.Syntax.{Expression, Invoke, InvokeOn, SuperInvoke, NewArray, Update, Wrong, Row, Initial, Elements}
 use Rattle.wy_syntax.specs.Syntax.{Declarator, Effect, ForInit, Statement, Block, Empty, Declare, Perform, If, While, Do, For, Labelled, Break, Continue, Return, Throw, Try, Unknown, Braced, braced, Statements, done, first, Other, absent, present, Last, nowhere, finally, Catches, uncaught, catch}
 use Rattle.wy_syntax.specs.Syntax.{OwnCall, Member, ClassSyntax}
 use Rattle.wy_syntax.specs.Syntax as source
+use Rattle.wy_typed_expr.specs.Throughout.{Throughout, ThroughoutRow, ThroughoutInitial, ThroughoutElements}
+use Rattle.wy_typed_expr.specs.Written.{IsSome}
 
 -- what a name may have
 abbrev pub Names : Type 1
 Names = List ℕ → Type 0
 
-abbrev pub HasOne : Row → Type 0
-HasOne none = ⊥
-HasOne (more e rest) = Unit {0}
+-- what is asked of an expression itself
+abbrev pub IsSound : Names → Expression → Type 0
+IsSound P (Invoke name args token) = P name
+IsSound P (InvokeOn object name args token) = P name
+IsSound P (SuperInvoke name args token) = P name
+IsSound P (NewArray base base_token sizes brackets token) = IsSome sizes
+IsSound P (Update op left value token) = is_comparison op ≡ false
+IsSound P Wrong = ⊥
+IsSound P _ = Unit {0}
 
-abbrev mutual
-  pub Whole : Names → Expression → Type 0
-  Whole P (Literal value token) = Unit {0}
-  Whole P (Name name token) = Unit {0}
-  Whole P (This token) = Unit {0}
-  Whole P (Group inner token) = Whole P inner
-  Whole P (Invoke name args token) = P name × WholeRow P args
-  Whole P (Field object name token) = Whole P object
-  Whole P (InvokeOn object name args token) = P name × Whole P object × WholeRow P args
-  Whole P (SuperField name token) = Unit {0}
-  Whole P (SuperInvoke name args token) = P name × WholeRow P args
-  Whole P (Element array index token) = Whole P array × Whole P index
-  Whole P (NewObject class args token) = WholeRow P args
-  Whole P (NewArray base base_token sizes brackets token) = HasOne sizes × WholeRow P sizes
-  Whole P (NewList base base_token brackets elements brace token) = WholeElements P elements
-  Whole P (Unary op operand token) = Whole P operand
-  Whole P (Step is_before is_up operand token) = Whole P operand
-  Whole P (Binary op left right token) = Whole P left × Whole P right
-  Whole P (Both left right token) = Whole P left × Whole P right
-  Whole P (Either left right token) = Whole P left × Whole P right
-  Whole P (InstanceOf left ty token) = Whole P left
-  Whole P (Cast ty operand token) = Whole P operand
-  Whole P (Choice test main other token) = Whole P test × Whole P main × Whole P other
-  Whole P (Assign left value token) = Whole P left × Whole P value
-  Whole P (Update op left value token) = (is_comparison op ≡ false) × Whole P left × Whole P value
-  Whole P Wrong = ⊥
+abbrev pub Whole : Names → Expression → Type 0
+Whole P e = Throughout (IsSound P) e
 
-  pub WholeRow : Names → Row → Type 0
-  WholeRow P none = Unit {0}
-  WholeRow P (more e rest) = Whole P e × WholeRow P rest
+abbrev pub WholeRow : Names → Row → Type 0
+WholeRow P args = ThroughoutRow (IsSound P) args
 
-  pub WholeInitial : Names → Initial → Type 0
-  WholeInitial P (Value e) = Whole P e
-  WholeInitial P (Listed elements brace) = WholeElements P elements
+abbrev pub WholeInitial : Names → Initial → Type 0
+WholeInitial P i = ThroughoutInitial (IsSound P) i
 
-  pub WholeElements : Names → Elements → Type 0
-  WholeElements P no_more = Unit {0}
-  WholeElements P (element before given rest) = WholeInitial P given × WholeElements P rest
+abbrev pub WholeElements : Names → Elements → Type 0
+WholeElements P all = ThroughoutElements (IsSound P) all
 
 abbrev pub WholePart : Names → Option Expression → Type 0
 WholePart P None = Unit {0}
