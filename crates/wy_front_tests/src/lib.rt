@@ -3,9 +3,15 @@
 #![tactic(auto)]
 
 #[cfg(test)]
+mod bodies;
+#[cfg(test)]
 mod expressions;
 #[cfg(test)]
+mod kinds;
+#[cfg(test)]
 mod listed;
+#[cfg(test)]
+mod members;
 #[cfg(test)]
 mod programs;
 #[cfg(test)]

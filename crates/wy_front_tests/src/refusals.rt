@@ -14,7 +14,7 @@ fn broken(alloc: Global, text: &str) -> Option<(Rule, u32)> {
 }
 
 // Bodies of the method f in `class A { void f() { .. } }`. The first token of a body is number 8.
-static BODIES: [(&str, Rule, u32); 24] = [
+static BODIES: [(&str, Rule, u32); 36] = [
     ("int x; { long x; }", Rule::Duplicate, 13),
     ("a: a: ;", Rule::Duplicate, 10),
     ("try { } catch (Error e) { int e; }", Rule::Duplicate, 18),
@@ -39,6 +39,18 @@ static BODIES: [(&str, Rule, u32); 24] = [
     ("a: { continue a; }", Rule::BadJump, 11),
     ("return 1;", Rule::BadReturn, 8),
     ("for (;;) { int i = 1L; break a; }", Rule::BadAssign, 15),
+    ("Integer i;", Rule::UnknownName, 8),
+    ("Object o = new Math();", Rule::UnknownName, 12),
+    ("int i = 1; int k = i.size;", Rule::UnknownName, 18),
+    ("int i = 1; i.g();", Rule::NoMethod, 16),
+    ("int[] a = null; a.clone();", Rule::NotOffered, 18),
+    ("Object o = \"a\".size;", Rule::NotOffered, 13),
+    ("f().g();", Rule::BadOperand, 13),
+    ("boolean b = this == \"a\";", Rule::BadOperand, 12),
+    ("int[] a = null; a.length = 1;", Rule::BadAssign, 18),
+    ("while (true) break b;", Rule::BadJump, 12),
+    ("a: b: while (true) continue a;", Rule::BadJump, 16),
+    ("return f();", Rule::BadReturn, 8),
 ];
 
 #[test]
@@ -52,7 +64,7 @@ fn a_body_that_breaks_a_rule_is_refused_at_its_token(rt: HostRuntime) -> Result<
 }
 
 // Whole texts.
-static TEXTS: [(&str, Rule, u32); 20] = [
+static TEXTS: [(&str, Rule, u32); 27] = [
     (
         "class A extends B { } class B extends A { }",
         Rule::Cycle,
@@ -140,6 +152,41 @@ static TEXTS: [(&str, Rule, u32); 20] = [
         "class A { int f() { return x; } int y = z; }",
         Rule::UnknownName,
         9,
+    ),
+    (
+        "class A { void f() { } Pair(int n) { } }",
+        Rule::UnknownName,
+        9,
+    ),
+    (
+        "class A extends B { } class B extends C { long n() { return 2; } } class C { int n() { return 1; } }",
+        Rule::BadOverride,
+        1,
+    ),
+    (
+        "class A extends X implements I { } interface I { int f(); }",
+        Rule::NotImplemented,
+        1,
+    ),
+    (
+        "class A implements I, X { } interface I { int f(); }",
+        Rule::NotImplemented,
+        1,
+    ),
+    (
+        "class A { final int K = 1; static int f() { return K; } }",
+        Rule::NotInStatic,
+        16,
+    ),
+    (
+        "class A { static int n; } class B extends A { int f() { return super.n; } }",
+        Rule::NotOffered,
+        21,
+    ),
+    (
+        "class A { private A(int n) { } } class B extends A { B() { super(1); } }",
+        Rule::Private,
+        22,
     ),
 ];
 
