@@ -1,9 +1,8 @@
 -- The tokens in memory, and the facts that a program of theirs keeps.
-use Rattle.std.proofs.Common.{◌≡◌, ◌∙◌, sym, ap, subst, refl, ℕ, suc, ◌≤◌, List, [], ◌∷◌, length, map, Ok}
+use Rattle.std.proofs.Common.{◌≡◌, ◌∙◌, sym, ap, subst, refl, suc, ◌≤◌, List, [], ◌∷◌, length, map, Ok}
 use Rattle.wy_tree.specs.Ast.{Ast, tokens}
 use Rattle.wy_tree.specs.Seen.{seen}
 use Rattle.wy_tree.specs.Tokens.{Placed, placed}
-use Rattle.wy_tree.specs.Trees.{IsTreeOf}
 use Rattle.wy_tree.specs.declared.token.Spanned.{Spanned}
 use Rattle.wy_kernel.specs.Program.{Program}
 use Rattle.wy_syntax.specs.Declarations.{unit}
