@@ -6,13 +6,15 @@ ghost use Rattle.wy_breach.specs.Alike.{IsDenotedOnce, IsFoundOnce, IsRefusedAlw
 ghost use Rattle.wy_breach.specs.Laws.{AssignmentsAreExact, BinaryIsExact, CastsAreExact, ChoicesAreExact, RefusalsAreDue, RulesAreEnough, UnaryIsExact, UpdatesAreExact};
 ghost use Rattle.wy_breach.specs.Quiet.{QuietFormsBreakNothing};
 
-/// Where an expression is refused, an expression that stands in it breaks the rule at the token. So one that breaks no rule is not refused.
+/// Where an expression in which nothing is missing is refused, by what the table settles, an expression that stands in it breaks the rule at
+/// the token. So one in which none breaks a rule is not refused.
 pub fn refusals_are_due()
     ensures due { RefusalsAreDue }
     ensures enough { RulesAreEnough }
 {}
 
-/// The casts, assignments and operands that are allowed are exactly those that the elaboration lets through.
+/// The casts, assignments and operands that are allowed are exactly those that the elaboration lets through: of assignments and compound
+/// assignments for values that aren't void, and of the latter without `==` and `!=`.
 pub fn operands_are_exact()
     ensures casts { CastsAreExact }
     ensures assignments { AssignmentsAreExact }

@@ -10,13 +10,15 @@ pub fn written_is_whole()
     ensures { WrittenIsWhole }
 {}
 
-/// Where a statement or a block is refused, something in it breaks the rule at the token, in the scope in which it stands.
+/// Where a statement or a block in which nothing is missing is refused, by what the table settles, something in it breaks the rule at the
+/// token, in the scope in which it stands.
 pub fn statement_refusals_are_due()
     ensures statements { StatementRefusalsAreDue }
     ensures blocks { BlockRefusalsAreDue }
 {}
 
-/// Where the body of a method or a constructor, or the initializers of fields are refused, something in them breaks the rule at the token.
+/// Where the body of a method or a constructor, or the initializers of fields, in which nothing is missing, or the constructor that a class
+/// doesn't declare, are refused, by what the table settles, something in them breaks the rule at the token.
 pub fn body_refusals_are_due()
     ensures methods { MethodRefusalsAreDue }
     ensures constructors { ConstructorRefusalsAreDue }

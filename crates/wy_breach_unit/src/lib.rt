@@ -4,7 +4,8 @@
 
 ghost use Rattle.wy_breach_unit.specs.Laws.{ProgramRefusalsAreDue, UnbrokenProgramsAreAccepted};
 
-/// Where a program is refused, something in it breaks the rule at the token. So one in which nothing does is accepted.
+/// Where a program in whose abstract syntax nothing is missing is refused, something in it breaks the rule at the token. So one in which
+/// nothing does is accepted.
 pub fn program_refusals_are_due()
     ensures due { ProgramRefusalsAreDue }
     ensures accepted { UnbrokenProgramsAreAccepted }

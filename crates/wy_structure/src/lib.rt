@@ -14,12 +14,14 @@ ghost use Rattle.wy_structure.specs.Reaches.{AllReach};
 ghost use Rattle.wy_structure.specs.Outermost.{AllTestsReachAsFar};
 ghost use Rattle.wy_structure.specs.Sites.{TestsStandApart};
 
-/// The numbers of a program's statements are those below their count, and each is the number of one statement.
+/// In the program of a well-formed tree the numbers of the statements are those below their count, and each is the number of one
+/// statement.
 pub fn each_number_is_one_statement()
     ensures { (tree : Ast) → WellFormed tree → (count : ℕ) (p : Program) → Elaborates (unit 0 tree) count (Ok p) → AreDense p }
 {}
 
-/// The library's statements have the first numbers, and those of the text follow in the order of their sites.
+/// In the program of a well-formed tree the library's statements have the first numbers, and those of the text follow in the order
+/// of their sites.
 pub fn numbers_follow_the_text()
     ensures { (tree : Ast) → WellFormed tree → (count : ℕ) (p : Program) → Elaborates (unit 0 tree) count (Ok p) → AreInOrder p }
 {}
@@ -36,13 +38,14 @@ pub fn tests_reach_out()
     ensures { (unit : CompilationUnit) (count : ℕ) (p : Program) → Elaborates unit count (Ok p) → AllReach p }
 {}
 
-/// The test of a statement reaches to the end of the outermost statement around it that a jump in its guarded part goes to, and to
-/// its own end where none does.
+/// The test of a statement reaches to the end of the outermost statement around it that a jump (`break`, `continue`, `return` or
+/// `throw`) in its guarded part goes to, and to its own end where none does.
 pub fn tests_reach_as_far_as_jumps_lead()
     ensures { (unit : CompilationUnit) (count : ℕ) (p : Program) → Elaborates unit count (Ok p) → AllTestsReachAsFar p }
 {}
 
-/// No `&&`, `||` or `?:` has the site of a statement with a test: the one has that of its sign, the other that of its word.
+/// In the program of a well-formed tree of at most 1,048,576 tokens no `&&`, `||` or `?:` has the site of a statement with a test:
+/// the one has that of its sign, the other that of its word.
 pub fn tests_stand_apart()
     ensures { (tree : Ast) → WellFormed tree → length (tokens tree) ≤ 1048576 → (count : ℕ) (p : Program) → Elaborates (unit 0 tree) count (Ok p) → TestsStandApart p }
 {}

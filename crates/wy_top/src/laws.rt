@@ -8,7 +8,7 @@ use wy_elab_stmt::laws::a_text_has_one_program;
 use wy_parser::laws::a_token_list_has_one_tree;
 use wy_tree::laws::{a_refused_text_has_no_tokens, a_text_has_one_token_list};
 
-/// For the same words and files one status is due, and one text, but that Syntax may name any token.
+/// For the same words and files at most one status is due, and at most one text, but that Syntax may name any token.
 pub fn one_answer_is_due()
     ensures { (words : List (List ℕ)) (held : Option Files) (s t : ℕ) (x y : List ℕ)
         → Due words held s x → Due words held t y

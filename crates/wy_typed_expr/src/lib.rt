@@ -4,9 +4,10 @@
 
 ghost use Rattle.wy_typed_expr.specs.Typed.{ExpressionsAreTyped, InitialsFit};
 
-/// The form of an expression has the type that the expression is found to have, and what a variable is given first may
-/// stand where the variable's type is wanted: in a scope whose variables are the locals of the body, by a judgement that
-/// the table settles, where the constant texts of the forms are those of the program.
+/// The form of an expression that a text can say has the type that the expression is found to have, or some type where that
+/// is void; and what a variable of a type of the program is given first, where a text can say it, may stand where that type
+/// is wanted: in a scope whose variables are the locals of the body, by a judgement that the table settles, where the
+/// constant texts of the forms are those of the program, in a table of a program whose methods fit (`Stands`).
 pub fn what_is_elaborated_has_its_type()
     ensures expressions { ExpressionsAreTyped }
     ensures initials { InitialsFit }

@@ -5,7 +5,7 @@
 ghost use Rattle.wy_typed_library.specs.Library.{LibraryFits};
 
 /// Each body of the library begins with the locals that its method takes, gives back what the method gives, and its forms
-/// fit these types.
+/// fit these types, in every program that begins with the library (`HasLibrary`).
 pub fn the_library_fits_its_types()
     ensures { LibraryFits }
 {}
