@@ -1,7 +1,7 @@
 //! A whole program: the bodies of its classes behind those of the library, its constant texts, and its main (JLS 7, 12.1).
 //! What its classes declare is no part of this: that is its table.
 
-ghost use Rattle.std.specs.Prelude.{◌≡◌, ◌≤◌, ◌+◌, [], ◌∷◌, IfOk, OnOk, length, map};
+ghost use Rattle.std.specs.Prelude.{◌≡◌, ◌<◌, ◌≤◌, ◌+◌, ◌^◌, [], ◌∷◌, IfOk, OnOk, length, map};
 ghost use Rattle.wy_constant.specs.Refusal.{Gives};
 ghost use Rattle.wy_constant.specs.Scope.{FixedText as PlainText};
 ghost use Rattle.wy_constant.specs.declared.variable.FixedText.{FixedText as MemoryText};
@@ -173,7 +173,8 @@ fn units_among(alloc: Global, list: Vec<FixedText>) -> Result<Vec<Vec<u16>>, All
 }
 
 fn units_of(alloc: Global, texts: Texts) -> Result<Vec<Vec<u16>>, AllocError>
-    ensures { IfOk result (λ all. map (λ v. v.items) all.items ≡ map (λ (t : PlainText). t.units) texts) }
+    ensures units { IfOk result (λ all. map (λ v. v.items) all.items ≡ map (λ (t : PlainText). t.units) texts) }
+    ensures few { IfOk result (λ all. length all.items < 2 ^ 32) }
 {
     let all = units_among(alloc, texts.into_list())?;
     Ok(all)
@@ -233,6 +234,7 @@ fn program_from(
 ) -> Result<Program, AllocError>
     ensures program { IfOk result (λ p. program_of p ≡ program_from (table_of table) statements main (made_view made)) }
     ensures lines { IfOk result (λ p. p.lines.items ≡ lines.items) }
+    ensures texts { IfOk result (λ p. length p.fixed_texts.items < 2 ^ 32) }
 {
     let Made { bodies, texts } = made;
     let Bodies {
@@ -261,6 +263,7 @@ fn program_from(
 
 /// The program of these declarations, whose table is given, with the line of each token.
 /// A text of so many tokens has no more declarations; more than the most tokens of a text are refused for want of memory.
+/// So are more constant texts than a `u32` counts.
 #[tactic(auto, using(crate::proofs::Programs::bodies_stop))]
 pub fn elaborate_unit(
     table: ClassTable,
@@ -271,6 +274,7 @@ pub fn elaborate_unit(
     requires { length lines.items ≤ 1048576 }
     ensures program { Judged (table_of table) (λ j. Gives program_of result (program j (table_of table) (map declaration_of unit.now) (length lines.items))) }
     ensures lines { IfOk result (λ p. p.lines.items ≡ lines.items) }
+    ensures texts { IfOk result (λ p. length p.fixed_texts.items < 2 ^ 32) }
 {
     if unit.len() > 1048576 {
         return Err(TypeError::NoMemory);

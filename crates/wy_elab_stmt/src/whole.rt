@@ -1,6 +1,6 @@
 //! From a tree and its tokens to a program.
 
-ghost use Rattle.std.specs.Prelude.{◌≡◌, ◌≤◌, IfOk, length, map};
+ghost use Rattle.std.specs.Prelude.{◌≡◌, ◌<◌, ◌≤◌, ◌^◌, IfOk, length, map};
 ghost use Rattle.wy_elab_stmt.specs.Elaborates.{ElaboratesTo};
 ghost use Rattle.wy_syntax.specs.Declarations.{unit};
 ghost use Rattle.wy_tree.specs.Ast.{tokens as leaves_of, view};
@@ -24,6 +24,7 @@ pub fn elaborate(alloc: Global, tree: &Tree, tokens: &[Spanned]) -> Result<Progr
     requires leaves { leaves_of (view tree.now) ≡ map (λ t. seen t.token) tokens.now }
     ensures program { ElaboratesTo (unit 0 (view tree.now)) (length tokens.now) result }
     ensures lines { IfOk result (λ p. p.lines.items ≡ map (λ t. t.line) tokens.now) }
+    ensures texts { IfOk result (λ p. length p.fixed_texts.items < 2 ^ 32) }
 {
     let lines = lines_of(alloc, tokens)?;
     let declarations = unit(alloc, tree, 0)?;

@@ -81,7 +81,7 @@ kind_behind (x ∷ xs) zero h = absurd (omega arith)
 kind_behind (x ∷ xs) (suc n) h = kind_behind xs n (omega arith)
 
 mutual
-  as_wide : (t : Ast) → width t ≡ length (tokens t)
+  pub as_wide : (t : Ast) → width t ≡ length (tokens t)
   as_wide (Leaf o) = refl
   as_wide (Node f parts) = all_as_wide parts
 

@@ -1,0 +1,16 @@
+pub mod Tokens
+pub mod TreeExpressions
+pub mod TreeStatements
+pub mod TreeClasses
+pub mod TableRows
+pub mod Forms
+pub mod Members
+pub mod Expressions
+pub mod Keeping
+pub mod SitedParts
+pub mod SitedStatements
+pub mod SitedBodies
+pub mod SitedClasses
+pub mod SitedLibrary
+pub mod SitedPrograms
+pub mod Programs
