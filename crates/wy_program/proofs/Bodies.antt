@@ -11,12 +11,12 @@ use Rattle.wy_kernel.specs.View.{body_of}
 use Rattle.wy_kernel.specs.declared.program.Program.{Program}
 use Rattle.wy_typing.specs.Programs.{IsProgram}
 
-within : {X : Type 0} (xs : List X) (k : ℕ) (x : X) → slice_get xs k ≡ Some x → k < length xs
+pub within : {X : Type 0} (xs : List X) (k : ℕ) (x : X) → slice_get xs k ≡ Some x → k < length xs
 within [] k x e = absurd (cc)
 within (y ∷ ys) zero x e = omega arith
 within (y ∷ ys) (suc k) x e = let i = within ys k x e in omega arith
 
-indexed : {X : Type 0} (xs : List X) (k : ℕ) (x d : X) → slice_get xs k ≡ Some x → slice_index_or xs k d ≡ x
+pub indexed : {X : Type 0} (xs : List X) (k : ℕ) (x d : X) → slice_get xs k ≡ Some x → slice_index_or xs k d ≡ x
 indexed [] k x d e = absurd (cc)
 indexed (y ∷ ys) zero x d e = cc
 indexed (y ∷ ys) (suc k) x d e = indexed ys k x d e

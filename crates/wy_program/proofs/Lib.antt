@@ -1,3 +1,4 @@
 pub mod Programs
 pub mod Texts
 pub mod Bodies
+pub mod Mains

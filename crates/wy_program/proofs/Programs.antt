@@ -2,7 +2,7 @@
 use Rattle.std.proofs.Common.{◌≡◌, ℕ, ◌≤◌, refl, sym, ◌∙◌, ap, subst, List, length, Result, Ok}
 use Rattle.wy_tree.specs.Ast.{Ast, tokens}
 use Rattle.wy_tree.specs.Grammar.{WellFormed}
-use Rattle.wy_kernel.specs.Program.{Program, Class}
+use Rattle.wy_kernel.specs.Program.{Program, Class, Method, Field}
 use Rattle.wy_kernel.specs.Table.{Table, IsTable}
 use Rattle.wy_syntax.specs.Declarations.{unit}
 use Rattle.wy_constant.specs.Refusal.{Refusal}
@@ -20,7 +20,7 @@ use Rattle.wy_typed.specs.Rows.{NamesAgreeInTables}
 use Rattle.wy_typed.proofs.Programs.{MadeOf, made_of}
 use Rattle.wy_declared.specs.Laws.{ProgramsHaveLibrary}
 use Rattle.wy_standing.specs.Laws.{TreesStand}
-use Rattle.wy_tables.specs.Laws.{TreesHaveTables}
+use Rattle.wy_tables.specs.Laws.{AreFew, TreesHaveTables}
 use Rattle.wy_written.specs.Written.{UnitWritten}
 
 -- what a text that becomes a program keeps, and what it is made by
@@ -73,9 +73,20 @@ bodies_fit laws tree well few written count p fit h =
     let library = laws.library c.j c.t (unit 0 tree) count p c.is_table makes stand c.becomes in
     laws.typed c.j c.t (unit 0 tree) count p (laws.rows c.t (unit 0 tree) methods) library makes (laws.names p (unit 0 tree) (classes ∙ ap (λ (x : Table). x.classes) of_text)) stand c.becomes
 
--- its classes are those of the text's table
-pub few_classes : (unit : CompilationUnit) (count : ℕ) (p : Program) → Elaborates unit count (Ok p) → length (table unit).classes ≤ 1048594 → length p.classes ≤ 1048594
-few_classes unit count p h few =
+-- so few parts are declared
+pub record DeclaresFew (p : Program) : Type 0 where
+  pub classes : length p.classes ≤ 1048594
+  pub methods : length p.methods ≤ 1048612
+  pub fields : length p.fields ≤ 1048577
+
+-- those of the text's table
+pub few_parts : (unit : CompilationUnit) (count : ℕ) (p : Program) → Elaborates unit count (Ok p) → AreFew (table unit) → DeclaresFew p
+few_parts unit count p h few =
     let c = comes unit count p h in
     let m = made_of c.j c.t unit count p c.becomes in
-    subst (λ (l : List Class). length l ≤ 1048594) (sym (ap (λ (x : Table). x.classes) c.is_table.rows) ∙ ap (λ (x : Program). x.classes) m.is) few
+    let rows = c.is_table.rows in
+    record {
+      classes = subst (λ (l : List Class). length l ≤ 1048594) (sym (ap (λ (x : Table). x.classes) rows) ∙ ap (λ (x : Program). x.classes) m.is) few.classes;
+      methods = subst (λ (l : List Method). length l ≤ 1048612) (sym (ap (λ (x : Table). x.methods) rows) ∙ ap (λ (x : Program). x.methods) m.is) few.methods;
+      fields = subst (λ (l : List Field). length l ≤ 1048577) (sym (ap (λ (x : Table). x.fields) rows) ∙ ap (λ (x : Program). x.fields) m.is) few.fields;
+    }

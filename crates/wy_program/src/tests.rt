@@ -39,6 +39,33 @@ fn main_has_a_body(rt: HostRuntime) -> Result<(), Fail> {
     Ok(())
 }
 
+// The name of main stands in the third line.
+const LINES: &str =
+    "class Lamp {\n    int watts() { return 9; }\n    public static void main(String[] a) { }\n}\n";
+
+#[test]
+fn main_has_a_line(rt: HostRuntime) -> Result<(), Fail> {
+    let Some(Ok(typed)) = read(rt.alloc(), LINES) else {
+        return Err(Fail::new("no program"));
+    };
+    assert_eq!(rt; typed.main_line(), 3);
+    Ok(())
+}
+
+// The class declares two methods and implies its constructor; the library has 18 classes, 36 methods, a field and a text.
+#[test]
+fn parts_are_counted(rt: HostRuntime) -> Result<(), Fail> {
+    let Some(Ok(typed)) = read(rt.alloc(), LINES) else {
+        return Err(Fail::new("no program"));
+    };
+    assert_eq!(rt; typed.program.classes(), 19);
+    assert_eq!(rt; typed.program.methods(), 39);
+    assert_eq!(rt; typed.program.fields(), 1);
+    assert_eq!(rt; typed.program.fixed_texts(), 1);
+    assert_eq!(rt; typed.program.tokens(), 25);
+    Ok(())
+}
+
 // A text, and the rule that it breaks with its token.
 const BROKEN: [(&str, Rule, u32); 3] = [
     ("class A extends A { }", Rule::Cycle, 1),

@@ -3,7 +3,7 @@ use Rattle.std.proofs.lemmas.List.{length-map}
 use Rattle.wy_tree.specs.Ast.{tokens}
 use Rattle.wy_tree.specs.Tokens.{Placed}
 use Rattle.wy_syntax.specs.Declarations.{unit}
-use Rattle.wy_program.proofs.Programs.{Laws, bodies_fit, few_classes}
+use Rattle.wy_program.proofs.Programs.{Laws, bodies_fit, few_parts}
 use Rattle.wy_program.proofs.laws.texts_are_programs.Goals as goal
 
 pub returns : goal.returns
@@ -26,6 +26,6 @@ returns c = λ text spans tree read is_tree few count p h.
       a_place_a_class = c.each_class_and_each_method_has_a_place.ensures.initializers (unit 0 tree) count p h;
       bodies = bodies.bodies;
       initializers = bodies.initializers;
-      runs = c.classes_run_methods.ensures (unit 0 tree) count p (few_classes (unit 0 tree) count p h ((c.trees_declare_few.ensures tree is_tree.0 few_tokens).classes)) fit h;
+      runs = c.classes_run_methods.ensures (unit 0 tree) count p ((few_parts (unit 0 tree) count p h (c.trees_declare_few.ensures tree is_tree.0 few_tokens)).classes) fit h;
       main = c.programs_have_a_main.ensures tree is_tree.0 few_tokens count p h;
     }
