@@ -271,7 +271,8 @@ module _ (w : Setting) (g : Settles w.table w.judgement) where
       OnlyFrom (BadField c is_static ty s all) (field_initial w c is_static ty d o) b
   field_only c is_static ty s all d b among Absent e h = from_give
   field_only c is_static ty s all d b among (Some i) e h =
-      from_bind {f = declared_type w ty d.brackets} {g = λ t. assigned_first w c is_static t d.name i >>= λ x. give (x ∷ [])} (type_declared_only w ty d.brackets b (λ none. member.HasBadField.no_type none))
+      from_bind {f = declared_type w ty d.brackets} {g = λ t. assigned_first w c is_static t d.name i >>= λ x. give (x ∷ [])}
+      (type_declared_only w ty d.brackets b (λ none. member.HasBadField.no_type {there = b.scope} {d = d} {i = i} (record { among = among; given = e }) none))
       (λ t b1 e1. let x = type_declared w ty d.brackets b t b1 e1 in
       let Q : Scope → Type 0 = λ z. InFields w c is_static ty s all z d in
       let given : IsFieldGiven w c is_static ty s all b1.scope d i = record { among = subst Q (sym x.scope) among; given = e } in

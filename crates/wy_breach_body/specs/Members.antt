@@ -109,7 +109,8 @@ pub data IsFieldFilled (w : Setting) (c : ℕ) (is_static : Bool) (ty : WrittenT
 
 -- something in the initializers of fields breaks the rule at the token
 pub data HasBadField (w : Setting) (c : ℕ) (is_static : Bool) (ty : WrittenType) (s : Scope) (all : List Declarator) : Rule → ℕ → Type 0 where
-  no_type : IsNoType w.table ty.base → HasBadField w c is_static ty s all rule.UnknownName ty.token
+  -- their type names no class, and one of them is given something; where none is, only the declaration breaks the rule
+  no_type : {there : Scope} {d : Declarator} {i : Initial} → IsFieldGiven w c is_static ty s all there d i → IsNoType w.table ty.base → HasBadField w c is_static ty s all rule.UnknownName ty.token
   expression : {there : Scope} {d : Declarator} {i : Initial} {e : Expression} {r : Rule} {token : ℕ} → IsFieldGiven w c is_static ty s all there d i → Contains (values_of i) e → IsBroken w.judgement w.table there e r token →
       HasBadField w c is_static ty s all r token
   void_given : {there : Scope} {inner : Ty} {e : Expression} {m : Meaning} {at : ℕ} → IsFieldFilled w c is_static ty s all there inner (Value e) at → IsFoundIn w there e m → type_of m ≡ Void → HasBadField w c is_static ty s all rule.BadOperand at

@@ -60,6 +60,11 @@ type_of_written : {t : Table} (ty : WrittenType) (a : Ty) (u v : List FixedText)
 unfolding type_written
 type_of_written {t} ty a u v e = type_found t ty.base ty.brackets ty.token u v a e
 
+-- a written type that is one names no class that is none
+names_some : {t : Table} {b : source.Base} {n : ℕ} {a : Ty} → IsType t b n a → IsNoType t b → ⊥
+names_some found.of_primitive none = elim none [ ]
+names_some (found.IsType.of_class e) (found.unknown f) = cc
+
 module _ (w : Setting) where
   -- ---- parameters
 
@@ -302,14 +307,13 @@ module _ (w : Setting) where
         let P : Ty → Type 0 = λ z. Never (initialized w.judgement w.table there (with_brackets z d.brackets) i d.name.token) in
         subst P same (step.never_filled w.judgement w.table there fills n)))
 
-    -- fields whose type names a class
-    pub broken_fields : {c : ℕ} {is_static : Bool} {ty : WrittenType} {s : Scope} {all : List Declarator} {r : Rule} {token : ℕ} → (IsNoType w.table ty.base → ⊥) → HasBadField w c is_static ty s all r token → NeverIn s (field_initials w c is_static ty all)
-    broken_fields known (member.HasBadField.no_type none) = absurd (known none)
-    broken_fields known (member.HasBadField.expression {there = there} {d = d} {i = i} {e = e} {r = r} {token = token} h among b) =
+    pub broken_fields : {c : ℕ} {is_static : Bool} {ty : WrittenType} {s : Scope} {all : List Declarator} {r : Rule} {token : ℕ} → HasBadField w c is_static ty s all r token → NeverIn s (field_initials w c is_static ty all)
+    broken_fields (member.HasBadField.no_type h none) = at_field h (λ base is. absurd (names_some is none))
+    broken_fields (member.HasBadField.expression {there = there} {d = d} {i = i} {e = e} {r = r} {token = token} h among b) =
         at_field h (λ base is. never_initial w.judgement w.table l there e i among (never_broken w.judgement w.table g l there e r token b) (with_brackets base d.brackets) d.name.token)
-    broken_fields known (member.HasBadField.void_given {there = there} {inner = inner} {e = e} {m = m} {at = at} h f v) =
+    broken_fields (member.HasBadField.void_given {there = there} {inner = inner} {e = e} {m = m} {at = at} h f v) =
         at_filled h (ways.of_value w.judgement w.table g l there inner e at m f (λ n k. form.never_value_of_void w.judgement w.table g inner n at (sym (same_type k) ∙ v)))
-    broken_fields known (member.HasBadField.unfit {there = there} {inner = inner} {e = e} {m = m} {at = at} h f valued wrong) =
+    broken_fields (member.HasBadField.unfit {there = there} {inner = inner} {e = e} {m = m} {at = at} h f valued wrong) =
         at_filled h (ways.of_value w.judgement w.table g l there inner e at m f
         (λ n k. form.never_value w.judgement w.table g inner n at (λ x. valued (same_type k ∙ x)) (λ may. wrong (ways.may_too w.judgement w.table g l there k may))))
-    broken_fields known (member.HasBadField.braces {there = there} {inner = inner} {elements = elements} {brace = brace} {at = at} h e) = at_filled h (ways.of_braces w.judgement w.table g l there inner elements brace at e)
+    broken_fields (member.HasBadField.braces {there = there} {inner = inner} {elements = elements} {brace = brace} {at = at} h e) = at_filled h (ways.of_braces w.judgement w.table g l there inner elements brace at e)

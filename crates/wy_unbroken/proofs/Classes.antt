@@ -2,10 +2,9 @@
 use Rattle.std.proofs.Common.{◌≡◌, ◌∙◌, ap, sym, subst, refl, ℕ, Bool, true, false, List, ◌++◌, Result, Ok, Err, Some}
 use Rattle.std.specs.Prelude.{not, if◌then◌else◌}
 use Rattle.std.specs.Prelude.{None as Absent}
-use Rattle.std.specs.List.{Contains}
 use Rattle.wy_kernel.specs.Form as kernel
 use Rattle.wy_kernel.specs.Program.{Body}
-use Rattle.wy_syntax.specs.Syntax.{WrittenType, Declarator, Placed, OwnCall, Header, Braced, Statements, Member, ClassSyntax}
+use Rattle.wy_syntax.specs.Syntax.{WrittenType, Declarator, OwnCall, Header, Braced, Statements, Member, ClassSyntax}
 use Rattle.wy_syntax.specs.Syntax as source
 use Rattle.wy_constant.specs.declared.rule.Rule.{Rule}
 use Rattle.wy_constant.specs.Refusal.{Refusal}
@@ -20,11 +19,9 @@ use Rattle.wy_statement.specs.Statements.{Setting, block}
 use Rattle.wy_statement.specs.Bodies.{Growing, Growth, around_initializer, end_of, method_block, constructor_block, implied_constructor_block, initializer_block, field_initials}
 use Rattle.wy_statement.specs.Bodies as bodies
 use Rattle.wy_elab_stmt.specs.Classes.{whole, with_body, grown, in_initializer, in_fields, is_static, member, members, implied_constructor, none_yet, class_bodies}
-use Rattle.wy_breach.specs.Found.{IsNoType}
 use Rattle.wy_breach_body.specs.Members.{HasBadStart}
 use Rattle.wy_breach_unit.specs.Units.{Grows, InMembers, IsBrokenMember, IsBrokenClass}
 use Rattle.wy_breach_unit.specs.Units as units
-use Rattle.wy_breach.proofs.Contained.{contains_here, contains_later}
 use Rattle.wy_breach.proofs.Parts.{gives}
 use Rattle.wy_unbroken.specs.Laws.{KnowsLibrary}
 use Rattle.wy_unbroken.proofs.Never.{Never, never_if, never_then, never_else, never_bind, never_first}
@@ -76,10 +73,6 @@ record AreLevel (g h : Growth) : Type 0 where
   fields : g.fields.making.scope ≡ h.fields.making.scope
 
 module _ (w : Setting) (g : Settles w.table w.judgement) (l : KnowsLibrary w.table) (c : ℕ) (k : ClassSyntax) where
-  -- each type of a field names a class
-  abbrev pub KnowsFields : List Member → Type 0
-  KnowsFields all = (ms : List Placed) (ty : WrittenType) (ds : List Declarator) → Contains all (source.Fields ms ty ds) → IsNoType w.table ty.base → ⊥
-
   level_in_initializer : (a b p q : Growth) (f : Makes (List kernel.Statement)) (u v x y : List FixedText) → Steady Any f f → AreLevel a b → in_initializer a f u ≡ Ok (p, v) → in_initializer b f x ≡ Ok (q, y) → AreLevel p q
   level_in_initializer a b p q f u v x y t same e h =
       let i = gives (grown a.initializer f) (λ z. give (record a { initializer = z })) u v p e in
@@ -143,28 +136,27 @@ module _ (w : Setting) (g : Settles w.table w.judgement) (l : KnowsLibrary w.tab
   of_scope : {A : Type 0} {s t : Scope} (f : Makes A) → s ≡ t → NeverIn s f → NeverIn t f
   of_scope f e n = let P : Scope → Type 0 = λ z. NeverIn z f in subst P e n
 
-  broken_member : {a b : Growth} {m : Member} {r : Rule} {token : ℕ} → ((ms : List Placed) (ty : WrittenType) (ds : List Declarator) → m ≡ source.Fields ms ty ds → IsNoType w.table ty.base → ⊥) →
-      AreLevel a b → IsBrokenMember w c k a m r token → Never (member w c k b m)
+  broken_member : {a b : Growth} {m : Member} {r : Rule} {token : ℕ} → AreLevel a b → IsBrokenMember w c k a m r token → Never (member w c k b m)
   unfolding member
-  broken_member {b = b} known same (units.of_method {h = h} {result = result} {b = z} bad) =
+  broken_member {b = b} same (units.of_method {h = h} {result = result} {b = z} bad) =
       never_first _ (never_begun c (not (is_static h.modifiers)) h.name.token (end_of z) (method_block w h result z) (broken_method w g l bad))
-  broken_member {b = b} known same (units.of_constructor {h = h} {own = own} {brace = brace} {end = end} {parts = parts} bad) =
+  broken_member {b = b} same (units.of_constructor {h = h} {own = own} {brace = brace} {end = end} {parts = parts} bad) =
       never_first _ (never_begun c true h.name.token end (constructor_block w c k h own brace parts) (broken_constructor w g l bad))
-  broken_member {b = b} known same (units.of_static_block {b = z} bad) =
+  broken_member {b = b} same (units.of_static_block {b = z} bad) =
       never_first _ (never_grown b.initializer (initializer_block w k InitializerBody z) (in_first _ (of_scope (block w (around_initializer w k InitializerBody) z) same.initializer (broken_block w g l bad))))
-  broken_member {b = b} known same (units.of_block {b = z} bad) =
+  broken_member {b = b} same (units.of_block {b = z} bad) =
       never_first _ (never_grown b.fields (initializer_block w k FieldsBody z) (in_first _ (of_scope (block w (around_initializer w k FieldsBody) z) same.fields (broken_block w g l bad))))
-  broken_member {b = b} known same (units.of_static_fields {modifiers = ms} {ty = ty} {all = all} e bad) =
-      never_then (is_static ms) _ e (never_first _ (never_grown b.initializer (field_initials w c true ty all) (of_scope (field_initials w c true ty all) same.initializer (broken_fields w g l (known ms ty all refl) bad))))
-  broken_member {b = b} known same (units.of_fields {modifiers = ms} {ty = ty} {all = all} e bad) =
-      never_else (is_static ms) _ e (never_first _ (never_grown b.fields (field_initials w c false ty all) (of_scope (field_initials w c false ty all) same.fields (broken_fields w g l (known ms ty all refl) bad))))
+  broken_member {b = b} same (units.of_static_fields {modifiers = ms} {ty = ty} {all = all} e bad) =
+      never_then (is_static ms) _ e (never_first _ (never_grown b.initializer (field_initials w c true ty all) (of_scope (field_initials w c true ty all) same.initializer (broken_fields w g l bad))))
+  broken_member {b = b} same (units.of_fields {modifiers = ms} {ty = ty} {all = all} e bad) =
+      never_else (is_static ms) _ e (never_first _ (never_grown b.fields (field_initials w c false ty all) (of_scope (field_initials w c false ty all) same.fields (broken_fields w g l bad))))
 
-  broken_among : {a there b : Growth} {all : List Member} {m : Member} {r : Rule} {token : ℕ} → KnowsFields all → AreLevel a b → InMembers w c k a all there m → IsBrokenMember w c k there m r token → Never (members w c k b all)
+  broken_among : {a there b : Growth} {all : List Member} {m : Member} {r : Rule} {token : ℕ} → AreLevel a b → InMembers w c k a all there m → IsBrokenMember w c k there m r token → Never (members w c k b all)
   unfolding members
-  broken_among {b = b} known same (units.InMembers.here {m = m} {rest = rest}) bad = never_first (λ next. members w c k next rest) (broken_member (λ ms ty ds e none. known ms ty ds (contains_here rest e) none) same bad)
-  broken_among {a = a} {b = b} known same (units.InMembers.later {next = next} {other = other} {rest = rest} grows among) bad =
+  broken_among {b = b} same (units.InMembers.here {m = m} {rest = rest}) bad = never_first (λ next. members w c k next rest) (broken_member same bad)
+  broken_among {a = a} {b = b} same (units.InMembers.later {next = next} {other = other} {rest = rest} grows among) bad =
       never_bind (member w c k b other) (λ n. members w c k n rest)
-      (λ n u v is. broken_among (λ ms ty ds h none. known ms ty ds (contains_later other (source.Fields ms ty ds) rest h) none) (level_member a b next n other grows.before grows.after u v same grows.made is) among bad)
+      (λ n u v is. broken_among (level_member a b next n other grows.before grows.after u v same grows.made is) among bad)
 
   level_self : (a : Growth) → AreLevel a a
   level_self a = record { initializer = refl; fields = refl }
@@ -173,9 +165,9 @@ module _ (w : Setting) (g : Settles w.table w.judgement) (l : KnowsLibrary w.tab
   unfolding implied_constructor
   never_implied plain e bad = never_else (declares_constructor k) _ e (never_first _ (never_begun c true k.name.token k.name.token (implied_constructor_block w c k) (broken_implied w g l k bad)))
 
-  pub broken_class : {r : Rule} {token : ℕ} → KnowsFields k.members → IsBrokenClass w c k r token → Never (class_bodies w c k)
+  pub broken_class : {r : Rule} {token : ℕ} → IsBrokenClass w c k r token → Never (class_bodies w c k)
   unfolding class_bodies
-  broken_class known (units.implied plain none bad) = never_else k.is_interface _ plain (never_first _ (never_implied plain none bad))
-  broken_class known (units.of_member among bad) =
-      let n : Never (members w c k (none_yet c k) k.members) = broken_among known (level_self (none_yet c k)) among bad in
+  broken_class (units.implied plain none bad) = never_else k.is_interface _ plain (never_first _ (never_implied plain none bad))
+  broken_class (units.of_member among bad) =
+      let n : Never (members w c k (none_yet c k) k.members) = broken_among (level_self (none_yet c k)) among bad in
       never_if {b = k.is_interface} (λ e. never_first _ n) (λ e. never_bind (implied_constructor w c k) _ (λ x u v is. never_first _ n))

@@ -31,7 +31,7 @@ use Rattle.wy_unbroken.proofs.Never.{Never, never_bind, never_first}
 use Rattle.wy_unbroken.proofs.Placed.{statement_of}
 use Rattle.wy_unbroken.proofs.Statements.{broken_in}
 use Rattle.wy_unbroken.proofs.Classes.{broken_class}
-use Rattle.wy_unbroken.proofs.Tables.{tables_know, fields_known}
+use Rattle.wy_unbroken.proofs.Tables.{tables_know}
 
 pub statements_unbroken : AcceptedStatementsAreUnbroken
 statements_unbroken w g l a x m n s e r token b = (statement_of w a m.scope x (broken_in w g l b)).at m refl s n e
@@ -113,8 +113,7 @@ class_refused : (unit : CompilationUnit) (t : Table) (j : Judgement) (c : ℕ) (
     Never (bodies_of (setting j t unit) unit)
 class_refused unit t j c k r token keeps is settles written broken =
     let at = of_numbered first_source_class (classes_of unit) c k written in
-    never_bodies (setting j t unit) first_source_class (classes_of unit) at.0 c k at.1 at.2
-    (broken_class (setting j t unit) settles (tables_know unit t keeps is) c k (fields_known unit t keeps is k (contained (classes_of unit) at.0 k at.1)) broken)
+    never_bodies (setting j t unit) first_source_class (classes_of unit) at.0 c k at.1 at.2 (broken_class (setting j t unit) settles (tables_know unit t keeps is) c k broken)
 
 -- the table and the judgement are those of the program
 same_refused : (unit : CompilationUnit) (t u : Table) (j i : Judgement) → IsTableOf unit t → IsTableOf unit u → Settles t j → Settles u i → Never (bodies_of (setting i u unit) unit) → Never (bodies_of (setting j t unit) unit)

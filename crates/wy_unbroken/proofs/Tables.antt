@@ -1,27 +1,20 @@
--- The table of a program whose declarations keep the rules knows the library, and each type of a field names one of its classes.
+-- The table of a program whose declarations keep the rules knows the library.
 use Rattle.std.proofs.Common.{◌≡◌, ◌∙◌, ap, sym, subst, refl, ℕ, ◌+◌, Bool, true, false, cond, List, [], ◌∷◌, ◌++◌, map, Option, Some, inl, inr}
-use Rattle.std.specs.Prelude.{◌||◌, option_to_list, flat_map, slice_get, codes, bytes_eq}
+use Rattle.std.specs.Prelude.{◌||◌, slice_get, codes, bytes_eq}
 use Rattle.std.specs.Prelude.{None as Absent}
 use Rattle.std.specs.List.{Contains, position_from}
-use Rattle.std.proofs.lemmas.List.{map-append}
-use Rattle.std.proofs.lemmas.List.Elements.{Contains-append_left, Contains-append_right}
-use Rattle.std.proofs.lemmas.Iterator.Adapters.{position_from-zero}
 use Rattle.std.proofs.lemmas.Slice.Eq.{bytes_eq-Decides}
 use Rattle.wy_kernel.specs.Program.{Class, object_class}
 use Rattle.wy_kernel.specs.Builtin as builtin
 use Rattle.wy_kernel.specs.Table.{Table}
-use Rattle.wy_syntax.specs.Syntax.{Named, Base, WrittenType, Declarator, Placed, Member, ClassSyntax}
-use Rattle.wy_syntax.specs.Syntax as source
+use Rattle.wy_syntax.specs.Syntax.{ClassSyntax}
 use Rattle.wy_constant.specs.declared.rule.Rule.TheVariants as rule
 use Rattle.wy_constant.specs.Fields.{is_class_named, class_named}
-use Rattle.wy_members.specs.Declarations.{CompilationUnit, classes_of, name_of, class_names, denoted, class_row, class_rows, table}
-use Rattle.wy_members.specs.Broken.{named_by, named_in, thrown_in, names_in, reserved_names, reserved, unknown_class}
+use Rattle.wy_members.specs.Declarations.{CompilationUnit, classes_of, class_row, class_rows, table}
+use Rattle.wy_members.specs.Broken.{reserved_names, reserved}
 use Rattle.wy_members.specs.Refusal.{KeepsRules}
 use Rattle.wy_members.specs.Constants.{IsTableOf}
-use Rattle.wy_members.proofs.Contained.{placed, in_flat}
 use Rattle.wy_elab_expr.specs.Members.{is_library_name}
-use Rattle.wy_breach.specs.Found.{IsNoType}
-use Rattle.wy_breach.specs.Found as found
 use Rattle.wy_breach.proofs.Contained.{contains_here, contains_later}
 use Rattle.wy_breach.proofs.Tests.{one_true}
 use Rattle.wy_unbroken.specs.Laws.{TablesKnowTheLibrary}
@@ -113,47 +106,3 @@ tables_know unit t keeps is = record {
       ap (λ z. class_named z name) (classes_are unit t is)
       ∙ none_in_both (is_class_named name) builtin.classes (class_rows unit unit) 0 (none_built name 0 one) (λ n. none_written unit (classes_of unit) name n (free unit keeps name one)));
 }
-
--- ---- names of types
-
-same_by : (a b : List ℕ) (x : Bool) → bytes_eq a b ≡ x → x ≡ bytes_eq b a
-same_by a b true e = sym ((bytes_eq-Decides b a).1 (sym ((bytes_eq-Decides a b).0 e)))
-same_by a b false e = sym (false_by (bytes_eq b a) (λ f. (let g : bytes_eq a b ≡ true = (bytes_eq-Decides a b).1 (sym ((bytes_eq-Decides b a).0 f)) in cc)))
-
-named_here : (name : List ℕ) (i : ℕ) (cs : List Class) → position_from (is_class_named name) i cs ≡ position_from (bytes_eq name) i (map name_of cs)
-named_here name i [] = refl
-named_here name i (c ∷ cs) =
-    ap (λ (b : Bool). cond b (Some i) (position_from (is_class_named name) (i + 1) cs)) (same_by c.name name (bytes_eq c.name name) refl) ∙ ap (λ (o : Option ℕ). cond (bytes_eq name c.name) (Some i) o) (named_here name (i + 1) cs)
-
-row_names : (unit : CompilationUnit) (ks : List ClassSyntax) → map name_of (map (class_row unit) ks) ≡ map (λ (k : ClassSyntax). k.name.name) ks
-row_names unit [] = refl
-row_names unit (k ∷ ks) = ap (λ (l : List (List ℕ)). k.name.name ∷ l) (row_names unit ks)
-
-table_names : (unit : CompilationUnit) → map name_of (builtin.classes ++ class_rows unit unit) ≡ class_names unit
-table_names unit = map-append name_of builtin.classes (class_rows unit unit) ∙ ap (λ (l : List (List ℕ)). map name_of builtin.classes ++ l) (row_names unit (classes_of unit))
-
-undenoted : (unit : CompilationUnit) (t : Table) → IsTableOf unit t → (name : List ℕ) → class_named t.classes name ≡ Absent → denoted unit name ≡ Absent
-unfolding denoted
-undenoted unit t is name e =
-    position_from-zero (bytes_eq name) (class_names unit) ∙ ap (position_from (bytes_eq name) 0) (sym (table_names unit)) ∙ sym (named_here name 0 (builtin.classes ++ class_rows unit unit))
-    ∙ ap (λ (cs : List Class). class_named cs name) (sym (classes_are unit t is)) ∙ e
-
-unknown_name : (t : Table) (b : Base) (token : ℕ) → IsNoType t b → (n : Named) × Contains (named_by b token) n × (class_named t.classes n.name ≡ Absent)
-unknown_name t (source.Basic p) token h = elim h [ ]
-unknown_name t (source.Class name) token (found.unknown e) = (record { name = name; token = token }, contains_here [] refl, e)
-
-in_fields : (k : ClassSyntax) (ms : List Placed) (ty : WrittenType) (ds : List Declarator) (n : Named) → Contains k.members (source.Fields ms ty ds) → Contains (named_by ty.base ty.token) n → Contains (names_in k) n
-in_fields k ms ty ds n h named =
-    let m : Member = source.Fields ms ty ds in
-    let at = placed k.members m h in
-    let of_type : Contains (named_in m) n = Contains-append_left (named_by ty.base ty.token) [] n named in
-    let of_member : Contains (named_in m ++ thrown_in m) n = Contains-append_left (named_in m) (thrown_in m) n of_type in
-    let of_all : Contains (flat_map (λ x. named_in x ++ thrown_in x) k.members) n = in_flat (λ x. named_in x ++ thrown_in x) k.members at.0 m n at.1 of_member in
-    Contains-append_right (option_to_list k.above ++ k.interfaces) (flat_map (λ x. named_in x ++ thrown_in x) k.members) n of_all
-
--- where the declarations keep the rules, the type of a field names a class
-pub fields_known : (unit : CompilationUnit) (t : Table) → KeepsRules unit → IsTableOf unit t → (k : ClassSyntax) → Contains (classes_of unit) k →
-    (ms : List Placed) (ty : WrittenType) (ds : List Declarator) → Contains k.members (source.Fields ms ty ds) → IsNoType t ty.base → ⊥
-fields_known unit t keeps is k in_unit ms ty ds h none =
-    let n = unknown_name t ty.base ty.token none in
-    keeps rule.UnknownName n.0.token (unknown_class in_unit (in_fields k ms ty ds n.0 h n.1) (undenoted unit t is n.0.name n.2))
