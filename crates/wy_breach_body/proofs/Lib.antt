@@ -5,3 +5,4 @@ pub mod Variables
 pub mod Parts
 pub mod Nested
 pub mod Bodies
+pub mod Given

@@ -49,3 +49,8 @@ ImpliedRefusalsAreDue = (w : Setting) → Settles w.table w.judgement → (c : �
 abbrev pub FieldRefusalsAreDue : Type 0
 FieldRefusalsAreDue = (w : Setting) → Settles w.table w.judgement → (c : ℕ) (is_static : Bool) (ty : WrittenType) (all : List Declarator) (m : Making) (rule : Rule) (token : ℕ) → All IsWrittenDeclarator all →
     field_initials w c is_static ty all m ≡ Err (refused rule token) → HasBadField w c is_static ty m.scope all rule token
+
+-- where no field is given anything first, nothing in their initializers breaks a rule, also where their type names no class
+abbrev pub FieldsGivenNothingBreakNothing : Type 0
+FieldsGivenNothingBreakNothing = (w : Setting) (c : ℕ) (is_static : Bool) (ty : WrittenType) (s : Scope) (all : List Declarator) → All (λ d. d.initial ≡ None) all →
+    (rule : Rule) (token : ℕ) → HasBadField w c is_static ty s all rule token → ⊥

@@ -3,7 +3,7 @@
 //! contracts are the laws.
 #![tactic(auto)]
 
-ghost use Rattle.wy_breach_body.specs.Laws.{BlockRefusalsAreDue, ConstructorRefusalsAreDue, FieldRefusalsAreDue, ImpliedRefusalsAreDue, MethodRefusalsAreDue, StatementRefusalsAreDue, WrittenIsWhole};
+ghost use Rattle.wy_breach_body.specs.Laws.{BlockRefusalsAreDue, ConstructorRefusalsAreDue, FieldRefusalsAreDue, FieldsGivenNothingBreakNothing, ImpliedRefusalsAreDue, MethodRefusalsAreDue, StatementRefusalsAreDue, WrittenIsWhole};
 
 /// What is written with nothing missing has no part that is none.
 pub fn written_is_whole()
@@ -24,4 +24,10 @@ pub fn body_refusals_are_due()
     ensures constructors { ConstructorRefusalsAreDue }
     ensures implied { ImpliedRefusalsAreDue }
     ensures fields { FieldRefusalsAreDue }
+{}
+
+/// Where no field of a declaration is given anything first, nothing in its initializers breaks a rule, also where the type of the fields names
+/// no class: then the declaration alone does.
+pub fn fields_given_nothing_break_nothing()
+    ensures { FieldsGivenNothingBreakNothing }
 {}
