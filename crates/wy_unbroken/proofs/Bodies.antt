@@ -1,35 +1,30 @@
 -- What breaks a rule in a method, a constructor or an initializer is refused.
 use Rattle.std.proofs.Common.{◌≡◌, ◌∙◌, ap, sym, subst, refl, ℕ, Bool, true, false, List, [], ◌∷◌, Ok, Option, Some}
-use Rattle.std.specs.Prelude.{None as Absent}
+use Rattle.std.specs.Prelude.{None as Absent, codes, slice_get}
 use Rattle.wy_kernel.specs.declared.types.Ty.{Ty}
 use Rattle.wy_kernel.specs.Subtyping.{class_type}
 use Rattle.wy_kernel.specs.Table.{Table}
-use Rattle.wy_syntax.specs.Syntax.{Expression, InvokeOn, Row, Initial, Value, Listed, Elements, Named, WrittenType, Declarator, Effect, ForInit, Effects, Statement, Block, Empty, Declare, Perform, If, While, Do, For, Labelled, Break, Continue, Return, Throw, Try, Unknown, Braced, braced, Statements, done, first, Other, absent, present, Last, nowhere, finally, Catches, uncaught, catch}
+use Rattle.wy_syntax.specs.Syntax.{Row, Initial, Named, WrittenType, Declarator, Braced, Statements, Parameter, OwnCall, Header, ClassSyntax}
 use Rattle.wy_syntax.specs.Syntax as source
 use Rattle.wy_constant.specs.Scope.{Scope, FixedText}
 use Rattle.wy_elab_expr.specs.Meaning.{Meaning}
-use Rattle.wy_elab_expr.specs.Members.{types_of}
+use Rattle.wy_elab_expr.specs.Members.{types_of, some_void, method_for, is_outside}
 use Rattle.wy_elab_expr.specs.Elaboration.{type_written, with_brackets, elaborated_all, initialized}
 use Rattle.wy_statement.specs.Making.{Making, Makes, give, ◌>>=◌, expressed, declaring, each}
-use Rattle.wy_statement.specs.Jumps.{Around, inside}
+use Rattle.wy_statement.specs.Jumps.{Around, inside, alone}
 use Rattle.wy_statement.specs.Statements.{Setting, number, block}
-use Rattle.wy_breach.specs.Found.{IsType, IsNoType}
+use Rattle.wy_breach.specs.Found.{IsType, IsNoType, AreFound}
 use Rattle.wy_breach.proofs.Parts.{type_found}
 use Rattle.wy_breach.specs.Found as found
 use Rattle.wy_breach_body.proofs.Steps.{was_expressed}
 use Rattle.wy_breach_body.proofs.Parts.{after_give, after_expressed}
-use Rattle.std.specs.Prelude.{codes, slice_get}
 use Rattle.wy_kernel.specs.Program.{Method}
-use Rattle.wy_syntax.specs.Syntax.{Parameter, OwnCall, Header, ClassSyntax}
 use Rattle.wy_constant.specs.declared.rule.Rule.{Rule}
 use Rattle.wy_members.specs.Choice.{Chosen, Refused as Declined, IsMethod}
-use Rattle.wy_elab_expr.specs.Members.{some_void, method_for, is_outside}
 use Rattle.wy_elab_expr.specs.Operators.{Settles}
 use Rattle.wy_statement.specs.Places.{calls_superclass}
 use Rattle.wy_statement.specs.Parts.{Outcome, NoValue, ValueOf, constructed_by, constructor_called, constructor_call, none_for_object, object_called}
-use Rattle.wy_statement.specs.Jumps.{alone}
 use Rattle.wy_statement.specs.Bodies.{declared_type, parameter, parameters, outcome_of, brace_of, method_block, superclass_of, implied_super_call, own_call, no_call, written_super_call, first_calls, constructor_block, implied_constructor_block, assigned_first, field_initial, field_initials}
-use Rattle.wy_breach.specs.Found.{AreFound, Fills, listed, values_of}
 use Rattle.wy_breach.specs.Calls.{IsHidden}
 use Rattle.wy_breach.proofs.Likewise.{same_type}
 use Rattle.wy_breach_body.specs.Members.{InParameters, HasBadParameter, Gives, IsBrokenMethod, IsBadConstruction, IsBadObjectCall, HasBadStart, IsBrokenConstructor, InFields, IsFieldGiven, IsFieldFilled, HasBadField, IsBrokenBlock}
@@ -47,7 +42,7 @@ use Rattle.wy_unbroken.proofs.Steps as step
 use Rattle.wy_unbroken.proofs.Ways as ways
 use Rattle.wy_unbroken.proofs.Called as called
 use Rattle.wy_unbroken.proofs.Ways.{never_broken}
-use Rattle.wy_unbroken.specs.Laws.{KnowsLibrary}
+use Rattle.wy_unbroken.specs.Laws.{KnowsLibrary, AcceptedMethodsAreUnbroken, AcceptedConstructorsAreUnbroken, AcceptedImpliedAreUnbroken, AcceptedFieldsAreUnbroken}
 use Rattle.wy_unbroken.proofs.Steadies as steady
 
 given_outcome : (a b : Outcome) (m n : Making) → give a m ≡ Ok (b, n) → a ≡ b
@@ -317,3 +312,17 @@ module _ (w : Setting) where
         at_filled h (ways.of_value w.judgement w.table g l there inner e at m f
         (λ n k. form.never_value w.judgement w.table g inner n at (λ x. valued (same_type k ∙ x)) (λ may. wrong (ways.may_too w.judgement w.table g l there k may))))
     broken_fields (member.HasBadField.braces {there = there} {inner = inner} {elements = elements} {brace = brace} {at = at} h e) = at_filled h (ways.of_braces w.judgement w.table g l there inner elements brace at e)
+
+-- ---- what is accepted
+
+pub methods_unbroken : AcceptedMethodsAreUnbroken
+methods_unbroken w g l h result b m n s e r token bad = (broken_method w g l bad).at m refl s n e
+
+pub constructors_unbroken : AcceptedConstructorsAreUnbroken
+constructors_unbroken w g l c k h own brace parts m n s e r token bad = (broken_constructor w g l bad).at m refl s n e
+
+pub implied_unbroken : AcceptedImpliedAreUnbroken
+implied_unbroken w g l c k m n s e r token bad = (broken_implied w g l k bad).at m refl s n e
+
+pub fields_unbroken : AcceptedFieldsAreUnbroken
+fields_unbroken w g l c is_static ty all m n xs e r token bad = (broken_fields w g l bad).at m refl xs n e
