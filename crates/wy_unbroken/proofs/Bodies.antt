@@ -9,7 +9,7 @@ use Rattle.wy_syntax.specs.Syntax as source
 use Rattle.wy_constant.specs.Scope.{Scope, FixedText}
 use Rattle.wy_elab_expr.specs.Meaning.{Meaning}
 use Rattle.wy_elab_expr.specs.Members.{types_of, some_void, method_for, is_outside}
-use Rattle.wy_elab_expr.specs.Elaboration.{type_written, with_brackets, elaborated_all, initialized}
+use Rattle.wy_elab_expr.specs.Elaboration.{type_written, with_brackets, initialized}
 use Rattle.wy_statement.specs.Making.{Making, Makes, give, ◌>>=◌, expressed, declaring, each}
 use Rattle.wy_statement.specs.Jumps.{Around, inside, alone}
 use Rattle.wy_statement.specs.Statements.{Setting, number, block}
@@ -26,6 +26,7 @@ use Rattle.wy_statement.specs.Places.{calls_superclass}
 use Rattle.wy_statement.specs.Parts.{Outcome, NoValue, ValueOf, constructed_by, constructor_called, constructor_call, none_for_object, object_called}
 use Rattle.wy_statement.specs.Bodies.{declared_type, parameter, parameters, outcome_of, brace_of, method_block, superclass_of, implied_super_call, own_call, no_call, written_super_call, first_calls, constructor_block, implied_constructor_block, assigned_first, field_initial, field_initials}
 use Rattle.wy_breach.specs.Calls.{IsHidden}
+use Rattle.wy_breach.proofs.Contained.{contains_none}
 use Rattle.wy_breach.proofs.Likewise.{same_type}
 use Rattle.wy_breach_body.specs.Members.{InParameters, HasBadParameter, Gives, IsBrokenMethod, IsBadConstruction, IsBadObjectCall, HasBadStart, IsBrokenConstructor, InFields, IsFieldGiven, IsFieldFilled, HasBadField, IsBrokenBlock}
 use Rattle.wy_breach_body.specs.Members as member
@@ -112,6 +113,40 @@ module _ (w : Setting) where
       let typed : with_brackets y.value 0 ≡ x.value = given_type (with_brackets y.value 0) x.value y.between x.between y.second in
       ap (λ b. ValueOf (with_brackets b 0)) same ∙ ap (λ t. ValueOf t) typed ∙ given_outcome (ValueOf x.value) o x.between n x.second
 
+  -- ---- calls of constructors that take nothing
+
+  never_constructed : (s : Scope) (class k : ℕ) (o : Option Method) (m : Method) (ms : List Meaning) (token : ℕ) → o ≡ Some m → IsHidden s m.is_private m.class → Never (constructed_by s class k o ms token)
+  never_constructed s class k (Some n) m ms token e h =
+      let same : n ≡ m = cc in
+      never_then (is_outside s n.is_private n.class) _ (subst (λ (z : Method). is_outside s z.is_private z.class ≡ true) (sym same) (method.outside s m.is_private m.class h)) never_refuse
+  never_constructed s class k Absent m ms token e h = absurd (cc)
+
+  never_hidden : Settles w.table w.judgement → (s : Scope) (class : ℕ) (ms : List Meaning) (at k : ℕ) (m : Method) → Chosen w.table (class_type class) (codes "new") (types_of ms) k → IsMethod w.table k m → IsHidden s m.is_private m.class →
+      Never (constructor_called w.judgement w.table class ms at s)
+  unfolding constructor_called
+  never_hidden g s class ms at k m chosen is hidden =
+      never_bind (method_for w.judgement (class_type class) (codes "new") ms at) _
+      (λ n u v e. never_constructed s class n (slice_get w.table.methods n) m ms at (method.chosen_row w.judgement w.table g (class_type class) (codes "new") ms k n at m u v chosen is e) hidden)
+
+  never_unmade : (s : Scope) (class : ℕ) (ms : List Meaning) (at : ℕ) → Never (method_for w.judgement (class_type class) (codes "new") ms at) → Never (constructor_called w.judgement w.table class ms at s)
+  unfolding constructor_called
+  never_unmade s class ms at n = never_first _ n
+
+  -- a construction without arguments
+  made_without : Settles w.table w.judgement → {s : Scope} {class at : ℕ} {r : Rule} {token : ℕ} → IsBadConstruction w s class source.none at r token → Never (constructor_called w.judgement w.table class [] at s)
+  made_without g (member.IsBadConstruction.argument among b) = absurd (contains_none among)
+  made_without g (member.IsBadConstruction.void_argument found.none_found v) = absurd (contains_none v)
+  made_without g {s = s} {class = class} {at = at} (member.unchosen {r = r} found.none_found values declined) = never_unmade s class [] at (method.never_method w.judgement w.table g (class_type class) (codes "new") [] r at declined)
+  made_without g {s = s} {class = class} {at = at} (member.hidden {k = k} {m = m} found.none_found values chosen is hidden) = never_hidden g s class [] at k m chosen is hidden
+
+  in_implied : (s : Scope) (c site : ℕ) → calls_superclass w.table c ≡ true → Never (constructor_called w.judgement w.table (superclass_of w c) [] site s) → NeverIn s (implied_super_call w c site)
+  unfolding implied_super_call
+  in_implied s c site e n = in_if {x = calls_superclass w.table c} (λ h. in_first _ (in_expressed (constructor_called w.judgement w.table (superclass_of w c) [] site) n)) (λ h. absurd (cc))
+
+  pub broken_implied : Settles w.table w.judgement → {s : Scope} {c : ℕ} (k : ClassSyntax) {r : Rule} {token : ℕ} → HasBadStart w s c k.name.token Absent r token → NeverIn s (implied_constructor_block w c k)
+  unfolding implied_constructor_block first_calls
+  broken_implied g {s = s} {c = c} k (member.HasBadStart.implied e bad) = in_first _ (in_first _ (in_implied s c k.name.token e (made_without g bad)))
+
   module _ (g : Settles w.table w.judgement) (l : KnowsLibrary w.table) where
     pub broken_block : {a : Around} {s : Scope} {b : Braced} {r : Rule} {token : ℕ} → IsBrokenBlock w a s b r token → NeverIn s (block w a b)
     broken_block {a = a} {s = s} h = in_block_part w a s h.stands (broken_in w g l h.broken)
@@ -132,23 +167,6 @@ module _ (w : Setting) where
 
     -- ---- calls of constructors
 
-    never_constructed : (s : Scope) (class k : ℕ) (o : Option Method) (m : Method) (ms : List Meaning) (token : ℕ) → o ≡ Some m → IsHidden s m.is_private m.class → Never (constructed_by s class k o ms token)
-    never_constructed s class k (Some n) m ms token e h =
-        let same : n ≡ m = cc in
-        never_then (is_outside s n.is_private n.class) _ (subst (λ (z : Method). is_outside s z.is_private z.class ≡ true) (sym same) (method.outside s m.is_private m.class h)) never_refuse
-    never_constructed s class k Absent m ms token e h = absurd (cc)
-
-    never_hidden : (s : Scope) (class : ℕ) (ms : List Meaning) (at k : ℕ) (m : Method) → Chosen w.table (class_type class) (codes "new") (types_of ms) k → IsMethod w.table k m → IsHidden s m.is_private m.class →
-        Never (constructor_called w.judgement w.table class ms at s)
-    unfolding constructor_called
-    never_hidden s class ms at k m chosen is hidden =
-        never_bind (method_for w.judgement (class_type class) (codes "new") ms at) _
-        (λ n u v e. never_constructed s class n (slice_get w.table.methods n) m ms at (method.chosen_row w.judgement w.table g (class_type class) (codes "new") ms k n at m u v chosen is e) hidden)
-
-    never_unmade : (s : Scope) (class : ℕ) (ms : List Meaning) (at : ℕ) → Never (method_for w.judgement (class_type class) (codes "new") ms at) → Never (constructor_called w.judgement w.table class ms at s)
-    unfolding constructor_called
-    never_unmade s class ms at n = never_first _ n
-
     by_call : (s : Scope) (class : ℕ) (args : Row) (at : ℕ) → ((ns : List Meaning) → AreFound w.judgement w.table s args ns → Never (constructor_called w.judgement w.table class ns at s)) → Never (constructor_call w.judgement w.table class args at s)
     unfolding constructor_call
     by_call s class args at n = step.by_arguments w.judgement w.table s args (λ ns. constructor_called w.judgement w.table class ns at s) n
@@ -163,7 +181,7 @@ module _ (w : Setting) where
         by_call s class args at (λ ns fs. never_unmade s class ns at
         (method.never_method w.judgement w.table g (class_type class) (codes "new") ns r at (called.of_types w.judgement w.table g l s (λ z. Declined w.table (class_type class) (codes "new") z r) f fs declined)))
     bad_construction {s = s} {class = class} {args = args} {at = at} (member.hidden {k = k} {m = m} f values chosen is hidden) =
-        by_call s class args at (λ ns fs. never_hidden s class ns at k m (called.of_types w.judgement w.table g l s (λ z. Chosen w.table (class_type class) (codes "new") z k) f fs chosen) is hidden)
+        by_call s class args at (λ ns fs. never_hidden g s class ns at k m (called.of_types w.judgement w.table g l s (λ z. Chosen w.table (class_type class) (codes "new") z k) f fs chosen) is hidden)
 
     none_with : (ns : List Meaning) (at : ℕ) → (ns ≡ [] → ⊥) → Never (none_for_object ns at)
     none_with [] at h = absurd (h refl)
@@ -195,26 +213,14 @@ module _ (w : Setting) where
     unfolding no_call
     in_no_call s call n = in_first _ (in_expressed (object_called w.judgement w.table call.args call.paren) n)
 
-    no_arguments : (s : Scope) (class at : ℕ) → Never (constructor_call w.judgement w.table class source.none at s) → Never (constructor_called w.judgement w.table class [] at s)
-    unfolding constructor_call elaborated_all
-    no_arguments s class at n = record { at = λ u a v e. n.at u a v e }
-
-    in_implied : (s : Scope) (c site : ℕ) → calls_superclass w.table c ≡ true → Never (constructor_called w.judgement w.table (superclass_of w c) [] site s) → NeverIn s (implied_super_call w c site)
-    unfolding implied_super_call
-    in_implied s c site e n = in_if {x = calls_superclass w.table c} (λ h. in_first _ (in_expressed (constructor_called w.judgement w.table (superclass_of w c) [] site) n)) (λ h. absurd (cc))
-
     bad_start : {s : Scope} {c site : ℕ} {own : Option OwnCall} {r : Rule} {token : ℕ} (k : ClassSyntax) → HasBadStart w s c site own r token → NeverIn s (first_calls w c k site own)
     unfolding first_calls written_super_call
-    bad_start {s = s} {c = c} {site = site} k (member.HasBadStart.implied e bad) = in_first _ (in_implied s c site e (no_arguments s (superclass_of w c) site (bad_construction bad)))
+    bad_start {s = s} {c = c} {site = site} k (member.HasBadStart.implied e bad) = in_first _ (in_implied s c site e (made_without g bad))
     bad_start {s = s} {c = c} {site = site} k (member.HasBadStart.of_super {call = call} is e bad) =
         in_if {x = call.is_super} (λ h. in_first _ (in_if {x = calls_superclass w.table c} (λ i. in_own_call s c (superclass_of w c) call (bad_construction bad)) (λ i. absurd (cc)))) (λ h. absurd (cc))
     bad_start {s = s} {c = c} {site = site} k (member.HasBadStart.of_object {call = call} is e bad) =
         in_if {x = call.is_super} (λ h. in_first _ (in_if {x = calls_superclass w.table c} (λ i. absurd (cc)) (λ i. in_no_call s call (bad_object_call bad)))) (λ h. absurd (cc))
     bad_start {s = s} {c = c} {site = site} k (member.of_this {call = call} is bad) = in_if {x = call.is_super} (λ h. absurd (cc)) (λ h. in_own_call s c c call (bad_construction bad))
-
-    pub broken_implied : {s : Scope} {c : ℕ} (k : ClassSyntax) {r : Rule} {token : ℕ} → HasBadStart w s c k.name.token Absent r token → NeverIn s (implied_constructor_block w c k)
-    unfolding implied_constructor_block
-    broken_implied k bad = in_first _ (bad_start k bad)
 
     steady_own : (c d : ℕ) (call : OwnCall) → Steady Any (own_call w c d call) (own_call w c d call)
     unfolding own_call
@@ -322,7 +328,7 @@ pub constructors_unbroken : AcceptedConstructorsAreUnbroken
 constructors_unbroken w g l c k h own brace parts m n s e r token bad = (broken_constructor w g l bad).at m refl s n e
 
 pub implied_unbroken : AcceptedImpliedAreUnbroken
-implied_unbroken w g l c k m n s e r token bad = (broken_implied w g l k bad).at m refl s n e
+implied_unbroken w g c k m n s e r token bad = (broken_implied w g k bad).at m refl s n e
 
 pub fields_unbroken : AcceptedFieldsAreUnbroken
 fields_unbroken w g l c is_static ty all m n xs e r token bad = (broken_fields w g l bad).at m refl xs n e

@@ -163,7 +163,7 @@ module _ (w : Setting) (g : Settles w.table w.judgement) (l : KnowsLibrary w.tab
 
   never_implied : k.is_interface ≡ false → declares_constructor k ≡ false → {r : Rule} {token : ℕ} → HasBadStart w (body_of c true) c k.name.token Absent r token → Never (implied_constructor w c k)
   unfolding implied_constructor
-  never_implied plain e bad = never_else (declares_constructor k) _ e (never_first _ (never_begun c true k.name.token k.name.token (implied_constructor_block w c k) (broken_implied w g l k bad)))
+  never_implied plain e bad = never_else (declares_constructor k) _ e (never_first _ (never_begun c true k.name.token k.name.token (implied_constructor_block w c k) (broken_implied w g k bad)))
 
   pub broken_class : {r : Rule} {token : ℕ} → IsBrokenClass w c k r token → Never (class_bodies w c k)
   unfolding class_bodies

@@ -53,9 +53,9 @@ abbrev pub AcceptedConstructorsAreUnbroken : Type 0
 AcceptedConstructorsAreUnbroken = (w : Setting) → Settles w.table w.judgement → KnowsLibrary w.table → (c : ℕ) (k : ClassSyntax) (h : Header) (own : Option OwnCall) (brace : ℕ) (parts : Statements) (m n : Making) (s : kernel.Statement) →
     constructor_block w c k h own brace parts m ≡ Ok (s, n) → (rule : Rule) (token : ℕ) → IsBrokenConstructor w m.scope c k h own brace parts rule token → ⊥
 
--- and in that of a class that declares none, whose call of the superclass's constructor is implied
+-- and in that of a class that declares none, whose call of the superclass's constructor is implied: it takes nothing, so it asks nothing of the library
 abbrev pub AcceptedImpliedAreUnbroken : Type 0
-AcceptedImpliedAreUnbroken = (w : Setting) → Settles w.table w.judgement → KnowsLibrary w.table → (c : ℕ) (k : ClassSyntax) (m n : Making) (s : kernel.Statement) →
+AcceptedImpliedAreUnbroken = (w : Setting) → Settles w.table w.judgement → (c : ℕ) (k : ClassSyntax) (m n : Making) (s : kernel.Statement) →
     implied_constructor_block w c k m ≡ Ok (s, n) → (rule : Rule) (token : ℕ) → HasBadStart w m.scope c k.name.token None rule token → ⊥
 
 -- nothing in the initializers of fields that are accepted breaks a rule

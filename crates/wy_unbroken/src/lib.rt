@@ -24,7 +24,7 @@ pub fn accepted_statements_are_unbroken()
 
 /// Where the body of a method or a constructor, the constructor that a class doesn't declare, or the initializers of fields, are accepted,
 /// nothing in them breaks a rule: no written result, no parameter, no call of a constructor, no initializer and no statement. The table is as
-/// above.
+/// above; for the constructor that a class doesn't declare it need not know the library.
 pub fn accepted_bodies_are_unbroken()
     ensures methods { AcceptedMethodsAreUnbroken }
     ensures constructors { AcceptedConstructorsAreUnbroken }
