@@ -12,7 +12,7 @@ use Rattle.wy_kernel.specs.Form as kernel
 use Rattle.wy_kernel.specs.Subtyping.{class_type}
 use Rattle.wy_kernel.specs.Table.{Table, ConstantValue}
 use Rattle.wy_tree.specs.Seen.{Tok}
-use Rattle.wy_syntax.specs.Syntax.{Expression, WrittenType, Row, none, more, Initial, Value, Listed, Elements, no_more, element}
+use Rattle.wy_syntax.specs.Syntax.{Expression, Row, none, more, Initial, Value, Listed, Elements, no_more, element}
 use Rattle.wy_syntax.specs.Syntax as source
 use Rattle.wy_constant.specs.declared.rule.Rule.TheVariants.{BadOperand, BadAssign, NotInStatic, NotOffered}
 use Rattle.wy_constant.specs.Scope.{Scope}
@@ -22,7 +22,7 @@ use Rattle.wy_elab_expr.specs.Meaning.{Meaning, Known, Formed, type_of, Gets, gi
 use Rattle.wy_elab_expr.specs.Operators.{Judgement, is_void, is_text_type, is_assignable}
 use Rattle.wy_elab_expr.specs.Members.{Spot, spot, this_form, named_spot, qualified_spot, qualified_name, field_spot, no_field, is_library_name, Nothing, Object, OfClass, Super, text_methods, library_call, some_void}
 use Rattle.wy_elab_expr.specs.Elaboration.{type_with, type_written, literal_or_null, literal_meaning, ClassName, class_in, Stream, Input, Output, stream_in, class_methods, is_of_texts, called_on_known, called_on_class, called_on, byte_read, printed_type, is_printed, Printed, printed, is_print, some_printed, print_operand, called_on_stream, above, super_field_named, super_spot, is_index, element_of, element_at, element_spot, sizes_of, with_brackets, assigned_value, assigned, adds_text, updated_in, left_primitive, updated_by, updated, stepped_in, stepped, read, is_an_array, field_target, is_limit, class_target, just, class_for_new, Listing, listing, or_type, is_place, elaborated, elaborated_all, target, elements_of, initialized}
-use Rattle.wy_structure.proofs.Yields.{Yields, given, refused_found, anything, then_found, of_choice}
+use Rattle.wy_structure.proofs.Yields.{Yields, given, refused_found, anything, then_found, of_choice, of_option}
 use Rattle.wy_choices.proofs.Fewer.{few_same, few_none, few_then, few_both, few_right, few_behind, few_alone}
 use Rattle.wy_choices.proofs.FewForms.{Few, FewRow, sites_found, all_sites, FewMeaning, AllFew, FewGets, brought_few, formed_few, of_form, unary_few, binary_few, lazy_few, choice_few, cast_few, instance_few}
 use Rattle.wy_choices.proofs.FewMembers.{FewSpot, SpotFew, named_spot_few, named_few, qualified_few, qualified_name_few, object_few, field_spot_few, field_read_few, called_few, library_few, created_few}
@@ -224,15 +224,6 @@ read_spot_few ks f h = then_found f (λ p. give (read p)) (FewSpot ks) (FewMeani
 abbrev pub FewListing : List ℕ → Listing → Type 0
 FewListing ks l = FewRow ks l.forms
 
--- by what a name denotes
-for_class : {A : Type 0} (P : A → Type 0) (c : Option ClassName) (f : ClassName → Gets A) (g : Gets A) → ((x : ClassName) → Yields (f x) P) → Yields g P → Yields (elim c [ Some x ↦ f x | None ↦ g ]) P
-for_class P None f g h i = i
-for_class P (Some x) f g h i = h x
-
-for_stream : {A : Type 0} (P : A → Type 0) (c : Option Stream) (f : Stream → Gets A) (g : Gets A) → ((x : Stream) → Yields (f x) P) → Yields g P → Yields (elim c [ Some x ↦ f x | None ↦ g ]) P
-for_stream P None f g h i = i
-for_stream P (Some x) f g h i = h x
-
 -- what is made of an expression's meaning, or of those of a row
 abbrev pub FewSigns : Expression → Meaning → Type 0
 FewSigns e m = FewMeaning (signs e) m
@@ -252,15 +243,15 @@ mutual
   expression_few j t s (source.Invoke name args token) =
       then_found (elaborated_all j t s args) _ (AllSigns args) (FewMeaning (row_signs args)) (all_few j t s args) (λ ms i. called_few [] (row_signs args) j t s Nothing (class_type s.class) name ms token (few_none []) i)
   expression_few j t s (source.Field object name token) =
-      for_class (FewSigns object) (class_in t s object) (λ c. qualified_name t s c.name name c.token token) _ (λ c. qualified_name_few (signs object) t s c.name name c.token token)
+      of_option (FewSigns object) (class_in t s object) (λ c. qualified_name t s c.name name c.token token) _ (λ c. qualified_name_few (signs object) t s c.name name c.token token)
       (then_found (elaborated j t s object) _ (FewSigns object) (FewSigns object) (expression_few j t s object) (λ m i. field_read_few (signs object) t s m name token i))
   expression_few j t s (source.InvokeOn object name args token) =
       let ks = signs object in
       let ls = row_signs args in
       let P : Meaning → Type 0 = FewMeaning (ks ++ ls) in
-      for_stream P (stream_in t s object) (λ x. elaborated_all j t s args >>= λ ms. called_on_stream x name ms token) _
+      of_option P (stream_in t s object) (λ x. elaborated_all j t s args >>= λ ms. called_on_stream x name ms token) _
       (λ x. then_found (elaborated_all j t s args) _ (AllSigns args) P (all_few j t s args) (λ ms i. stream_few (ks ++ ls) x name ms token))
-      (for_class P (class_in t s object) (λ c. elaborated_all j t s args >>= λ ms. called_on_class j t s c name ms token) _
+      (of_option P (class_in t s object) (λ c. elaborated_all j t s args >>= λ ms. called_on_class j t s c name ms token) _
       (λ c. then_found (elaborated_all j t s args) _ (AllSigns args) P (all_few j t s args) (λ ms i. class_call_few (ks ++ ls) j t s c name ms token (few_right ks i)))
       (then_found (elaborated j t s object) _ (FewSigns object) P (expression_few j t s object) (λ m hm.
       then_found (elaborated_all j t s args) _ (AllSigns args) P (all_few j t s args) (λ ms i. object_call_few ks ls j t s m name ms token hm i))))
@@ -338,7 +329,7 @@ mutual
   target_few j t s (source.Name name token) = just_few [] (named_spot t s name token) (named_spot_few [] t s name token)
   target_few j t s (source.Group inner token) = target_few j t s inner
   target_few j t s (source.Field object name token) =
-      for_class (FewTarget (signs object)) (class_in t s object) (λ c. class_target t s c name token) _ (λ c. class_target_few (signs object) t s c name token)
+      of_option (FewTarget (signs object)) (class_in t s object) (λ c. class_target t s c name token) _ (λ c. class_target_few (signs object) t s c name token)
       (then_found (elaborated j t s object) _ (FewSigns object) (FewTarget (signs object)) (expression_few j t s object) (λ m i. field_target_few (signs object) t s m name token i))
   target_few j t s (source.SuperField name token) = just_few [] (super_spot t s name token) (super_few [] t s name token)
   target_few j t s (source.Element array index token) =

@@ -1,6 +1,7 @@
 -- The signs `&&`, `||` and `?` of a text stand at the tokens of its tree, one after another: no two at one token.
-use Rattle.std.proofs.Common.{◌≡◌, refl, sym, subst, arith, ℕ, ◌+◌, ◌≤◌, Bool, true, false, ◌&&◌, if◌then◌else◌, List, [], ◌∷◌, ◌++◌}
+use Rattle.std.proofs.Common.{◌≡◌, refl, sym, subst, arith, ℕ, ◌+◌, ◌≤◌, Bool, true, false, if◌then◌else◌, List, [], ◌∷◌, ◌++◌}
 use Rattle.std.specs.Prelude.{Option, Some, None}
+use Rattle.std.proofs.lemmas.Bool.{and_parts}
 use Rattle.std.proofs.lemmas.List.{append-nil}
 use Rattle.wy_tree.specs.Ast.{Ast, Asts, Leaf, Node}
 use Rattle.wy_tree.specs.Ast as tree
@@ -17,7 +18,7 @@ use Rattle.wy_syntax.specs.Declarations.{Part, Parts, placed, is_block, is_param
 use Rattle.wy_members.specs.Declarations.{classes_of}
 use Rattle.wy_structure.proofs.Trees.{Full, AllFull, parts_full}
 use Rattle.wy_structure.proofs.Productions.{UnitFull}
-use Rattle.wy_structure.proofs.ClassTrees.{Row, row_rises, row_wider, row_behind, placed_row, modifiers_row, throws_row, brace_row}
+use Rattle.wy_structure.proofs.ClassTrees.{Row, row_rises, row_wider, row_behind, row_with, placed_row, modifiers_row, throws_row, brace_row}
 use Rattle.wy_choices.proofs.FewExpressions.{row_signs}
 use Rattle.wy_choices.proofs.FewStatements.{signs_in, signs_in_all}
 use Rattle.wy_choices.proofs.FewClasses.{own_signs, member_signs, members_signs, classes_signs}
@@ -42,10 +43,6 @@ statements_rise low (p ∷ q ∷ rest) high r =
     let here : low ≤ p.at = r.0 in
     rise_both {middle = p.at + width p.what} (rise_wider (omega arith) (omega arith) (statement_rises p.at p.what r.1)) (statements_rise (p.at + width p.what) (q ∷ rest) high r.2)
 
-both_true : (a b : Bool) → (a && b) ≡ true → a ≡ true
-both_true true b e = refl
-both_true false b e = absurd cc
-
 own_nothing : (n : ℕ) (t : Ast) → is_own (leaf_kind t) ≡ true → signs_in (statement n t) ≡ []
 own_nothing n (Leaf o) e = leaf_none n o
 own_nothing n (Node g parts) e = absurd cc
@@ -63,7 +60,7 @@ lone_call low p q high r e =
     let last : q.at + width q.what ≤ high = r.2.2 in
     let args : Rising q.at (row_signs (arguments_of q.at q.what)) (q.at + width q.what) = arguments_of_rises q.at q.what r.2.1 in
     let P : List ℕ → Type 0 = λ xs. Rising low (row_signs (arguments_of q.at q.what) ++ (xs ++ [])) high in
-    subst P (sym (own_nothing p.at p.what (both_true (is_own (leaf_kind p.what)) (is_arguments q.what) e)))
+    subst P (sym (own_nothing p.at p.what (and_parts (is_own (leaf_kind p.what)) (is_arguments q.what) e).0))
     (rise_both (rise_wider (omega arith) (omega arith) args) (rise_none last))
 
 own_rises : (low : ℕ) (ps : Parts) (high : ℕ) → Row low ps high → Rising low (own_signs (own_call_in ps) ++ signs_in_all (statements_in (behind_own_call ps))) high
@@ -144,10 +141,6 @@ method_in_rises : (low : ℕ) (ps : Parts) (high : ℕ) → Row low ps high → 
 method_in_rises low [] high r = rise_none r
 method_in_rises low (p ∷ rest) high r = behind_rises (modifiers_of (p ∷ rest)) low (behind_modifiers (p ∷ rest)) high (modifiers_row low (p ∷ rest) high r)
 
-row_one_more : (low : ℕ) (ps : Parts) (middle : ℕ) (p : Part) → Row low ps middle → middle ≤ p.at → Full p.what → Row low (ps ++ p ∷ []) (p.at + width p.what)
-row_one_more low [] middle p r h f = let here : low ≤ middle = r in (omega arith, f, omega arith)
-row_one_more low (x ∷ ps) middle p r h f = (r.0, r.1, row_one_more (x.at + width x.what) ps middle p r.2 h f)
-
 methods_rise : (low : ℕ) (before : Parts) (middle : ℕ) (ps : Parts) (high : ℕ) → Row low before middle → Row middle ps high → Rising low (members_signs (methods_in before ps)) high
 unfolding methods_in
 methods_rise low before middle [] high r s = let here : low ≤ middle = row_rises low before middle r in let there : middle ≤ high = s in rise_none (omega arith)
@@ -155,7 +148,7 @@ methods_rise low before middle (p ∷ []) high r s = let here : low ≤ middle =
 methods_rise low before middle (p ∷ q ∷ rest) high r s =
     elim (is_leaf kinds.Semicolon p.what) as (λ b. Rising low (members_signs (if b then method_in before ∷ methods_in [] (q ∷ rest) else methods_in (before ++ p ∷ []) (q ∷ rest))) high) [
       | true ↦ rise_both (method_in_rises low before middle r) (methods_rise middle [] middle (q ∷ rest) high (omega arith) (row_behind middle p (q ∷ rest) high s))
-      | false ↦ methods_rise low (before ++ p ∷ []) (p.at + width p.what) (q ∷ rest) high (row_one_more low before middle p r s.0 s.1) s.2
+      | false ↦ methods_rise low (before ++ p ∷ []) (p.at + width p.what) (q ∷ rest) high (row_with low before middle p r s.0 s.1) s.2
     ]
 
 -- ---- classes

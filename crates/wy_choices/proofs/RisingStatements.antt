@@ -2,11 +2,9 @@
 use Rattle.std.proofs.Common.{◌≡◌, refl, sym, subst, arith, ℕ, ◌+◌, Bool, true, false, if◌then◌else◌, List, [], ◌∷◌, ◌++◌}
 use Rattle.std.specs.Prelude.{Some, None}
 use Rattle.wy_tree.specs.Seen.{Tok}
-use Rattle.wy_tree.specs.Kinds.{kind_of, same}
 use Rattle.wy_tree.specs.Ast.{Ast, Asts, Leaf, Node}
 use Rattle.wy_tree.specs.Ast as tree
 use Rattle.wy_tree.specs.Conditions.{first_kind}
-use Rattle.wy_tree.proofs.Tags.{same_is}
 use Rattle.wy_tree.specs.declared.kind.Kind.{Kind}
 use Rattle.wy_tree.specs.declared.kind.Kind.TheVariants as kinds
 use Rattle.wy_tree.specs.declared.tree.Form.TheVariants as form
@@ -14,7 +12,7 @@ use Rattle.wy_syntax.specs.Syntax.{Effect, ForInit, Nothing, Declared, Effects, 
 use Rattle.wy_syntax.specs.Names.{width, widths, is_leaf, named, written as written_type}
 use Rattle.wy_syntax.specs.Expressions.{expression, initial}
 use Rattle.wy_syntax.specs.Statements.{initial_in, declarator, declarator_list, declarators, effects_behind, effects, for_parts, for_init, value, statement, braces, block, statements, by_word, branch, otherwise, loop_while, loop_do, loop_for, behind_init, for_test, body_behind, other, tried, catches, clause, last_of, thrown, declared}
-use Rattle.wy_structure.proofs.Trees.{Full, AllFull, parts_full}
+use Rattle.wy_structure.proofs.Trees.{Full, AllFull, parts_full, comma_leaf}
 use Rattle.wy_choices.proofs.FewExpressions.{signs}
 use Rattle.wy_choices.proofs.FewStatements.{maybe_signs, first_signs, declarator_signs, effect_signs, head_signs, signs_in, signs_in_block, signs_in_all, signs_in_other, signs_in_last, signs_in_catches}
 use Rattle.wy_choices.proofs.Rising.{Rising, bounded, rise_none, rise_wider, rise_both, rise_grouped}
@@ -114,14 +112,6 @@ leaf_none n o = elim (is_leaf kinds.Semicolon (Leaf o)) as (λ b. signs_in (if b
 leaf_nothing : (n : ℕ) (t : Ast) (k : Kind) → is_leaf k t ≡ true → signs_in (statement n t) ≡ []
 leaf_nothing n (Leaf o) k e = leaf_none n o
 leaf_nothing n (Node g parts) k e = absurd cc
-
--- a comma is no other mark
-comma_alone : (k : Kind) → same k kinds.Comma ≡ true → (j : Kind) → same kinds.Comma j ≡ false → same k j ≡ false
-comma_alone k e j other = let P : Kind → Type 0 = λ x. same x j ≡ false in subst P (sym (same_is k kinds.Comma e)) other
-
-comma_leaf : (t : Ast) → is_leaf kinds.Comma t ≡ true → (j : Kind) → same kinds.Comma j ≡ false → is_leaf j t ≡ false
-comma_leaf (Leaf o) e j other = comma_alone (kind_of o) e j other
-comma_leaf (Node g parts) e j other = refl
 
 -- a comma behind the parenthesis would begin no statement
 closing_cases : (low high : ℕ) (c : Bool) (all : List Effect) (xs : List ℕ) → Rising low (effect_signs all) high → (c ≡ true → xs ≡ []) → Rising low xs high → Rising low (effect_signs (if c then all else []) ++ xs) high

@@ -1,7 +1,7 @@
 -- A program has a place for the body of each method, and one for the initializer of each class.
-use Rattle.std.proofs.Common.{◌≡◌, ℕ, suc, ◌+◌, Bool, true, false, refl, sym, ◌∙◌, ap, subst, List, [], ◌∷◌, ◌++◌, length, Option, Some, None, Ok, if◌then◌else◌, ◌||◌, add-one, arith}
-use Rattle.std.specs.Prelude.{codes, not, flat_map}
-use Rattle.std.specs.List.{cons_option, enumerate_from, list_any}
+use Rattle.std.proofs.Common.{◌≡◌, ℕ, suc, ◌+◌, Bool, true, false, refl, sym, ◌∙◌, ap, subst, List, [], ◌∷◌, ◌++◌, length, Option, Some, None, Ok, if◌then◌else◌, ◌||◌, arith}
+use Rattle.std.specs.Prelude.{codes, not}
+use Rattle.std.specs.List.{cons_option, list_any}
 use Rattle.std.proofs.lemmas.List.{length-append}
 use Rattle.wy_kernel.specs.declared.types.MethodForm.TheVariants as kind
 use Rattle.wy_kernel.specs.Form as kernel
@@ -11,7 +11,7 @@ use Rattle.wy_kernel.specs.Table.{Table}
 use Rattle.wy_syntax.specs.Syntax.{Member, ClassSyntax}
 use Rattle.wy_syntax.specs.Syntax as source
 use Rattle.wy_constant.specs.Scope.{FixedText}
-use Rattle.wy_members.specs.Declarations.{CompilationUnit, classes_of, table, initializes_objects, is_constructor, implied, fields_unit, implied_constructor, method_in, methods_in, methods_of}
+use Rattle.wy_members.specs.Declarations.{CompilationUnit, classes_of, initializes_objects, is_constructor, implied, fields_unit, implied_constructor, method_in, methods_in, methods_of}
 use Rattle.wy_members.proofs.InRange.{many_classes}
 use Rattle.wy_elab_expr.specs.Meaning.{Gets, ◌>>=◌}
 use Rattle.wy_elab_expr.specs.Meaning as meaning
@@ -23,11 +23,12 @@ use Rattle.wy_statement.specs.Bodies.{Growing, Growth, initializer_block, field_
 use Rattle.wy_library.specs.Library.{library_bodies, library_init_bodies}
 use Rattle.wy_elab_stmt.specs.Classes.{ClassBodies, whole, with_body, grown, in_initializer, in_fields, is_static, member, members, none_yet, fields_body, finished, of_class, of_interface, class_bodies}
 use Rattle.wy_elab_stmt.specs.Classes as classes
-use Rattle.wy_elab_stmt.specs.Program.{Bodies, no_bodies, and_more, bodies_from}
+use Rattle.wy_elab_stmt.specs.Program.{Bodies, in_order, no_bodies, and_more, bodies_from}
 use Rattle.wy_typed.specs.Rows.{rows_from}
+use Rattle.wy_typed.proofs.Made.{comes}
+use Rattle.wy_typed.proofs.Names.{tables_have_rows}
 use Rattle.wy_typed.proofs.Growing.{found_on, one_found}
 use Rattle.wy_declared.specs.Laws.{InitializesNothing, AllInterfacesAreBare, InitializersHavePlaces, BodiesHavePlaces}
-use Rattle.wy_declared.proofs.Made.{comes}
 
 cons_many : (o : Option Method) (l : List Method) → length (cons_option o l) ≡ length (cons_option o []) + length l
 cons_many None l = omega arith
@@ -186,16 +187,6 @@ initializers_as_many w c (k ∷ rest) texts q e =
 
 -- ---- programs
 
-rows_are : (unit : CompilationUnit) (c : ℕ) (ks : List ClassSyntax) → flat_map (λ (q : ℕ × ClassSyntax). methods_of unit q.0 q.1) (enumerate_from c ks) ≡ rows_from unit c ks
-rows_are unit c [] = refl
-rows_are unit c (k ∷ ks) =
-    ap (λ (n : ℕ). methods_of unit c k ++ flat_map (λ (q : ℕ × ClassSyntax). methods_of unit q.0 q.1) (enumerate_from n ks)) (add-one c)
-    ∙ ap (λ (l : List Method). methods_of unit c k ++ l) (rows_are unit (suc c) ks)
-
-pub rows_of_table : (unit : CompilationUnit) → (table unit).methods ≡ builtin.methods ++ rows_from unit first_source_class (classes_of unit)
-unfolding table
-rows_of_table unit = ap (λ (l : List Method). builtin.methods ++ l) (rows_are unit first_source_class (classes_of unit))
-
 library_initializers : length library_init_bodies ≡ 18
 unfolding library_init_bodies builtin.classes
 library_initializers = refl
@@ -207,7 +198,7 @@ library_places = refl
 pub initializers_have_places : InitializersHavePlaces
 initializers_have_places unit tokens p h =
     let c = comes unit tokens p h in
-    let all : length c.made.bodies.initializers ≡ length (classes_of unit) = initializers_as_many _ first_source_class (classes_of unit) c.made.before (c.made.bodies, c.made.texts) c.made.made in
+    let all : length c.made.bodies.initializers ≡ length (classes_of unit) = initializers_as_many _ first_source_class (classes_of unit) (in_order c.made.first.1) (c.made.bodies, c.made.texts) c.made.made in
     let P : Program → Type 0 = λ x. length x.init_bodies ≡ length x.classes in
     subst P c.made.is
     (length-append library_init_bodies c.made.bodies.initializers ∙ ap (λ n. n + length c.made.bodies.initializers) library_initializers ∙ ap (λ n. 18 + n) all
@@ -216,8 +207,8 @@ initializers_have_places unit tokens p h =
 pub bodies_have_places : BodiesHavePlaces
 bodies_have_places unit tokens p bare h =
     let c = comes unit tokens p h in
-    let rows : c.t.methods ≡ builtin.methods ++ rows_from unit first_source_class (classes_of unit) = ap (λ (x : Table). x.methods) c.is_table.rows ∙ rows_of_table unit in
-    let all : length c.made.bodies.methods ≡ length (rows_from unit first_source_class (classes_of unit)) = all_as_many _ unit first_source_class (classes_of unit) c.made.before (c.made.bodies, c.made.texts) bare c.made.made in
+    let rows : c.t.methods ≡ builtin.methods ++ rows_from unit first_source_class (classes_of unit) = tables_have_rows c.t unit (ap (λ (x : Table). x.methods) c.is_table.rows) in
+    let all : length c.made.bodies.methods ≡ length (rows_from unit first_source_class (classes_of unit)) = all_as_many _ unit first_source_class (classes_of unit) (in_order c.made.first.1) (c.made.bodies, c.made.texts) bare c.made.made in
     let P : Program → Type 0 = λ x. length x.bodies ≡ length x.methods in
     subst P c.made.is
     (length-append library_bodies c.made.bodies.methods ∙ ap (λ n. n + length c.made.bodies.methods) library_places ∙ ap (λ n. length builtin.methods + n) all

@@ -1,37 +1,17 @@
--- What the program of a text is made of, and its declarations.
-use Rattle.std.proofs.Common.{◌≡◌, ℕ, length, refl, sym, ◌∙◌, ap, subst, arith, Result, Ok}
+-- The declarations of the program of a text, and its library.
+use Rattle.std.proofs.Common.{◌≡◌, length, refl, sym, ap, subst, arith}
 use Rattle.std.specs.List.{All}
 use Rattle.wy_kernel.specs.Program.{Program}
 use Rattle.wy_kernel.specs.Builtin as builtin
 use Rattle.wy_kernel.specs.Subtyping.{IsAcyclic}
-use Rattle.wy_kernel.specs.Table.{Table, BeginsWith, NamesAmong}
-use Rattle.wy_constant.specs.Refusal.{Refusal}
+use Rattle.wy_kernel.specs.Table.{BeginsWith, NamesAmong}
 use Rattle.wy_members.specs.Declarations.{CompilationUnit, table, class_rows, class_by_class, methods_of, fields_of}
-use Rattle.wy_members.specs.Constants.{IsTableOf}
 use Rattle.wy_members.specs.Refusal.{KeepsRules}
 use Rattle.wy_members.proofs.InRange.{names_among, acyclic}
-use Rattle.wy_elab_expr.specs.Operators.{Judgement, Settles}
-use Rattle.wy_elab_stmt.specs.Elaborates.{Elaborates, by_declarations, by_bodies}
 use Rattle.wy_typing.specs.Programs.{IsDeclared}
-use Rattle.wy_typed.proofs.Programs.{MadeOf, made_of}
+use Rattle.wy_typed.proofs.Made.{comes}
 use Rattle.wy_declared.specs.Laws.{DeclarationsStand, HasLibraryBodies, LibraryStands}
 use Rattle.wy_declared.proofs.Rows.{MethodStands, FieldStands, methods_stand, fields_stand}
-
--- a text that keeps the rules, and what its program is made of
-pub record Comes (unit : CompilationUnit) (tokens : ℕ) (p : Program) : Type 0 where
-  pub t : Table
-  pub j : Judgement
-  pub keeps : KeepsRules unit
-  pub is_table : IsTableOf unit t
-  pub settles : Settles t j
-  pub made : MadeOf j t unit p
-
-comes_of : (unit : CompilationUnit) (tokens : ℕ) (p : Program) (r : Result Program Refusal) → Elaborates unit tokens r → r ≡ Ok p → Comes unit tokens p
-comes_of unit tokens p r (by_declarations rule token h) e = absurd (cc)
-comes_of unit tokens p r (by_bodies t j keeps is settles) e = record { t = t; j = j; keeps = keeps; is_table = is; settles = settles; made = made_of j t unit tokens p e }
-
-pub comes : (unit : CompilationUnit) (tokens : ℕ) (p : Program) → Elaborates unit tokens (Ok p) → Comes unit tokens p
-comes unit tokens p h = comes_of unit tokens p (Ok p) h refl
 
 -- ---- declarations
 
@@ -64,12 +44,7 @@ of_table unit p keeps classes methods fields =
     }
 
 pub declarations_stand : DeclarationsStand
-declarations_stand unit tokens p h =
-    let c = comes unit tokens p h in
-    let rows : c.t ≡ _ = c.is_table.rows in
-    of_table unit p c.keeps (sym (ap (λ (x : Table). x.classes) rows) ∙ ap (λ (x : Program). x.classes) c.made.is)
-    (sym (ap (λ (x : Table). x.methods) rows) ∙ ap (λ (x : Program). x.methods) c.made.is)
-    (sym (ap (λ (x : Table). x.fields) rows) ∙ ap (λ (x : Program). x.fields) c.made.is)
+declarations_stand unit tokens p h = let c = comes unit tokens p h in of_table unit p c.keeps c.classes c.methods c.fields
 
 -- ---- the library
 

@@ -1,7 +1,7 @@
 -- The method that is written as main is static, takes one array of texts and gives nothing.
 use Rattle.std.proofs.Common.{◌≡◌, ℕ, ◌+◌, ◌*◌, ◌≤◌, Bool, true, false, refl, ap, List, [], ◌∷◌, length, arith, if◌then◌else◌}
 use Rattle.std.specs.Prelude.{◌==◌, ◌&&◌, bytes_eq, codes}
-use Rattle.std.proofs.lemmas.Bool.Decides.{nat_tests}
+use Rattle.std.proofs.lemmas.Bool.{and_parts, eqb-true}
 use Rattle.wy_kernel.specs.declared.operator.Primitive.TheVariants as prim
 use Rattle.wy_kernel.specs.declared.types.Base.TheVariants.{Class as Named}
 use Rattle.wy_kernel.specs.declared.types.Ty.{Ty}
@@ -9,37 +9,26 @@ use Rattle.wy_kernel.specs.declared.types.Ty.TheVariants.{Of}
 use Rattle.wy_kernel.specs.declared.types.MethodForm.TheVariants as kind
 use Rattle.wy_kernel.specs.Program.{same_types, type_code, base_code, primitive_code, string_class}
 use Rattle.wy_syntax.specs.declared.declaration.Modifier.TheVariants as modifier
-use Rattle.wy_syntax.specs.Syntax.{Parameter, Header, ClassSyntax}
+use Rattle.wy_syntax.specs.Syntax.{Parameter}
 use Rattle.wy_syntax.specs.Syntax as source
 use Rattle.wy_members.specs.Declarations.{CompilationUnit, base_type, class_or_object, has, table, type_with, types_of}
 use Rattle.wy_elab_stmt.specs.Program.{takes_texts}
 use Rattle.wy_declared.specs.Mains.{MainsRunFirst}
 use Rattle.wy_declared.proofs.Rows.{class_below}
 
-first_of_both : (a b : Bool) → (a && b) ≡ true → a ≡ true
-first_of_both true b e = refl
-first_of_both false b e = absurd (cc)
-
-second_of_both : (a b : Bool) → (a && b) ≡ true → b ≡ true
-second_of_both true b e = e
-second_of_both false b e = absurd (cc)
-
 never : (b : Bool) → (b && false) ≡ true → ⊥
 never true e = cc
 never false e = cc
-
-equal : (a b : ℕ) → (a == b) ≡ true → a ≡ b
-equal a b e = grind (arith, nat_tests)
 
 of_same : (c n : ℕ) → c ≡ 1 → n ≡ 1 → Of (Named c) n ≡ Of (Named string_class) 1
 of_same c n e f = λ i. Of (Named (e i)) (f i)
 
 no_code : (n k : ℕ) → k ≤ 5 → (16777216 * n + k == 16777233) ≡ true → ⊥
-no_code n k few e = let is = equal (16777216 * n + k) 16777233 e in omega (arith, few, is)
+no_code n k few e = let is = eqb-true (16777216 * n + k) 16777233 e in omega (arith, few, is)
 
 class_code : (n c : ℕ) → c ≤ 1048594 → (16777216 * n + (16 + c) == 16777233) ≡ true → Of (Named c) n ≡ Of (Named string_class) 1
 class_code n c few e =
-    let is = equal (16777216 * n + (16 + c)) 16777233 e in
+    let is = eqb-true (16777216 * n + (16 + c)) 16777233 e in
     let one : n ≡ 1 = omega (arith, few, is) in
     let first : c ≡ 1 = omega (arith, few, is, one) in
     of_same c n first one
@@ -57,16 +46,16 @@ one_type unit few (source.Class name) n e = let less = class_below unit name in 
 one_param : (unit : CompilationUnit) → length (table unit).classes ≤ 1048594 → (params : List Parameter) → same_types (types_of unit params) (Of (Named string_class) 1 ∷ []) ≡ true → types_of unit params ≡ Of (Named string_class) 1 ∷ []
 unfolding same_types
 one_param unit few [] e = absurd (cc)
-one_param unit few (p ∷ []) e = ap (λ (t : Ty). t ∷ []) (one_type unit few p.ty.base (p.ty.brackets + p.brackets) (first_of_both (type_code (type_with unit p.ty p.brackets) == type_code (Of (Named string_class) 1)) true e))
+one_param unit few (p ∷ []) e = ap (λ (t : Ty). t ∷ []) (one_type unit few p.ty.base (p.ty.brackets + p.brackets) (and_parts (type_code (type_with unit p.ty p.brackets) == type_code (Of (Named string_class) 1)) true e).0)
 one_param unit few (p ∷ q ∷ rest) e = absurd (never (type_code (type_with unit p.ty p.brackets) == type_code (Of (Named string_class) 1)) e)
 
 pub mains_run_first : MainsRunFirst
 mains_run_first unit c k h few e =
     let three = bytes_eq h.name.name (codes "main") && has modifier.Public h.modifiers && has modifier.Static h.modifiers in
     let two = bytes_eq h.name.name (codes "main") && has modifier.Public h.modifiers in
-    let static : has modifier.Static h.modifiers ≡ true = second_of_both two (has modifier.Static h.modifiers) (first_of_both three (takes_texts unit h) e) in
+    let static : has modifier.Static h.modifiers ≡ true = (and_parts two (has modifier.Static h.modifiers) (and_parts three (takes_texts unit h) e).0).1 in
     record {
       static = ap (λ b. if b then kind.Static else kind.Instance) static;
-      params = one_param unit few h.params (second_of_both three (takes_texts unit h) e);
+      params = one_param unit few h.params (and_parts three (takes_texts unit h) e).1;
       result = refl;
     }

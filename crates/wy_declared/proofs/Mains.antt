@@ -3,18 +3,15 @@ use Rattle.std.proofs.Common.{◌≡◌, ℕ, suc, ◌+◌, Bool, true, false, c
 use Rattle.std.specs.Prelude.{◌==◌, slice_get, flat_map, option_and_then}
 use Rattle.std.specs.List.{Contains, position_from}
 use Rattle.std.proofs.lemmas.Bool.Decides.{nat_tests}
-use Rattle.std.proofs.lemmas.Option.{slice_get_within, get_or_from_slice_get}
 use Rattle.wy_kernel.specs.Program.{Program, Method}
 use Rattle.wy_kernel.specs.Table.{Table}
 use Rattle.wy_syntax.specs.Syntax.{Braced, Header, Member, ClassSyntax}
 use Rattle.wy_syntax.specs.Syntax as source
 use Rattle.wy_members.specs.Declarations.{CompilationUnit, classes_of}
+use Rattle.wy_members.proofs.Contained.{contained}
 use Rattle.wy_elab_stmt.specs.Program.{is_main, main_in, first_of, main_token, main_of, stands_at}
 use Rattle.wy_declared.specs.Mains.{FindsMain, MainsAreFound}
-use Rattle.wy_declared.proofs.Made.{comes}
-
-pub contained : {X : Type 0} (xs : List X) (n : ℕ) (x : X) → slice_get xs n ≡ Some x → Contains xs x
-contained xs n x e = (n, slice_get_within xs n x e, get_or_from_slice_get xs n x x e)
+use Rattle.wy_typed.proofs.Made.{comes}
 
 -- the first that passes a test
 record Passes {X : Type 0} (test : X → Bool) (xs : List X) (i k : ℕ) : Type 0 where

@@ -3,9 +3,10 @@ use Rattle.std.proofs.Common.{◌≡◌, ℕ, ◌+◌, ◌<◌, ◌≤◌, Bool,
 use Rattle.std.specs.Prelude.{map, flat_map, filter_map, nat_lt, unwrap_or, if◌then◌else◌, IfSome, codes}
 use Rattle.std.specs.Str.{bytes_eq}
 use Rattle.std.specs.List.{All, list_all, list_any, enumerate_from, cons_option}
+use Rattle.std.proofs.lemmas.Bool.{and_parts}
 use Rattle.std.proofs.lemmas.Bool.Decides.{nat_tests}
 use Rattle.std.proofs.lemmas.List.{length-map, length-append}
-use Rattle.std.proofs.lemmas.List.Elements.{All-append, All-cons, All-map}
+use Rattle.std.proofs.lemmas.List.Elements.{All-nil, All-append, All-cons, All-map}
 use Rattle.wy_kernel.specs.declared.types.Base.TheVariants as base
 use Rattle.wy_kernel.specs.declared.types.Ty.{Ty}
 use Rattle.wy_kernel.specs.declared.types.Ty.TheVariants.{Void, Null, Of}
@@ -14,7 +15,7 @@ use Rattle.wy_kernel.specs.declared.types.MethodForm.TheVariants as kind
 use Rattle.wy_kernel.specs.Program.{Method, Field, object_class, first_source_class}
 use Rattle.wy_kernel.specs.Builtin as builtin
 use Rattle.wy_kernel.specs.Table.{IsTypeOf, IsMethodOf, IsFieldOf}
-use Rattle.wy_syntax.specs.Syntax.{WrittenType, Declarator, Parameter, Header, Member, Fields, ClassSyntax}
+use Rattle.wy_syntax.specs.Syntax.{WrittenType, Parameter, Header, Member, Fields, ClassSyntax}
 use Rattle.wy_syntax.specs.Syntax as syntax
 use Rattle.wy_members.specs.Declarations.{CompilationUnit, classes_of, class_names, written_names, name_of, denoted, class_or_object, base_type, type_with, types_of, result_type, method_row, method_in, methods_in, methods_of, implied, fields_unit, implied_constructor, field_row, fields_in, fields_of, class_by_class, table, initializes_objects, is_constructor}
 use Rattle.wy_members.proofs.InRange.{many_classes}
@@ -34,16 +35,8 @@ pub record FieldStands (many : ℕ) (f : Field) : Type 0 where
 -- ---- lists
 
 tested : {X : Type 0} (test : X → Bool) (P : X → Type 0) → ((x : X) → test x ≡ true → P x) → (xs : List X) → list_all test xs ≡ true → All P xs
-tested test P sound [] e = λ k d lt. absurd (omega arith)
-tested test P sound (x ∷ xs) e = All-cons P x xs (sound x (left (test x) (list_all test xs) e)) (tested test P sound xs (right (test x) (list_all test xs) e))
-  where
-    left : (a b : Bool) → (a && b) ≡ true → a ≡ true
-    left true b h = refl
-    left false b h = absurd (cc)
-
-    right : (a b : Bool) → (a && b) ≡ true → b ≡ true
-    right true b h = h
-    right false b h = absurd (cc)
+tested test P sound [] e = All-nil P
+tested test P sound (x ∷ xs) e = let parts = and_parts (test x) (list_all test xs) e in All-cons P x xs (sound x parts.0) (tested test P sound xs parts.1)
 
 all_flat : {X Y : Type 0} (f : X → List Y) (P : Y → Type 0) → ((x : X) → All P (f x)) → (xs : List X) → All P (flat_map f xs)
 all_flat f P h [] = λ k d lt. absurd (omega arith)
@@ -133,23 +126,15 @@ variable_tested Null e = absurd (cc)
 params_test : Method → Bool
 params_test m = list_all variable_test m.params
 
-both_left : (a b : Bool) → (a && b) ≡ true → a ≡ true
-both_left true b h = refl
-both_left false b h = absurd (cc)
-
-both_right : (a b : Bool) → (a && b) ≡ true → b ≡ true
-both_right true b h = h
-both_right false b h = absurd (cc)
-
 method_tested : (many : ℕ) → 18 ≤ many → (m : Method) → method_test m ≡ true → IsMethodOf many m
 unfolding method_test
 method_tested many le m e =
-    let class = both_left (nat_lt m.class 18) (list_all type_test m.params && type_test m.result) e in
-    let rest = both_right (nat_lt m.class 18) (list_all type_test m.params && type_test m.result) e in
+    let class = and_parts (nat_lt m.class 18) (list_all type_test m.params && type_test m.result) e in
+    let rest = and_parts (list_all type_test m.params) (type_test m.result) class.1 in
     record {
-      class = less m.class class;
-      params = tested type_test (IsTypeOf many) (type_tested many le) m.params (both_left (list_all type_test m.params) (type_test m.result) rest);
-      result = type_tested many le m.result (both_right (list_all type_test m.params) (type_test m.result) rest);
+      class = less m.class class.0;
+      params = tested type_test (IsTypeOf many) (type_tested many le) m.params rest.0;
+      result = type_tested many le m.result rest.1;
     }
   where
     less : (c : ℕ) → nat_lt c 18 ≡ true → c < many
@@ -161,8 +146,8 @@ library_methods many le = tested (λ m. method_test m && params_test m) (MethodS
   where
     of_test : (m : Method) → (method_test m && params_test m) ≡ true → MethodStands many m
     of_test m e = record {
-      among = method_tested many le m (both_left (method_test m) (params_test m) e);
-      params = tested variable_test IsVariableType variable_tested m.params (both_right (method_test m) (params_test m) e);
+      among = method_tested many le m (and_parts (method_test m) (params_test m) e).0;
+      params = tested variable_test IsVariableType variable_tested m.params (and_parts (method_test m) (params_test m) e).1;
     }
 
 row_in_range : (unit : CompilationUnit) (c : ℕ) (k : ClassSyntax) (h : Header) (name : List ℕ) (ty : Ty) (form : MethodForm) → c < length (table unit).classes → IsTypeOf (length (table unit).classes) ty →
@@ -172,9 +157,6 @@ row_in_range unit c k h name ty form lt of = record { among = record { class = l
 implied_in_range : (unit : CompilationUnit) (c : ℕ) (k : ClassSyntax) (name : List ℕ) (form : MethodForm) → c < length (table unit).classes → All (MethodStands (length (table unit).classes)) (implied c k name form ∷ [])
 implied_in_range unit c k name form lt =
     All-cons (MethodStands (length (table unit).classes)) (implied c k name form) [] (record { among = record { class = lt; params = λ i d less. absurd (omega arith); result = tt }; params = λ i d less. absurd (omega arith) }) (λ i d less. absurd (omega arith))
-
-nothing_of : {X : Type 0} (P : X → Type 0) → All P []
-nothing_of P i d less = absurd (omega arith)
 
 declared_in_range : (unit : CompilationUnit) (c : ℕ) (k : ClassSyntax) → c < length (table unit).classes → (m : Member) (row : Method) → method_in unit c k m ≡ Some row → MethodStands (length (table unit).classes) row
 declared_in_range unit c k lt (syntax.Method h result body) row e = subst (MethodStands (length (table unit).classes)) (some_same e) (row_in_range unit c k h h.name.name (result_type unit result) _ lt (result_in_range unit result))
@@ -196,10 +178,10 @@ methods_of_in_range unit c k lt =
   where
     unit_rows : (b : Bool) → All (MethodStands (length (table unit).classes)) (if b then implied c k (codes "<fields>") kind.Fields ∷ [] else [])
     unit_rows true = implied_in_range unit c k (codes "<fields>") kind.Fields lt
-    unit_rows false = nothing_of (MethodStands (length (table unit).classes))
+    unit_rows false = All-nil (MethodStands (length (table unit).classes))
 
     constructor_rows : (b : Bool) → All (MethodStands (length (table unit).classes)) (if b then [] else implied c k (codes "new") kind.Constructor ∷ [])
-    constructor_rows true = nothing_of (MethodStands (length (table unit).classes))
+    constructor_rows true = All-nil (MethodStands (length (table unit).classes))
     constructor_rows false = implied_in_range unit c k (codes "new") kind.Constructor lt
 
 pub methods_stand : (unit : CompilationUnit) (many : ℕ) → many ≡ length (table unit).classes → All (MethodStands many) (table unit).methods
@@ -216,11 +198,11 @@ fields_of_in_range unit c k lt = all_flat (fields_in unit c) (FieldStands (lengt
   where
     member : (m : Member) → All (FieldStands (length (table unit).classes)) (fields_in unit c m)
     member (Fields ms ty declarators) = All-map (FieldStands (length (table unit).classes)) (field_row unit c ms ty) declarators (λ i d less. record { among = record { class = lt; ty = type_in_range unit ty (get_or declarators i d).brackets }; variable = tt })
-    member _ = nothing_of (FieldStands (length (table unit).classes))
+    member _ = All-nil (FieldStands (length (table unit).classes))
 
 library_fields : (many : ℕ) → 18 ≤ many → All (FieldStands many) builtin.fields
 unfolding builtin.fields
-library_fields many le = All-cons (FieldStands many) _ [] (record { among = record { class = omega arith; ty = omega arith }; variable = tt }) (nothing_of (FieldStands many))
+library_fields many le = All-cons (FieldStands many) _ [] (record { among = record { class = omega arith; ty = omega arith }; variable = tt }) (All-nil (FieldStands many))
 
 pub fields_stand : (unit : CompilationUnit) (many : ℕ) → many ≡ length (table unit).classes → All (FieldStands many) (table unit).fields
 unfolding table

@@ -1,5 +1,5 @@
 -- The text that the library's bodies hold is a text of every program.
-use Rattle.std.proofs.Common.{◌≡◌, ℕ, suc, ◌+◌, ◌≤◌, Bool, true, false, refl, sym, ◌∙◌, ap, subst, List, [], ◌∷◌, length, Option, Some, None, Result, Ok, Err, arith, if◌then◌else◌}
+use Rattle.std.proofs.Common.{◌≡◌, ℕ, suc, ◌+◌, ◌≤◌, Bool, true, false, refl, sym, ◌∙◌, ap, subst, List, [], ◌∷◌, length, Option, Some, None, Ok, arith, if◌then◌else◌}
 use Rattle.std.specs.Prelude.{nat_le}
 use Rattle.std.specs.List.{AllByRecursion}
 use Rattle.std.proofs.lemmas.List.{length-map}
@@ -8,7 +8,6 @@ use Rattle.wy_kernel.specs.Builtin as builtin
 use Rattle.wy_kernel.specs.Table.{Table, BeginsWith, ConstantValue}
 use Rattle.wy_syntax.specs.Syntax.{Member, ClassSyntax}
 use Rattle.wy_syntax.specs.Syntax as source
-use Rattle.wy_constant.specs.Refusal.{Refusal}
 use Rattle.wy_constant.specs.Scope.{FixedText}
 use Rattle.wy_members.specs.Declarations.{CompilationUnit, classes_of, table}
 use Rattle.wy_elab_expr.specs.Operators.{Judgement}
@@ -19,11 +18,13 @@ use Rattle.wy_statement.specs.Places.{places_of}
 use Rattle.wy_statement.specs.Statements.{Setting}
 use Rattle.wy_statement.specs.Bodies.{Growth}
 use Rattle.wy_elab_stmt.specs.Classes.{ClassBodies, with_body, member, members, none_yet, of_class, of_interface, class_bodies}
-use Rattle.wy_elab_stmt.specs.Program.{Bodies, no_bodies, and_more, bodies_from, bodies_of, library_text, inserted, in_order, main_of, program_with, with_main, again, from_texts, program}
+use Rattle.wy_elab_stmt.specs.Program.{Bodies, no_bodies, and_more, bodies_from, bodies_of, library_text, inserted, in_order, program_with}
 use Rattle.wy_elab_stmt.specs.Program as whole
 use Rattle.wy_typed_stmt.specs.Typed.{setting, Makes}
 use Rattle.wy_typed_library.specs.Library.{HasLibrary}
 use Rattle.wy_typed.specs.Rows.{IsHeader, DeclarationStands, AllStand}
+use Rattle.wy_typed.proofs.Bodies.{same_length}
+use Rattle.wy_typed.proofs.Made.{made_of}
 use Rattle.wy_typed.proofs.Growing.{found_on, one_found}
 use Rattle.wy_typed.proofs.Members.{class_grown}
 use Rattle.wy_declared.specs.Laws.{ProgramsHaveLibrary}
@@ -46,13 +47,10 @@ module _ (p : Program) (constants : List (Option ConstantValue)) (j : Judgement)
   headers_same c k (source.Fields modifiers ty ds ∷ ms) g texts z h e = absurd h.0
   headers_same c k (source.Member.Unknown ∷ ms) g texts z h e = absurd h.0
 
-  as_many : (xs ys : List FixedText) → xs ≡ ys → length ys ≤ length xs
-  as_many xs ys e = let is = ap length e in omega (arith, is)
-
   by_kind : (c : ℕ) (k : ClassSyntax) (b : Bool) (texts : List FixedText) (q : ClassBodies × List FixedText) → DeclarationStands p constants all c k b → (if b then of_interface w c k else of_class w c k) texts ≡ Ok q → length texts ≤ length q.1
   by_kind c k true texts q h e =
       let a = found_on (λ (g : Growth). meaning.give (of_growth g)) (members w c k (none_yet c k) k.members texts) q e in
-      as_many q.1 texts (ap (λ (y : ClassBodies × List FixedText). y.1) (sym (one_found (of_growth a.0.0, a.0.1) q _ refl a.2)) ∙ headers_same c k k.members (none_yet c k) texts a.0 h a.1)
+      same_length q.1 texts (ap (λ (y : ClassBodies × List FixedText). y.1) (sym (one_found (of_growth a.0.0, a.0.1) q _ refl a.2)) ∙ headers_same c k k.members (none_yet c k) texts a.0 h a.1)
     where
       of_growth : Growth → ClassBodies
       of_growth g = record { bodies = g.bodies; initializer = None }
@@ -64,13 +62,13 @@ module _ (p : Program) (constants : List (Option ConstantValue)) (j : Judgement)
 
   pub all_keep : (c : ℕ) (ks : List ClassSyntax) (texts : List FixedText) (q : Bodies × List FixedText) → AllStand p constants all c ks → bodies_from w c ks texts ≡ Ok q → length texts ≤ length q.1
   unfolding bodies_from
-  all_keep c [] texts q h e = as_many q.1 texts (ap (λ (y : Bodies × List FixedText). y.1) (sym (one_found (no_bodies, texts) q _ refl e)))
+  all_keep c [] texts q h e = same_length q.1 texts (ap (λ (y : Bodies × List FixedText). y.1) (sym (one_found (no_bodies, texts) q _ refl e)))
   all_keep c (k ∷ rest) texts q h e =
       let a = found_on (λ x. bodies_from w (suc c) rest >>= λ xs. meaning.give (and_more x xs)) (class_bodies w c k texts) q e in
       let d = found_on (λ xs. meaning.give (and_more a.0.0 xs)) (bodies_from w (suc c) rest a.0.1) q a.2 in
       let one = class_keeps c k texts a.0 h.0 a.1 in
       let more = all_keep (suc c) rest a.0.1 d.0 h.1 d.1 in
-      let last = as_many q.1 d.0.1 (ap (λ (y : Bodies × List FixedText). y.1) (sym (one_found (and_more a.0.0 d.0.0, d.0.1) q _ refl d.2))) in
+      let last = same_length q.1 d.0.1 (ap (λ (y : Bodies × List FixedText). y.1) (sym (one_found (and_more a.0.0 d.0.0, d.0.1) q _ refl d.2))) in
       omega (arith, one, more, last)
 
 -- ---- texts in order are as many
@@ -87,37 +85,6 @@ in_order_as_many : (xs : List FixedText) → length (in_order xs) ≡ length xs
 unfolding in_order
 in_order_as_many [] = refl
 in_order_as_many (t ∷ rest) = let more = in_order_as_many rest in let one = one_longer t (in_order rest) in omega (arith, more, one)
-
--- ---- the bodies are made twice
-
-record MadeTwice (j : Judgement) (t : Table) (unit : CompilationUnit) (p : Program) : Type 0 where
-  pub main : ℕ
-  pub first : Bodies × List FixedText
-  pub second : Bodies × List FixedText
-  pub made_first : bodies_of (whole.setting j t unit) unit (library_text ∷ []) ≡ Ok first
-  pub made_second : bodies_of (whole.setting j t unit) unit (in_order first.1) ≡ Ok second
-  pub is : program_with t unit main second.0 second.1 ≡ p
-
-one_program : (a b : Program) (r : Result Program Refusal) → r ≡ Ok a → r ≡ Ok b → a ≡ b
-one_program a b r e f = cc
-
-main_by : (j : Judgement) (t : Table) (unit : CompilationUnit) (tokens : ℕ) (p : Program) (x y : Bodies × List FixedText) (o : Option ℕ) → bodies_of (whole.setting j t unit) unit (library_text ∷ []) ≡ Ok x →
-    bodies_of (whole.setting j t unit) unit (in_order x.1) ≡ Ok y → with_main t unit tokens o y.0 y.1 ≡ Ok p → MadeTwice j t unit p
-main_by j t unit tokens p x y (Some main) a b e = record { main = main; first = x; second = y; made_first = a; made_second = b; is = one_program (program_with t unit main y.0 y.1) p _ refl e }
-main_by j t unit tokens p x y None a b e = absurd (cc)
-
-again_by : (j : Judgement) (t : Table) (unit : CompilationUnit) (tokens : ℕ) (p : Program) (x : Bodies × List FixedText) (r : Result (Bodies × List FixedText) Refusal) → bodies_of (whole.setting j t unit) unit (library_text ∷ []) ≡ Ok x →
-    bodies_of (whole.setting j t unit) unit (in_order x.1) ≡ r → again j t unit tokens r ≡ Ok p → MadeTwice j t unit p
-again_by j t unit tokens p x (Ok y) a b e = main_by j t unit tokens p x y (main_of t unit) a b e
-again_by j t unit tokens p x (Err d) a b e = absurd (cc)
-
-texts_by : (j : Judgement) (t : Table) (unit : CompilationUnit) (tokens : ℕ) (p : Program) (r : Result (Bodies × List FixedText) Refusal) → bodies_of (whole.setting j t unit) unit (library_text ∷ []) ≡ r → from_texts j t unit tokens r ≡ Ok p → MadeTwice j t unit p
-texts_by j t unit tokens p (Ok x) a e = again_by j t unit tokens p x (bodies_of (whole.setting j t unit) unit (in_order x.1)) a refl e
-texts_by j t unit tokens p (Err d) a e = absurd (cc)
-
-made_twice : (j : Judgement) (t : Table) (unit : CompilationUnit) (tokens : ℕ) (p : Program) → program j t unit tokens ≡ Ok p → MadeTwice j t unit p
-unfolding program
-made_twice j t unit tokens p e = texts_by j t unit tokens p (bodies_of (whole.setting j t unit) unit (library_text ∷ [])) refl e
 
 -- ---- the library of a program
 
@@ -139,7 +106,7 @@ has_library j t unit main x y classes methods fields a b made stand =
 
 pub programs_have_library : ProgramsHaveLibrary
 programs_have_library j t unit tokens p is made stand e =
-    let d = made_twice j t unit tokens p e in
+    let d = made_of j t unit tokens p e in
     let P : Program → Type 0 = λ x. Makes x t.constants j (places_of t unit) → AllStand x t.constants (places_of t unit) first_source_class (classes_of unit) → HasLibrary x in
     subst P d.is
-    (has_library j t unit d.main d.first d.second (ap (λ (x : Table). x.classes) is.rows) (ap (λ (x : Table). x.methods) is.rows) (ap (λ (x : Table). x.fields) is.rows) d.made_first d.made_second) made stand
+    (has_library j t unit d.main d.first (d.bodies, d.texts) (ap (λ (x : Table). x.classes) is.rows) (ap (λ (x : Table). x.methods) is.rows) (ap (λ (x : Table). x.fields) is.rows) d.made_first d.made) made stand

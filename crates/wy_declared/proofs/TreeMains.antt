@@ -2,18 +2,18 @@
 use Rattle.std.proofs.Common.{◌≡◌, ℕ, ◌≤◌, Bool, true, false, refl, sym, ◌∙◌, ap, subst, length, Some, None}
 use Rattle.std.specs.List.{Contains}
 use Rattle.wy_kernel.specs.Program.{Program, Method}
-use Rattle.wy_kernel.specs.Table.{Table}
 use Rattle.wy_syntax.specs.Syntax.{Braced, Header, ClassSyntax}
 use Rattle.wy_syntax.specs.Syntax as source
 use Rattle.wy_syntax.specs.Declarations.{unit}
 use Rattle.wy_members.specs.Declarations.{CompilationUnit, is_abstract_in, table}
 use Rattle.wy_members.specs.Broken.{IsWritten, body_too_much}
 use Rattle.wy_members.specs.Refusal.{KeepsRules}
+use Rattle.wy_members.proofs.Contained.{contained}
 use Rattle.wy_has_bodies.specs.Laws.{MethodsOfTreesHaveBodies}
 use Rattle.wy_has_bodies.proofs.Keeping.{implemented}
 use Rattle.wy_declared.specs.Mains.{FindsMain, RunsFirst, MainsStandAlone, TreesHaveMain}
-use Rattle.wy_declared.proofs.Made.{comes}
-use Rattle.wy_declared.proofs.Mains.{contained, mains_are_found}
+use Rattle.wy_typed.proofs.Made.{comes}
+use Rattle.wy_declared.proofs.Mains.{mains_are_found}
 use Rattle.wy_declared.proofs.MainRows.{mains_run_first}
 
 -- a method with a body isn't abstract
@@ -35,8 +35,7 @@ pub trees_have_main : MethodsOfTreesHaveBodies → TreesHaveMain
 trees_have_main have_bodies tree w alone few tokens p h =
     let c = comes (unit 0 tree) tokens p h in
     let f = mains_are_found (unit 0 tree) tokens p h in
-    let same : (table (unit 0 tree)).methods ≡ p.methods = sym (ap (λ (x : Table). x.methods) c.is_table.rows) ∙ ap (λ (x : Program). x.methods) c.made.is in
-    let d = main_by (unit 0 tree) p c.keeps alone few same f in
+    let d = main_by (unit 0 tree) p c.keeps alone few c.methods f in
     record {
       method = f.method;
       found = f.found;

@@ -1,7 +1,8 @@
 -- What has its name at the token of a main is that main.
-use Rattle.std.proofs.Common.{◌≡◌, ◌∙◌, refl, sym, ap, subst, arith, inl, inr, ℕ, zero, suc, ◌+◌, ◌<◌, ◌≤◌, Bool, true, false, ◌&&◌, ◌||◌, if◌then◌else◌, List, [], ◌∷◌, ◌++◌, length, get_or}
+use Rattle.std.proofs.Common.{◌≡◌, ◌∙◌, refl, sym, ap, subst, arith, inl, inr, ℕ, suc, ◌+◌, ◌<◌, ◌≤◌, Bool, true, false, ◌||◌, if◌then◌else◌, List, [], ◌∷◌, ◌++◌}
 use Rattle.std.specs.Prelude.{◌⊎◌, Option, Some, None, flat_map, filter_map, nat_lt, codes}
 use Rattle.std.specs.List.{Contains, list_all, list_any, enumerate_from, cons_option}
+use Rattle.std.proofs.lemmas.Bool.{and_parts}
 use Rattle.std.proofs.lemmas.Bool.Decides.{nat_tests}
 use Rattle.wy_kernel.specs.declared.types.MethodForm.TheVariants as kind
 use Rattle.wy_kernel.specs.Program.{Method, first_source_class}
@@ -13,7 +14,8 @@ use Rattle.wy_syntax.specs.Declarations.{unit}
 use Rattle.wy_members.specs.Declarations.{CompilationUnit, classes_of, form_of, result_type, method_row, method_in, methods_in, methods_of, implied, fields_unit, implied_constructor, initializes_objects, is_constructor, class_by_class, table}
 use Rattle.wy_elab_stmt.proofs.OneProgram.{as_wide}
 use Rattle.wy_structure.proofs.Dense.{In}
-use Rattle.wy_structure.proofs.Turns.{in_both, in_left}
+use Rattle.wy_structure.proofs.Numbered.{contains_in}
+use Rattle.wy_structure.proofs.Turns.{in_both, in_left, in_right}
 use Rattle.wy_structure.proofs.Productions.{unit_full}
 use Rattle.wy_declared.specs.Mains.{MainsStandAlone}
 use Rattle.wy_first_method.specs.Laws.{MainsOfTreesStandAlone}
@@ -22,22 +24,10 @@ use Rattle.wy_first_method.proofs.Names.{member_names, names_among, class_names,
 
 -- ---- lists
 
-is_in : {X : Type 0} (xs : List X) (x : X) (n : ℕ) → n < length xs → get_or xs n x ≡ x → In x xs
-is_in [] x n less e = absurd (omega arith)
-is_in (y ∷ ys) x zero less e = inl (sym e)
-is_in (y ∷ ys) x (suc n) less e = inr (is_in ys x n (omega arith) e)
-
-among : {X : Type 0} (xs : List X) (x : X) → Contains xs x → In x xs
-among xs x c = is_in xs x c.0 c.1 c.2
-
 contains : {X : Type 0} (xs : List X) (x : X) → In x xs → Contains xs x
 contains [] x m = absurd m
 contains (y ∷ ys) x (inl e) = (0, omega arith, sym e)
 contains (y ∷ ys) x (inr m) = let c = contains ys x m in let less = c.1 in (suc c.0, omega (arith, less), c.2)
-
-in_right : {X : Type 0} (xs ys : List X) (x : X) → In x ys → In x (xs ++ ys)
-in_right [] ys x m = m
-in_right (y ∷ xs) ys x m = inr (in_right xs ys x m)
 
 kept_by : {X Y : Type 0} (f : X → Option Y) (x : X) (o : Option Y) (rest : List Y) (y : Y) → f x ≡ o → In y (cons_option o rest) → (f x ≡ Some y) ⊎ In y rest
 kept_by f x None rest y e m = inr m
@@ -65,16 +55,8 @@ is_far m = nat_lt 1048576 m.site
 
 all_far : (ms : List Method) → list_all is_far ms ≡ true → (row : Method) → In row ms → is_far row ≡ true
 all_far [] e row i = absurd i
-all_far (m ∷ ms) e row (inl s) = ap is_far s ∙ first (is_far m) (list_all is_far ms) e
-  where
-    first : (x y : Bool) → (x && y) ≡ true → x ≡ true
-    first true y f = refl
-    first false y f = absurd cc
-all_far (m ∷ ms) e row (inr i) = all_far ms (second (is_far m) (list_all is_far ms) e) row i
-  where
-    second : (x y : Bool) → (x && y) ≡ true → y ≡ true
-    second true y f = f
-    second false y f = absurd cc
+all_far (m ∷ ms) e row (inl s) = ap is_far s ∙ (and_parts (is_far m) (list_all is_far ms) e).0
+all_far (m ∷ ms) e row (inr i) = all_far ms (and_parts (is_far m) (list_all is_far ms) e).1 row i
 
 library_far : list_all is_far builtin.methods ≡ true
 unfolding builtin.methods builtin.first_methods is_far
@@ -214,9 +196,9 @@ module _ (text : CompilationUnit) where
 
   stand_alone : (high : ℕ) → Rising 0 (all_names (classes_of text)) high → high ≤ 1048576 → MainsStandAlone text
   stand_alone high r few k h b m in_text in_class written in_table s =
-      let i = among (classes_of text) k in_text in
-      let j = among k.members (source.Method h None (Some b)) in_class in
-      elim (all_rows m (among (table text).methods m in_table)) [
+      let i = contains_in (classes_of text) k in_text in
+      let j = contains_in k.members (source.Method h None (Some b)) in_class in
+      elim (all_rows m (contains_in (table text).methods m in_table)) [
         | inl l ↦
             let far = library_site m l in
             let near = (within 0 (all_names (classes_of text)) high r h.name.token (classes_main h b (classes_of text) k i j)).1 in

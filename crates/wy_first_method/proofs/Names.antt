@@ -10,11 +10,11 @@ use Rattle.wy_syntax.specs.Syntax.{Placed, Header, Member, ClassSyntax, Declarat
 use Rattle.wy_syntax.specs.Syntax as syntax
 use Rattle.wy_syntax.specs.Names.{width, widths, is_leaf}
 use Rattle.wy_syntax.specs.Statements.{block, declarators}
-use Rattle.wy_syntax.specs.Declarations.{Part, Parts, placed, is_block, is_params, modifiers_of, behind_modifiers, behind_throws, header, result_of, type_at, body_of, constructor_of, member_behind, member_in, member_seen, members_in, method_in, methods_in, behind_brace, class_behind, interface_behind, declaration, declarations, unit}
+use Rattle.wy_syntax.specs.Declarations.{Parts, placed, is_block, is_params, modifiers_of, behind_modifiers, behind_throws, header, result_of, type_at, body_of, constructor_of, member_behind, member_in, member_seen, members_in, method_in, methods_in, behind_brace, class_behind, interface_behind, declaration, declarations, unit}
 use Rattle.wy_members.specs.Declarations.{class_in, classes_of}
 use Rattle.wy_structure.proofs.Trees.{Full, AllFull, parts_full, wide}
 use Rattle.wy_structure.proofs.Productions.{UnitFull}
-use Rattle.wy_structure.proofs.ClassTrees.{Row, row_rises, row_wider, placed_row, modifiers_row, brace_row}
+use Rattle.wy_structure.proofs.ClassTrees.{Row, row_rises, row_wider, row_with, placed_row, modifiers_row, brace_row}
 use Rattle.wy_first_method.proofs.Rising.{Rising, from_less, to_more, both, alone}
 
 -- the token of the name of a method or a constructor
@@ -87,14 +87,6 @@ members_rise low (p ∷ q ∷ rest) high r =
     (from_less low p.at (member_names (member_seen p.at p.what)) (p.at + width p.what) here (member_rises p.at p.what r.1)) (members_rise (p.at + width p.what) (q ∷ rest) high r.2)
 
 -- ---- methods of interfaces
-
-row_with : (low : ℕ) (before : Parts) (middle : ℕ) (p : Part) → Row low before middle → middle ≤ p.at → Full p.what → Row low (before ++ p ∷ []) (p.at + width p.what)
-row_with low [] middle p r less f = let there : low ≤ middle = r in (omega arith, f, omega arith)
-row_with low (q ∷ before) middle p r less f = (r.0, r.1, row_with (q.at + width q.what) before middle p r.2 less f)
-
-method_rises : (low : ℕ) (ps : Parts) (high : ℕ) → Row low ps high → MemberRises low high (method_in ps)
-method_rises low [] high r = r
-method_rises low (p ∷ rest) high r = behind_rises (modifiers_of (p ∷ rest)) low (behind_modifiers (p ∷ rest)) high (modifiers_row low (p ∷ rest) high r)
 
 methods_rise : (low middle high : ℕ) (before ps : Parts) → Row low before middle → Row middle ps high → Rising low (names_among (methods_in before ps)) high
 unfolding methods_in

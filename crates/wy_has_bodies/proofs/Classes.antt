@@ -1,20 +1,19 @@
 -- What holds of each method that a member is, and of those that no text declares, holds of all methods of a program.
-use Rattle.std.proofs.Common.{◌≡◌, refl, sym, ap, subst, arith, ℕ, suc, ◌+◌, Bool, true, false, ◌||◌, if◌then◌else◌, List, [], ◌∷◌, ◌++◌}
+use Rattle.std.proofs.Common.{◌≡◌, refl, sym, subst, arith, ℕ, suc, ◌+◌, Bool, true, false, ◌||◌, if◌then◌else◌, List, [], ◌∷◌, ◌++◌}
 use Rattle.std.specs.Prelude.{Option, Some, None, Ok, slice_get, filter_map, codes}
 use Rattle.std.specs.List.{AllByRecursion, list_any, cons_option}
 use Rattle.wy_kernel.specs.declared.types.MethodForm.TheVariants as kind
 use Rattle.wy_kernel.specs.Program.{Program, Method, first_source_class}
 use Rattle.wy_kernel.specs.Builtin as builtin
 use Rattle.wy_syntax.specs.Syntax.{Member, ClassSyntax}
-use Rattle.wy_members.specs.Declarations.{CompilationUnit, classes_of, method_in, methods_in, implied, initializes_objects, fields_unit, is_constructor, implied_constructor, methods_of}
+use Rattle.wy_members.specs.Declarations.{CompilationUnit, classes_of, method_in, methods_in, implied, initializes_objects, fields_unit, is_constructor, implied_constructor, methods_of, table}
 use Rattle.wy_members.specs.Refusal.{KeepsRules}
 use Rattle.wy_elab_stmt.specs.Elaborates.{Elaborates}
 use Rattle.wy_typing.specs.Expressions.{IsMethod}
 use Rattle.wy_typed.specs.Rows.{rows_from}
 use Rattle.wy_typed.specs.Programs.{TablesHaveRows}
-use Rattle.wy_typed.proofs.Programs.{made_of}
+use Rattle.wy_typed.proofs.Made.{comes}
 use Rattle.wy_has_bodies.proofs.Lists.{at_all, all_joined}
-use Rattle.wy_has_bodies.proofs.Programs.{made_by, has_rows}
 
 -- it holds of the method that a member is, where it is one
 abbrev pub OfRow : (Method → Type 0) → Option Method → Type 0
@@ -56,9 +55,7 @@ classes_by Q unit c (k ∷ ks) h =
 pub methods_by : (Q : Method → Type 0) → TablesHaveRows → (unit : CompilationUnit) (count : ℕ) (p : Program) → Elaborates unit count (Ok p) → AllByRecursion Q builtin.methods →
     (KeepsRules unit → AllByRecursion Q (rows_from unit first_source_class (classes_of unit))) → (k : ℕ) (m : Method) → IsMethod p k m → Q m
 methods_by Q rows unit count p accepted library text k m found =
-    let made = made_by unit count p accepted in
-    let all_rows : made.table_there.methods ≡ builtin.methods ++ rows_from unit first_source_class (classes_of unit) = has_rows rows unit count p made in
+    let c = comes unit count p accepted in
     let P : List Method → Type 0 = AllByRecursion Q in
-    let all : AllByRecursion Q made.table_there.methods = subst P (sym all_rows) (all_joined Q builtin.methods (rows_from unit first_source_class (classes_of unit)) library (text made.keeps)) in
-    let same_methods : made.table_there.methods ≡ p.methods = ap (λ (x : Program). x.methods) (made_of made.judgement made.table_there unit count p made.made).is in
-    at_all Q p.methods k m (subst P same_methods all) found
+    let all : AllByRecursion Q (table unit).methods = subst P (sym (rows (table unit) unit refl)) (all_joined Q builtin.methods (rows_from unit first_source_class (classes_of unit)) library (text c.keeps)) in
+    at_all Q p.methods k m (subst P c.methods all) found

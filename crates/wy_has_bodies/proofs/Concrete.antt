@@ -2,13 +2,14 @@
 use Rattle.std.proofs.Common.{◌≡◌, refl, inl, inr, ℕ, ◌+◌, Bool, true, false, ◌||◌, if◌then◌else◌}
 use Rattle.std.specs.Prelude.{Some, None, ◌⊎◌}
 use Rattle.std.specs.List.{AllByRecursion}
+use Rattle.std.proofs.lemmas.Bool.{false_from_ne_true}
 use Rattle.wy_tree.specs.Ast.{Ast}
 use Rattle.wy_tree.specs.Grammar.{WellFormed}
 use Rattle.wy_kernel.specs.declared.types.MethodForm.TheVariants as kind
 use Rattle.wy_kernel.specs.Program.{Method, first_source_class}
 use Rattle.wy_kernel.specs.Builtin as builtin
 use Rattle.wy_syntax.specs.declared.declaration.Modifier.TheVariants as modifier
-use Rattle.wy_syntax.specs.Syntax.{Header, Member, ClassSyntax}
+use Rattle.wy_syntax.specs.Syntax.{Member, ClassSyntax}
 use Rattle.wy_syntax.specs.Syntax as source
 use Rattle.wy_syntax.specs.Declarations as syntax
 use Rattle.wy_members.specs.Declarations.{CompilationUnit, classes_of, has, is_abstract_in, method_in, methods_of}
@@ -25,10 +26,6 @@ use Rattle.wy_has_bodies.proofs.Classes.{OfRow, class_by, classes_by, methods_by
 
 abbrev IsConcrete : Method → Type 0
 IsConcrete m = IsNeverAbstract m → m.is_abstract ≡ false
-
-no_truth : (b : Bool) → (b ≡ true → ⊥) → b ≡ false
-no_truth true h = absurd (h refl)
-no_truth false h = refl
 
 -- ---- the methods of the library
 
@@ -50,7 +47,7 @@ not_ready false (inr e) = absurd (cc)
 
 in_class : (a b : Bool) → a ≡ false → (b ≡ true → ⊥) → (a || b) ≡ false
 in_class true b e h = absurd (cc)
-in_class false b e h = no_truth b h
+in_class false b e h = false_from_ne_true b h
 
 member_concrete : (unit : CompilationUnit) → KeepsRules unit → (c : ℕ) (k : ClassSyntax) (m : Member) → (k.is_interface ≡ true → IsHeader m) → HasMember unit c k m → OfRow IsConcrete (method_in unit c k m)
 member_concrete unit keeps c k (source.Method h result None) header there = by
@@ -59,9 +56,9 @@ member_concrete unit keeps c k (source.Method h result None) header there = by
     by (inl ready) = not_ready (has modifier.Static h.modifiers) ready
     by (inr (inl e)) = absurd (implemented unit keeps c h.name.token (static_without_body there refl (made_static (has modifier.Static h.modifiers) e)))
     by (inr (inr e)) = absurd (implemented unit keeps c h.name.token (private_without_body there refl e))
-member_concrete unit keeps c k (source.Method h result (Some b)) header there = λ never. no_truth (is_abstract_in k h) (λ e. implemented unit keeps c h.name.token (body_too_much there refl e))
+member_concrete unit keeps c k (source.Method h result (Some b)) header there = λ never. false_from_ne_true (is_abstract_in k h) (λ e. implemented unit keeps c h.name.token (body_too_much there refl e))
 member_concrete unit keeps c k (source.Constructor h own brace parts end) header there =
-    λ never. in_class k.is_interface (has modifier.Abstract h.modifiers) (no_truth k.is_interface header) (λ e. implemented unit keeps c h.name.token (abstract_constructor there refl e))
+    λ never. in_class k.is_interface (has modifier.Abstract h.modifiers) (false_from_ne_true k.is_interface header) (λ e. implemented unit keeps c h.name.token (abstract_constructor there refl e))
 member_concrete unit keeps c k (source.Initializer is_static block) header there = tt
 member_concrete unit keeps c k (source.Fields modifiers ty ds) header there = tt
 member_concrete unit keeps c k source.Member.Nothing header there = tt

@@ -3,7 +3,7 @@ use Rattle.std.proofs.Common.{◌≡◌, refl, ℕ, ◌+◌, Bool, true, false}
 use Rattle.std.specs.Prelude.{Option, Some, None, slice_get}
 use Rattle.std.specs.List.{AllByRecursion}
 use Rattle.wy_kernel.specs.Program.{Class, first_source_class}
-use Rattle.wy_syntax.specs.Syntax.{Header, Member, ClassSyntax}
+use Rattle.wy_syntax.specs.Syntax.{Member, ClassSyntax}
 use Rattle.wy_syntax.specs.Syntax as source
 use Rattle.wy_syntax.specs.Declarations as syntax
 use Rattle.wy_constant.specs.declared.rule.Rule.TheVariants as rule

@@ -2,6 +2,7 @@
 use Rattle.std.proofs.Common.{◌≡◌, refl, ℕ, zero, suc, ◌<◌, List, [], ◌∷◌, length, arith, Option, Some, None, option_map, slice_get}
 use Rattle.std.specs.Prelude.{slice_index_or}
 use Rattle.std.proofs.lemmas.List.{length-map}
+use Rattle.std.proofs.lemmas.Option.{slice_get_within}
 use Rattle.std.proofs.Math.Logic.{∥∥₁_elim}
 use Rattle.std.proofs.Props.{props}
 use Rattle.std.specs.Option.{IsSome}
@@ -11,18 +12,13 @@ use Rattle.wy_kernel.specs.View.{body_of}
 use Rattle.wy_kernel.specs.declared.program.Program.{Program}
 use Rattle.wy_typing.specs.Programs.{IsProgram}
 
-pub within : {X : Type 0} (xs : List X) (k : ℕ) (x : X) → slice_get xs k ≡ Some x → k < length xs
-within [] k x e = absurd (cc)
-within (y ∷ ys) zero x e = omega arith
-within (y ∷ ys) (suc k) x e = let i = within ys k x e in omega arith
-
 pub indexed : {X : Type 0} (xs : List X) (k : ℕ) (x d : X) → slice_get xs k ≡ Some x → slice_index_or xs k d ≡ x
 indexed [] k x d e = absurd (cc)
 indexed (y ∷ ys) zero x d e = cc
 indexed (y ∷ ys) (suc k) x d e = indexed ys k x d e
 
 pub main_within : (p : Program) → ∥ IsProgram (program_of p) ∥₁ → p.main < length p.bodies.items
-main_within p g = ∥∥₁_elim g (hlevel props) (λ h. let i = within (program_of p).bodies p.main (Some h.main.body.0) h.main.body.1 in let e = length-map p.bodies.items (option_map body_of) in omega arith)
+main_within p g = ∥∥₁_elim g (hlevel props) (λ h. let i = slice_get_within (program_of p).bodies p.main (Some h.main.body.0) h.main.body.1 in let e = length-map p.bodies.items (option_map body_of) in omega arith)
 
 there : {X : Type 0} (o : Option X) (r : Option Body) (f : X → Body) (b : Body) → option_map f o ≡ r → r ≡ Some b → IsSome o
 there None r f b e is = absurd (cc)

@@ -13,7 +13,8 @@ use Rattle.wy_kernel.specs.declared.types.MethodForm.{MethodForm}
 use Rattle.wy_kernel.specs.declared.types.MethodForm.TheVariants as kind
 use Rattle.wy_typing.specs.Programs.{IsProgram}
 use Rattle.wy_sites.specs.Sites.{HasSites}
-use Rattle.wy_program.proofs.Bodies.{within, indexed}
+use Rattle.std.proofs.lemmas.Option.{slice_get_within}
+use Rattle.wy_program.proofs.Bodies.{indexed}
 
 -- ---- no method of the library is static
 
@@ -49,7 +50,7 @@ main_behind p h =
 -- ---- main in memory
 
 pub main_among : (p : memory.Program) → ∥ IsProgram (program_of p) ∥₁ → p.main < length p.methods.items
-main_among p g = ∥∥₁_elim g (hlevel props) (λ h. let i = within (program_of p).methods p.main h.main.method h.main.found in let e = length-map p.methods.items method_of in omega (arith, i, e))
+main_among p g = ∥∥₁_elim g (hlevel props) (λ h. let i = slice_get_within (program_of p).methods p.main h.main.method h.main.found in let e = length-map p.methods.items method_of in omega (arith, i, e))
 
 main_is : (p : Program) (m : Method) → slice_get p.methods p.main ≡ Some m → method p p.main ≡ m
 unfolding method

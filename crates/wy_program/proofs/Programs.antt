@@ -1,47 +1,27 @@
 -- The laws on the parts of a program, put together.
-use Rattle.std.proofs.Common.{◌≡◌, ℕ, ◌≤◌, refl, sym, ◌∙◌, ap, subst, List, length, Result, Ok}
+use Rattle.std.proofs.Common.{◌≡◌, ℕ, ◌≤◌, refl, sym, ap, subst, List, length, Ok}
 use Rattle.wy_tree.specs.Ast.{Ast, tokens}
 use Rattle.wy_tree.specs.Grammar.{WellFormed}
 use Rattle.wy_kernel.specs.Program.{Program, Class, Method, Field}
 use Rattle.wy_kernel.specs.Table.{Table, IsTable}
 use Rattle.wy_syntax.specs.Declarations.{unit}
-use Rattle.wy_constant.specs.Refusal.{Refusal}
 use Rattle.wy_members.specs.Declarations.{CompilationUnit, table}
-use Rattle.wy_members.specs.Constants.{IsTableOf}
-use Rattle.wy_members.specs.Refusal.{KeepsRules}
-use Rattle.wy_elab_expr.specs.Operators.{Judgement, Settles}
+use Rattle.wy_elab_expr.specs.Operators.{Settles}
 use Rattle.wy_statement.specs.Places.{places_of}
-use Rattle.wy_elab_stmt.specs.Elaborates.{Elaborates, by_declarations, by_bodies}
-use Rattle.wy_elab_stmt.specs.Program.{program}
+use Rattle.wy_elab_stmt.specs.Elaborates.{Elaborates}
 use Rattle.wy_typed_expr.specs.Typed.{table_of, MethodsFit}
 use Rattle.wy_typed_stmt.specs.Typed.{Makes}
 use Rattle.wy_typed.specs.Programs.{BodiesFit, ProgramsAreTyped, TablesHaveRows}
 use Rattle.wy_typed.specs.Rows.{NamesAgreeInTables}
-use Rattle.wy_typed.proofs.Programs.{MadeOf, made_of}
+use Rattle.wy_typed.proofs.Made.{Comes, comes}
 use Rattle.wy_declared.specs.Laws.{ProgramsHaveLibrary}
 use Rattle.wy_standing.specs.Laws.{TreesStand}
 use Rattle.wy_tables.specs.Laws.{AreFew, TreesHaveTables}
 use Rattle.wy_written.specs.Written.{UnitWritten}
 
--- what a text that becomes a program keeps, and what it is made by
-pub record Comes (unit : CompilationUnit) (count : ℕ) (p : Program) : Type 0 where
-  pub t : Table
-  pub j : Judgement
-  pub keeps : KeepsRules unit
-  pub is_table : IsTableOf unit t
-  pub settles : Settles t j
-  pub becomes : program j t unit count ≡ Ok p
-
-comes_of : (unit : CompilationUnit) (count : ℕ) (p : Program) (r : Result Program Refusal) → Elaborates unit count r → r ≡ Ok p → Comes unit count p
-comes_of unit count p r (by_declarations rule token h) e = absurd (cc)
-comes_of unit count p r (by_bodies t j keeps is settles) e = record { t = t; j = j; keeps = keeps; is_table = is; settles = settles; becomes = e }
-
-pub comes : (unit : CompilationUnit) (count : ℕ) (p : Program) → Elaborates unit count (Ok p) → Comes unit count p
-comes unit count p h = comes_of unit count p (Ok p) h refl
-
 -- the table of a program is that by which it is made
-same_table : (j : Judgement) (t : Table) (unit : CompilationUnit) (p : Program) → MadeOf j t unit p → table_of p t.constants ≡ t
-same_table j t unit p m = subst (λ (q : Program). table_of q t.constants ≡ t) m.is refl
+same_table : (unit : CompilationUnit) (count : ℕ) (p : Program) (c : Comes unit count p) → table_of p c.t.constants ≡ c.t
+same_table unit count p c = subst (λ (q : Program). table_of q c.t.constants ≡ c.t) c.made.is refl
 
 -- the laws that are put together
 pub record Laws : Type 0 where
@@ -56,22 +36,19 @@ pub record Laws : Type 0 where
 pub bodies_fit : Laws → (tree : Ast) → WellFormed tree → length (tokens tree) ≤ 1048576 → UnitWritten (unit 0 tree) → (count : ℕ) (p : Program) → MethodsFit p → Elaborates (unit 0 tree) count (Ok p) → BodiesFit p
 bodies_fit laws tree well few written count p fit h =
     let c = comes (unit 0 tree) count p h in
-    let t : Table = c.t in
-    let m = made_of c.j c.t (unit 0 tree) count p c.becomes in
-    let of_text = c.is_table.rows in
-    let classes : p.classes ≡ c.t.classes = sym (ap (λ (x : Program). x.classes) m.is) in
-    let fields : p.fields ≡ c.t.fields = sym (ap (λ (x : Program). x.fields) m.is) in
-    let methods : c.t.methods ≡ (table (unit 0 tree)).methods = ap (λ (x : Table). x.methods) of_text in
+    let classes : p.classes ≡ c.t.classes = sym (ap (λ (x : Program). x.classes) c.made.is) in
+    let fields : p.fields ≡ c.t.fields = sym (ap (λ (x : Program). x.fields) c.made.is) in
+    let methods : c.t.methods ≡ (table (unit 0 tree)).methods = ap (λ (x : Table). x.methods) c.is_table.rows in
     let stand = laws.stand tree well written c.keeps c.t c.is_table p classes fields in
-    let same = same_table c.j c.t (unit 0 tree) p m in
+    let same = same_table (unit 0 tree) count p c in
     let makes : Makes p c.t.constants c.j (places_of c.t (unit 0 tree)) = record {
       table = subst IsTable (sym same) (laws.tables tree well few c.keeps c.t c.is_table);
       settled = subst (λ x. Settles x c.j) (sym same) c.settles;
       methods = fit;
-      statements = sym (ap (λ (x : Program). x.statements) m.is);
+      statements = sym (ap (λ (x : Program). x.statements) c.made.is);
     } in
     let library = laws.library c.j c.t (unit 0 tree) count p c.is_table makes stand c.becomes in
-    laws.typed c.j c.t (unit 0 tree) count p (laws.rows c.t (unit 0 tree) methods) library makes (laws.names p (unit 0 tree) (classes ∙ ap (λ (x : Table). x.classes) of_text)) stand c.becomes
+    laws.typed c.j c.t (unit 0 tree) count p (laws.rows c.t (unit 0 tree) methods) library makes (laws.names p (unit 0 tree) (sym c.classes)) stand c.becomes
 
 -- so few parts are declared
 pub record DeclaresFew (p : Program) : Type 0 where
@@ -83,10 +60,8 @@ pub record DeclaresFew (p : Program) : Type 0 where
 pub few_parts : (unit : CompilationUnit) (count : ℕ) (p : Program) → Elaborates unit count (Ok p) → AreFew (table unit) → DeclaresFew p
 few_parts unit count p h few =
     let c = comes unit count p h in
-    let m = made_of c.j c.t unit count p c.becomes in
-    let rows = c.is_table.rows in
     record {
-      classes = subst (λ (l : List Class). length l ≤ 1048594) (sym (ap (λ (x : Table). x.classes) rows) ∙ ap (λ (x : Program). x.classes) m.is) few.classes;
-      methods = subst (λ (l : List Method). length l ≤ 1048612) (sym (ap (λ (x : Table). x.methods) rows) ∙ ap (λ (x : Program). x.methods) m.is) few.methods;
-      fields = subst (λ (l : List Field). length l ≤ 1048577) (sym (ap (λ (x : Table). x.fields) rows) ∙ ap (λ (x : Program). x.fields) m.is) few.fields;
+      classes = subst (λ (l : List Class). length l ≤ 1048594) c.classes few.classes;
+      methods = subst (λ (l : List Method). length l ≤ 1048612) c.methods few.methods;
+      fields = subst (λ (l : List Field). length l ≤ 1048577) c.fields few.fields;
     }

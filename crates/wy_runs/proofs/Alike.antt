@@ -1,6 +1,7 @@
 -- The methods of a class that have one name and the same parameter types.
 use Rattle.std.proofs.Common.{◌≡◌, refl, sym, ◌∙◌, ap, subst, ℕ, ◌⊎◌, inl, inr, false, not, List, Some}
 use Rattle.std.specs.Prelude.{slice_get}
+use Rattle.std.proofs.lemmas.Bool.{not-true}
 use Rattle.wy_kernel.specs.declared.types.Ty.{Ty}
 use Rattle.wy_kernel.specs.declared.types.MethodForm.{MethodForm}
 use Rattle.wy_kernel.specs.declared.types.MethodForm.TheVariants as kind
@@ -13,7 +14,6 @@ use Rattle.wy_members.specs.Broken.{Overrides, Inherits, static_against_instance
 use Rattle.wy_members.proofs.Contained.{contained}
 use Rattle.wy_members.proofs.Straight.{straight, further_up, above_object}
 use Rattle.wy_members.proofs.Related.{class_below_class}
-use Rattle.wy_runs.proofs.Lists.{not_true}
 use Rattle.wy_runs.proofs.Codes.{RunsAs}
 use Rattle.wy_runs.proofs.Chains.{IsAt}
 use Rattle.wy_runs.proofs.Dispatch.{Lacks}
@@ -67,7 +67,7 @@ module _ (classes : List Class) (methods : List Method) where
       ((i : ℕ) × (slice_get methods i ≡ Some b)) × RunsAs b.class m b
   runs_alike c m a j b h name params form =
       let w = of_filtered is_open methods j b h.0 in
-      (w.0, record { class = refl; form = form; open_to_all = not_true b.is_private w.1; named = h.1.member.named ∙ name; params = h.1.same ∙ params })
+      (w.0, record { class = refl; form = form; open_to_all = not-true b.is_private w.1; named = h.1.member.named ∙ name; params = h.1.same ∙ params })
 
   module _ (keeps : KeepRules classes methods) (c : ℕ) where
     -- a class that declares no method which runs as m declares none like an instance method which is like m

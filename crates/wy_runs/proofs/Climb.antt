@@ -8,6 +8,7 @@ use Rattle.wy_kernel.specs.Program.{Class}
 use Rattle.wy_kernel.specs.Subtyping.{direct_supertypes, Supertype, itself, further, IsAcyclic}
 use Rattle.wy_kernel.proofs.Supertypes.{contained}
 use Rattle.wy_kernel.proofs.Closing.{one_more}
+use Rattle.wy_judgement.proofs.Decided.{Decided}
 
 -- class e extends or implements one that class c is above
 abbrev IsUnder : List Class → ℕ → ℕ → Type 0
@@ -73,9 +74,6 @@ climb classes acyclic P step c =
     climb_from classes acyclic P step (suc (length classes)) [] c (record { once = tt; among = λ e h. none_contained e h; under = λ e h. none_contained e h }) (omega arith)
 
 -- ---- whether a class is above another
-
-abbrev pub Decided : Type 0 → Type 0
-Decided P = P ⊎ (P → ⊥)
 
 -- one of the list has the property, or none
 abbrev SomeOrNone : (ℕ → Type 0) → List ℕ → Type 0

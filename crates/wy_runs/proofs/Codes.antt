@@ -1,8 +1,8 @@
 -- Types of variables whose classes are few have codes of their own, so methods run as another where their names and parameter types are its own.
-use Rattle.std.proofs.Common.{◌≡◌, refl, sym, ◌∙◌, ap, arith, ℕ, ◌+◌, ◌*◌, ◌<◌, ◌≤◌, Bool, true, false, not, ◌&&◌, List, [], ◌∷◌, eq-eqb}
+use Rattle.std.proofs.Common.{◌≡◌, refl, sym, ◌∙◌, ap, arith, ℕ, ◌+◌, ◌*◌, ◌<◌, ◌≤◌, Bool, true, false, not, ◌&&◌, List, [], ◌∷◌}
 use Rattle.std.specs.Prelude.{◌==◌}
 use Rattle.std.specs.List.{All}
-use Rattle.std.proofs.lemmas.Bool.Decides.{nat_tests}
+use Rattle.std.proofs.lemmas.Bool.{and_parts, and_from, not-true, eqb-true, eq-eqb}
 use Rattle.std.proofs.lemmas.List.Elements.{All-head, All-tail}
 use Rattle.wy_kernel.specs.declared.operator.Primitive.{Primitive}
 use Rattle.wy_kernel.specs.declared.operator.Primitive.TheVariants as prim
@@ -15,21 +15,10 @@ use Rattle.wy_kernel.specs.declared.types.MethodForm.TheVariants as kind
 use Rattle.wy_kernel.specs.Program.{Method, primitive_code, base_code, type_code, same_units, same_types, is_instance, runs_as}
 use Rattle.wy_kernel.specs.Table.{IsTypeOf}
 use Rattle.wy_typing.specs.Types.{IsVariableType}
-use Rattle.wy_runs.proofs.Lists.{both_left, both_right, not_true}
-
-equal : (a b : ℕ) → (a == b) ≡ true → a ≡ b
-equal a b e = grind (arith, nat_tests)
-
-itself : (a : ℕ) → (a == a) ≡ true
-itself a = eq-eqb a a refl
-
-both : (a b : Bool) → a ≡ true → b ≡ true → (a && b) ≡ true
-both true b e f = f
-both false b e f = absurd (cc)
 
 -- ---- one type
 
-pub same_primitives : (p q : Primitive) → primitive_code p ≡ primitive_code q → p ≡ q
+same_primitives : (p q : Primitive) → primitive_code p ≡ primitive_code q → p ≡ q
 unfolding primitive_code
 same_primitives prim.Bool prim.Bool e = refl
 same_primitives prim.Byte prim.Byte e = refl
@@ -90,15 +79,15 @@ are_same many [] [] le f g e = refl
 are_same many [] (y ∷ ys) le f g e = absurd (cc)
 are_same many (x ∷ xs) [] le f g e = absurd (cc)
 are_same many (x ∷ xs) (y ∷ ys) le f g e =
-    let here : type_code x ≡ type_code y = equal (type_code x) (type_code y) (both_left (type_code x == type_code y) (same_types xs ys) e) in
+    let here : type_code x ≡ type_code y = eqb-true (type_code x) (type_code y) (and_parts (type_code x == type_code y) (same_types xs ys) e).0 in
     let first : x ≡ y = same_type many x y le (All-head IsVariableType x xs f.variables) (All-head IsVariableType y ys g.variables) (All-head (IsTypeOf many) x xs f.known) (All-head (IsTypeOf many) y ys g.known) here in
-    let rest : xs ≡ ys = are_same many xs ys le (rest_typed many x xs f) (rest_typed many y ys g) (both_right (type_code x == type_code y) (same_types xs ys) e) in
+    let rest : xs ≡ ys = are_same many xs ys le (rest_typed many x xs f) (rest_typed many y ys g) (and_parts (type_code x == type_code y) (same_types xs ys) e).1 in
     λ i. first i ∷ rest i
 
 types_themselves : (xs : List Ty) → same_types xs xs ≡ true
 unfolding same_types
 types_themselves [] = refl
-types_themselves (x ∷ xs) = both (type_code x == type_code x) (same_types xs xs) (itself (type_code x)) (types_themselves xs)
+types_themselves (x ∷ xs) = and_from (type_code x == type_code x) (same_types xs xs) (eq-eqb (type_code x) (type_code x) refl) (types_themselves xs)
 
 same_names : (xs ys : List ℕ) → same_units xs ys ≡ true → xs ≡ ys
 unfolding same_units
@@ -106,14 +95,14 @@ same_names [] [] e = refl
 same_names [] (y ∷ ys) e = absurd (cc)
 same_names (x ∷ xs) [] e = absurd (cc)
 same_names (x ∷ xs) (y ∷ ys) e =
-    let first : x ≡ y = equal x y (both_left (x == y) (same_units xs ys) e) in
-    let rest : xs ≡ ys = same_names xs ys (both_right (x == y) (same_units xs ys) e) in
+    let first : x ≡ y = eqb-true x y (and_parts (x == y) (same_units xs ys) e).0 in
+    let rest : xs ≡ ys = same_names xs ys (and_parts (x == y) (same_units xs ys) e).1 in
     λ i. first i ∷ rest i
 
 names_themselves : (xs : List ℕ) → same_units xs xs ≡ true
 unfolding same_units
 names_themselves [] = refl
-names_themselves (x ∷ xs) = both (x == x) (same_units xs xs) (itself x) (names_themselves xs)
+names_themselves (x ∷ xs) = and_from (x == x) (same_units xs xs) (eq-eqb x x refl) (names_themselves xs)
 
 -- ---- methods
 
@@ -138,15 +127,16 @@ runs_so many d m other le f g e =
     let x : Bool = not other.is_private in
     let n : Bool = same_units m.name other.name in
     let t : Bool = same_types m.params other.params in
-    let four = both_left (a && b && x && n) t e in
-    let three = both_left (a && b && x) n four in
-    let two = both_left (a && b) x three in
+    let four = and_parts (a && b && x && n) t e in
+    let three = and_parts (a && b && x) n four.0 in
+    let two = and_parts (a && b) x three.0 in
+    let one = and_parts a b two.0 in
     record {
-      class = equal other.class d (both_left a b two);
-      form = instance_form other.form (both_right a b two);
-      open_to_all = not_true other.is_private (both_right (a && b) x three);
-      named = sym (same_names m.name other.name (both_right (a && b && x) n four));
-      params = sym (are_same many m.params other.params le f g (both_right (a && b && x && n) t e));
+      class = eqb-true other.class d one.0;
+      form = instance_form other.form one.1;
+      open_to_all = not-true other.is_private two.1;
+      named = sym (same_names m.name other.name three.1);
+      params = sym (are_same many m.params other.params le f g four.1);
     }
 
 pub runs_too : (d : ℕ) (m other : Method) → RunsAs d m other → runs_as d m other ≡ true
@@ -157,10 +147,10 @@ runs_too d m other r =
     let x : Bool = not other.is_private in
     let n : Bool = same_units m.name other.name in
     let t : Bool = same_types m.params other.params in
-    both (a && b && x && n) t
-    (both (a && b && x) n
-    (both (a && b) x
-    (both a b (eq-eqb other.class d r.class) (ap is_instance r.form))
+    and_from (a && b && x && n) t
+    (and_from (a && b && x) n
+    (and_from (a && b) x
+    (and_from a b (eq-eqb other.class d r.class) (ap is_instance r.form))
     (ap not r.open_to_all))
     (ap (same_units m.name) r.named ∙ names_themselves m.name))
     (ap (same_types m.params) r.params ∙ types_themselves m.params)

@@ -3,6 +3,7 @@ use Rattle.std.proofs.Common.{◌≡◌, refl, sym, ◌∙◌, ap, subst, arith,
 use Rattle.std.specs.Prelude.{None as Absent}
 use Rattle.std.specs.Prelude.{slice_get, is_some, option_map, option_to_list, unwrap_or}
 use Rattle.std.specs.List.{Contains, list_all}
+use Rattle.std.proofs.lemmas.Bool.{and_parts, not-true}
 use Rattle.std.proofs.lemmas.Bool.Decides.{nat_tests}
 use Rattle.std.proofs.lemmas.List.Elements.{Contains-append_left}
 use Rattle.std.proofs.lemmas.Option.{slice_get-map}
@@ -17,7 +18,7 @@ use Rattle.wy_members.proofs.Contained.{contained, in_numbered}
 use Rattle.wy_members.proofs.InRange.{acyclic, names_among}
 use Rattle.wy_members.proofs.Judgeable.{has_top}
 use Rattle.wy_members.proofs.Library.{how_many}
-use Rattle.wy_runs.proofs.Lists.{both_left, both_right, not_true, passing, of_two, in_second, of_chosen}
+use Rattle.wy_runs.proofs.Lists.{passing, of_two, in_second, of_chosen}
 use Rattle.wy_runs.proofs.Chains.{IsAt, AreSorted}
 
 -- ---- the library
@@ -50,15 +51,15 @@ plain_row : (c : ℕ) (row : Class) → slice_get builtin.classes c ≡ Some row
 plain_row c row at = passing is_plain builtin.classes c row all_plain at
 
 pub library_no_interface : (c : ℕ) (row : Class) → slice_get builtin.classes c ≡ Some row → row.is_interface ≡ false
-library_no_interface c row at = not_true row.is_interface (both_left (not row.is_interface) (implements_none row.interfaces && in_library row.above) (plain_row c row at))
+library_no_interface c row at = not-true row.is_interface (and_parts (not row.is_interface) (implements_none row.interfaces && in_library row.above) (plain_row c row at)).0
 
 library_implements_none : {A : Type 0} (c d : ℕ) (row : Class) → slice_get builtin.classes c ≡ Some row → Contains row.interfaces d → A
 library_implements_none c d row at h =
-    none_implemented row.interfaces d (both_left (implements_none row.interfaces) (in_library row.above) (both_right (not row.is_interface) (implements_none row.interfaces && in_library row.above) (plain_row c row at))) h
+    none_implemented row.interfaces d (and_parts (implements_none row.interfaces) (in_library row.above) (and_parts (not row.is_interface) (implements_none row.interfaces && in_library row.above) (plain_row c row at)).1).0 h
 
 library_extends : (c d : ℕ) (row : Class) → slice_get builtin.classes c ≡ Some row → row.above ≡ Some d → d < 18
 library_extends c d row at is =
-    library_number row.above d (both_right (implements_none row.interfaces) (in_library row.above) (both_right (not row.is_interface) (implements_none row.interfaces && in_library row.above) (plain_row c row at))) is
+    library_number row.above d (and_parts (implements_none row.interfaces) (in_library row.above) (and_parts (not row.is_interface) (implements_none row.interfaces && in_library row.above) (plain_row c row at)).1).1 is
 
 -- each class behind Object extends one
 all_extend : list_all (λ (row : Class). is_some row.above) (drop 1 builtin.classes) ≡ true

@@ -7,7 +7,7 @@ use Rattle.wy_kernel.specs.Table.{Table}
 use Rattle.wy_kernel.specs.Subtyping.{Below, to_object, Substitutable, class_type}
 use Rattle.wy_members.specs.Choice.{IsClass, Equivalent, IsNearest, NearestHasBody, Counts, nearest, lowest}
 use Rattle.wy_members.specs.Broken.{Inherits, StandsForEach, inherited_results}
-use Rattle.wy_runs.proofs.Climb.{Decided}
+use Rattle.wy_judgement.proofs.Decided.{Decided}
 use Rattle.wy_runs.proofs.Codes.{RunsAs}
 use Rattle.wy_runs.proofs.Chains.{IsAt, OfClass, Ascends, stays, same_row, class_ascending, below_ascending, object_or_on_chain, of_class, is_class, row_at}
 use Rattle.wy_runs.proofs.Results.{substitutable_or_not}

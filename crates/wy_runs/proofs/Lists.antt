@@ -1,20 +1,9 @@
 -- Elements of lists, and lists that a test or a map leaves as they are.
-use Rattle.std.proofs.Common.{◌≡◌, refl, sym, ◌∙◌, ap, arith, ℕ, zero, suc, ◌+◌, ◌⊎◌, inl, inr, Bool, true, false, not, ◌&&◌, cond, List, [], ◌∷◌, ◌++◌, length, Option, Some, map}
+use Rattle.std.proofs.Common.{◌≡◌, refl, sym, ◌∙◌, ap, arith, ℕ, zero, suc, ◌+◌, ◌⊎◌, inl, inr, Bool, true, cond, List, [], ◌∷◌, ◌++◌, length, Option, Some, map}
 use Rattle.std.specs.Prelude.{None as Absent}
 use Rattle.std.specs.Prelude.{slice_get, filter, filter_map}
 use Rattle.std.specs.List.{Contains, list_all, cons_option}
-
-pub both_left : (a b : Bool) → (a && b) ≡ true → a ≡ true
-both_left true b e = refl
-both_left false b e = absurd (cc)
-
-pub both_right : (a b : Bool) → (a && b) ≡ true → b ≡ true
-both_right true b e = e
-both_right false b e = absurd (cc)
-
-pub not_true : (b : Bool) → not b ≡ true → b ≡ false
-not_true true e = absurd (cc)
-not_true false e = refl
+use Rattle.std.proofs.lemmas.Bool.{and_parts, and_from}
 
 pub later : {X : Type 0} (x y : X) (xs : List X) → Contains xs x → Contains (y ∷ xs) x
 later x y xs (k, lt, e) = (suc k, omega (arith, lt), e)
@@ -25,16 +14,12 @@ first x xs = (0, omega arith, refl)
 -- an element that passes a test which all pass
 pub passing : {X : Type 0} (test : X → Bool) (xs : List X) (i : ℕ) (x : X) → list_all test xs ≡ true → slice_get xs i ≡ Some x → test x ≡ true
 passing test [] i x all e = absurd (cc)
-passing test (y ∷ ys) zero x all e = let same : y ≡ x = cc in ap test (sym same) ∙ both_left (test y) (list_all test ys) all
-passing test (y ∷ ys) (suc i) x all e = passing test ys i x (both_right (test y) (list_all test ys) all) e
+passing test (y ∷ ys) zero x all e = let same : y ≡ x = cc in ap test (sym same) ∙ (and_parts (test y) (list_all test ys) all).0
+passing test (y ∷ ys) (suc i) x all e = passing test ys i x (and_parts (test y) (list_all test ys) all).1 e
 
 pub all_pass : {X : Type 0} (test : X → Bool) (xs : List X) → ((x : X) → Contains xs x → test x ≡ true) → list_all test xs ≡ true
 all_pass test [] h = refl
-all_pass test (x ∷ xs) h = by (test x) (list_all test xs) (h x (first x xs)) (all_pass test xs (λ y c. h y (later y x xs c)))
-  where
-    by : (a b : Bool) → a ≡ true → b ≡ true → (a && b) ≡ true
-    by true b e f = f
-    by false b e f = absurd (cc)
+all_pass test (x ∷ xs) h = and_from (test x) (list_all test xs) (h x (first x xs)) (all_pass test xs (λ y c. h y (later y x xs c)))
 
 pub all_left : {X : Type 0} (test : X → Bool) (xs : List X) → ((x : X) → Contains xs x → test x ≡ true) → filter test xs ≡ xs
 all_left test [] h = refl

@@ -1,49 +1,18 @@
 -- Whether the result of a method may stand for that of another is decided.
-use Rattle.std.proofs.Common.{◌≡◌, refl, sym, ap, subst, arith, ℕ, zero, suc, ◌<◌, ◌≤◌, ◌⊎◌, inl, inr, List}
+use Rattle.std.proofs.Common.{◌≡◌, refl, sym, subst, arith, ℕ, zero, suc, ◌<◌, ◌≤◌, ◌⊎◌, inl, inr, List}
 use Rattle.std.proofs.lemmas.Bool.Decides.{eqb_tells, leb_tells}
 use Rattle.wy_kernel.specs.declared.operator.Primitive.{Primitive}
-use Rattle.wy_kernel.specs.declared.types.Base.{Base}
 use Rattle.wy_kernel.specs.declared.types.Base.TheVariants.{Primitive as Basic, Class as Named}
 use Rattle.wy_kernel.specs.declared.types.Ty.{Ty}
 use Rattle.wy_kernel.specs.declared.types.Ty.TheVariants.{Void, Null, Of}
-use Rattle.wy_kernel.specs.Program.{Class, primitive_code}
+use Rattle.wy_kernel.specs.Program.{Class}
 use Rattle.wy_kernel.specs.Subtyping.{IsAcyclic, Supertype, itself, IsReference, Below, Substitutable}
 use Rattle.wy_members.specs.Lineage.{HasTop}
 use Rattle.wy_members.proofs.Straight.{Straight, equal, upward, widening, object, array, straight, array_below_object, class_arrays_below, object_arrays_above}
 use Rattle.wy_members.proofs.Related.{deeper, below_void, below_null, class_below_primitive}
-use Rattle.wy_runs.proofs.Climb.{Decided, above_or_not}
-use Rattle.wy_runs.proofs.Codes.{same_primitives}
-
-numbers : (m n : ℕ) → Decided (m ≡ n)
-numbers m n = elim (eqb_tells m n) [ inl e ↦ inl e.1 | inr e ↦ inr e.1 ]
-
--- ---- equality
-
-same_bases : (a b : Base) → Decided (a ≡ b)
-same_bases (Basic p) (Basic q) =
-    elim (numbers (primitive_code p) (primitive_code q)) [
-      | inl e ↦ inl (ap Basic (same_primitives p q e))
-      | inr other ↦ inr (λ e. other (let same : p ≡ q = cc in ap primitive_code same))
-    ]
-same_bases (Basic p) (Named d) = inr (λ e. cc)
-same_bases (Named c) (Basic q) = inr (λ e. cc)
-same_bases (Named c) (Named d) = elim (numbers c d) [ inl e ↦ inl (ap Named e) | inr other ↦ inr (λ e. other (cc)) ]
-
-with_brackets : (a b : Base) (m n : ℕ) → Decided (a ≡ b) → Decided (m ≡ n) → Decided (Of a m ≡ Of b n)
-with_brackets a b m n (inl e) (inl f) = inl (λ i. Of (e i) (f i))
-with_brackets a b m n (inr other) g = inr (λ e. other (cc))
-with_brackets a b m n (inl f) (inr other) = inr (λ e. other (cc))
-
-same_types : (a b : Ty) → Decided (a ≡ b)
-same_types Void Void = inl refl
-same_types Void Null = inr (λ e. cc)
-same_types Void (Of b n) = inr (λ e. cc)
-same_types Null Void = inr (λ e. cc)
-same_types Null Null = inl refl
-same_types Null (Of b n) = inr (λ e. cc)
-same_types (Of a m) Void = inr (λ e. cc)
-same_types (Of a m) Null = inr (λ e. cc)
-same_types (Of a m) (Of b n) = with_brackets a b m n (same_bases a b) (numbers m n)
+use Rattle.wy_judgement.proofs.Decided.{Decided, same_number}
+use Rattle.wy_judgement.proofs.Types.{same_type}
+use Rattle.wy_runs.proofs.Climb.{above_or_not}
 
 -- ---- subtypes
 
@@ -76,7 +45,7 @@ below_objects classes c d m n top e =
 
 below_others : (classes : List Class) (c d m n : ℕ) → HasTop classes → IsAcyclic classes → (d ≡ 0 → ⊥) → Decided (Lower classes (Of (Named c) m) (Of (Named d) n))
 below_others classes c d m n top acyclic other =
-    elim (numbers m n) [
+    elim (same_number m n) [
       | inl e ↦ elim (above_or_not classes acyclic c d) [
         | inl s ↦ inl (tt, subst (λ k. Below classes (Of (Named c) k) (Of (Named d) n)) (sym e) (class_arrays_below classes c d n s))
         | inr none ↦ inr (λ h. elim (classes_lower classes (straight classes top h.1)) [ inl x ↦ none x.1 | inr is ↦ other is ])
@@ -97,17 +66,17 @@ lower_or_not classes top acyclic Null b other = inr (λ h. h.0)
 lower_or_not classes top acyclic (Of x m) Void other = inr (λ h. other (below_void classes (straight classes top h.1)))
 lower_or_not classes top acyclic (Of x m) Null other = inr (λ h. other (below_null classes (straight classes top h.1)))
 lower_or_not classes top acyclic (Of (Named c) m) (Of (Named d) n) other =
-    elim (numbers d 0) [ inl e ↦ below_objects classes c d m n top e | inr not_object ↦ below_others classes c d m n top acyclic not_object ]
+    elim (same_number d 0) [ inl e ↦ below_objects classes c d m n top e | inr not_object ↦ below_others classes c d m n top acyclic not_object ]
 lower_or_not classes top acyclic (Of (Named c) m) (Of (Basic q) n) other = inr (λ h. class_below_primitive classes (straight classes top h.1))
 lower_or_not classes top acyclic (Of (Basic p) zero) (Of y n) other = inr (λ h. h.0)
 lower_or_not classes top acyclic (Of (Basic p) (suc m)) (Of (Named d) n) other =
-    elim (numbers d 0) [ inl e ↦ primitive_below_objects classes p d m n top e | inr not_object ↦ inr (λ h. not_object (primitive_arrays_lower classes (straight classes top h.1)).1) ]
+    elim (same_number d 0) [ inl e ↦ primitive_below_objects classes p d m n top e | inr not_object ↦ inr (λ h. not_object (primitive_arrays_lower classes (straight classes top h.1)).1) ]
 lower_or_not classes top acyclic (Of (Basic p) (suc m)) (Of (Basic q) n) other =
     inr (λ h. elim (primitives_lower classes (straight classes top h.1)) [ inl e ↦ other e | inr e ↦ (let zeroth : suc m ≡ 0 = e in omega arith) ])
 
 pub substitutable_or_not : (classes : List Class) → HasTop classes → IsAcyclic classes → (a b : Ty) → Decided (Substitutable classes a b)
 substitutable_or_not classes top acyclic a b =
-    elim (same_types a b) [
+    elim (same_type a b) [
       | inl e ↦ inl (inl e)
       | inr other ↦ elim (lower_or_not classes top acyclic a b other) [
         | inl lower ↦ inl (inr lower)

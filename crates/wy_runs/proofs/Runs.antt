@@ -9,7 +9,7 @@ use Rattle.wy_members.specs.Broken.{wrong_result}
 use Rattle.wy_members.proofs.Contained.{contained}
 use Rattle.wy_typing.specs.Programs.{RunsFor, RunsMethods}
 use Rattle.wy_typed_expr.specs.Typed.{MethodsFit}
-use Rattle.wy_runs.proofs.Climb.{Decided}
+use Rattle.wy_judgement.proofs.Decided.{Decided}
 use Rattle.wy_runs.proofs.Codes.{AreTyped}
 use Rattle.wy_runs.proofs.Chains.{IsAt, same_row, below_ascending}
 use Rattle.wy_runs.proofs.Results.{substitutable_or_not}

@@ -1,21 +1,20 @@
 -- The table of a text that keeps the rules, and the program that the text becomes.
-use Rattle.std.proofs.Common.{◌≡◌, refl, sym, ◌∙◌, ap, subst, ℕ, ◌<◌, inr, false, true, List, length, Some, Result, Ok}
+use Rattle.std.proofs.Common.{◌≡◌, sym, subst, ℕ, ◌<◌, inr, false, true, List, length, Some, Ok}
 use Rattle.std.specs.Prelude.{slice_get}
 use Rattle.std.specs.List.{All}
-use Rattle.std.proofs.lemmas.Option.{slice_get_within, get_or_from_slice_get}
 use Rattle.wy_kernel.specs.Program.{Program, Class, Method}
 use Rattle.wy_kernel.specs.Subtyping.{class_type}
 use Rattle.wy_kernel.specs.Table.{Table, IsMethodOf}
-use Rattle.wy_constant.specs.Refusal.{Refusal}
 use Rattle.wy_constant.specs.declared.rule.Rule.TheVariants as rule
 use Rattle.wy_members.specs.Choice.{NearestHasBody}
 use Rattle.wy_members.specs.Declarations.{CompilationUnit, table}
 use Rattle.wy_members.specs.Broken.{Inherits, HasWrongMethod, again_method, declares_abstract, left_in, compared, known_part}
 use Rattle.wy_members.specs.Refusal.{KeepsRules}
-use Rattle.wy_elab_stmt.specs.Elaborates.{Elaborates, by_declarations, by_bodies}
+use Rattle.wy_elab_stmt.specs.Elaborates.{Elaborates}
 use Rattle.wy_typing.specs.Types.{IsVariableType}
 use Rattle.wy_typing.specs.Programs.{IsDeclared}
-use Rattle.wy_typed.proofs.Programs.{made_of}
+use Rattle.wy_typed_expr.proofs.Finding.{all_at}
+use Rattle.wy_typed.proofs.Made.{Comes, comes}
 use Rattle.wy_runs.specs.Laws.{ClassesRunMethods}
 use Rattle.wy_runs.proofs.Codes.{AreTyped}
 use Rattle.wy_runs.proofs.Chains.{IsAt}
@@ -24,10 +23,6 @@ use Rattle.wy_runs.proofs.Hierarchy.{judged, are_sorted}
 use Rattle.wy_runs.proofs.Compared.{all_is_known, compared_is}
 use Rattle.wy_runs.proofs.Abstract.{interfaces_abstract}
 use Rattle.wy_runs.proofs.Runs.{all_run}
-
--- what holds of each element holds of that at a place
-at_place : {X : Type 0} (P : X → Type 0) (xs : List X) (i : ℕ) (x : X) → All P xs → slice_get xs i ≡ Some x → P x
-at_place P xs i x all e = subst P (get_or_from_slice_get xs i x x e) (all i x (slice_get_within xs i x e))
 
 module _ (unit : CompilationUnit) (keeps : KeepsRules unit) where
   none_again : (i j : ℕ) (a b : Method) → i < j → slice_get (table unit).methods i ≡ Some a → slice_get (table unit).methods j ≡ Some b → a.class ≡ b.class → a.name ≡ b.name → a.params ≡ b.params → ⊥
@@ -58,35 +53,19 @@ module _ (unit : CompilationUnit) (keeps : KeepsRules unit) where
 
 -- ---- the program
 
--- the text keeps the rules, and its program has the classes and methods of its table
-record IsTableIn (unit : CompilationUnit) (p : Program) : Type 0 where
-  pub keeps : KeepsRules unit
-  pub classes : (table unit).classes ≡ p.classes
-  pub methods : (table unit).methods ≡ p.methods
-
-from_result : (unit : CompilationUnit) (count : ℕ) (p : Program) (r : Result Program Refusal) → r ≡ Ok p → Elaborates unit count r → IsTableIn unit p
-from_result unit count p r e (by_declarations rule token broken) = absurd (cc)
-from_result unit count p r e (by_bodies t j keeps is settled) =
-    let made = made_of j t unit count p e in
-    record {
-      keeps = keeps;
-      classes = sym (ap (λ (x : Table). x.classes) is.rows) ∙ ap (λ (x : Program). x.classes) made.is;
-      methods = sym (ap (λ (x : Table). x.methods) is.rows) ∙ ap (λ (x : Program). x.methods) made.is;
-    }
-
 typed_methods : (p : Program) → IsDeclared p → (j : ℕ) (m : Method) → slice_get p.methods j ≡ Some m → AreTyped (length p.classes) m.params
 typed_methods p declared j m found = record {
-  variables = at_place (λ (x : Method). All IsVariableType x.params) p.methods j m declared.params found;
-  known = (at_place (IsMethodOf (length p.classes)) p.methods j m declared.methods found).params;
+  variables = all_at (λ (x : Method). All IsVariableType x.params) p.methods j m declared.params found;
+  known = (all_at (IsMethodOf (length p.classes)) p.methods j m declared.methods found).params;
 }
 
-kept_by : (unit : CompilationUnit) (p : Program) → IsTableIn unit p → IsDeclared p → KeepRules p.classes p.methods
-kept_by unit p is declared =
+kept_by : (unit : CompilationUnit) (count : ℕ) (p : Program) → Comes unit count p → IsDeclared p → KeepRules p.classes p.methods
+kept_by unit count p is declared =
     subst (λ (ms : List Method). KeepRules p.classes ms) is.methods
     (subst (λ (cs : List Class). KeepRules cs (table unit).methods) is.classes
-    (keep_rules unit is.keeps (λ k m found. subst (λ (cs : List Class). m.class < length cs) (sym is.classes) (at_place (IsMethodOf (length p.classes)) p.methods k m declared.methods (subst (λ (ms : List Method). slice_get ms k ≡ Some m) is.methods found)).class)))
+    (keep_rules unit is.keeps (λ k m found. subst (λ (cs : List Class). m.class < length cs) (sym is.classes) (all_at (IsMethodOf (length p.classes)) p.methods k m declared.methods (subst (λ (ms : List Method). slice_get ms k ≡ Some m) is.methods found)).class)))
 
 pub classes_run : ((unit : CompilationUnit) (count : ℕ) (p : Program) → Elaborates unit count (Ok p) → IsDeclared p) → ClassesRunMethods
 classes_run stand unit count p few fit accepted =
     let declared = stand unit count p accepted in
-    all_run p few (kept_by unit p (from_result unit count p (Ok p) refl accepted) declared) (typed_methods p declared) fit
+    all_run p few (kept_by unit count p (comes unit count p accepted) declared) (typed_methods p declared) fit

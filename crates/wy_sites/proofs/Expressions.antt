@@ -23,7 +23,7 @@ use Rattle.wy_elab_expr.specs.Meaning.{Meaning, Known, Formed, type_of, Gets, gi
 use Rattle.wy_elab_expr.specs.Operators.{Judgement, is_void, is_text_type, is_assignable}
 use Rattle.wy_elab_expr.specs.Members.{Spot, spot, this_form, named_spot, qualified_spot, qualified_name, field_spot, no_field, is_library_name, Nothing, Object, OfClass, Super, text_methods, library_call, some_void}
 use Rattle.wy_elab_expr.specs.Elaboration.{type_with, type_written, literal_or_null, literal_meaning, ClassName, class_in, Stream, Input, Output, stream_in, class_methods, is_of_texts, called_on_known, called_on_class, called_on, byte_read, printed_type, is_printed, Printed, printed, is_print, some_printed, print_operand, called_on_stream, above, super_field_named, super_spot, is_index, element_of, element_at, element_spot, sizes_of, with_brackets, assigned_value, assigned, adds_text, updated_in, left_primitive, updated_by, updated, stepped_in, stepped, read, is_an_array, field_target, is_limit, class_target, just, class_for_new, Listing, listing, or_type, is_place, elaborated, elaborated_all, target, elements_of, initialized}
-use Rattle.wy_structure.proofs.Yields.{Yields, given, refused_found, anything, then_found, of_choice}
+use Rattle.wy_structure.proofs.Yields.{Yields, given, refused_found, anything, then_found, of_choice, of_option}
 use Rattle.wy_sites.specs.Sites.{Sited, RowSited}
 use Rattle.wy_sites.proofs.Tokens.{Tokens, RowTokens, InitialTokens, ElementTokens}
 use Rattle.wy_sites.proofs.Forms.{MeaningSited, MeaningsSited, GetsSited, brought_sited, formed_sited, unary_sited, binary_sited, lazy_sited, choice_sited, cast_sited, instance_sited}
@@ -184,15 +184,6 @@ read_spot_sited P f h = then_found f (λ p. give (read p)) (SpotSited P) (Meanin
 abbrev pub ListingSited : (ℕ → Type 0) → Listing → Type 0
 ListingSited P l = RowSited P l.forms × AllByRecursion P l.sites
 
--- by what a name denotes
-for_class : {A : Type 0} (P : A → Type 0) (c : Option ClassName) (f : ClassName → Gets A) (g : Gets A) → ((x : ClassName) → Yields (f x) P) → Yields g P → Yields (elim c [ Some x ↦ f x | None ↦ g ]) P
-for_class P None f g h i = i
-for_class P (Some x) f g h i = h x
-
-for_stream : {A : Type 0} (P : A → Type 0) (c : Option Stream) (f : Stream → Gets A) (g : Gets A) → ((x : Stream) → Yields (f x) P) → Yields g P → Yields (elim c [ Some x ↦ f x | None ↦ g ]) P
-for_stream P None f g h i = i
-for_stream P (Some x) f g h i = h x
-
 mutual
   unfolding elaborated elaborated_all target elements_of initialized
 
@@ -204,12 +195,12 @@ mutual
   elaborated_sited P j t s (source.Invoke name args token) h =
       then_found (elaborated_all j t s args) _ (MeaningsSited P) (MeaningSited P) (elaborated_all_sited P j t s args h.1) (λ ms i. called_sited P j t s Nothing (class_type s.class) name ms token h.0 tt i)
   elaborated_sited P j t s (source.Field object name token) h =
-      for_class (MeaningSited P) (class_in t s object) (λ c. qualified_name t s c.name name c.token token) _ (λ c. qualified_name_sited P t s c.name name c.token token h.0)
+      of_option (MeaningSited P) (class_in t s object) (λ c. qualified_name t s c.name name c.token token) _ (λ c. qualified_name_sited P t s c.name name c.token token h.0)
       (then_found (elaborated j t s object) _ (MeaningSited P) (MeaningSited P) (elaborated_sited P j t s object h.1) (λ m i. field_read_sited P t s m name token h.0 i))
   elaborated_sited P j t s (source.InvokeOn object name args token) h =
-      for_stream (MeaningSited P) (stream_in t s object) (λ x. elaborated_all j t s args >>= λ ms. called_on_stream x name ms token) _
+      of_option (MeaningSited P) (stream_in t s object) (λ x. elaborated_all j t s args >>= λ ms. called_on_stream x name ms token) _
       (λ x. then_found (elaborated_all j t s args) _ (MeaningsSited P) (MeaningSited P) (elaborated_all_sited P j t s args h.2) (λ ms i. stream_sited P x name ms token h.0))
-      (for_class (MeaningSited P) (class_in t s object) (λ c. elaborated_all j t s args >>= λ ms. called_on_class j t s c name ms token) _
+      (of_option (MeaningSited P) (class_in t s object) (λ c. elaborated_all j t s args >>= λ ms. called_on_class j t s c name ms token) _
       (λ c. then_found (elaborated_all j t s args) _ (MeaningsSited P) (MeaningSited P) (elaborated_all_sited P j t s args h.2) (λ ms i. class_call_sited P j t s c name ms token h.0 i))
       (then_found (elaborated j t s object) _ (MeaningSited P) (MeaningSited P) (elaborated_sited P j t s object h.1) (λ m hm.
       then_found (elaborated_all j t s args) _ (MeaningsSited P) (MeaningSited P) (elaborated_all_sited P j t s args h.2) (λ ms i. object_call_sited P j t s m name ms token h.0 hm i))))
@@ -276,7 +267,7 @@ mutual
   target_sited P j t s (source.Name name token) h = just_sited P (named_spot t s name token) (named_spot_sited P t s name token h)
   target_sited P j t s (source.Group inner token) h = target_sited P j t s inner h.1
   target_sited P j t s (source.Field object name token) h =
-      for_class (TargetSited P) (class_in t s object) (λ c. class_target t s c name token) _ (λ c. class_target_sited P t s c name token h.0)
+      of_option (TargetSited P) (class_in t s object) (λ c. class_target t s c name token) _ (λ c. class_target_sited P t s c name token h.0)
       (then_found (elaborated j t s object) _ (MeaningSited P) (TargetSited P) (elaborated_sited P j t s object h.1) (λ m i. field_target_sited P t s m name token h.0 i))
   target_sited P j t s (source.SuperField name token) h = just_sited P (super_spot t s name token) (super_sited P t s name token h)
   target_sited P j t s (source.Element array index token) h =

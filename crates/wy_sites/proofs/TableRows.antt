@@ -1,25 +1,26 @@
 -- The rows of a program's table that its text declares have the tokens of its classes as their sites.
-use Rattle.std.proofs.Common.{◌≡◌, subst, arith, ℕ, zero, suc, ◌+◌, ◌≤◌, Bool, true, false, ◌||◌, if◌then◌else◌, List, [], ◌∷◌, ◌++◌, length}
+use Rattle.std.proofs.Common.{◌≡◌, arith, ℕ, zero, suc, ◌+◌, ◌≤◌, Bool, true, false, ◌||◌, if◌then◌else◌, List, [], ◌∷◌, ◌++◌, length}
 use Rattle.std.specs.Prelude.{Some, slice_get, map, flat_map, codes}
 use Rattle.std.specs.List.{AllByRecursion, list_any, enumerate_from, cons_option}
 use Rattle.std.proofs.ByRecursion.{All-append}
+use Rattle.std.proofs.lemmas.List.Elements.{All-contains, All-from_recursion}
 use Rattle.wy_kernel.specs.declared.types.MethodForm.TheVariants as kind
 use Rattle.wy_kernel.specs.Program.{Class, Method, Field, first_source_class}
 use Rattle.wy_kernel.specs.Builtin as builtin
 use Rattle.wy_syntax.specs.Syntax.{WrittenType, Declarator, Placed, Member, ClassSyntax}
 use Rattle.wy_syntax.specs.Syntax as syntax
 use Rattle.wy_members.specs.Declarations.{CompilationUnit, classes_of, class_row, class_rows, method_in, methods_in, methods_of, implied, initializes_objects, fields_unit, is_constructor, implied_constructor, field_rows, fields_in, fields_among, fields_of, class_by_class, table}
+use Rattle.wy_members.proofs.Contained.{contained}
 use Rattle.wy_sites.proofs.Tokens.{DeclaratorTokens, MemberTokens, ClassTokens, ClassesTokens}
 
 -- ---- lists
 
-at_place : {X : Type 0} (Q : X → Type 0) (xs : List X) (i : ℕ) (x : X) → AllByRecursion Q xs → slice_get xs i ≡ Some x → Q x
-at_place Q [] i x h e = absurd cc
-at_place {X} Q (y ∷ xs) zero x h e = let same : y ≡ x = cc in subst Q same h.0
-at_place Q (y ∷ xs) (suc i) x h e = at_place Q xs i x h.1 e
+-- what holds of each element holds of that at a place
+pub at_place : {X : Type 0} (Q : X → Type 0) (xs : List X) (i : ℕ) (x : X) → AllByRecursion Q xs → slice_get xs i ≡ Some x → Q x
+at_place Q xs i x h e = All-contains Q xs x (All-from_recursion Q xs h) (contained xs i x e)
 
 -- what holds of the second of two lists holds of each element behind the first
-behind_first : {X : Type 0} (Q : X → Type 0) (xs ys : List X) (i : ℕ) (x : X) → AllByRecursion Q ys → length xs ≤ i → slice_get (xs ++ ys) i ≡ Some x → Q x
+pub behind_first : {X : Type 0} (Q : X → Type 0) (xs ys : List X) (i : ℕ) (x : X) → AllByRecursion Q ys → length xs ≤ i → slice_get (xs ++ ys) i ≡ Some x → Q x
 behind_first Q [] ys i x h a e = at_place Q ys i x h e
 behind_first Q (y ∷ xs) ys zero x h a e = absurd (omega arith)
 behind_first Q (y ∷ xs) ys (suc i) x h a e = behind_first Q xs ys i x h (omega arith) e

@@ -15,17 +15,13 @@ use Rattle.wy_syntax.specs.Declarations.{Part, Parts, placed, is_block, is_param
 use Rattle.wy_members.specs.Declarations.{class_in, classes_of}
 use Rattle.wy_structure.proofs.Trees.{Full, AllFull, parts_full, wide}
 use Rattle.wy_structure.proofs.Productions.{UnitFull}
-use Rattle.wy_structure.proofs.ClassTrees.{Row, row_rises, row_behind, placed_row, modifiers_row, throws_row, brace_row}
+use Rattle.wy_structure.proofs.ClassTrees.{Row, row_rises, row_behind, row_with, row_longer, placed_row, modifiers_row, throws_row, brace_row}
 use Rattle.wy_sites.specs.Sites.{IsToken}
 use Rattle.wy_sites.proofs.Tokens.{HeaderTokens, OwnTokens, BodyTokens, AllTokens, MemberTokens, ClassesTokens}
 use Rattle.wy_sites.proofs.TreeExpressions.{arguments_tokens}
 use Rattle.wy_sites.proofs.TreeStatements.{declarators_tokens, statement_tokens, block_tokens}
 
 -- ---- parts in a row
-
-row_longer : (low : ℕ) (ps : Parts) (high more : ℕ) → high ≤ more → Row low ps high → Row low ps more
-row_longer low [] high more a r = let there : low ≤ high = r in omega arith
-row_longer low (p ∷ rest) high more a r = (r.0, r.1, row_longer (p.at + width p.what) rest high more a r.2)
 
 placed_before : (K n : ℕ) (parts : Asts) → AllFull parts → n + widths parts ≤ K → Row n (placed n parts) K
 placed_before K n parts f a = row_longer n (placed n parts) (n + widths parts) K a (placed_row n parts f)
@@ -170,10 +166,6 @@ members_tokens K low (p ∷ q ∷ rest) r =
     (member_tokens K p.at p.what r.1 (row_rises (p.at + width p.what) (q ∷ rest) K r.2), members_tokens K (p.at + width p.what) (q ∷ rest) r.2)
 
 -- ---- the methods of an interface
-
-row_with : (low : ℕ) (before : Parts) (middle : ℕ) (p : Part) → Row low before middle → middle ≤ p.at → Full p.what → Row low (before ++ p ∷ []) (p.at + width p.what)
-row_with low [] middle p r a f = let there : low ≤ middle = r in (omega arith, f, omega arith)
-row_with low (q ∷ before) middle p r a f = (r.0, r.1, row_with (q.at + width q.what) before middle p r.2 a f)
 
 method_tokens : (K low : ℕ) (ps : Parts) → Row low ps K → TokensIn K (method_in ps)
 method_tokens K low [] r = tt

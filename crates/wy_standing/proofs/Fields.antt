@@ -17,8 +17,8 @@ use Rattle.wy_members.specs.Refusal.{KeepsRules}
 use Rattle.wy_members.proofs.Contained.{contained, placed, in_flat, in_mapped, in_numbered}
 use Rattle.wy_elab_stmt.specs.Classes.{is_static}
 use Rattle.wy_typed_stmt.specs.Bodies.{BaseDenotes, IsDeclared}
+use Rattle.wy_typed.proofs.Names.{named_as_denoted}
 use Rattle.wy_standing.proofs.Lists.{here, First, first_found}
-use Rattle.wy_standing.proofs.Names.{named_as_denoted}
 
 -- ---- the first of its name
 

@@ -1,17 +1,17 @@
 -- The statements that are made of what is written: their expressions have the tokens of its signs, and their tests those of its words.
 use Rattle.std.proofs.Common.{ℕ, Bool, true, false, List, [], ◌∷◌, ◌++◌}
 use Rattle.std.specs.Prelude.{Option, Some, None}
-use Rattle.std.specs.List.{All}
+use Rattle.std.specs.List.{All, AllByRecursion}
 use Rattle.std.proofs.lemmas.List.Elements.{All-nil, All-cons, All-head, All-tail}
 use Rattle.wy_kernel.specs.declared.types.Ty.{Ty}
 use Rattle.wy_kernel.specs.Form as kernel
 use Rattle.wy_kernel.specs.Subtyping.{class_type}
 use Rattle.wy_kernel.specs.Table.{Table}
-use Rattle.wy_syntax.specs.Syntax.{Expression, Initial, Value, Listed, WrittenType, Named, Declarator, Effect, ForInit, Statement, Block, Empty, Declare, Perform, If, While, Do, For, Labelled, Break, Continue, Return, Throw, Try, Unknown, Braced, braced, Statements, done, first, Other, absent, present, Last, nowhere, finally, Catches, uncaught, catch}
+use Rattle.wy_syntax.specs.Syntax.{Expression, Initial, WrittenType, Named, Declarator, Effect, ForInit, Statement, Block, Empty, Declare, Perform, If, While, Do, For, Labelled, Break, Continue, Return, Throw, Try, Unknown, Braced, braced, Statements, done, first, Other, absent, present, Last, nowhere, finally, Catches, uncaught, catch}
 use Rattle.wy_syntax.specs.Syntax as source
 use Rattle.wy_constant.specs.declared.rule.Rule.TheVariants.{Duplicate, BadOperand, BadJump, BadReturn}
 use Rattle.wy_constant.specs.Scope.{Scope}
-use Rattle.wy_elab_expr.specs.Meaning.{Meaning, type_of, Gets, formed, brought}
+use Rattle.wy_elab_expr.specs.Meaning.{Meaning, type_of, formed, brought}
 use Rattle.wy_elab_expr.specs.Meaning as found
 use Rattle.wy_elab_expr.specs.Operators.{Judgement, is_boolean, boolean_type, is_void, is_assignable}
 use Rattle.wy_elab_expr.specs.Elaboration.{type_written, with_brackets, initialized, Printed, print_operand, elaborated, elaborated_all}
@@ -67,8 +67,7 @@ FirstSigns S None = Unit {0}
 FirstSigns S (Some i) = InitialSigns S i
 
 abbrev pub DeclaratorSigns : Numbers → List Declarator → Type 0
-DeclaratorSigns S [] = Unit {0}
-DeclaratorSigns S (d ∷ rest) = FirstSigns S d.initial × DeclaratorSigns S rest
+DeclaratorSigns S all = AllByRecursion (λ (d : Declarator). FirstSigns S d.initial) all
 
 abbrev pub EffectSigns : Numbers → List Effect → Type 0
 EffectSigns S [] = Unit {0}

@@ -1,6 +1,7 @@
 -- The statements of the classes of a tree stand at its tokens, one after another: no two at one place.
-use Rattle.std.proofs.Common.{◌≡◌, ◌∙◌, refl, sym, ap, subst, arith, ℕ, ◌+◌, ◌*◌, ◌<◌, ◌≤◌, Bool, true, false, ◌&&◌, if◌then◌else◌, List, [], ◌∷◌, ◌++◌}
-use Rattle.std.specs.Prelude.{Option, Some, None, is_some, flat_map, filter_map}
+use Rattle.std.proofs.Common.{◌≡◌, ◌∙◌, refl, sym, ap, subst, arith, ℕ, ◌+◌, ◌*◌, ◌<◌, ◌≤◌, Bool, true, false, if◌then◌else◌, List, [], ◌∷◌, ◌++◌}
+use Rattle.std.specs.Prelude.{Option, Some, None, is_some, flat_map}
+use Rattle.std.proofs.lemmas.Bool.{and_parts}
 use Rattle.std.proofs.lemmas.List.{append-nil}
 use Rattle.wy_tree.specs.Kinds.{kind_of, same}
 use Rattle.wy_tree.specs.Grammar.{is_own}
@@ -12,7 +13,7 @@ use Rattle.wy_tree.specs.declared.kind.Kind.TheVariants as kinds
 use Rattle.wy_tree.specs.declared.tree.Form.TheVariants as form
 use Rattle.wy_kernel.specs.Program.{first_source_class}
 use Rattle.wy_kernel.specs.Table.{Table}
-use Rattle.wy_syntax.specs.Syntax.{Named, WrittenType, Declarator, Statements, Placed, OwnCall, Header, Member, ClassSyntax, Declaration}
+use Rattle.wy_syntax.specs.Syntax.{WrittenType, Declarator, Placed, OwnCall, Header, Member, ClassSyntax, Declaration}
 use Rattle.wy_syntax.specs.Syntax as syntax
 use Rattle.wy_syntax.specs.Names.{width, widths, is_leaf}
 use Rattle.wy_syntax.specs.Expressions.{arguments_of}
@@ -22,7 +23,7 @@ use Rattle.wy_statement.specs.declared.place.Place.{Place}
 use Rattle.wy_statement.specs.declared.place.Role.{Role}
 use Rattle.wy_statement.specs.declared.place.Role.TheVariants.{InitializerBody, FieldsBody, ConstructorBody, SuperCall, FieldsCall, Written}
 use Rattle.wy_statement.specs.Places.{at, written, key_of, order_of, declarator_places, places, all_places, calls_superclass, has_fields_unit, declares_constructor, place_if, implied_calls, first_calls, initialized_places, member_places, implied_constructor_places, class_places, places_of}
-use Rattle.wy_members.specs.Declarations.{class_in, class_by_class_from}
+use Rattle.wy_members.specs.Declarations.{class_by_class_from}
 use Rattle.wy_structure.proofs.Spread.{times, times_both, Once, none_once, one_once, both_once, wider_once, fewer_once, Spread, none_spread, one_spread, both_spread, wider_spread, head_spread}
 use Rattle.wy_structure.proofs.Trees.{Full, AllFull, parts_full, wide, declarators_spread, statement_spread, block_spread}
 use Rattle.wy_structure.proofs.Productions.{UnitFull}
@@ -47,6 +48,15 @@ row_wider less low (p ∷ rest) high a h = let here : low ≤ p.at = h.0 in (ome
 -- without the first
 pub row_behind : (low : ℕ) (p : Part) (rest : Parts) (high : ℕ) → Row low (p ∷ rest) high → Row low rest high
 row_behind low p rest high h = let here : low ≤ p.at = h.0 in row_wider low (p.at + width p.what) rest high (omega arith) h.2
+
+-- with one more
+pub row_with : (low : ℕ) (before : Parts) (middle : ℕ) (p : Part) → Row low before middle → middle ≤ p.at → Full p.what → Row low (before ++ p ∷ []) (p.at + width p.what)
+row_with low [] middle p r less f = let there : low ≤ middle = r in (omega arith, f, omega arith)
+row_with low (q ∷ before) middle p r less f = (r.0, r.1, row_with (q.at + width q.what) before middle p r.2 less f)
+
+pub row_longer : (low : ℕ) (ps : Parts) (high more : ℕ) → high ≤ more → Row low ps high → Row low ps more
+row_longer low [] high more less r = let there : low ≤ high = r in omega arith
+row_longer low (p ∷ rest) high more less r = (r.0, r.1, row_longer (p.at + width p.what) rest high more less r.2)
 
 pub placed_row : (n : ℕ) (ts : Asts) → AllFull ts → Row n (placed n ts) (n + widths ts)
 unfolding placed
@@ -128,10 +138,6 @@ moved some call fields brace rest left head right all behind last less a b c d e
 swapped : (call brace rest left right all last : ℕ) → left ≡ call + right → right ≡ brace + rest → all ≡ brace + last → last ≡ call + rest → left ≤ all
 swapped call brace rest left right all last a b c d = omega arith
 
-both_true : (a b : Bool) → (a && b) ≡ true → a ≡ true
-both_true true b e = refl
-both_true false b e = absurd cc
-
 past : (p w q u r v : ℕ) → 1 ≤ w → p + w ≤ q → q + u ≤ r → p + 1 ≤ r + v
 past p w q u r v a b c = omega arith
 
@@ -197,7 +203,7 @@ lone_call low p q high h e =
     let there : p.at + width p.what ≤ high = row_rises (p.at + width p.what) (q ∷ []) high h.2 in
     let some : 1 ≤ width p.what = wide p.what h.1 in
     let P : List Place → Type 0 = λ xs. Spread low high (written p.at ∷ (xs ++ [])) in
-    subst P (sym (own_nothing p.at p.what (both_true (is_own (leaf_kind p.what)) (is_arguments q.what) e))) (one_spread low high p.at Written (omega arith) (omega arith))
+    subst P (sym (own_nothing p.at p.what (and_parts (is_own (leaf_kind p.what)) (is_arguments q.what) e).0)) (one_spread low high p.at Written (omega arith) (omega arith))
 
 pub own_rows : (low : ℕ) (ps : Parts) (high : ℕ) → Row low ps high → Spread low high (own_front (own_call_in ps) ++ all_places (statements_in (behind_own_call ps)))
 own_rows low [] high h = statements_in_spread low [] high h
@@ -320,10 +326,6 @@ class_spread t c k high h =
       | true ↦ none_spread n high (omega arith)
       | false ↦ own
     ]
-
--- the classes that a declaration is
-abbrev classes_in : Declaration → List ClassSyntax
-classes_in d = filter_map class_in (d ∷ [])
 
 abbrev ClassesSpread : Table → ℕ → ℕ → ℕ → Declaration → Type 0
 ClassesSpread t c low high d = Spread low high (class_by_class_from (class_places t) c (d ∷ []))

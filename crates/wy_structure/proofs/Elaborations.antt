@@ -12,7 +12,7 @@ use Rattle.wy_kernel.specs.Form as kernel
 use Rattle.wy_kernel.specs.Subtyping.{class_type}
 use Rattle.wy_kernel.specs.Table.{Table, ConstantValue}
 use Rattle.wy_tree.specs.Seen.{Tok}
-use Rattle.wy_syntax.specs.Syntax.{Expression, WrittenType, Row, none, more, Initial, Value, Listed, Elements, no_more, element}
+use Rattle.wy_syntax.specs.Syntax.{Expression, Row, none, more, Initial, Value, Listed, Elements, no_more, element}
 use Rattle.wy_syntax.specs.Syntax as source
 use Rattle.wy_constant.specs.declared.rule.Rule.TheVariants.{BadOperand, BadAssign, NotInStatic, NotOffered}
 use Rattle.wy_constant.specs.Scope.{Scope}
@@ -22,7 +22,7 @@ use Rattle.wy_elab_expr.specs.Meaning.{Meaning, Known, Formed, type_of, Gets, gi
 use Rattle.wy_elab_expr.specs.Operators.{Judgement, is_void, is_text_type, is_assignable}
 use Rattle.wy_elab_expr.specs.Members.{Spot, spot, this_form, named_spot, qualified_spot, qualified_name, field_spot, no_field, is_library_name, Nothing, Object, OfClass, Super, text_methods, library_call, some_void}
 use Rattle.wy_elab_expr.specs.Elaboration.{type_with, type_written, literal_or_null, literal_meaning, ClassName, class_in, Stream, Input, Output, stream_in, class_methods, is_of_texts, called_on_known, called_on_class, called_on, byte_read, printed_type, is_printed, Printed, printed, is_print, some_printed, print_operand, called_on_stream, above, super_field_named, super_spot, is_index, element_of, element_at, element_spot, sizes_of, with_brackets, assigned_value, assigned, adds_text, updated_in, left_primitive, updated_by, updated, stepped_in, stepped, read, is_an_array, field_target, is_limit, class_target, just, class_for_new, Listing, listing, or_type, is_place, elaborated, elaborated_all, target, elements_of, initialized}
-use Rattle.wy_structure.proofs.Yields.{Yields, given, refused_found, anything, then_found, of_choice}
+use Rattle.wy_structure.proofs.Yields.{Yields, given, refused_found, anything, then_found, of_choice, of_option}
 use Rattle.wy_structure.proofs.Sound.{Numbers}
 use Rattle.wy_structure.proofs.Clear.{Clear, ClearRow, ClearMeaning, AllClear, ClearGets, brought_clear, formed_clear, of_form, unary_clear, binary_clear, lazy_clear, choice_clear, cast_clear, instance_clear}
 use Rattle.wy_structure.proofs.ClearMembers.{ClearSpot, GetsSpot, named_spot_clear, named_clear, qualified_clear, qualified_name_clear, object_clear, field_spot_clear, field_read_clear, called_clear, library_clear, created_clear}
@@ -222,15 +222,6 @@ read_spot_clear S f h = then_found f (λ p. give (read p)) (ClearSpot S) (ClearM
 abbrev pub ClearListing : Numbers → Listing → Type 0
 ClearListing S l = ClearRow S l.forms
 
--- by what a name denotes
-for_class : {A : Type 0} (P : A → Type 0) (c : Option ClassName) (f : ClassName → Gets A) (g : Gets A) → ((x : ClassName) → Yields (f x) P) → Yields g P → Yields (elim c [ Some x ↦ f x | None ↦ g ]) P
-for_class P None f g h i = i
-for_class P (Some x) f g h i = h x
-
-for_stream : {A : Type 0} (P : A → Type 0) (c : Option Stream) (f : Stream → Gets A) (g : Gets A) → ((x : Stream) → Yields (f x) P) → Yields g P → Yields (elim c [ Some x ↦ f x | None ↦ g ]) P
-for_stream P None f g h i = i
-for_stream P (Some x) f g h i = h x
-
 mutual
   unfolding elaborated elaborated_all target elements_of initialized
 
@@ -242,12 +233,12 @@ mutual
   expression_clear S j t s (source.Invoke name args token) h =
       then_found (elaborated_all j t s args) _ (AllClear S) (ClearMeaning S) (all_clear S j t s args h) (λ ms i. called_clear S j t s Nothing (class_type s.class) name ms token tt i)
   expression_clear S j t s (source.Field object name token) h =
-      for_class (ClearMeaning S) (class_in t s object) (λ c. qualified_name t s c.name name c.token token) _ (λ c. qualified_name_clear S t s c.name name c.token token)
+      of_option (ClearMeaning S) (class_in t s object) (λ c. qualified_name t s c.name name c.token token) _ (λ c. qualified_name_clear S t s c.name name c.token token)
       (then_found (elaborated j t s object) _ (ClearMeaning S) (ClearMeaning S) (expression_clear S j t s object h) (λ m i. field_read_clear S t s m name token i))
   expression_clear S j t s (source.InvokeOn object name args token) h =
-      for_stream (ClearMeaning S) (stream_in t s object) (λ x. elaborated_all j t s args >>= λ ms. called_on_stream x name ms token) _
+      of_option (ClearMeaning S) (stream_in t s object) (λ x. elaborated_all j t s args >>= λ ms. called_on_stream x name ms token) _
       (λ x. then_found (elaborated_all j t s args) _ (AllClear S) (ClearMeaning S) (all_clear S j t s args h.1) (λ ms i. stream_clear S x name ms token))
-      (for_class (ClearMeaning S) (class_in t s object) (λ c. elaborated_all j t s args >>= λ ms. called_on_class j t s c name ms token) _
+      (of_option (ClearMeaning S) (class_in t s object) (λ c. elaborated_all j t s args >>= λ ms. called_on_class j t s c name ms token) _
       (λ c. then_found (elaborated_all j t s args) _ (AllClear S) (ClearMeaning S) (all_clear S j t s args h.1) (λ ms i. class_call_clear S j t s c name ms token i))
       (then_found (elaborated j t s object) _ (ClearMeaning S) (ClearMeaning S) (expression_clear S j t s object h.0) (λ m hm.
       then_found (elaborated_all j t s args) _ (AllClear S) (ClearMeaning S) (all_clear S j t s args h.1) (λ ms i. object_call_clear S j t s m name ms token hm i))))
@@ -314,7 +305,7 @@ mutual
   target_clear S j t s (source.Name name token) h = just_clear S (named_spot t s name token) (named_spot_clear S t s name token)
   target_clear S j t s (source.Group inner token) h = target_clear S j t s inner h
   target_clear S j t s (source.Field object name token) h =
-      for_class (ClearTarget S) (class_in t s object) (λ c. class_target t s c name token) _ (λ c. class_target_clear S t s c name token)
+      of_option (ClearTarget S) (class_in t s object) (λ c. class_target t s c name token) _ (λ c. class_target_clear S t s c name token)
       (then_found (elaborated j t s object) _ (ClearMeaning S) (ClearTarget S) (expression_clear S j t s object h) (λ m i. field_target_clear S t s m name token i))
   target_clear S j t s (source.SuperField name token) h = just_clear S (super_spot t s name token) (super_clear S t s name token)
   target_clear S j t s (source.Element array index token) h =

@@ -3,8 +3,10 @@ pub mod Members
 pub mod Sound
 pub mod Fits
 pub mod Made
+pub mod FirstCalls
 pub mod Bodies
 pub mod Elaborated
+pub mod EachBody
 pub mod Programs
 pub mod Marks
 pub mod ClassMarks

@@ -1,7 +1,8 @@
 -- The statements of a program have all numbers, in the order of the text, where its classes have different places.
-use Rattle.std.proofs.Common.{◌≡◌, ◌∙◌, refl, sym, ap, cond, subst, inl, inr, arith, ℕ, zero, suc, ◌+◌, ◌-◌, ◌*◌, ◌<◌, ◌≤◌, ◌≢◌, Bool, true, false, ◌||◌, ◌&&◌, ◌==◌, nat_lt, List, [], ◌∷◌, ◌++◌, length}
+use Rattle.std.proofs.Common.{◌≡◌, ◌∙◌, refl, sym, ap, cond, subst, inl, inr, arith, ℕ, zero, suc, ◌+◌, ◌-◌, ◌*◌, ◌<◌, ◌≤◌, ◌≢◌, Bool, true, false, ◌==◌, nat_lt, List, [], ◌∷◌, ◌++◌, length}
 use Rattle.std.specs.Prelude.{◌⊎◌, Option, None, map}
 use Rattle.std.specs.List.{Contains}
+use Rattle.std.proofs.lemmas.Bool.{eqb-true}
 use Rattle.std.proofs.lemmas.Bool.Decides.{nat_tests}
 use Rattle.std.proofs.lemmas.List.{length-map}
 use Rattle.std.proofs.lemmas.List.Elements.{Contains-append_left, Contains-append_right, Contains-append_cases}
@@ -15,6 +16,7 @@ use Rattle.wy_members.specs.Declarations.{CompilationUnit, classes_of}
 use Rattle.wy_statement.specs.declared.place.Place.{Place}
 use Rattle.wy_statement.specs.Places.{stands_before, key_of, order_of, number_at, places_of}
 use Rattle.wy_statement.specs.Statements.{Setting}
+use Rattle.wy_statement.proofs.Numbering.{key_before}
 use Rattle.wy_library.specs.Library.{library_bodies, library_init_bodies}
 use Rattle.wy_elab_stmt.specs.Classes.{class_bodies}
 use Rattle.wy_elab_stmt.specs.Program.{Bodies, no_bodies, and_more, bodies_from, setting}
@@ -47,12 +49,6 @@ bodies_stand w c (k ∷ rest) =
     })))
 
 -- ---- numbers by keys
-
-before_is_less : (s t a b : ℕ) → a < 8 → b < 8 → (nat_lt s t || s == t && nat_lt a b) ≡ nat_lt (s * 8 + a) (t * 8 + b)
-before_is_less s t a b h k = grind (arith, nat_tests)
-
-key_before : (q p : Place) → stands_before q p ≡ nat_lt (key_of q) (key_of p)
-key_before q p = before_is_less q.site p.site (order_of q.role) (order_of p.role) (few_orders q.role) (few_orders p.role)
 
 abbrev pub keys : List Place → List ℕ
 keys qs = map key_of qs
@@ -249,14 +245,11 @@ HasPlace w s = (q : Place) × In (key_of q) (keys w.places) × (number_at w.plac
 pub is_same : (q : Place) → has_key (key_of q) q ≡ true
 is_same q = is_itself (key_of q)
 
-two_numbers : (a b : ℕ) → (a == b) ≡ true → a ≡ b
-two_numbers a b e = grind (arith, nat_tests)
-
 pub key_among : (w : Setting) (n : ℕ) → 1 ≤ tally (has_key n) w.places → In n (keys w.places)
 key_among w n h =
     let found = in_tally (has_key n) w.places h in
     let P : ℕ → Type 0 = λ k. In k (keys w.places) in
-    subst P (two_numbers (key_of found.0) n found.2) (in_map key_of w.places found.0 found.1)
+    subst P (eqb-true (key_of found.0) n found.2) (in_map key_of w.places found.0 found.1)
 
 pub some_first : (a b all : ℕ) → all ≡ a + b → 1 ≤ a → 1 ≤ all
 some_first a b all e h = omega arith

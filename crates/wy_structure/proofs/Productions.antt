@@ -1,7 +1,8 @@
 -- Each node of a well-formed tree has a part, but for a text without declarations.
 use Rattle.std.proofs.Common.{◌≡◌, refl, sym, subst, Bool, true, false, ◌||◌, ◌&&◌, List, [], ◌∷◌, ◌++◌}
+use Rattle.std.proofs.lemmas.Bool.{and_parts, and_from}
 use Rattle.wy_tree.specs.Ast.{Ast, Asts, Leaf, Node, none, more, node}
-use Rattle.wy_tree.specs.Grammar.{a, name, form_of, tighter, operates, rule, Alternative, Suffix, Is, Match, WellFormed}
+use Rattle.wy_tree.specs.Grammar.{form_of, tighter, rule, Alternative, Suffix, Is, Match, WellFormed}
 use Rattle.wy_tree.specs.Grammar as grammar
 use Rattle.wy_tree.specs.declared.tree.Form.{Form}
 use Rattle.wy_tree.specs.declared.tree.Form.TheVariants as form
@@ -71,22 +72,9 @@ abbrev pub solid : List Item → Bool
 solid [] = false
 solid (i ∷ rest) = solid_item i || solid rest
 
-both_true : (b c : Bool) → b ≡ true → c ≡ true → (b && c) ≡ true
-both_true true true e f = refl
-both_true true false e f = f
-both_true false c e f = e
-
-first_true : (b c : Bool) → (b && c) ≡ true → b ≡ true
-first_true true c e = refl
-first_true false c e = e
-
-second_true : (b c : Bool) → (b && c) ≡ true → c ≡ true
-second_true true c e = e
-second_true false c e = absurd cc
-
 inner_append : (xs ys : List Item) → all_inner xs ≡ true → all_inner ys ≡ true → all_inner (xs ++ ys) ≡ true
 inner_append [] ys e f = f
-inner_append (x ∷ xs) ys e f = both_true (inner_item x) (all_inner (xs ++ ys)) (first_true (inner_item x) (all_inner xs) e) (inner_append xs ys (second_true (inner_item x) (all_inner xs) e) f)
+inner_append (x ∷ xs) ys e f = and_from (inner_item x) (all_inner (xs ++ ys)) (and_parts (inner_item x) (all_inner xs) e).0 (inner_append xs ys (and_parts (inner_item x) (all_inner xs) e).1 f)
 
 twice : (b : Bool) → b ≡ true → (b && (b && true)) ≡ true
 twice true e = refl
@@ -198,9 +186,9 @@ mutual
   pub items_full : (items : List Item) (ts : Asts) → Match items ts → all_inner items ≡ true → AllFull ts
   items_full _ _ grammar.done i = tt
   items_full _ _ (grammar.token {items} {ts} m w) i = (tt, items_full items ts w i)
-  items_full _ _ (grammar.part {x} {t} {items} {ts} v w) i = (tree_full x t v (first_true (is_inner x) (all_inner items) i), items_full items ts w (second_true (is_inner x) (all_inner items) i))
+  items_full _ _ (grammar.part {x} {t} {items} {ts} v w) i = (tree_full x t v (and_parts (is_inner x) (all_inner items) i).0, items_full items ts w (and_parts (is_inner x) (all_inner items) i).1)
   items_full _ _ (grammar.chosen {r} {way} {items} {ts} y w) i =
-      items_full (way ++ items) ts w (inner_append way items (way_inner y (first_true (inner_row r) (all_inner items) i)) (second_true (inner_row r) (all_inner items) i))
+      items_full (way ++ items) ts w (inner_append way items (way_inner y (and_parts (inner_row r) (all_inner items) i).0) (and_parts (inner_row r) (all_inner items) i).1)
 
 -- a text may have no declarations
 abbrev pub UnitFull : Ast → Type 0

@@ -1,206 +1,34 @@
 -- All bodies of every program are sound.
-use Rattle.std.proofs.Common.{refl, subst, inl, inr, ℕ, suc, ◌+◌, ◌*◌, ◌-◌, true, false, not, if◌then◌else◌, List, [], ◌∷◌, ◌++◌, Ok}
-use Rattle.std.specs.Prelude.{Option, Some, None, flat_map, map}
-use Rattle.std.specs.List.{All}
-use Rattle.std.proofs.lemmas.List.Elements.{All-nil, All-cons, All-append, All-push, All-contains}
-use Rattle.wy_kernel.specs.Form as kernel
-use Rattle.wy_kernel.specs.Program.{Program, Body, Class, first_source_class}
-use Rattle.wy_kernel.specs.Builtin as builtin
-use Rattle.wy_kernel.specs.Table.{Table}
-use Rattle.wy_syntax.specs.Syntax.{Braced, Header, Member, ClassSyntax}
-use Rattle.wy_syntax.specs.Syntax as source
-use Rattle.wy_constant.specs.Scope.{FixedText}
-use Rattle.wy_members.specs.Declarations.{CompilationUnit, classes_of}
-use Rattle.wy_elab_expr.specs.Meaning.{Gets}
-use Rattle.wy_elab_expr.specs.Meaning as found
-use Rattle.wy_statement.specs.declared.place.Role.{Role}
-use Rattle.wy_statement.specs.declared.place.Role.TheVariants.{InitializerBody, FieldsBody}
-use Rattle.wy_statement.specs.Places.{has_fields_unit, declares_constructor}
-use Rattle.wy_statement.specs.Making.{Making, Makes, begun, resumed}
-use Rattle.wy_statement.specs.Statements.{Setting}
-use Rattle.wy_statement.specs.Bodies.{Growing, Growth, number_of, body_of, end_of, method_block, constructor_block, implied_constructor_block, initializer_block, field_initials, implied_body}
-use Rattle.wy_library.specs.Library.{library_bodies, library_init_bodies, above_in_library, object_to_string, object_equals, plain_throwable, throwable_with_message, get_message, throwable_to_string, plain_constructor, constructor_with_message, constructors_of, below_throwable}
-use Rattle.wy_elab_stmt.specs.Classes.{ClassBodies, whole, with_body, grown, in_initializer, in_fields, is_static, member, members, implied_constructor, none_yet, fields_body, finished, of_class, of_interface, class_bodies}
-use Rattle.wy_elab_stmt.specs.Program.{Bodies, bodies_from, setting, program_with}
+use Rattle.std.proofs.Common.{refl, inl, inr, ℕ, Ok}
+use Rattle.wy_kernel.specs.Program.{Program, Body}
+use Rattle.wy_library.specs.Library.{library_bodies}
+use Rattle.wy_members.specs.Declarations.{CompilationUnit}
 use Rattle.wy_elab_stmt.specs.Elaborates.{Elaborates}
 use Rattle.wy_structure.specs.Within.{IsBodyOf}
 use Rattle.wy_structure.specs.Jumps.{AllJumpsGoOut}
 use Rattle.wy_structure.specs.Reaches.{AllReach}
-use Rattle.wy_structure.proofs.Elaborated.{MadeFrom, made_from}
-use Rattle.wy_structure.proofs.Yields.{Yields, given, then_found, of_choice, of_resumed}
-use Rattle.wy_structure.proofs.Sound.{and_one, nowhere, Sound, jumps_of_sound, reaches_of_sound}
+use Rattle.wy_structure.proofs.Sound.{nowhere, Sound, jumps_of_sound, reaches_of_sound}
 use Rattle.wy_structure.proofs.Made.{row_sound}
 use Rattle.wy_structure.proofs.Bodies.{InOwnBody, method_sound, constructor_sound, implied_constructor_sound, initializer_sound, fields_sound}
+use Rattle.wy_structure.proofs.EachBody.{BodyHas, BodiesHave, library_has, OfMembers, AnyMember, every_body}
 
-abbrev pub SoundBody : Option Body → Type 0
-SoundBody None = Unit {0}
-SoundBody (Some b) = Sound nowhere nowhere b.block
-
-abbrev pub AllBodies : List (Option Body) → Type 0
-AllBodies bs = All SoundBody bs
-
-one_body : (b : Option Body) → SoundBody b → AllBodies (b ∷ [])
-one_body b h = All-cons SoundBody b [] h (All-nil SoundBody)
-
--- ---- classes
-
-whole_sound : (m : Making) (end : ℕ) (f : Makes kernel.Statement) → Yields f (Sound nowhere nowhere) → Yields (whole m end f) (λ b. SoundBody (Some b))
-whole_sound m end f h =
-    then_found (resumed m f) (λ p. found.give (body_of p.0 p.1 end)) (λ p. Sound nowhere nowhere p.0) (λ b. SoundBody (Some b)) (of_resumed m f (Sound nowhere nowhere) h) (λ p i.
-    given (λ b. SoundBody (Some b)) (body_of p.0 p.1 end) i)
-
-pub record Grows (w : Setting) (k : ClassSyntax) (g : Growth) : Type 0 where
-  pub initializer : InOwnBody w k InitializerBody g.initializer.parts
-  pub fields : InOwnBody w k FieldsBody g.fields.parts
-  pub bodies : AllBodies g.bodies
-
-grown_sound : (P : List kernel.Statement → Type 0) → ((xs ys : List kernel.Statement) → P xs → P ys → P (xs ++ ys)) → (g : Growing) → P g.parts → (f : Makes (List kernel.Statement)) → Yields f P → Yields (grown g f) (λ x. P x.parts)
-grown_sound P both g h f i =
-    then_found (resumed g.making f) _ (λ p. P p.0) (λ x. P x.parts) (of_resumed g.making f P i) (λ p j.
-    given (λ (x : Growing). P x.parts) (record { making = p.1; parts = g.parts ++ p.0 }) (both g.parts p.0 h j))
-
-both_in : (w : Setting) (k : ClassSyntax) (role : Role) (xs ys : List kernel.Statement) → InOwnBody w k role xs → InOwnBody w k role ys → InOwnBody w k role (xs ++ ys)
-both_in w k role xs ys h i = All-append (Sound nowhere (and_one nowhere (number_of w k.name.token role))) xs ys h i
-
-into_initializer : (w : Setting) (k : ClassSyntax) (g : Growth) (f : Makes (List kernel.Statement)) → Grows w k g → Yields f (InOwnBody w k InitializerBody) → Yields (in_initializer g f) (Grows w k)
-into_initializer w k g f h i =
-    then_found (grown g.initializer f) _ (λ x. InOwnBody w k InitializerBody x.parts) (Grows w k)
-    (grown_sound (InOwnBody w k InitializerBody) (both_in w k InitializerBody) g.initializer h.initializer f i) (λ x j.
-    given (Grows w k) (record g { initializer = x }) (record { initializer = j; fields = h.fields; bodies = h.bodies }))
-
-into_fields : (w : Setting) (k : ClassSyntax) (g : Growth) (f : Makes (List kernel.Statement)) → Grows w k g → Yields f (InOwnBody w k FieldsBody) → Yields (in_fields g f) (Grows w k)
-into_fields w k g f h i =
-    then_found (grown g.fields f) _ (λ x. InOwnBody w k FieldsBody x.parts) (Grows w k)
-    (grown_sound (InOwnBody w k FieldsBody) (both_in w k FieldsBody) g.fields h.fields f i) (λ x j.
-    given (Grows w k) (record g { fields = x }) (record { initializer = h.initializer; fields = j; bodies = h.bodies }))
-
-one_more : (w : Setting) (k : ClassSyntax) (g : Growth) (b : Option Body) → Grows w k g → SoundBody b → Grows w k (with_body g b)
-one_more w k g b h i = record { initializer = h.initializer; fields = h.fields; bodies = All-push SoundBody g.bodies b h.bodies i }
-
-behind_body : (w : Setting) (k : ClassSyntax) (g : Growth) (f : Gets Body) → Grows w k g → Yields f (λ b. SoundBody (Some b)) → Yields (λ s. found.onward (λ (b : Body). found.give (with_body g (Some b))) (f s)) (Grows w k)
-behind_body w k g f h i = then_found f (λ (b : Body). found.give (with_body g (Some b))) (λ b. SoundBody (Some b)) (Grows w k) i (λ b j. given (Grows w k) (with_body g (Some b)) (one_more w k g (Some b) h j))
-
-member_sound : (w : Setting) (c : ℕ) (k : ClassSyntax) (g : Growth) (m : Member) → Grows w k g → Yields (member w c k g m) (Grows w k)
-unfolding member
-member_sound w c k g (source.Initializer true b) h = into_initializer w k g (initializer_block w k InitializerBody b) h (initializer_sound w k InitializerBody b)
-member_sound w c k g (source.Initializer false b) h = into_fields w k g (initializer_block w k FieldsBody b) h (initializer_sound w k FieldsBody b)
-member_sound w c k g (source.Fields ms ty all) h =
-    of_choice (is_static ms) (in_initializer g (field_initials w c true ty all)) (in_fields g (field_initials w c false ty all)) (Grows w k)
-    (into_initializer w k g (field_initials w c true ty all) h (fields_sound _ _ w c true ty all))
-    (into_fields w k g (field_initials w c false ty all) h (fields_sound _ _ w c false ty all))
-member_sound w c k g (source.Method x result None) h = given (Grows w k) (with_body g None) (one_more w k g None h tt)
-member_sound w c k g (source.Method x result (Some b)) h =
-    behind_body w k g (whole (begun c (not (is_static x.modifiers)) x.name.token) (end_of b) (method_block w x result b)) h
-    (whole_sound (begun c (not (is_static x.modifiers)) x.name.token) (end_of b) (method_block w x result b) (method_sound w x result b))
-member_sound w c k g (source.Constructor x own brace parts end) h =
-    behind_body w k g (whole (begun c true x.name.token) end (constructor_block w c k x own brace parts)) h
-    (whole_sound (begun c true x.name.token) end (constructor_block w c k x own brace parts) (constructor_sound w c k x own brace parts))
-member_sound w c k g source.Member.Nothing h = given (Grows w k) g h
-member_sound w c k g source.Member.Unknown h = given (Grows w k) g h
-
-members_sound : (w : Setting) (c : ℕ) (k : ClassSyntax) (g : Growth) (ms : List Member) → Grows w k g → Yields (members w c k g ms) (Grows w k)
-unfolding members
-members_sound w c k g [] h = given (Grows w k) g h
-members_sound w c k g (m ∷ rest) h =
-    then_found (member w c k g m) (λ next. members w c k next rest) (Grows w k) (Grows w k) (member_sound w c k g m h) (λ next i. members_sound w c k next rest i)
-
-implied_sound : (w : Setting) (c : ℕ) (k : ClassSyntax) → Yields (implied_constructor w c k) AllBodies
-unfolding implied_constructor
-implied_sound w c k =
-    of_choice (declares_constructor k) (found.give []) _ AllBodies
-    (given AllBodies [] (All-nil SoundBody))
-    (then_found (whole (begun c true k.name.token) k.name.token (implied_constructor_block w c k)) (λ body. found.give (Some body ∷ [])) (λ b. SoundBody (Some b)) AllBodies
-    (whole_sound (begun c true k.name.token) k.name.token (implied_constructor_block w c k) (implied_constructor_sound w c k)) (λ b h.
-    given AllBodies (Some b ∷ []) (one_body (Some b) h)))
-
-pub record ClassSound (b : ClassBodies) : Type 0 where
-  pub bodies : AllBodies b.bodies
-  pub initializer : SoundBody b.initializer
-
-none_grows : (w : Setting) (c : ℕ) (k : ClassSyntax) → Grows w k (none_yet c k)
-none_grows w c k = record { initializer = All-nil _; fields = All-nil _; bodies = All-nil SoundBody }
-
-fields_body_sound : (w : Setting) (k : ClassSyntax) (g : Growing) → InOwnBody w k FieldsBody g.parts → AllBodies (fields_body w k g)
-fields_body_sound w k g h = elim (has_fields_unit k) as (λ b. AllBodies (if b then Some (implied_body w k FieldsBody g) ∷ [] else [])) [
-  | true ↦ one_body (Some (implied_body w k FieldsBody g)) (refl, row_sound nowhere _ g.parts h)
-  | false ↦ All-nil SoundBody
-]
-
-finished_sound : (w : Setting) (k : ClassSyntax) (bs : List (Option Body)) (g : Growth) → AllBodies bs → Grows w k g → ClassSound (finished w k bs g)
-finished_sound w k bs g h i = record {
-  bodies = All-append SoundBody (fields_body w k g.fields ++ bs) g.bodies (All-append SoundBody (fields_body w k g.fields) bs (fields_body_sound w k g.fields i.fields) h) i.bodies;
-  initializer = (refl, row_sound nowhere _ g.initializer.parts i.initializer);
+members_sound : OfMembers (Sound nowhere nowhere) InOwnBody AnyMember
+members_sound = record {
+  method = λ w h result b i. method_sound w h result b;
+  written = λ w c k h own brace parts end i. constructor_sound w c k h own brace parts;
+  unwritten = implied_constructor_sound;
+  initializer = λ w k role is_static b i. initializer_sound w k role b;
+  fields = λ w c k role is_static ms ty all i. fields_sound _ _ w c is_static ty all;
+  row = λ w k role xs h. (refl, row_sound _ _ xs h);
 }
 
-class_sound : (w : Setting) (c : ℕ) (k : ClassSyntax) → Yields (class_bodies w c k) ClassSound
-unfolding class_bodies
-class_sound w c k =
-    of_choice k.is_interface (of_interface w c k) (of_class w c k) ClassSound
-    (then_found (members w c k (none_yet c k) k.members) _ (Grows w k) ClassSound (members_sound w c k (none_yet c k) k.members (none_grows w c k)) (λ g h.
-    given ClassSound (record { bodies = g.bodies; initializer = None }) (record { bodies = h.bodies; initializer = tt })))
-    (then_found (implied_constructor w c k) _ AllBodies ClassSound (implied_sound w c k) (λ bs i.
-    then_found (members w c k (none_yet c k) k.members) _ (Grows w k) ClassSound (members_sound w c k (none_yet c k) k.members (none_grows w c k)) (λ g h.
-    given ClassSound (finished w k bs g) (finished_sound w k bs g i h))))
-
--- ---- the program
-
-pub record BodiesSound (b : Bodies) : Type 0 where
-  pub methods : AllBodies b.methods
-  pub initializers : AllBodies b.initializers
-
-bodies_sound : (w : Setting) (c : ℕ) (ks : List ClassSyntax) → Yields (bodies_from w c ks) BodiesSound
-unfolding bodies_from
-bodies_sound w c [] = given BodiesSound (record { methods = []; initializers = [] }) (record { methods = All-nil SoundBody; initializers = All-nil SoundBody })
-bodies_sound w c (k ∷ rest) =
-    then_found (class_bodies w c k) _ ClassSound BodiesSound (class_sound w c k) (λ x h.
-    then_found (bodies_from w (suc c) rest) _ BodiesSound BodiesSound (bodies_sound w (suc c) rest) (λ xs i.
-    given BodiesSound _ (record { methods = All-append SoundBody x.bodies xs.methods h.bodies i.methods; initializers = All-cons SoundBody x.initializer xs.initializers h.initializer i.initializers })))
-
-and_bodies : (b : Option Body) (bs : List (Option Body)) → SoundBody b → AllBodies bs → AllBodies (b ∷ bs)
-and_bodies b bs h i = All-cons SoundBody b bs h i
-
-constructors_sound : (cs : List ℕ) → AllBodies (flat_map constructors_of cs)
-constructors_sound [] = All-nil SoundBody
-constructors_sound (c ∷ rest) =
-    let plain = plain_constructor c (6 + 2 * (c - 3)) (above_in_library c) in
-    let other = constructor_with_message c (7 + 2 * (c - 3)) (above_in_library c) in
-    All-append SoundBody (constructors_of c) (flat_map constructors_of rest) (and_bodies plain (other ∷ []) (refl, (refl, tt)) (one_body other (refl, (refl, tt)))) (constructors_sound rest)
-
-library_sound : AllBodies library_bodies
-unfolding library_bodies
+library_sound : BodiesHave (Sound nowhere nowhere) library_bodies
 library_sound =
-    let rest = flat_map constructors_of below_throwable in
-    let f = throwable_to_string ∷ rest in
-    let e = get_message ∷ f in
-    let d = throwable_with_message ∷ e in
-    let c = plain_throwable ∷ d in
-    let b = object_equals ∷ c in
-    and_bodies object_to_string b (refl, (refl, tt)) (and_bodies object_equals c (refl, (refl, tt)) (and_bodies plain_throwable d (refl, tt)
-    (and_bodies throwable_with_message e (refl, (refl, tt)) (and_bodies get_message f (refl, (refl, tt))
-    (and_bodies throwable_to_string rest (refl, (refl, ((inl (inr refl), refl, tt), (refl, tt)))) (constructors_sound below_throwable))))))
-
-no_bodies : (ks : List Class) → AllBodies (map (λ (k : Class). None) ks)
-no_bodies [] = All-nil SoundBody
-no_bodies (k ∷ rest) = All-cons SoundBody None (map (λ (k : Class). None) rest) tt (no_bodies rest)
-
-library_init_sound : AllBodies library_init_bodies
-unfolding library_init_bodies
-library_init_sound = no_bodies builtin.classes
-
-abbrev pub ProgramSound : Program → Type 0
-ProgramSound p = AllBodies (p.bodies ++ p.init_bodies)
-
-with_sound : (t : Table) (unit : CompilationUnit) (main : ℕ) (bs : Bodies) (texts : List FixedText) → BodiesSound bs → ProgramSound (program_with t unit main bs texts)
-with_sound t unit main bs texts h =
-    All-append SoundBody (library_bodies ++ bs.methods) (library_init_bodies ++ bs.initializers)
-    (All-append SoundBody library_bodies bs.methods library_sound h.methods) (All-append SoundBody library_init_bodies bs.initializers library_init_sound h.initializers)
-
-elaborated_sound : (unit : CompilationUnit) (p : Program) → MadeFrom unit p → ProgramSound p
-elaborated_sound unit p m =
-    subst ProgramSound m.is (with_sound m.table unit m.main m.bodies m.after ((bodies_sound (setting m.judgement m.table unit) first_source_class (classes_of unit)).by m.texts m.after m.bodies m.made))
+    library_has (BodyHas (Sound nowhere nowhere)) (refl, (refl, tt)) (refl, (refl, tt)) (refl, tt) (refl, (refl, tt)) (refl, (refl, tt)) (refl, (refl, ((inl (inr refl), refl, tt), (refl, tt))))
+    (λ c k. (refl, (refl, tt))) (λ c k. (refl, (refl, tt)))
 
 body_sound : (unit : CompilationUnit) (tokens : ℕ) (p : Program) → Elaborates unit tokens (Ok p) → (b : Body) → IsBodyOf p b → Sound nowhere nowhere b.block
-body_sound unit tokens p h b c = All-contains SoundBody (p.bodies ++ p.init_bodies) (Some b) (elaborated_sound unit p (made_from unit tokens p h)) c
+body_sound = every_body (Sound nowhere nowhere) InOwnBody members_sound library_sound
 
 pub all_jumps_go_out : (unit : CompilationUnit) (tokens : ℕ) (p : Program) → Elaborates unit tokens (Ok p) → AllJumpsGoOut p
 all_jumps_go_out unit tokens p h b c = jumps_of_sound b.block (body_sound unit tokens p h b c)

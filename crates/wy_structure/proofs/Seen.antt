@@ -40,10 +40,6 @@ abbrev mutual
 
 -- ---- signs
 
-or_left : (a b : Bool) → a ≡ true → (a || b) ≡ true
-or_left true b e = refl
-or_left false b e = absurd cc
-
 kind_decides : (k j : Kind) → same k j ≡ true → is_deciding j ≡ true → is_deciding k ≡ true
 kind_decides k j e h = let P : Kind → Type 0 = λ x. is_deciding x ≡ true in subst P (sym (same_is k j e)) h
 

@@ -1,5 +1,5 @@
 -- Places that are spread over a stretch of the text: each at most once, and none outside.
-use Rattle.std.proofs.Common.{◌≡◌, ◌∙◌, refl, cond, arith, ℕ, ◌+◌, ◌*◌, ◌<◌, ◌≤◌, Bool, true, false, ◌==◌, if◌then◌else◌, List, [], ◌∷◌, ◌++◌}
+use Rattle.std.proofs.Common.{◌≡◌, ◌∙◌, refl, cond, arith, ℕ, ◌+◌, ◌*◌, ◌<◌, ◌≤◌, Bool, true, false, ◌==◌, List, [], ◌∷◌, ◌++◌}
 use Rattle.std.specs.Prelude.{count_by}
 use Rattle.std.proofs.lemmas.Bool.Decides.{nat_tests}
 use Rattle.std.proofs.lemmas.List.Sums.{sum_by-append}
@@ -119,7 +119,3 @@ pub three_spread : (low middle high : ℕ) (xs ys zs : List Place) → Spread lo
 three_spread low middle high xs ys zs h i =
     fewer_once (8 * low) (8 * high) (xs ++ ys ++ zs) (xs ++ (ys ++ zs)) (λ n. same_three (times n xs) (times n ys) (times n zs) _ _ _ _ (times_both n (xs ++ ys) zs) (times_both n xs ys) (times_both n xs (ys ++ zs)) (times_both n ys zs))
     (both_spread low middle high xs (ys ++ zs) h i)
-
-pub chosen_spread : (low high : ℕ) (b : Bool) (xs ys : List Place) → Spread low high xs → Spread low high ys → Spread low high (if b then xs else ys)
-chosen_spread low high true xs ys h i = h
-chosen_spread low high false xs ys h i = i

@@ -1,7 +1,8 @@
 -- What is counted among the places of a class is counted among those of its bodies.
-use Rattle.std.proofs.Common.{◌≡◌, ◌∙◌, refl, sym, ap, cond, arith, add-one, zero-add, add_assoc, ℕ, suc, ◌+◌, Bool, true, false, not, ◌||◌, ◌&&◌, if◌then◌else◌, List, [], ◌∷◌, ◌++◌}
+use Rattle.std.proofs.Common.{◌≡◌, ◌∙◌, refl, sym, ap, cond, arith, add-one, zero-add, add_assoc, ℕ, suc, ◌+◌, Bool, true, false, not, ◌&&◌, if◌then◌else◌, List, [], ◌∷◌, ◌++◌}
 use Rattle.std.specs.Prelude.{Some, None, is_some, map, flat_map, count_by}
 use Rattle.std.specs.List.{list_any, enumerate_from}
+use Rattle.std.proofs.lemmas.Bool.{or_parts}
 use Rattle.std.proofs.lemmas.List.Recursion.{is_count_by}
 use Rattle.wy_kernel.specs.Table.{Table}
 use Rattle.wy_syntax.specs.Syntax.{Declarator, Member, ClassSyntax}
@@ -30,9 +31,6 @@ tally_map f g [] = refl
 tally_map f g (x ∷ xs) = ap (λ n. cond (f (g x)) 1 0 + n) (tally_map f g xs)
 
 -- ---- members
-
-sum_three : (a b c d : ℕ) → d ≡ a → b ≡ 0 → c ≡ 0 → d ≡ a + b + c
-sum_three a b c d e f g = omega arith
 
 fields_tally : (f : Place → Bool) (b : Bool) (qs : List Place) → tally f qs ≡ tally f (if b then qs else []) + tally f (if b then [] else qs) + 0
 fields_tally f true qs = omega arith
@@ -80,14 +78,10 @@ members_tally f t c k (m ∷ rest) =
 
 -- ---- where there are no instance initializers
 
-or_false : (a b : Bool) → (a || b) ≡ false → (a ≡ false) × (b ≡ false)
-or_false true b e = absurd cc
-or_false false b e = (refl, e)
-
 none_given : (all : List Declarator) → list_any is_given_first all ≡ false → initialized_places all ≡ []
 none_given [] e = refl
 none_given (d ∷ rest) e =
-    let parts = or_false (is_some d.initial) (list_any is_given_first rest) e in
+    let parts = or_parts (is_some d.initial) (list_any is_given_first rest) e in
     initialized_first d rest ∙ (λ i. place_if (parts.0 i) d.name.token Written ++ none_given rest parts.1 i)
 
 no_fields : (b c : Bool) (qs : List Place) → (not b && c) ≡ false → (c ≡ false → qs ≡ []) → (if b then [] else qs) ≡ []
@@ -106,7 +100,7 @@ no_instance source.Member.Unknown e = refl
 
 no_instances : (ms : List Member) → list_any initializes_objects ms ≡ false → flat_map instance_places ms ≡ []
 no_instances [] e = refl
-no_instances (m ∷ rest) e = let parts = or_false (initializes_objects m) (list_any initializes_objects rest) e in λ i. no_instance m parts.0 i ++ no_instances rest parts.1 i
+no_instances (m ∷ rest) e = let parts = or_parts (initializes_objects m) (list_any initializes_objects rest) e in λ i. no_instance m parts.0 i ++ no_instances rest parts.1 i
 
 -- ---- classes
 

@@ -12,9 +12,10 @@ use Rattle.wy_tree.specs.declared.grammar.Sort.{Sort}
 use Rattle.wy_tree.specs.declared.grammar.Sort.TheVariants as sorts
 use Rattle.wy_tree.specs.declared.grammar.Item.{Item}
 use Rattle.wy_kernel.specs.Program.{Program}
-use Rattle.wy_syntax.specs.Names.{width, widths}
+use Rattle.wy_syntax.specs.Names.{width}
 use Rattle.wy_syntax.specs.Declarations.{unit}
 use Rattle.wy_elab_stmt.specs.Elaborates.{Elaborates}
+use Rattle.wy_elab_stmt.proofs.OneProgram.{as_wide}
 use Rattle.wy_structure.specs.Sites.{TestsStandApart}
 use Rattle.wy_structure.proofs.Elaborated.{made_from}
 use Rattle.wy_structure.proofs.ApartClasses.{library_site, program_apart}
@@ -79,18 +80,6 @@ kind_behind : (xs : List Tok) (n : ℕ) → length xs ≤ n → kind_at xs n ≡
 kind_behind [] n h = refl
 kind_behind (x ∷ xs) zero h = absurd (omega arith)
 kind_behind (x ∷ xs) (suc n) h = kind_behind xs n (omega arith)
-
-mutual
-  pub as_wide : (t : Ast) → width t ≡ length (tokens t)
-  as_wide (Leaf o) = refl
-  as_wide (Node f parts) = all_as_wide parts
-
-  all_as_wide : (ts : Asts) → widths ts ≡ length (tokens_all ts)
-  all_as_wide none = refl
-  all_as_wide (more t rest) =
-      let a : width t ≡ length (tokens t) = as_wide t in
-      let b : widths rest ≡ length (tokens_all rest) = all_as_wide rest in
-      omega (arith, length-append (tokens t) (tokens_all rest))
 
 -- from a number on these tokens stand
 abbrev StandFrom : (ℕ → Kind) → ℕ → List Tok → Type 0

@@ -9,7 +9,7 @@ use Rattle.wy_tree.proofs.Tags.{same_is}
 use Rattle.wy_tree.specs.declared.kind.Kind.{Kind}
 use Rattle.wy_tree.specs.declared.kind.Kind.TheVariants as kinds
 use Rattle.wy_tree.specs.declared.tree.Form.TheVariants as form
-use Rattle.wy_syntax.specs.Syntax.{Effect, ForInit, Nothing, Declared, Effects, Statement, Empty, Declare, For, Labelled, Unknown, braced, done, finally, Catches, uncaught}
+use Rattle.wy_syntax.specs.Syntax.{Effect, ForInit, Nothing, Declared, Effects, Statement, Empty, Declare, For, Labelled, Unknown, finally, Catches, uncaught}
 use Rattle.wy_syntax.specs.Names.{width, widths, is_leaf, named, written as written_type}
 use Rattle.wy_syntax.specs.Expressions.{expression}
 use Rattle.wy_syntax.specs.Statements.{declarator, declarator_list, declarators, effects_behind, effects, for_parts, for_init, statement, braces, block, statements, by_word, branch, otherwise, loop_while, loop_do, loop_for, behind_init, for_test, body_behind, other, tried, catches, clause, last_of, thrown, declared}
@@ -50,7 +50,7 @@ mutual
 comma_alone : (k : Kind) → same k kinds.Comma ≡ true → (j : Kind) → same kinds.Comma j ≡ false → same k j ≡ false
 comma_alone k e j other = let P : Kind → Type 0 = λ x. same x j ≡ false in subst P (sym (same_is k kinds.Comma e)) other
 
-comma_leaf : (t : Ast) → is_leaf kinds.Comma t ≡ true → (j : Kind) → same kinds.Comma j ≡ false → is_leaf j t ≡ false
+pub comma_leaf : (t : Ast) → is_leaf kinds.Comma t ≡ true → (j : Kind) → same kinds.Comma j ≡ false → is_leaf j t ≡ false
 comma_leaf (Leaf o) e j other = comma_alone (kind_of o) e j other
 comma_leaf (Node f parts) e j other = refl
 
@@ -136,19 +136,12 @@ in_front n m high qs less h = let rising : 8 * m ≤ 8 * high = h.rising in head
 alone_at : (n high : ℕ) → n < high → Spread n high (written n ∷ [])
 alone_at n high less = one_spread n high n Written (omega arith) less
 
-abbrev if_places : Bool → Statement → Statement → List Place
-if_places b x y = places (if b then x else y)
-
 one_of : (low high : ℕ) (b : Bool) (x y : Statement) → (b ≡ true → Spread low high (places x)) → (b ≡ false → Spread low high (places y)) → Spread low high (places (if b then x else y))
 one_of low high true x y h i = h refl
 one_of low high false x y h i = i refl
 
 as_long : (n m w rest : ℕ) (qs : List Place) → m ≡ n + w → Spread n (m + rest) qs → Spread n (n + (w + rest)) qs
 as_long n m w rest qs e h = let rising : 8 * n ≤ 8 * (m + rest) = h.rising in wider_spread n (m + rest) n (n + (w + rest)) qs (omega arith) (omega arith) h
-
-block_alone : (n high : ℕ) → n < high → Spread n high (block_places (braced n done n))
-unfolding block_places all_places
-block_alone n high less = alone_at n high less
 
 comma_nothing : (n : ℕ) (s : Ast) → is_leaf kinds.Comma s ≡ true → places (statement n s) ≡ []
 unfolding statement places

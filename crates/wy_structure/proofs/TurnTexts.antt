@@ -92,10 +92,6 @@ both_at n low middle high xs ys a b h i q m = elim (in_both xs ys q m) [
 lone_neat : (q : Place) → Neat (q ∷ [])
 lone_neat q = (λ r m e. absurd m, tt)
 
-maybe_neat : (b : Bool) (n : ℕ) (role : Role) → Neat (place_if b n role)
-maybe_neat true n role = lone_neat (at n role)
-maybe_neat false n role = tt
-
 constructor_at : (t : Table) (c : ℕ) (k : ClassSyntax) → AtName k.name.token (k.name.token * 8 + 2) (k.name.token * 8 + 5) (implied_constructor_places t c k) × Neat (implied_constructor_places t c k)
 unfolding order_of
 constructor_at t c k = by (declares_constructor k)

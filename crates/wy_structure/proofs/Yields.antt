@@ -1,5 +1,6 @@
 -- What is made, step by step, has a property wherever it is made.
 use Rattle.std.proofs.Common.{◌≡◌, ap, subst, refl, ℕ, Bool, true, false, if◌then◌else◌, List, [], ◌∷◌, Result, Ok, Err}
+use Rattle.std.specs.Prelude.{Option, Some, None}
 use Rattle.std.specs.List.{All}
 use Rattle.std.proofs.lemmas.List.Elements.{All-nil, All-cons}
 use Rattle.wy_constant.specs.declared.rule.Rule.{Rule}
@@ -81,6 +82,11 @@ of_expressed f P h = record { by = λ m after y e. goes_after P m (f m.scope m.t
 pub of_choice : {S A : Type 0} (b : Bool) (f g : S → Result (A × S) Refusal) (P : A → Type 0) → Yields f P → Yields g P → Yields (if b then f else g) P
 of_choice true f g P h i = h
 of_choice false f g P h i = i
+
+-- by what is denoted, if anything is
+pub of_option : {X S A : Type 0} (P : A → Type 0) (o : Option X) (f : X → S → Result (A × S) Refusal) (g : S → Result (A × S) Refusal) → ((x : X) → Yields (f x) P) → Yields g P → Yields (elim o [ Some x ↦ f x | None ↦ g ]) P
+of_option P None f g h i = i
+of_option P (Some x) f g h i = h x
 
 pub refused_found : {A : Type 0} (P : A → Type 0) (rule : Rule) (token : ℕ) → Yields (found.refuse {A = A} rule token) P
 refused_found P rule token = record { by = λ s after y e. absurd cc }

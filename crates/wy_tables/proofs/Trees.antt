@@ -5,15 +5,15 @@ use Rattle.wy_tree.specs.Ast.{Ast, Asts, Leaf, Node}
 use Rattle.wy_tree.specs.Ast as tree
 use Rattle.wy_tree.specs.declared.kind.Kind.TheVariants as kinds
 use Rattle.wy_tree.specs.declared.tree.Form.TheVariants as form
-use Rattle.wy_syntax.specs.Syntax.{Placed, Header, Member, ClassSyntax, Declaration}
+use Rattle.wy_syntax.specs.Syntax.{Placed, Header, Member, Declaration}
 use Rattle.wy_syntax.specs.Syntax as syntax
 use Rattle.wy_syntax.specs.Names.{width, widths, is_leaf}
 use Rattle.wy_syntax.specs.Statements.{block, declarator_list, declarators}
-use Rattle.wy_syntax.specs.Declarations.{Part, Parts, placed, is_block, is_params, modifiers_of, behind_modifiers, behind_throws, header, result_of, type_at, body_of, constructor_of, member_behind, member_in, member_seen, members_in, method_in, methods_in, behind_brace, class_behind, interface_behind, declaration, declarations, unit}
+use Rattle.wy_syntax.specs.Declarations.{Parts, placed, is_block, is_params, modifiers_of, behind_modifiers, behind_throws, header, result_of, type_at, body_of, constructor_of, member_behind, member_in, member_seen, members_in, method_in, methods_in, behind_brace, class_behind, interface_behind, declaration, declarations, unit}
 use Rattle.wy_members.specs.Declarations.{class_in, classes_of}
 use Rattle.wy_structure.proofs.Trees.{Full, AllFull, parts_full, wide}
 use Rattle.wy_structure.proofs.Productions.{UnitFull}
-use Rattle.wy_structure.proofs.ClassTrees.{Row, row_rises, placed_row, modifiers_row, brace_row}
+use Rattle.wy_structure.proofs.ClassTrees.{Row, row_rises, row_with, row_longer, placed_row, modifiers_row, brace_row}
 use Rattle.wy_tables.proofs.Weights.{member_weight, members_weight, classes_weight}
 
 -- ---- declarators
@@ -85,14 +85,6 @@ members_fit low (p ∷ q ∷ rest) high r =
     let more = members_fit (p.at + width p.what) (q ∷ rest) high r.2 in omega (arith, more)
 
 -- ---- methods of interfaces
-
-row_with : (low : ℕ) (before : Parts) (middle : ℕ) (p : Part) → Row low before middle → middle ≤ p.at → Full p.what → Row low (before ++ p ∷ []) (p.at + width p.what)
-row_with low [] middle p r less f = let there : low ≤ middle = r in (omega arith, f, omega arith)
-row_with low (q ∷ before) middle p r less f = (r.0, r.1, row_with (q.at + width q.what) before middle p r.2 less f)
-
-row_longer : (low : ℕ) (ps : Parts) (high more : ℕ) → high ≤ more → Row low ps high → Row low ps more
-row_longer low [] high more less r = let there : low ≤ high = r in omega arith
-row_longer low (p ∷ rest) high more less r = (r.0, r.1, row_longer (p.at + width p.what) rest high more less r.2)
 
 method_fits : (low : ℕ) (ps : Parts) (high : ℕ) → low < high → Row low ps high → MemberFits low high (method_in ps)
 method_fits low [] high less r = omega arith

@@ -2,6 +2,7 @@
 use Rattle.std.proofs.Common.{◌≡◌, ℕ, suc, ◌≤◌, Bool, true, false, refl, sym, ◌∙◌, ap, subst, List, [], ◌∷◌, ◌++◌, length, Option, Some, None, Ok, arith, if◌then◌else◌, ◌||◌, append_assoc}
 use Rattle.std.specs.Prelude.{codes}
 use Rattle.std.specs.List.{AllByRecursion, list_any}
+use Rattle.std.proofs.lemmas.List.{append-nil}
 use Rattle.wy_kernel.specs.declared.types.MethodForm.TheVariants as kind
 use Rattle.wy_kernel.specs.Program.{Program, Method, Body}
 use Rattle.wy_kernel.specs.Table.{ConstantValue}
@@ -11,7 +12,7 @@ use Rattle.wy_syntax.specs.Syntax as source
 use Rattle.wy_constant.specs.Scope.{FixedText}
 use Rattle.wy_members.specs.Declarations.{CompilationUnit, has, initializes_objects, is_constructor, implied, methods_in, methods_of}
 use Rattle.wy_elab_expr.specs.Operators.{Judgement}
-use Rattle.wy_elab_expr.specs.Meaning.{Gets, ◌>>=◌}
+use Rattle.wy_elab_expr.specs.Meaning.{◌>>=◌}
 use Rattle.wy_elab_expr.specs.Meaning as meaning
 use Rattle.wy_statement.specs.declared.place.Place.{Place}
 use Rattle.wy_statement.specs.Statements.{Setting}
@@ -23,7 +24,11 @@ use Rattle.wy_typed.specs.Classes.{ClassStands, ClassFits}
 use Rattle.wy_typed.specs.Rows.{NamesAgree, MayLackBody, IsHeader, DeclarationStands, AllStand, InitFits, RowsFit, rows_from, BodiesAreTyped}
 use Rattle.wy_typed.proofs.Growing.{found_on, one_found}
 use Rattle.wy_typed.proofs.Members.{class_typed, class_grown}
-use Rattle.wy_typed.proofs.Rows.{join, all_rows}
+use Rattle.wy_typed.proofs.Rows.{join, no_units, abstract_row, no_row_by, all_rows}
+
+-- the same texts are no more
+pub same_length : (xs ys : List FixedText) → xs ≡ ys → length ys ≤ length xs
+same_length xs ys e = let is = ap length e in omega (arith, is)
 
 module _ (p : Program) (constants : List (Option ConstantValue)) (j : Judgement) (all : List Place) (unit : CompilationUnit) (made : MakesProgram p constants j all) (names : NamesAgree p unit) where
   abbrev w : Setting
@@ -31,30 +36,12 @@ module _ (p : Program) (constants : List (Option ConstantValue)) (j : Judgement)
 
   -- ---- interfaces
 
-  no_units : (ms : List Member) → AllByRecursion IsHeader ms → list_any initializes_objects ms ≡ false
-  no_units [] h = refl
-  no_units (source.Method hd result None ∷ ms) h = no_units ms h.1
-  no_units (source.Method hd result (Some b) ∷ ms) h = absurd h.0
-  no_units (source.Member.Nothing ∷ ms) h = no_units ms h.1
-  no_units (source.Constructor hd own brace parts end ∷ ms) h = absurd h.0
-  no_units (source.Initializer s b ∷ ms) h = absurd h.0
-  no_units (source.Fields modifiers ty ds ∷ ms) h = absurd h.0
-  no_units (source.Member.Unknown ∷ ms) h = absurd h.0
-
   abbrev Headers : ℕ → ClassSyntax → List Member → Growth → List FixedText → Growth × List FixedText → Type 0
   Headers c k ms g texts z = (new : List (Option Body)) × (z.0.bodies ≡ g.bodies ++ new) × RowsFit p (methods_in unit c k ms) new × (z.1 ≡ texts)
 
-  abstract_row : (b x : Bool) → b ≡ true → b || x ≡ true
-  abstract_row true x e = refl
-  abstract_row false x e = absurd (cc)
-
-  with_none : {X : Type 0} (xs : List X) → xs ++ [] ≡ xs
-  with_none [] = refl
-  with_none (x ∷ xs) = ap (λ l. x ∷ l) (with_none xs)
-
   headers : (c : ℕ) (k : ClassSyntax) (ms : List Member) (g : Growth) (texts : List FixedText) (z : Growth × List FixedText) → k.is_interface ≡ true → AllByRecursion IsHeader ms → members w c k g ms texts ≡ Ok z → Headers c k ms g texts z
   unfolding members member
-  headers c k [] g texts z i h e = let P : Growth × List FixedText → Type 0 = λ y. Headers c k [] g texts y in subst P (one_found (g, texts) z _ refl e) ([], sym (with_none g.bodies), tt, refl)
+  headers c k [] g texts z i h e = let P : Growth × List FixedText → Type 0 = λ y. Headers c k [] g texts y in subst P (one_found (g, texts) z _ refl e) ([], sym (append-nil g.bodies), tt, refl)
   headers c k (source.Method hd result None ∷ ms) g texts z i h e =
       let more = headers c k ms (with_body g None) texts z i h.1 e in
       (None ∷ more.0, more.1 ∙ append_assoc g.bodies (None ∷ []) more.0, (abstract_row k.is_interface (has modifier.Abstract hd.modifiers) i, more.2), more.3)
@@ -70,18 +57,10 @@ module _ (p : Program) (constants : List (Option ConstantValue)) (j : Judgement)
     pub grows : length texts ≤ length q.1
     pub fits : length q.1 ≤ length p.fixed_texts → RowsFit p (methods_of unit c k) q.0.bodies × InitFits p q.0.initializer
 
-  no_row_by : (a b rows : List Method) (x y : Bool) (new : List (Option Body)) → x ≡ false → y ≡ true → RowsFit p rows new → RowsFit p ((if x then a else []) ++ (if y then [] else b) ++ rows) new
-  no_row_by a b rows false true new e f h = h
-  no_row_by a b rows true y new e f h = absurd (cc)
-  no_row_by a b rows false false new e f h = absurd (cc)
-
   interface_rows : (c : ℕ) (k : ClassSyntax) (new : List (Option Body)) → k.is_interface ≡ true → AllByRecursion IsHeader k.members → RowsFit p (methods_in unit c k k.members) new → RowsFit p (methods_of unit c k) new
   interface_rows c k new i h f =
-      no_row_by (implied c k (codes "<fields>") kind.Fields ∷ []) (implied c k (codes "new") kind.Constructor ∷ []) (methods_in unit c k k.members) (list_any initializes_objects k.members) (k.is_interface || list_any is_constructor k.members) new
+      no_row_by (λ rows. RowsFit p rows new) (implied c k (codes "<fields>") kind.Fields ∷ []) (implied c k (codes "new") kind.Constructor ∷ []) (methods_in unit c k k.members) (list_any initializes_objects k.members) (k.is_interface || list_any is_constructor k.members)
       (no_units k.members h) (abstract_row k.is_interface (list_any is_constructor k.members) i) f
-
-  same_length : (xs ys : List FixedText) → xs ≡ ys → length ys ≤ length xs
-  same_length xs ys e = let is = ap length e in omega (arith, is)
 
   interface_done : (c : ℕ) (k : ClassSyntax) (texts : List FixedText) (q : ClassBodies × List FixedText) → k.is_interface ≡ true → AllByRecursion IsHeader k.members → of_interface w c k texts ≡ Ok q → OfDeclaration c k texts q
   interface_done c k texts q i h e =

@@ -12,14 +12,13 @@ use Rattle.wy_elab_expr.specs.Meaning.{Gets, onward}
 use Rattle.wy_elab_expr.specs.Meaning as meaning
 use Rattle.wy_statement.specs.declared.place.Place.{Place}
 use Rattle.wy_statement.specs.Making.{Making, Makes, resumed, rejoined, with_texts}
-use Rattle.wy_statement.specs.Statements.{Setting}
 use Rattle.wy_statement.specs.Bodies.{Growing}
 use Rattle.wy_elab_stmt.specs.Classes.{grown}
 use Rattle.wy_typing.specs.Programs.{IsTypeIn}
-use Rattle.wy_typed_stmt.specs.Typed.{setting, Makes as MakesProgram, types}
+use Rattle.wy_typed_stmt.specs.Typed.{Makes as MakesProgram, types}
 use Rattle.wy_typed_stmt.specs.Bodies.{this_of}
 use Rattle.wy_typed_stmt.proofs.Steps as steps
-use Rattle.wy_typed_stmt.proofs.Steps.{Sure, begins_self}
+use Rattle.wy_typed_stmt.proofs.Steps.{Sure}
 use Rattle.wy_typed_stmt.proofs.Constructing.{all_joined}
 use Rattle.wy_typed_stmt.proofs.Initializing as initializing
 use Rattle.wy_typed_stmt.proofs.Blocking.{grown_at_end}
@@ -44,9 +43,6 @@ resumed_on m f texts q e = joined_again (f (with_texts m texts)) q e
 module _ (p : Program) (constants : List (Option ConstantValue)) (j : Judgement) (all : List Place) (c : ℕ) (made : MakesProgram p constants j all) where
   abbrev n : ℕ
   n = length p.fixed_texts
-
-  abbrev w : Setting
-  w = setting p constants j all
 
   abbrev AllSo : Bool → List Ty → List kernel.Statement → Type 0
   AllSo b L xs = initializing.AllSo p constants j all L c b made xs

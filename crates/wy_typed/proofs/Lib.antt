@@ -1,3 +1,4 @@
+pub mod Made
 pub mod Growing
 pub mod Members
 pub mod Rows

@@ -1,6 +1,7 @@
 -- All bodies of a class.
 use Rattle.std.proofs.Common.{◌≡◌, ℕ, ◌≤◌, Bool, true, false, not, refl, sym, ◌∙◌, ap, subst, List, [], ◌∷◌, ◌++◌, length, Option, Some, None, Ok, arith, inl, if◌then◌else◌, append_assoc}
 use Rattle.std.specs.List.{AllByRecursion, Contains}
+use Rattle.std.proofs.lemmas.List.{append-nil}
 use Rattle.wy_kernel.specs.declared.types.Ty.{Ty}
 use Rattle.wy_kernel.specs.declared.types.Ty.TheVariants.{Void}
 use Rattle.wy_kernel.specs.Form as kernel
@@ -10,7 +11,7 @@ use Rattle.wy_syntax.specs.Syntax.{Member, ClassSyntax, Declarator}
 use Rattle.wy_syntax.specs.Syntax as source
 use Rattle.wy_constant.specs.Scope.{FixedText}
 use Rattle.wy_elab_expr.specs.Operators.{Judgement}
-use Rattle.wy_elab_expr.specs.Meaning.{Gets, ◌>>=◌}
+use Rattle.wy_elab_expr.specs.Meaning.{◌>>=◌}
 use Rattle.wy_elab_expr.specs.Meaning as meaning
 use Rattle.wy_statement.specs.declared.place.Place.{Place}
 use Rattle.wy_statement.specs.declared.place.Role.{Role}
@@ -35,10 +36,6 @@ use Rattle.wy_typed_stmt.proofs.Blocking.{begun_inv}
 use Rattle.wy_typed.specs.Classes.{HasInitial, FieldStands, MemberStands, ClassStands, MembersFit, UnitFits, ImpliedFits, ClassFits, ClassesAreTyped}
 use Rattle.wy_typed.proofs.Growing as growing
 use Rattle.wy_typed.proofs.Growing.{found_on, one_found, resumed_on}
-
-with_none : {X : Type 0} (xs : List X) → xs ++ [] ≡ xs
-with_none [] = refl
-with_none (x ∷ xs) = ap (λ l. x ∷ l) (with_none xs)
 
 -- a body from its beginning to its end
 whole_on : (m : Making) (end : ℕ) (f : Makes kernel.Statement) (texts after : List FixedText) (b : Body) → whole m end f texts ≡ Ok (b, after) → (q : kernel.Statement × Making) × (f (with_texts m texts) ≡ Ok q) × (body_of q.0 q.1 end ≡ b) × (q.1.texts ≡ after)
@@ -96,7 +93,7 @@ module _ (p : Program) (constants : List (Option ConstantValue)) (j : Judgement)
       let d = growing.grown_fits p constants j all c made false g.initializer a.0.0 f texts a.0.1 h i.initializer a.1 in
       let P : Growth × List FixedText → Type 0 = λ y. Done (OneFits m) g texts y in
       subst P (one_found (record g { initializer = a.0.0 }, a.0.1) z _ refl a.2)
-      (record { growth = record { initializer = d.0; fields = growing.later p constants j all c made true g.fields (length texts) (length a.0.1) d.1 i.fields }; grows = d.1; new = []; bodies = sym (with_none g.bodies); fits = λ lt. one })
+      (record { growth = record { initializer = d.0; fields = growing.later p constants j all c made true g.fields (length texts) (length a.0.1) d.1 i.fields }; grows = d.1; new = []; bodies = sym (append-nil g.bodies); fits = λ lt. one })
 
   in_fields_done : (m : Member) (g : Growth) (texts : List FixedText) (z : Growth × List FixedText) (f : Makes (List kernel.Statement)) → OneFits m [] → GrowthFits g (length texts) → ((L : List Ty) → steps.Sure p constants j L c true Unit (λ y. Unit {0}) Unit (initializing.AllSo p constants j all L c true made) f) →
       in_fields g f texts ≡ Ok z → Done (OneFits m) g texts z
@@ -105,7 +102,7 @@ module _ (p : Program) (constants : List (Option ConstantValue)) (j : Judgement)
       let d = growing.grown_fits p constants j all c made true g.fields a.0.0 f texts a.0.1 h i.fields a.1 in
       let P : Growth × List FixedText → Type 0 = λ y. Done (OneFits m) g texts y in
       subst P (one_found (record g { fields = a.0.0 }, a.0.1) z _ refl a.2)
-      (record { growth = record { initializer = growing.later p constants j all c made false g.initializer (length texts) (length a.0.1) d.1 i.initializer; fields = d.0 }; grows = d.1; new = []; bodies = sym (with_none g.bodies); fits = λ lt. one })
+      (record { growth = record { initializer = growing.later p constants j all c made false g.initializer (length texts) (length a.0.1) d.1 i.initializer; fields = d.0 }; grows = d.1; new = []; bodies = sym (append-nil g.bodies); fits = λ lt. one })
 
   -- a whole body
   body_done : (m : Member) (g : Growth) (texts : List FixedText) (z : Growth × List FixedText) (start : Making) (end : ℕ) (f : Makes kernel.Statement) → GrowthFits g (length texts) →
@@ -151,7 +148,7 @@ module _ (p : Program) (constants : List (Option ConstantValue)) (j : Judgement)
   nothing_done : (m : Member) (g : Growth) (texts : List FixedText) (z : Growth × List FixedText) → OneFits m [] → GrowthFits g (length texts) → meaning.give g texts ≡ Ok z → Done (OneFits m) g texts z
   nothing_done m g texts z one i e =
       let P : Growth × List FixedText → Type 0 = λ y. Done (OneFits m) g texts y in
-      subst P (one_found (g, texts) z _ refl e) (record { growth = i; grows = le_self (length texts); new = []; bodies = sym (with_none g.bodies); fits = λ lt. one })
+      subst P (one_found (g, texts) z _ refl e) (record { growth = i; grows = le_self (length texts); new = []; bodies = sym (append-nil g.bodies); fits = λ lt. one })
     where
       le_self : (a : ℕ) → a ≤ a
       le_self a = omega arith
@@ -191,7 +188,7 @@ module _ (p : Program) (constants : List (Option ConstantValue)) (j : Judgement)
   unfolding members
   members_done [] g texts z h i e =
       let P : Growth × List FixedText → Type 0 = λ y. Done (MembersFit p c []) g texts y in
-      subst P (one_found (g, texts) z _ refl e) (record { growth = i; grows = le_self (length texts); new = []; bodies = sym (with_none g.bodies); fits = λ lt. tt })
+      subst P (one_found (g, texts) z _ refl e) (record { growth = i; grows = le_self (length texts); new = []; bodies = sym (append-nil g.bodies); fits = λ lt. tt })
     where
       le_self : (a : ℕ) → a ≤ a
       le_self a = omega arith

@@ -1,17 +1,18 @@
 -- The bodies of a whole program.
-use Rattle.std.proofs.Common.{◌≤◌, arith, ◌≡◌, ℕ, zero, suc, true, false, refl, sym, ◌∙◌, ap, subst, List, [], ◌∷◌, ◌++◌, length, Option, Some, None, Result, Ok, Err}
+use Rattle.std.proofs.Common.{◌≤◌, arith, ◌≡◌, ℕ, zero, suc, true, false, refl, sym, ◌∙◌, ap, subst, List, [], ◌∷◌, ◌++◌, length, Option, Some, None}
 use Rattle.std.specs.Prelude.{slice_get}
 use Rattle.std.specs.List.{AllByRecursion}
 use Rattle.std.proofs.lemmas.List.{length-map}
+use Rattle.std.proofs.lemmas.List.Elements.{All-contains, All-from_recursion}
 use Rattle.wy_kernel.specs.Program.{Program, Method, Body, first_source_class}
 use Rattle.wy_kernel.specs.Table.{Table}
 use Rattle.wy_kernel.specs.Builtin as builtin
-use Rattle.wy_constant.specs.Refusal.{Refusal}
 use Rattle.wy_constant.specs.Scope.{FixedText}
 use Rattle.wy_members.specs.Declarations.{CompilationUnit, classes_of}
+use Rattle.wy_members.proofs.Contained.{contained}
 use Rattle.wy_elab_expr.specs.Operators.{Judgement}
 use Rattle.wy_library.specs.Library.{library_bodies, library_init_bodies}
-use Rattle.wy_elab_stmt.specs.Program.{Bodies, bodies_of, library_text, in_order, main_of, setting, program_with, with_main, again, from_texts, program}
+use Rattle.wy_elab_stmt.specs.Program.{in_order, setting, program_with}
 use Rattle.wy_statement.specs.Places.{places_of}
 use Rattle.wy_typing.specs.Expressions.{IsMethod, HasBody}
 use Rattle.wy_typing.specs.Programs.{IsBody, IsBodyOf}
@@ -19,41 +20,13 @@ use Rattle.wy_typed_library.specs.Library.{HasLibrary}
 use Rattle.wy_typed_library.proofs.Fitting.{library_fits}
 use Rattle.wy_typed_stmt.specs.Typed.{Makes}
 use Rattle.wy_typed_stmt.proofs.Constructing.{all_joined}
+use Rattle.wy_typed.proofs.Made.{MadeOf, made_of}
 use Rattle.wy_typed.proofs.Bodies.{bodies_are_typed}
 use Rattle.wy_typed.proofs.Rows as rows_proof
 use Rattle.wy_typed.specs.Rows.{NamesAgree, AllStand, InitFits, RowFits, RowsFit, rows_from}
 use Rattle.wy_typed.specs.Shapes.{RowsStand}
 use Rattle.wy_typed.specs.Programs.{HasRows, MethodsHaveBodies, BodiesFit, ProgramsAreTyped}
 use Rattle.wy_typed.proofs.Shapes.{join, bodies_stand}
-
--- what a program is made of
-pub record MadeOf (j : Judgement) (t : Table) (unit : CompilationUnit) (p : Program) : Type 0 where
-  pub main : ℕ
-  pub bodies : Bodies
-  pub before : List FixedText
-  pub texts : List FixedText
-  pub made : bodies_of (setting j t unit) unit before ≡ Ok (bodies, texts)
-  pub is : program_with t unit main bodies texts ≡ p
-  pub main_there : main_of t unit ≡ Some main
-
-one_program : (a b : Program) (r : Result Program Refusal) → r ≡ Ok a → r ≡ Ok b → a ≡ b
-one_program a b r e f = cc
-
-main_by : (j : Judgement) (t : Table) (unit : CompilationUnit) (tokens : ℕ) (p : Program) (before : List FixedText) (o : Option ℕ) (bodies : Bodies) (texts : List FixedText) → main_of t unit ≡ o → bodies_of (setting j t unit) unit before ≡ Ok (bodies, texts) → with_main t unit tokens o bodies texts ≡ Ok p → MadeOf j t unit p
-main_by j t unit tokens p before (Some main) bodies texts o made e = record { main = main; bodies = bodies; before = before; texts = texts; made = made; is = one_program (program_with t unit main bodies texts) p _ refl e; main_there = o }
-main_by j t unit tokens p before None bodies texts o made e = absurd (cc)
-
-again_by : (j : Judgement) (t : Table) (unit : CompilationUnit) (tokens : ℕ) (p : Program) (before : List FixedText) (r : Result (Bodies × List FixedText) Refusal) → bodies_of (setting j t unit) unit before ≡ r → again j t unit tokens r ≡ Ok p → MadeOf j t unit p
-again_by j t unit tokens p before (Ok q) made e = main_by j t unit tokens p before (main_of t unit) q.0 q.1 refl made e
-again_by j t unit tokens p before (Err x) made e = absurd (cc)
-
-texts_by : (j : Judgement) (t : Table) (unit : CompilationUnit) (tokens : ℕ) (p : Program) (r : Result (Bodies × List FixedText) Refusal) → from_texts j t unit tokens r ≡ Ok p → MadeOf j t unit p
-texts_by j t unit tokens p (Ok q) e = again_by j t unit tokens p (in_order q.1) (bodies_of (setting j t unit) unit (in_order q.1)) refl e
-texts_by j t unit tokens p (Err x) e = absurd (cc)
-
-pub made_of : (j : Judgement) (t : Table) (unit : CompilationUnit) (tokens : ℕ) (p : Program) → program j t unit tokens ≡ Ok p → MadeOf j t unit p
-unfolding program
-made_of j t unit tokens p e = texts_by j t unit tokens p (bodies_of (setting j t unit) unit (library_text ∷ [])) e
 
 library_stands : RowsStand builtin.methods library_bodies
 unfolding builtin.methods builtin.first_methods library_bodies
@@ -69,7 +42,7 @@ has_row (x ∷ xs) (b ∷ bs) (suc k) m h e f = has_row xs bs k m h.1 e f
 pub methods_have_bodies : MethodsHaveBodies
 methods_have_bodies j t unit tokens p rows keep e k m found concrete =
     let d = made_of j t unit tokens p e in
-    let stand = bodies_stand (setting j t unit) unit first_source_class (classes_of unit) d.before d.texts d.bodies keep d.made in
+    let stand = bodies_stand (setting j t unit) unit first_source_class (classes_of unit) (in_order d.first.1) d.texts d.bodies keep d.made in
     let P : List Method → Type 0 = λ l. RowsStand l (library_bodies ++ d.bodies.methods) in
     let whole : RowsStand t.methods (library_bodies ++ d.bodies.methods) = subst P (sym rows) (join builtin.methods (rows_from unit first_source_class (classes_of unit)) library_bodies d.bodies.methods library_stands stand) in
     let Q : Program → Type 0 = λ x. IsMethod x k m → HasBody x k in
@@ -93,9 +66,7 @@ fit_at p (x ∷ xs) (y ∷ ys) zero m b h e f =
 fit_at p (x ∷ xs) (y ∷ ys) (suc k) m b h e f = fit_at p xs ys k m b h.1 e f
 
 init_at : (p : Program) (bs : List (Option Body)) (c : ℕ) (b : Body) → AllByRecursion (InitFits p) bs → slice_get bs c ≡ Some (Some b) → IsBody p [] None b
-init_at p [] c b h e = absurd (cc)
-init_at p (y ∷ ys) zero b h e = let P : Option Body → Type 0 = λ z. InitFits p z in let same : y ≡ Some b = cc in subst P same h.0
-init_at p (y ∷ ys) (suc c) b h e = init_at p ys c b h.1 e
+init_at p bs c b h e = All-contains (InitFits p) bs (Some b) (All-from_recursion (InitFits p) bs h) (contained bs c (Some b) e)
 
 library_inits : (p : Program) → AllByRecursion (InitFits p) library_init_bodies
 unfolding library_init_bodies builtin.classes
@@ -111,7 +82,7 @@ typed_at j t unit p rows library made names stand d =
     of_program lib mk nm st =
         let x : Program = program_with t unit d.main d.bodies d.texts in
         let enough : length d.texts ≤ length x.fixed_texts = omega (arith, length-map d.texts (λ (y : FixedText). y.units)) in
-        let f = bodies_are_typed x t.constants j (places_of t unit) unit first_source_class (classes_of unit) d.before d.texts d.bodies mk nm st d.made enough in
+        let f = bodies_are_typed x t.constants j (places_of t unit) unit first_source_class (classes_of unit) (in_order d.first.1) d.texts d.bodies mk nm st d.made enough in
         let P : List Method → Type 0 = λ l. RowsFit x l (library_bodies ++ d.bodies.methods) in
         let all : RowsFit x t.methods (library_bodies ++ d.bodies.methods) = subst P (sym rows)
         (rows_proof.join x builtin.methods (rows_from unit first_source_class (classes_of unit)) library_bodies d.bodies.methods (fit_both x builtin.methods library_bodies library_stands (λ k m b e is. library_fits x k m b lib e is)) f.0) in

@@ -1,7 +1,7 @@
 -- The bodies of a class and its methods, side by side.
 use Rattle.std.proofs.Common.{◌≡◌, ℕ, ◌+◌, Bool, true, false, not, refl, sym, ◌∙◌, ap, subst, List, [], ◌∷◌, ◌++◌, Option, Some, None, if◌then◌else◌, ◌||◌}
 use Rattle.std.specs.Prelude.{unwrap_or, codes}
-use Rattle.std.specs.List.{AllByRecursion}
+use Rattle.std.specs.List.{AllByRecursion, list_any}
 use Rattle.wy_kernel.specs.declared.types.Base.{Base}
 use Rattle.wy_kernel.specs.declared.types.Base.TheVariants.{Class as Named}
 use Rattle.wy_kernel.specs.declared.types.Ty.{Ty}
@@ -11,19 +11,43 @@ use Rattle.wy_kernel.specs.Program.{Program, Method, Body, object_class}
 use Rattle.wy_syntax.specs.declared.declaration.Modifier.TheVariants as modifier
 use Rattle.wy_syntax.specs.Syntax.{Member, ClassSyntax, Parameter, Header, WrittenType}
 use Rattle.wy_syntax.specs.Syntax as source
-use Rattle.wy_members.specs.Declarations.{CompilationUnit, base_type, type_with, result_type, types_of, parameter_types, has, method_row, form_of, methods_in, implied, fields_unit, implied_constructor, methods_of}
+use Rattle.wy_members.specs.Declarations.{CompilationUnit, initializes_objects, base_type, type_with, result_type, types_of, parameter_types, has, method_row, form_of, methods_in, implied, fields_unit, implied_constructor, methods_of}
 use Rattle.wy_statement.specs.Places.{has_fields_unit, declares_constructor}
 use Rattle.wy_elab_stmt.specs.Classes.{ClassBodies, is_static}
 use Rattle.wy_typing.specs.Programs.{IsBody, IsBodyOf, this_types, result_of}
 use Rattle.wy_typed_stmt.specs.Bodies.{BaseDenotes, Denotes, ParamsDenote, ResultDenotes, this_of, FitsHeader}
 use Rattle.wy_typed.specs.Classes.{MembersFit, UnitFits, ImpliedFits, ClassFits}
-use Rattle.wy_typed.specs.Rows.{NamesAgree, MayLackBody, RowsFit, BodiesFitRows}
+use Rattle.wy_typed.specs.Rows.{NamesAgree, MayLackBody, IsHeader, RowsFit, BodiesFitRows}
 
 pub join : (p : Program) (ms ns : List Method) (bs cs : List (Option Body)) → RowsFit p ms bs → RowsFit p ns cs → RowsFit p (ms ++ ns) (bs ++ cs)
 join p [] ns [] cs h k = k
 join p (m ∷ ms) ns (b ∷ bs) cs h k = (h.0, join p ms ns bs cs h.1 k)
 join p [] ns (b ∷ bs) cs h k = absurd h
 join p (m ∷ ms) ns [] cs h k = absurd h
+
+-- ---- headers of methods alone
+
+pub no_units : (ms : List Member) → AllByRecursion IsHeader ms → list_any initializes_objects ms ≡ false
+no_units [] h = refl
+no_units (source.Method hd result None ∷ ms) h = no_units ms h.1
+no_units (source.Method hd result (Some b) ∷ ms) h = absurd h.0
+no_units (source.Member.Nothing ∷ ms) h = no_units ms h.1
+no_units (source.Constructor hd own brace parts end ∷ ms) h = absurd h.0
+no_units (source.Initializer s b ∷ ms) h = absurd h.0
+no_units (source.Fields modifiers ty ds ∷ ms) h = absurd h.0
+no_units (source.Member.Unknown ∷ ms) h = absurd h.0
+
+pub abstract_row : (b x : Bool) → b ≡ true → b || x ≡ true
+abstract_row true x e = refl
+abstract_row false x e = absurd (cc)
+
+-- an interface has rows for its headers alone
+pub no_row_by : (Q : List Method → Type 0) (a b rows : List Method) (x y : Bool) → x ≡ false → y ≡ true → Q rows → Q ((if x then a else []) ++ (if y then [] else b) ++ rows)
+no_row_by Q a b rows false true e f h = h
+no_row_by Q a b rows true y e f h = absurd (cc)
+no_row_by Q a b rows false false e f h = absurd (cc)
+
+-- ---- a class
 
 module _ (p : Program) (unit : CompilationUnit) (c : ℕ) (k : ClassSyntax) (names : NamesAgree p unit) where
   -- ---- written types

@@ -2,6 +2,7 @@
 use Rattle.std.proofs.Common.{◌≡◌, ℕ, suc, Bool, true, false, not, refl, sym, ◌∙◌, ap, subst, List, [], ◌∷◌, ◌++◌, Option, Some, None, Ok, if◌then◌else◌, ◌||◌, append_assoc}
 use Rattle.std.specs.Prelude.{codes}
 use Rattle.std.specs.List.{AllByRecursion, list_any}
+use Rattle.std.proofs.lemmas.List.{append-nil}
 use Rattle.wy_kernel.specs.declared.types.MethodForm.TheVariants as kind
 use Rattle.wy_kernel.specs.Form as kernel
 use Rattle.wy_kernel.specs.Program.{Method, Body}
@@ -23,16 +24,13 @@ use Rattle.wy_elab_stmt.specs.Program.{Bodies, no_bodies, and_more, bodies_from}
 use Rattle.wy_typed.specs.Rows.{MayLackBody, IsHeader, rows_from}
 use Rattle.wy_typed.specs.Shapes.{RowsStand, DeclarationKeeps, AllKeep, BodiesStand}
 use Rattle.wy_typed.proofs.Growing.{found_on, one_found}
+use Rattle.wy_typed.proofs.Rows.{no_units, abstract_row, no_row_by}
 
 pub join : (ms ns : List Method) (bs cs : List (Option Body)) → RowsStand ms bs → RowsStand ns cs → RowsStand (ms ++ ns) (bs ++ cs)
 join [] ns [] cs h k = k
 join (m ∷ ms) ns (b ∷ bs) cs h k = (h.0, join ms ns bs cs h.1 k)
 join [] ns (b ∷ bs) cs h k = absurd h
 join (m ∷ ms) ns [] cs h k = absurd h
-
-with_none : {X : Type 0} (xs : List X) → xs ++ [] ≡ xs
-with_none [] = refl
-with_none (x ∷ xs) = ap (λ l. x ∷ l) (with_none xs)
 
 module _ (w : Setting) (unit : CompilationUnit) (c : ℕ) (k : ClassSyntax) where
   -- what a member adds
@@ -49,7 +47,7 @@ module _ (w : Setting) (unit : CompilationUnit) (c : ℕ) (k : ClassSyntax) wher
   Added Q g z = (new : List (Option Body)) × (z.0.bodies ≡ g.bodies ++ new) × Q new
 
   unchanged : (m : Member) (g next : Growth) (after : List FixedText) (z : Growth × List FixedText) → OneStands m [] → next.bodies ≡ g.bodies → meaning.give next after ≡ Ok z → Added (OneStands m) g z
-  unchanged m g next after z one is e = ([], ap (λ (y : Growth × List FixedText). y.0.bodies) (sym (one_found (next, after) z _ refl e)) ∙ is ∙ sym (with_none g.bodies), one)
+  unchanged m g next after z one is e = ([], ap (λ (y : Growth × List FixedText). y.0.bodies) (sym (one_found (next, after) z _ refl e)) ∙ is ∙ sym (append-nil g.bodies), one)
 
   in_initializer_adds : (m : Member) (g : Growth) (texts : List FixedText) (z : Growth × List FixedText) (f : Makes (List kernel.Statement)) → OneStands m [] → in_initializer g f texts ≡ Ok z → Added (OneStands m) g z
   in_initializer_adds m g texts z f one e =
@@ -91,7 +89,7 @@ module _ (w : Setting) (unit : CompilationUnit) (c : ℕ) (k : ClassSyntax) wher
 
   members_add : (ms : List Member) (g : Growth) (texts : List FixedText) (z : Growth × List FixedText) → AllByRecursion (MayLackBody k) ms → members w c k g ms texts ≡ Ok z → Added (RowsStand (methods_in unit c k ms)) g z
   unfolding members
-  members_add [] g texts z a e = ([], ap (λ (y : Growth × List FixedText). y.0.bodies) (sym (one_found (g, texts) z _ refl e)) ∙ sym (with_none g.bodies), tt)
+  members_add [] g texts z a e = ([], ap (λ (y : Growth × List FixedText). y.0.bodies) (sym (one_found (g, texts) z _ refl e)) ∙ sym (append-nil g.bodies), tt)
   members_add (m ∷ rest) g texts z a e =
       let d = found_on (λ next. members w c k next rest) (member w c k g m texts) z e in
       let one = member_adds m g texts d.0 d.1 in let more = members_add rest d.0.0 d.0.1 z a.1 d.2 in
@@ -129,10 +127,6 @@ module _ (w : Setting) (unit : CompilationUnit) (c : ℕ) (k : ClassSyntax) wher
 
   -- ---- interfaces
 
-  abstract_row : (b x : Bool) → b ≡ true → b || x ≡ true
-  abstract_row true x e = refl
-  abstract_row false x e = absurd (cc)
-
   headers_lack : (ms : List Member) → k.is_interface ≡ true → AllByRecursion IsHeader ms → AllByRecursion (MayLackBody k) ms
   headers_lack [] i h = tt
   headers_lack (source.Method hd result None ∷ ms) i h = (abstract_row k.is_interface (has modifier.Abstract hd.modifiers) i, headers_lack ms i h.1)
@@ -143,21 +137,6 @@ module _ (w : Setting) (unit : CompilationUnit) (c : ℕ) (k : ClassSyntax) wher
   headers_lack (source.Fields modifiers ty ds ∷ ms) i h = absurd h.0
   headers_lack (source.Member.Unknown ∷ ms) i h = absurd h.0
 
-  no_units : (ms : List Member) → AllByRecursion IsHeader ms → list_any initializes_objects ms ≡ false
-  no_units [] h = refl
-  no_units (source.Method hd result None ∷ ms) h = no_units ms h.1
-  no_units (source.Member.Nothing ∷ ms) h = no_units ms h.1
-  no_units (source.Method hd result (Some b) ∷ ms) h = absurd h.0
-  no_units (source.Constructor hd own brace parts end ∷ ms) h = absurd h.0
-  no_units (source.Initializer s b ∷ ms) h = absurd h.0
-  no_units (source.Fields modifiers ty ds ∷ ms) h = absurd h.0
-  no_units (source.Member.Unknown ∷ ms) h = absurd h.0
-
-  no_row_by : (a b rows : List Method) (x y : Bool) (new : List (Option Body)) → x ≡ false → y ≡ true → RowsStand rows new → RowsStand ((if x then a else []) ++ (if y then [] else b) ++ rows) new
-  no_row_by a b rows false true new e f h = h
-  no_row_by a b rows true y new e f h = absurd (cc)
-  no_row_by a b rows false false new e f h = absurd (cc)
-
   interface_stands : (texts : List FixedText) (q : ClassBodies × List FixedText) → k.is_interface ≡ true → AllByRecursion IsHeader k.members → of_interface w c k texts ≡ Ok q → RowsStand (methods_of unit c k) q.0.bodies
   interface_stands texts q i h e =
       let a = found_on (λ (g : Growth). meaning.give (of_growth g)) (members w c k (none_yet c k) k.members texts) q e in
@@ -165,7 +144,7 @@ module _ (w : Setting) (unit : CompilationUnit) (c : ℕ) (k : ClassSyntax) wher
       let P : ClassBodies × List FixedText → Type 0 = λ y. RowsStand (methods_of unit c k) y.0.bodies in
       let Q : List (Option Body) → Type 0 = λ l. RowsStand (methods_of unit c k) l in
       subst P (one_found (of_growth a.0.0, a.0.1) q _ refl a.2)
-      (subst Q (sym ms.1) (no_row_by (implied c k (codes "<fields>") kind.Fields ∷ []) (implied c k (codes "new") kind.Constructor ∷ []) (methods_in unit c k k.members) (list_any initializes_objects k.members) (k.is_interface || list_any is_constructor k.members) ms.0
+      (subst Q (sym ms.1) (no_row_by (λ rows. RowsStand rows ms.0) (implied c k (codes "<fields>") kind.Fields ∷ []) (implied c k (codes "new") kind.Constructor ∷ []) (methods_in unit c k k.members) (list_any initializes_objects k.members) (k.is_interface || list_any is_constructor k.members)
       (no_units k.members h) (abstract_row k.is_interface (list_any is_constructor k.members) i) ms.2))
     where
       of_growth : Growth → ClassBodies
