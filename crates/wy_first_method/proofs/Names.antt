@@ -88,6 +88,10 @@ members_rise low (p ∷ q ∷ rest) high r =
 
 -- ---- methods of interfaces
 
+method_rises : (low : ℕ) (ps : Parts) (high : ℕ) → Row low ps high → MemberRises low high (method_in ps)
+method_rises low [] high r = r
+method_rises low (p ∷ rest) high r = behind_rises (modifiers_of (p ∷ rest)) low (behind_modifiers (p ∷ rest)) high (modifiers_row low (p ∷ rest) high r)
+
 methods_rise : (low middle high : ℕ) (before ps : Parts) → Row low before middle → Row middle ps high → Rising low (names_among (methods_in before ps)) high
 unfolding methods_in
 methods_rise low middle high before [] b r = let here = row_rises low before middle b in let there : middle ≤ high = r in omega (arith, here)
