@@ -27,8 +27,9 @@ use wy_tree::tree::Tree;
 /// that are neither abstract nor interfaces, and main, each constructor that is called, the method of each static or direct call,
 /// and each method that such an object runs have bodies.
 ///
-/// What its text declares stands at tokens of the text, each of which has a line, and so do the forms, statements and locals of its
-/// bodies; the sites in the body of a method of the library are that of the method, 2^31 and more. A `u32` counts its parts.
+/// What its text declares stands at tokens of the text, each of which has a line, and so do the statements and locals of its bodies,
+/// and the forms that have a site; the sites in the body of a method of the library are that of the method, 2^31 and more. A `u32`
+/// counts its parts.
 #[derive(Drop)]
 pub struct TypedProgram {
     pub program: Program,
