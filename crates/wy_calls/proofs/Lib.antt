@@ -1,0 +1,5 @@
+pub mod Last
+pub mod Frames
+pub mod Entries
+pub mod Standing
+pub mod Chain
