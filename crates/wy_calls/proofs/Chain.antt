@@ -9,7 +9,7 @@ use Rattle.wy_kernel.specs.declared.types.Method.{Method as Row}
 use Rattle.wy_kernel.specs.declared.program.Program.{Program as Memory}
 use Rattle.wy_kernel.specs.Parts.{program_of}
 use Rattle.wy_kernel.specs.View.{class_of, method_of, present}
-use Rattle.wy_calls.specs.Dispatch.{above}
+use Rattle.wy_calls.specs.Dispatch.{above, found_in}
 
 -- names are compared unit by unit
 pub same_by_units : (xs ys : List ℕ) → pointwise nat_eq xs ys ≡ same_units xs ys
@@ -68,6 +68,5 @@ unfolding find_method
 none_is_longer p m c = refl
 
 -- what was searched for is what the definition searches for
-pub searched : (p : Memory) (c m : ℕ) (r : Option ℕ) (called : Row) (rows : List Row) → r ≡ declared_in c (method_of called) 0 (map method_of rows) → rows ≡ p.methods.items → method_of called ≡ method (program_of p) m
-    → declared_in c (method (program_of p) m) 0 (map method_of p.methods.items) ≡ r
-searched p c m r called rows is all this = ap (λ x. declared_in c x 0 (map method_of p.methods.items)) (sym this) ∙ ap (λ xs. declared_in c (method_of called) 0 (map method_of xs)) (sym all) ∙ sym is
+pub searched : (p : Memory) (c m : ℕ) (r : Option ℕ) (called : Row) → r ≡ found_in p c called → method_of called ≡ method (program_of p) m → declared_in c (method (program_of p) m) 0 (map method_of p.methods.items) ≡ r
+searched p c m r called is this = ap (λ x. declared_in c x 0 (map method_of p.methods.items)) (sym this) ∙ sym is

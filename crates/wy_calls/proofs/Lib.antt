@@ -3,3 +3,4 @@ pub mod Frames
 pub mod Entries
 pub mod Standing
 pub mod Chain
+pub mod Rows

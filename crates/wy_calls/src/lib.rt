@@ -8,7 +8,8 @@ mod error;
 mod frame;
 mod lookup;
 mod parts;
+mod signature;
 
 pub use calls::{Calls, DEPTH_LIMIT, Scope};
 pub use error::CallError;
-pub use lookup::dispatch;
+pub use lookup::Dispatcher;

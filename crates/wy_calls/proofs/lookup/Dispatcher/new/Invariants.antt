@@ -1,0 +1,14 @@
+use Rattle.std.proofs.Common.{◌≡◌, ◌≤◌, length}
+use Rattle.wy_calls.specs.Dispatch.{HasFirsts, HasNexts}
+use Rattle.wy_calls.proofs.lookup.Dispatcher.new.Given as goal
+
+abbrev pub invariant-loop-number : goal.invariant-loop-number
+invariant-loop-number l = record {
+  within : l.number ≤ length l.program.methods.items;
+  long : length l.next.items ≡ length l.program.methods.items;
+  firsts : HasFirsts l.program.methods.items l.first.items l.number;
+  nexts : HasNexts l.program.methods.items l.next.items l.number;
+}
+
+abbrev pub decreases-loop-number : goal.decreases-loop-number
+decreases-loop-number l = l.number
