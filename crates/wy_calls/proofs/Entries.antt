@@ -1,37 +1,40 @@
 -- The active entries as they lie in memory, the statements that have begun, and the marks of scopes.
-use Rattle.std.proofs.Common.{◌≡◌, ◌<◌, ◌≤◌, ℕ, Bool, true, false, List, [], ◌∷◌, ◌++◌, length, take, drop, reverse, refl, sym, ap, ◌∙◌, arith, inl, inr}
+use Rattle.std.proofs.Common.{◌≡◌, ◌≢◌, ◌<◌, ◌≤◌, ℕ, ◌+◌, Bool, true, false, List, [], ◌∷◌, ◌++◌, length, take, get_or, reverse, Some, refl, sym, ap, ◌∙◌, subst, arith, inl, inr}
 use mathlib.Core.Bool.{true≢false}
 use mathlib.Core.List.{reverse-cons, append-nil}
-use Rattle.std.proofs.lemmas.List.Elements.{All-nil, All-cons, All-head, All-tail, All-append, All-take, All-drop, All-filter, All-weaker, filter-append}
-use Rattle.std.proofs.lemmas.List.{take-append-le, take-append-drop, take-take, length-append, length-take-le}
-use Rattle.std.specs.Prelude.{◌&&◌, not, nat_eq, if◌then◌else◌}
+use Rattle.std.specs.Prelude.{None as Absent}
+use Rattle.std.specs.Prelude.{◌&&◌, nat_eq, nat_lt, if◌then◌else◌}
+use Rattle.std.specs.Option.{IsSomeAnd}
 use Rattle.std.specs.List.{All, filter}
 use Rattle.std.proofs.lemmas.Bool.Decides.{eqb_tells}
+use Rattle.std.proofs.lemmas.List.Elements.{All-nil, All-cons, All-head, All-tail, filter-append}
+use Rattle.std.proofs.lemmas.List.{get_or-take, take-take, length-append, length-take}
+use Rattle.std.proofs.Math.Seq.{take-append_seam}
 use Rattle.wy_calls.specs.declared.parts.Reach.{Reach}
 use Rattle.wy_calls.specs.declared.parts.Reach.TheVariants.{Around, Through}
 use Rattle.wy_calls.specs.declared.parts.Entry.{Entry}
 use Rattle.wy_calls.specs.declared.parts.Begun.{Begun}
-use Rattle.wy_calls.specs.Layout.{ends_with, outlasts, has_begun, reaches, Fits, IsAtMost, IsWithin, IsUnder, Rises, Falls, active_in, scopes_in}
+use Rattle.wy_calls.specs.Layout.{ends_with, is_of, is_innermost, mark_in, without, Ascends, Sits, IsAtMost, IsBelow, IsUnder, Rises, Falls, active_in, scopes_in}
+
+-- ---- statements that have begun
+
+abbrev pub AreOlder : List Begun → ℕ → Type 0
+AreOlder [] frame = Unit {0}
+AreOlder (o ∷ os) frame = o.frame < frame
+
+older : (os : List Begun) (m n : ℕ) → m < n → IsAtMost os m → AreOlder os n
+older [] m n lt h = tt
+older (o ∷ os) m n lt h = omega (arith, h, lt)
 
 other_frame : (m n : ℕ) → m < n → nat_eq m n ≡ false
 other_frame m n lt = elim (eqb_tells m n) as (λ _. nat_eq m n ≡ false) [ inl a ↦ absurd (omega (arith, a.1)) | inr b ↦ b.0 ]
 
--- ---- statements that have begun
+pub none_is_older : (os : List Begun) (frame statement : ℕ) → AreOlder os frame → Rises os → mark_in os frame statement ≡ Absent
+none_is_older [] frame statement lt h = refl
+none_is_older (o ∷ os) frame statement lt h = rw (other_frame o.frame frame lt) (none_is_older os frame statement (older os o.frame frame lt h.0) h.1)
 
-abbrev pub Below : List Begun → ℕ → Type 0
-Below [] frame = Unit {0}
-Below (o ∷ os) frame = o.frame < frame
-
-below : (os : List Begun) (m n : ℕ) → m < n → IsAtMost os m → Below os n
-below [] m n lt h = tt
-below (o ∷ os) m n lt h = omega (arith, h, lt)
-
-pub none_has_begun : (os : List Begun) (frame statement : ℕ) → Below os frame → Rises os → has_begun os frame statement ≡ false
-none_has_begun [] frame statement lt h = refl
-none_has_begun (o ∷ os) frame statement lt h = rw (other_frame o.frame frame lt) (none_has_begun os frame statement (below os o.frame frame lt h.0) h.1)
-
-same_bool : (f s g t : ℕ) → (nat_eq f g && nat_eq s t) ≡ true → (f ≡ g) × (s ≡ t)
-same_bool f s g t is = elim (eqb_tells f g) as (λ _. (f ≡ g) × (s ≡ t)) [
+same_both : (f s g t : ℕ) → (nat_eq f g && nat_eq s t) ≡ true → (f ≡ g) × (s ≡ t)
+same_both f s g t is = elim (eqb_tells f g) as (λ _. (f ≡ g) × (s ≡ t)) [
   | inl a ↦ elim (eqb_tells s t) as (λ _. (f ≡ g) × (s ≡ t)) [
     | inl b ↦ (a.1, b.1)
     | inr b ↦ absurd (true≢false (sym is ∙ rw (a.0, b.0) refl))
@@ -39,29 +42,69 @@ same_bool f s g t is = elim (eqb_tells f g) as (λ _. (f ≡ g) × (s ≡ t)) [
   | inr a ↦ absurd (true≢false (sym is ∙ rw a.0 refl))
 ]
 
--- what reaches through a statement that has begun doesn't end with one that hasn't
-apart : (os : List Begun) (frame statement : ℕ) (r : Reach) → has_begun os frame statement ≡ false → reaches os r ≡ true → ends_with frame statement r ≡ false
-apart os frame statement Around none is = refl
-apart os frame statement (Through f n) none is = one (nat_eq frame f && nat_eq statement n) refl
+same_alike : (f s g t : ℕ) → (f ≡ g) × (s ≡ t) → (nat_eq f g && nat_eq s t) ≡ true
+same_alike f s g t is = elim (eqb_tells f g) as (λ _. (nat_eq f g && nat_eq s t) ≡ true) [
+  | inl a ↦ elim (eqb_tells s t) as (λ _. (nat_eq f g && nat_eq s t) ≡ true) [ inl b ↦ rw (a.0, b.0) refl | inr b ↦ absurd (b.1 is.1) ]
+  | inr a ↦ absurd (a.1 is.0)
+]
+
+-- one more has begun, which none reaches through
+pub sits_more : (o : Begun) (os : List Begun) (n : ℕ) (r : Reach) → mark_in os o.frame o.statement ≡ Absent → Sits os n r → Sits (o ∷ os) n r
+sits_more o os n Around none h = tt
+sits_more o os n (Through f s) none h = one (is_of o f s) refl
   where
-    one : (b : Bool) → (nat_eq frame f && nat_eq statement n) ≡ b → b ≡ false
+    one : (b : Bool) → is_of o f s ≡ b → IsSomeAnd (if b then Some o.mark else mark_in os f s) (λ m. m ≤ n)
+    one false is = h
+    one true is =
+        let same = same_both o.frame o.statement f s is in
+        absurd (subst (λ x. IsSomeAnd x (λ m. m ≤ n)) (ap (λ g. mark_in os g s) (sym same.0) ∙ ap (λ t. mark_in os o.frame t) (sym same.1) ∙ none) h)
+
+-- what outlasts a statement doesn't need it
+pub sits_without : (os : List Begun) (f s n : ℕ) (r : Reach) → ends_with f s r ≡ false → Sits os n r → Sits (without os f s) n r
+sits_without [] f s n r other h = h
+sits_without (o ∷ os) f s n r other h = one (is_of o f s) refl
+  where
+    two : (r : Reach) → is_of o f s ≡ true → ends_with f s r ≡ false → Sits (o ∷ os) n r → Sits os n r
+    two Around is other h = tt
+    two (Through g t) is other h =
+        let same = same_both o.frame o.statement f s is in
+        let apart : is_of o g t ≡ false = ap (λ x. nat_eq x g && nat_eq o.statement t) same.0 ∙ ap (λ x. nat_eq f g && nat_eq x t) same.1 ∙ other in
+        rw apart at h
+
+    one : (b : Bool) → is_of o f s ≡ b → Sits (if b then os else o ∷ os) n r
+    one false is = h
+    one true is = two r is other h
+
+-- what is below the mark of a statement outlasts it
+pub outlasts_below : (os : List Begun) (f s mark n : ℕ) (r : Reach) → mark_in os f s ≡ Some mark → n < mark → Sits os n r → ends_with f s r ≡ false
+outlasts_below os f s mark n Around is lt h = refl
+outlasts_below os f s mark n (Through g t) is lt h = one (nat_eq f g && nat_eq s t) refl
+  where
+    one : (b : Bool) → (nat_eq f g && nat_eq s t) ≡ b → b ≡ false
     one false at = refl
     one true at =
-        let same = same_bool frame statement f n at in
-        absurd (true≢false (sym is ∙ ap (λ g. has_begun os g n) (sym same.0) ∙ ap (λ m. has_begun os frame m) (sym same.1) ∙ none))
+        let same = same_both f s g t at in
+        let le : mark ≤ n = subst (λ x. IsSomeAnd x (λ m. m ≤ n)) (ap (λ x. mark_in os x t) (sym same.0) ∙ ap (λ x. mark_in os f x) (sym same.1) ∙ is) h in
+        absurd (omega (arith, le, lt))
 
--- what reaches through one of these, and doesn't end with the first, reaches through one of the others
-through_others : (o : Begun) (os : List Begun) (r : Reach) → ends_with o.frame o.statement r ≡ false → reaches (o ∷ os) r ≡ true → reaches os r ≡ true
-through_others o os Around other is = refl
-through_others o os (Through f n) other is = rw other at is
+at_most_rest : (o : Begun) (os : List Begun) (n : ℕ) → IsAtMost os o.frame → o.frame ≤ n → IsAtMost os n
+at_most_rest o [] n h le = tt
+at_most_rest o (p ∷ os) n h le = omega (arith, h, le)
 
-pub through_more : (o : Begun) (os : List Begun) (r : Reach) → reaches os r ≡ true → reaches (o ∷ os) r ≡ true
-through_more o os Around is = refl
-through_more o os (Through f n) is = one (nat_eq o.frame f && nat_eq o.statement n)
+pub rises_without : (os : List Begun) (f s : ℕ) → Rises os → Rises (without os f s)
+rises_without [] f s h = tt
+rises_without (o ∷ os) f s h = one (is_of o f s)
   where
-    one : (b : Bool) → (if b then true else has_begun os f n) ≡ true
-    one true = refl
-    one false = is
+    one : (b : Bool) → Rises (if b then os else o ∷ os)
+    one true = h.1
+    one false = h
+
+pub popped : (os : List Begun) (o : Begun) (rest : List Begun) (f s : ℕ) → os ≡ o ∷ rest → is_innermost os f s ≡ true → rest ≡ without os f s
+popped os o rest f s is at = let here : is_of o f s ≡ true = ap (λ xs. is_innermost xs f s) (sym is) ∙ at in rw (is, here) refl
+
+pub kept_all : (os : List Begun) (f s : ℕ) → is_innermost os f s ≡ false → os ≡ without os f s
+kept_all [] f s at = refl
+kept_all (o ∷ os) f s at = rw at refl
 
 -- ---- filters
 
@@ -69,7 +112,7 @@ pub filter_keeps : {X : Type 0} (p : X → Bool) (xs : List X) → All (λ x. p 
 filter_keeps p [] h = refl
 filter_keeps p (x ∷ xs) h = rw (All-head (λ x. p x ≡ true) x xs h) (ap (λ ys. x ∷ ys) (filter_keeps p xs (All-tail (λ x. p x ≡ true) x xs h)))
 
-filter_passes : {X : Type 0} (p : X → Bool) (xs : List X) → All (λ x. p x ≡ true) (filter p xs)
+pub filter_passes : {X : Type 0} (p : X → Bool) (xs : List X) → All (λ x. p x ≡ true) (filter p xs)
 filter_passes p [] = All-nil (λ x. p x ≡ true)
 filter_passes p (x ∷ xs) = one (p x) refl (filter_passes p xs)
   where
@@ -77,7 +120,7 @@ filter_passes p (x ∷ xs) = one (p x) refl (filter_passes p xs)
     one true is rest = rw is (All-cons (λ x. p x ≡ true) x (filter p xs) is rest)
     one false is rest = rw is rest
 
-All-both : {X : Type 0} (P Q R : X → Type 0) → ((x : X) → P x → Q x → R x) → (xs : List X) → All P xs → All Q xs → All R xs
+pub All-both : {X : Type 0} (P Q R : X → Type 0) → ((x : X) → P x → Q x → R x) → (xs : List X) → All P xs → All Q xs → All R xs
 All-both P Q R f xs h k = λ i d lt. f _ (h i d lt) (k i d lt)
 
 pub filter_of_reverse : {X : Type 0} (p : X → Bool) (xs : List X) → filter p (reverse xs) ≡ reverse (filter p xs)
@@ -88,53 +131,42 @@ filter_of_reverse p (x ∷ xs) = rw (reverse-cons x xs, filter-append p (reverse
     one true is = rw (is, reverse-cons x (filter p xs)) refl
     one false is = rw is (append-nil (reverse (filter p xs)))
 
--- ---- entries and the statements that they reach through
+-- ---- entries that ascend
 
-abbrev pub Reaching : List Begun → Entry → Type 0
-Reaching os e = reaches os e.reach ≡ true
+last_of : (xs : List Entry) (x d : Entry) → get_or (xs ++ x ∷ []) (length xs) d ≡ x
+last_of [] x d = refl
+last_of (y ∷ ys) x d = last_of ys x d
 
-pub fits_all : (os : List Begun) (es : List Entry) → Fits os es → All (Reaching os) es
-fits_all [] es h = h
-fits_all (o ∷ os) es h = h.2
+pub all_below : (es old : List Entry) (newest : Entry) (n : ℕ) → es ≡ old ++ newest ∷ [] → Ascends es → newest.number < n → All (λ e. IsBelow e n) es
+all_below es old newest n is h lt = λ k d below.
+    let long : length es ≡ length old + 1 = ap length is ∙ length-append old (newest ∷ []) in
+    let at : get_or es (length old) d ≡ newest = ap (λ xs. get_or xs (length old) d) is ∙ last_of old newest d in
+    let top : (get_or es (length old) d).number < n = subst (λ (e : Entry). e.number < n) (sym at) lt in
+    elim (eqb_tells k (length old)) as (λ _. (get_or es k d).number < n) [
+      | inl a ↦ subst (λ j. (get_or es j d).number < n) (sym a.1) top
+      | inr b ↦ (let ne : k ≢ length old = b.1 in let less : (get_or es k d).number < (get_or es (length old) d).number = h k (length old) d (omega arith) (omega arith) in omega (arith, less, top))
+    ]
 
-pub extended : (os : List Begun) (es xs : List Entry) → Fits os es → All (Reaching os) xs → Fits os (es ++ xs)
-extended [] es xs h k = All-append (Reaching []) es xs h k
-extended (o ∷ os) es xs h k = (
-  omega (arith, h.0, length-append es xs),
-  h.1,
-  All-append (Reaching (o ∷ os)) es xs h.2 k,
-  rw (take-append-le o.mark es xs h.0) h.3,
-)
+pub ascends_taken : (n : ℕ) (es : List Entry) → Ascends es → Ascends (take n es)
+ascends_taken n es h = λ i j d lt inside.
+    let low : j < n = omega (arith, inside, length-take n es) in
+    let there : j < length es = omega (arith, inside, length-take n es) in
+    rw (get_or-take n es i d (omega (arith, lt, low)), get_or-take n es j d low) (h i j d lt there)
 
-pub cut : (os : List Begun) (es : List Entry) (n : ℕ) → n ≤ length es → IsWithin os n → Fits os es → Fits os (take n es)
-cut [] es n le within h = All-take (Reaching []) n es h
-cut (o ∷ os) es n le within h = (
-  omega (arith, within, length-take-le n es le),
-  h.1,
-  All-take (Reaching (o ∷ os)) n es h.2,
-  rw (take-take o.mark n es within) h.3,
-)
+-- the front of a list whose last element is taken away
+front_is : (es old : List Entry) (newest : Entry) → es ≡ old ++ newest ∷ [] → take (length old) es ≡ old
+front_is es old newest is = ap (take (length old)) is ∙ take-append_seam old (newest ∷ [])
 
-none_ends : (os : List Begun) (frame statement : ℕ) (es : List Entry) → has_begun os frame statement ≡ false → Fits os es → All (λ e. outlasts frame statement e ≡ true) es
-none_ends os frame statement es none h = All-weaker (Reaching os) (λ e. outlasts frame statement e ≡ true) (λ e is. ap not (apart os frame statement e.reach none is)) es (fits_all os es h)
+pub front_of : (all es old : List Entry) (newest : Entry) → es ≡ old ++ newest ∷ [] → es ≡ take (length es) all → old ≡ take (length old) all
+front_of all es old newest is front =
+    let le : length old ≤ length es = omega (arith, length-append old (newest ∷ []), ap length is) in
+    sym (front_is es old newest is) ∙ ap (take (length old)) front ∙ take-take (length old) (length es) all le
 
-pub stay_below : (o : Begun) (os : List Begun) (es : List Entry) → Fits (o ∷ os) es → filter (outlasts o.frame o.statement) (take o.mark es) ≡ take o.mark es
-stay_below o os es h = filter_keeps (outlasts o.frame o.statement) (take o.mark es) (none_ends os o.frame o.statement (take o.mark es) h.1 h.3)
+pub ascends_front : (es old : List Entry) (newest : Entry) → es ≡ old ++ newest ∷ [] → Ascends es → Ascends old
+ascends_front es old newest is h = subst Ascends (front_is es old newest is) (ascends_taken (length old) es h)
 
-pub outlasting_is : (o : Begun) (os : List Begun) (es : List Entry) → Fits (o ∷ os) es → filter (outlasts o.frame o.statement) es ≡ take o.mark es ++ filter (outlasts o.frame o.statement) (drop o.mark es)
-outlasting_is o os es h =
-    ap (filter (outlasts o.frame o.statement)) (sym (take-append-drop o.mark es)) ∙ filter-append (outlasts o.frame o.statement) (take o.mark es) (drop o.mark es)
-    ∙ ap (λ xs. xs ++ filter (outlasts o.frame o.statement) (drop o.mark es)) (stay_below o os es h)
-
-not_true : (b : Bool) → not b ≡ true → b ≡ false
-not_true true is = sym is
-not_true false is = refl
-
-pub fits_on : (o : Begun) (os : List Begun) (es : List Entry) → Fits (o ∷ os) es → Fits os (filter (outlasts o.frame o.statement) es)
-fits_on o os es h = rw (outlasting_is o os es h) (extended os (take o.mark es) (filter (outlasts o.frame o.statement) (drop o.mark es)) h.3
-    (All-both (Reaching (o ∷ os)) (λ e. outlasts o.frame o.statement e ≡ true) (Reaching os) (λ e is other. through_others o os e.reach (not_true (ends_with o.frame o.statement e.reach) other) is) (filter (outlasts o.frame o.statement) (drop o.mark es))
-    (All-filter (outlasts o.frame o.statement) (Reaching (o ∷ os)) (drop o.mark es) (All-drop (Reaching (o ∷ os)) o.mark es h.2))
-    (filter_passes (outlasts o.frame o.statement) (drop o.mark es))))
+pub is_less : (m n : ℕ) → nat_lt m n ≡ true → m < n
+is_less m n is = grind (arith, is)
 
 -- ---- marks of scopes
 

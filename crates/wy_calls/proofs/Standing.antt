@@ -1,16 +1,18 @@
 -- What stands of the calls stays as it has to be, and is what contracts see, under each thing that is done.
-use Rattle.std.proofs.Common.{◌≡◌, ◌-◌, ◌<◌, ◌≤◌, ℕ, ◌+◌, Bool, true, false, List, [], ◌∷◌, ◌++◌, length, take, drop, get_or, map, reverse, Some, slice_get, subst, refl, sym, ap, ◌∙◌, arith}
+use Rattle.std.proofs.Common.{◌≡◌, ◌-◌, ◌<◌, ◌≤◌, ℕ, ◌+◌, Bool, true, false, List, [], ◌∷◌, ◌++◌, length, take, drop, map, reverse, Some, slice_get, subst, refl, sym, ap, ◌∙◌, arith}
 use Rattle.std.specs.Prelude.{None as Absent}
-use Rattle.std.specs.Prelude.{slice_set, Result, Ok, Err, IfErr}
+use Rattle.std.specs.Prelude.{slice_set, not, Result, Ok, Err, IfErr}
 use Rattle.std.specs.Result.{IsErrAnd}
-use Rattle.std.specs.List.{filter}
-use Rattle.std.proofs.lemmas.List.{take-append-le, take-take, length-append, length-take-le, reverse-append}
-use Rattle.std.proofs.lemmas.List.Elements.{All-cons, All-nil}
-use Rattle.std.proofs.lemmas.Option.{slice_get-get_or}
+use Rattle.std.specs.List.{All, filter}
+use Rattle.std.proofs.lemmas.List.{take-append-le, take-take, take-append-drop, length-append, length-take-le, reverse-append}
+use Rattle.std.proofs.lemmas.List.Elements.{All-append, All-cons, All-head, All-tail, All-nil, All-map, All-filter, All-push, All-take, All-weaker, filter-append}
+use Rattle.std.proofs.lemmas.List.Quantifiers.{all_pairs_push}
+use Rattle.std.proofs.lemmas.List.Kept.{AllPairs-filter}
+use mathlib.Core.List.{reverse-cons}
 use Rattle.wy_steps.specs.Steps as steps
 use Rattle.wy_steps.specs.Steps.{depth_limit, outlasting, same_frame, parent}
 use Rattle.wy_event.specs.Record.{present}
-use Rattle.wy_calls.specs.Calls.{Frame, Standing, Refuses, event_of, activated, ended, closed, with_local, with_newest}
+use Rattle.wy_calls.specs.Calls.{Frame, Standing, IsUpTo, Refuses, event_of, activated, ended, closed, with_local, with_newest}
 use Rattle.wy_calls.specs.declared.parts.Reach.{Reach}
 use Rattle.wy_calls.specs.declared.parts.Reach.TheVariants.{Around, Through}
 use Rattle.wy_calls.specs.declared.error.CallError.{CallError}
@@ -20,9 +22,13 @@ use Rattle.wy_calls.specs.declared.parts.Live.{Live}
 use Rattle.wy_value.specs.declared.value.Value.{Value}
 use Rattle.wy_calls.proofs.Frames.{written}
 use Rattle.wy_calls.specs.declared.parts.Begun.{Begun}
-use Rattle.wy_calls.specs.Layout.{ends_with, outlasts, reaches, IsWithin, IsInnermost, IsUnder, IsStanding, active_of, active_in, framed, scopes_in, reach_of, IsPlace}
-use Rattle.wy_calls.proofs.Last.{last_is_first, none_is_last, is_present, nobody_is_absent}
-use Rattle.wy_calls.proofs.Entries.{Reaching, extended, cut, stay_below, fits_on, outlasting_is, raised, under, scopes_stay, filter_of_reverse}
+use Rattle.wy_calls.specs.Layout.{Ascends, ends_with, outlasts, mark_in, without, Sits, IsAtMost, IsBelow, IsNext, IsUnder, IsStanding, active_of, active_in, framed, scopes_in, reach_of, IsPlace}
+use Rattle.wy_calls.proofs.Last.{split_at_last, last_is_first, none_is_last, is_present, nobody_is_absent}
+use Rattle.wy_calls.proofs.Entries.{All-both, all_below, filter_keeps, filter_passes, filter_of_reverse, sits_more, sits_without, outlasts_below, rises_without, ascends_taken, raised, under, scopes_stay}
+
+-- an entry sits among the statements that have begun
+abbrev pub Seated : List Begun → Entry → Type 0
+Seated os e = Sits os e.number e.reach
 
 -- ---- an entry more
 
@@ -32,33 +38,57 @@ one_more es e = ap (map active_of) (reverse-append es (e ∷ []))
 pub scopes_with_more : (os : List Begun) (es xs : List Entry) (ns : List ℕ) → IsStanding os es ns → scopes_in (es ++ xs) ns ≡ scopes_in es ns
 scopes_with_more os es xs ns h = sym (scopes_stay es (es ++ xs) ns (length es) h.falls (sym (take-append-le (length es) es xs (omega arith))))
 
-pub stands_with_more : (os : List Begun) (es : List Entry) (e : Entry) (ns : List ℕ) → reaches os e.reach ≡ true → IsStanding os es ns → IsStanding os (es ++ e ∷ []) ns
-stands_with_more os es e ns is h = record {
-  fits = extended os es (e ∷ []) h.fits (All-cons (Reaching os) e [] is (All-nil (Reaching os)));
+pub stands_with_more : (os : List Begun) (es : List Entry) (e : Entry) (ns : List ℕ) → Seated os e → IsNext es e.number → IsStanding os es ns → IsStanding os (es ++ e ∷ []) ns
+stands_with_more os es e ns sits next h = record {
+  sits = All-push (Seated os) es e h.sits sits;
+  ascends = all_pairs_push (λ a b. a.number < b.number) es e h.ascends (λ k d lt. next.1 k d lt);
   rises = h.rises;
   falls = raised ns (length es) (length (es ++ e ∷ [])) (omega (arith, length-append es (e ∷ []))) h.falls;
 }
 
 -- ---- a statement that begins, and one that ends
 
-pub stands_ended : (o : Begun) (os : List Begun) (es : List Entry) (ns : List ℕ) → IsUnder ns o.mark → IsStanding (o ∷ os) es ns → IsStanding os (filter (outlasts o.frame o.statement) es) ns
-stands_ended o os es ns le h = record {
-  fits = fits_on o os es h.fits;
-  rises = h.rises.1;
-  falls =
-      let long : length (filter (outlasts o.frame o.statement) es) ≡ length (take o.mark es) + length (filter (outlasts o.frame o.statement) (drop o.mark es)) =
-      ap length (outlasting_is o os es h.fits) ∙ length-append (take o.mark es) (filter (outlasts o.frame o.statement) (drop o.mark es)) in
-      raised ns o.mark (length (filter (outlasts o.frame o.statement) es)) (omega (arith, long, length-take-le o.mark es h.fits.0)) (under ns o.mark (length es) le h.falls);
+pub stands_begun : (os : List Begun) (o : Begun) (es : List Entry) (ns : List ℕ) → mark_in os o.frame o.statement ≡ Absent → IsAtMost os o.frame → IsStanding os es ns → IsStanding (o ∷ os) es ns
+stands_begun os o es ns none most h = record {
+  sits = All-weaker (Seated os) (Seated (o ∷ os)) (λ e is. sits_more o os e.number e.reach none is) es h.sits;
+  ascends = h.ascends;
+  rises = (most, h.rises);
+  falls = h.falls;
 }
 
-pub scopes_without : (o : Begun) (os : List Begun) (es : List Entry) (ns : List ℕ) → IsUnder ns o.mark → IsStanding (o ∷ os) es ns → scopes_in (filter (outlasts o.frame o.statement) es) ns ≡ scopes_in es ns
-scopes_without o os es ns le h =
-    let low : List Entry = take o.mark es in
-    let rest : List Entry = filter (outlasts o.frame o.statement) (drop o.mark es) in
-    let long : length (take o.mark es) ≡ o.mark = length-take-le o.mark es h.fits.0 in
-    let same : take o.mark (take o.mark es ++ filter (outlasts o.frame o.statement) (drop o.mark es)) ≡ take o.mark (take o.mark es) = take-append-le o.mark low rest (omega (arith, long)) in
-    scopes_stay (filter (outlasts o.frame o.statement) es) es ns o.mark (under ns o.mark (length es) le h.falls)
-    (ap (take o.mark) (outlasting_is o os es h.fits) ∙ same ∙ take-take o.mark o.mark es (omega arith))
+not_true : (b : Bool) → not b ≡ true → b ≡ false
+not_true true is = sym is
+not_true false is = refl
+
+-- an end, by how many entries are below the mark of the statement
+module _ (os : List Begun) (es : List Entry) (ns : List ℕ) (f s mark from : ℕ) (h : IsStanding os es ns) (is : mark_in os f s ≡ Some mark) (inside : from ≤ length es) (low : All (λ e. IsBelow e mark) (take from es)) where
+  pub stay_below : filter (outlasts f s) (take from es) ≡ take from es
+  stay_below = filter_keeps (outlasts f s) (take from es)
+      (All-both (Seated os) (λ e. IsBelow e mark) (λ e. outlasts f s e ≡ true) (λ e sits lt. ap not (outlasts_below os f s mark e.number e.reach is lt sits)) (take from es) (All-take (Seated os) from es h.sits) low)
+
+  front_and_rest : filter (outlasts f s) es ≡ take from es ++ filter (outlasts f s) (drop from es)
+  front_and_rest =
+      ap (filter (outlasts f s)) (sym (take-append-drop from es)) ∙ filter-append (outlasts f s) (take from es) (drop from es)
+      ∙ ap (λ xs. xs ++ filter (outlasts f s) (drop from es)) stay_below
+
+  same_front : take from (filter (outlasts f s) es) ≡ take from es
+  same_front =
+      let long : length (take from es) ≡ from = length-take-le from es inside in
+      ap (take from) front_and_rest ∙ take-append-le from (take from es) (filter (outlasts f s) (drop from es)) (omega (arith, long)) ∙ take-take from from es (omega arith)
+
+  pub stands_ended : (xs : List Entry) (rest : List Begun) → xs ≡ filter (outlasts f s) es → rest ≡ without os f s → IsUnder ns from → IsStanding rest xs ns
+  stands_ended xs rest same is_rest le = rw (same, is_rest) (record {
+    sits = All-both (Seated os) (λ e. outlasts f s e ≡ true) (Seated (without os f s)) (λ e sits other. sits_without os f s e.number e.reach (not_true (ends_with f s e.reach) other) sits) (filter (outlasts f s) es)
+        (All-filter (outlasts f s) (Seated os) es h.sits) (filter_passes (outlasts f s) es);
+    ascends = AllPairs-filter (λ a b. a.number < b.number) (outlasts f s) es h.ascends;
+    rises = rises_without os f s h.rises;
+    falls =
+        let long : length (filter (outlasts f s) es) ≡ length (take from es) + length (filter (outlasts f s) (drop from es)) = ap length front_and_rest ∙ length-append (take from es) (filter (outlasts f s) (drop from es)) in
+        raised ns from (length (filter (outlasts f s) es)) (omega (arith, long, length-take-le from es inside)) (under ns from (length es) le h.falls);
+  })
+
+  pub scopes_ended : IsUnder ns from → scopes_in (filter (outlasts f s) es) ns ≡ scopes_in es ns
+  scopes_ended le = scopes_stay (filter (outlasts f s) es) es ns from (under ns from (length es) le h.falls) same_front
 
 outlasting_each : (f n : ℕ) (es : List Entry) → outlasting (Some f) n (map active_of es) ≡ map active_of (filter (outlasts f n) es)
 unfolding outlasting steps.ends_with same_frame
@@ -80,11 +110,11 @@ outlasting_in f n es = ap (map active_of) (sym (filter_of_reverse (outlasts f n)
 
 -- ---- scopes
 
-pub stands_closed : (os : List Begun) (es : List Entry) (n : ℕ) (ns : List ℕ) → IsWithin os n → IsStanding os es (n ∷ ns) → IsStanding os (take n es) ns
-stands_closed os es n ns within h = record { fits = cut os es n h.falls.0 within h.fits; rises = h.rises; falls = rw (length-take-le n es h.falls.0) h.falls.1 }
+pub stands_closed : (os : List Begun) (es xs : List Entry) (n : ℕ) (ns : List ℕ) → xs ≡ take n es → IsStanding os es (n ∷ ns) → IsStanding os xs ns
+stands_closed os es xs n ns is h = rw is (record { sits = All-take (Seated os) n es h.sits; ascends = ascends_taken n es h.ascends; rises = h.rises; falls = rw (length-take-le n es h.falls.0) h.falls.1 })
 
 pub stands_without : (os : List Begun) (es : List Entry) (n : ℕ) (ns : List ℕ) → IsStanding os es (n ∷ ns) → IsStanding os es ns
-stands_without os es n ns h = record { fits = h.fits; rises = h.rises; falls = raised ns n (length es) h.falls.0 h.falls.1 }
+stands_without os es n ns h = record { sits = h.sits; ascends = h.ascends; rises = h.rises; falls = raised ns n (length es) h.falls.0 h.falls.1 }
 
 pub scopes_closed : (os : List Begun) (es : List Entry) (n : ℕ) (ns : List ℕ) → IsStanding os es (n ∷ ns) → scopes_in (take n es) ns ≡ scopes_in es ns
 scopes_closed os es n ns h = scopes_stay (take n es) es ns n h.falls.1 (take-take n n es (omega arith))
@@ -101,11 +131,10 @@ module _ (fs : List Frame) (os : List Begun) (es xs : List Entry) (ns : List ℕ
       let same : scopes_in xs ns ≡ scopes_in es ns = ap (λ ys. scopes_in ys ns) is ∙ scopes_with_more os es (e ∷ []) ns h in
       (λ i. record { frames = fs; active = now i; scopes = same i })
 
-  pub ended_is : (o : Begun) → xs ≡ filter (outlasts o.frame o.statement) es → event_of fs ≡ Some o.frame → IsUnder ns o.mark → IsStanding (o ∷ os) es ns → seen fs xs ns ≡ ended o.statement (seen fs es ns)
-  ended_is o is newest le h =
-      let now : active_in xs ≡ outlasting (event_of fs) o.statement (active_in es) =
-      ap active_in is ∙ outlasting_in o.frame o.statement es ∙ ap (λ f. outlasting f o.statement (active_in es)) (sym newest) in
-      let same : scopes_in xs ns ≡ scopes_in es ns = ap (λ ys. scopes_in ys ns) is ∙ scopes_without o os es ns le h in
+  pub ended_is : (f s : ℕ) → xs ≡ filter (outlasts f s) es → event_of fs ≡ Some f → scopes_in (filter (outlasts f s) es) ns ≡ scopes_in es ns → seen fs xs ns ≡ ended s (seen fs es ns)
+  ended_is f s is newest scopes =
+      let now : active_in xs ≡ outlasting (event_of fs) s (active_in es) = ap active_in is ∙ outlasting_in f s es ∙ ap (λ g. outlasting g s (active_in es)) (sym newest) in
+      let same : scopes_in xs ns ≡ scopes_in es ns = ap (λ ys. scopes_in ys ns) is ∙ scopes in
       (λ i. record { frames = fs; active = now i; scopes = same i })
 
   pub closed_is : (n : ℕ) → xs ≡ take n es → IsStanding os es (n ∷ ns) → seen fs xs ns ≡ closed (seen fs es (n ∷ ns))
@@ -129,46 +158,19 @@ set_is ls vs ms us es ns i at v same alike h =
     let now : framed (reverse ls) (slice_set vs at v) ≡ with_newest i v (framed (reverse ls) vs) = written (reverse ls) vs i at v there in
     (λ k. record { frames = now k; active = active_in es; scopes = scopes_in es ns })
 
--- the innermost statement, and those around it
-pub record Innermost (bs rest : List Begun) (frame statement mark : ℕ) : Type 0 where
-  pub o : Begun
-  pub is : reverse bs ≡ o ∷ reverse rest
-  pub frame_is : o.frame ≡ frame
-  pub statement_is : o.statement ≡ statement
-  pub mark_is : o.mark ≡ mark
-
-pub innermost : (bs cs rest : List Begun) (n frame statement mark : ℕ) → cs ≡ bs → rest ≡ take (n - 1) bs → n ≡ length bs → IsInnermost (reverse cs) frame statement mark → Innermost bs rest frame statement mark
-innermost [] cs rest n frame statement mark same is long h = absurd (subst (λ xs. IsInnermost (reverse xs) frame statement mark) same h)
-innermost (b ∷ bs) cs rest n frame statement mark same is long h =
-    let o : Begun = get_or (b ∷ bs) (length (b ∷ bs) - 1) b in
-    let there : slice_get (b ∷ bs) (length (b ∷ bs) - 1) ≡ Some o = slice_get-get_or (b ∷ bs) (length (b ∷ bs) - 1) b (omega arith) in
-    let split : reverse (b ∷ bs) ≡ o ∷ reverse rest = last_is_first (b ∷ bs) o there ∙ ap (λ k. o ∷ reverse (take (k - 1) (b ∷ bs))) (sym long) ∙ ap (λ xs. o ∷ reverse xs) (sym is) in
-    let all : IsInnermost (o ∷ reverse rest) frame statement mark = subst (λ xs. IsInnermost xs frame statement mark) split (subst (λ xs. IsInnermost (reverse xs) frame statement mark) same h) in
-    record { o = o; is = split; frame_is = all.0; statement_is = all.1; mark_is = all.2 }
-
-module _ (bs rest : List Begun) (frame statement mark : ℕ) (i : Innermost bs rest frame statement mark) (es : List Entry) (ns : List ℕ) (h : IsStanding (reverse bs) es ns) where
-  split_standing : IsStanding (i.o ∷ reverse rest) es ns
-  split_standing = subst (λ os. IsStanding os es ns) i.is h
-
-  pub mark_is_inside : mark ≤ length es
-  mark_is_inside = omega (arith, split_standing.fits.0, i.mark_is)
-
-  pub below_stays : filter (outlasts frame statement) (take mark es) ≡ take mark es
-  below_stays = subst (λ m. filter (outlasts frame statement) (take m es) ≡ take m es) i.mark_is
-      (subst (λ n. filter (outlasts frame n) (take i.o.mark es) ≡ take i.o.mark es) i.statement_is
-      (subst (λ f. filter (outlasts f i.o.statement) (take i.o.mark es) ≡ take i.o.mark es) i.frame_is (stay_below i.o (reverse rest) es split_standing.fits)))
-
-  same_filter : filter (outlasts frame statement) es ≡ filter (outlasts i.o.frame i.o.statement) es
-  same_filter = ap (λ f. filter (outlasts f statement) es) (sym i.frame_is) ∙ ap (λ n. filter (outlasts i.o.frame n) es) (sym i.statement_is)
-
-  pub stands_popped : (xs : List Entry) → xs ≡ filter (outlasts frame statement) es → IsUnder ns mark → IsStanding (reverse rest) xs ns
-  stands_popped xs is le = rw (is ∙ same_filter) (stands_ended i.o (reverse rest) es ns (subst (IsUnder ns) (sym i.mark_is) le) split_standing)
-
-  pub popped_is : (fs : List Frame) (xs : List Entry) → xs ≡ filter (outlasts frame statement) es → event_of fs ≡ Some frame → IsUnder ns mark → seen fs xs ns ≡ ended statement (seen fs es ns)
-  popped_is fs xs is newest le =
-      ended_is fs (reverse rest) es xs ns i.o (is ∙ same_filter) (newest ∙ ap (λ f. Some f) (sym i.frame_is)) (subst (IsUnder ns) (sym i.mark_is) le) split_standing
-      ∙ ap (λ n. ended n (seen fs es ns)) i.statement_is
-
 pub refused_for_memory : (r : Result (Unit {0}) CallError) (old new : Standing) → IsErrAnd r (λ e. e ≡ NoMemory) → length old.frames < depth_limit → IfErr r (λ e. Refuses e old new)
 refused_for_memory (Ok x) old new is lt = tt
 refused_for_memory (Err e) old new is lt = rw is lt
+
+all_reversed : {X : Type 0} (P : X → Type 0) (xs : List X) → All P xs → All P (reverse xs)
+all_reversed P [] h = h
+all_reversed P (x ∷ xs) h = rw (reverse-cons x xs) (All-append P (reverse xs) (x ∷ []) (all_reversed P xs (All-tail P x xs h)) (All-cons P x [] (All-head P x xs h) (All-nil P)))
+
+-- the newest entry is the greatest
+pub none_is_greater : (es : List Entry) (e : Entry) → Ascends es → slice_get es (length es - 1) ≡ Some e → All (λ a. IsUpTo e.number a) (active_in es)
+none_is_greater es e h is =
+    let low : All (λ x. IsBelow x (e.number + 1)) es = all_below es (take (length es - 1) es) e (e.number + 1) (split_at_last es e is) h (omega arith) in
+    All-map (λ a. IsUpTo e.number a) active_of (reverse es) (all_reversed (λ x. x.number ≤ e.number) es (λ k d lt. let b = low k d lt in omega (arith, b)))
+
+pub none_is_there : (es : List Entry) (n : ℕ) → slice_get es (length es - 1) ≡ Absent → All (λ a. IsUpTo n a) (active_in es)
+none_is_there es n is = rw (none_is_last es is) (All-nil (λ a. IsUpTo n a))

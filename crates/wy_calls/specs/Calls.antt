@@ -39,6 +39,10 @@ abbrev pub held : List Frame → ℕ → ℕ → Option Value
 held [] event i = Absent
 held (f ∷ fs) event i = if nat_eq f.event event then slice_get f.locals i else held fs event i
 
+-- an active entry is of an event up to a number
+abbrev pub IsUpTo : ℕ → Active nothing → Type 0
+IsUpTo n a = a.number ≤ n
+
 -- ---- what is done
 
 abbrev pub nothing_runs : Standing

@@ -1,7 +1,9 @@
 -- How what stands of the calls lies in memory, where the newest come last; the lists here have the newest first.
-use Rattle.std.specs.Prelude.{ℕ, ◌≡◌, ◌≤◌, ◌<◌, Bool, true, false, ◌&&◌, not, nat_eq, if◌then◌else◌, List, [], ◌∷◌, map, reverse, take, drop, length, ◌+◌, Option, Some}
+use Rattle.std.specs.Prelude.{ℕ, ◌≡◌, ◌≤◌, ◌<◌, Bool, false, ◌&&◌, not, nat_eq, if◌then◌else◌, List, [], ◌∷◌, map, reverse, take, drop, length, ◌+◌, Option, Some}
 use Rattle.std.specs.Prelude.{None as Absent}
-use Rattle.std.specs.List.{All}
+use Rattle.std.specs.Option.{IsSomeAnd}
+use Rattle.std.specs.List.{All, AllPairs}
+use Rattle.wy_event.specs.Record.{NONE}
 use Rattle.wy_value.specs.declared.value.Value.{Value}
 use Rattle.wy_steps.specs.Sets.{nothing}
 use Rattle.wy_steps.specs.State.{Active}
@@ -54,35 +56,47 @@ ends_with frame statement (Through f n) = nat_eq frame f && nat_eq statement n
 abbrev pub outlasts : ℕ → ℕ → Entry → Bool
 outlasts frame statement e = not (ends_with frame statement e.reach)
 
--- a statement of a frame has begun and hasn't ended
-abbrev pub has_begun : List Begun → ℕ → ℕ → Bool
-has_begun [] frame statement = false
-has_begun (o ∷ os) frame statement = if nat_eq o.frame frame && nat_eq o.statement statement then true else has_begun os frame statement
+abbrev pub is_of : Begun → ℕ → ℕ → Bool
+is_of o frame statement = nat_eq o.frame frame && nat_eq o.statement statement
 
--- an entry reaches around, or through a statement that is open
-abbrev pub reaches : List Begun → Reach → Bool
-reaches os Around = true
-reaches os (Through frame statement) = has_begun os frame statement
+abbrev pub is_innermost : List Begun → ℕ → ℕ → Bool
+is_innermost [] frame statement = false
+is_innermost (o ∷ os) frame statement = is_of o frame statement
 
--- no entry below the mark of an open statement reaches through it
-abbrev pub Fits : List Begun → List Entry → Type 0
-Fits [] es = All (λ e. reaches [] e.reach ≡ true) es
-Fits (o ∷ os) es = (o.mark ≤ length es) × (has_begun os o.frame o.statement ≡ false) × All (λ e. reaches (o ∷ os) e.reach ≡ true) es × Fits os (take o.mark es)
+-- the mark of a statement of a frame that has begun and hasn't ended
+abbrev pub mark_in : List Begun → ℕ → ℕ → Option ℕ
+mark_in [] frame statement = Absent
+mark_in (o ∷ os) frame statement = if is_of o frame statement then Some o.mark else mark_in os frame statement
+
+-- without a statement, where it is the innermost that has begun
+abbrev pub without : List Begun → ℕ → ℕ → List Begun
+without [] frame statement = []
+without (o ∷ os) frame statement = if is_of o frame statement then os else o ∷ os
+
+-- an event reaches around, or through a statement that began with its mark or a lower one
+abbrev pub Sits : List Begun → ℕ → Reach → Type 0
+Sits os number Around = Unit {0}
+Sits os number (Through frame statement) = IsSomeAnd (mark_in os frame statement) (λ m. m ≤ number)
+
+-- each entry is of an event above those of the entries below it
+abbrev pub Ascends : List Entry → Type 0
+Ascends es = AllPairs (λ a b. a.number < b.number) es
+
+abbrev pub IsBelow : Entry → ℕ → Type 0
+IsBelow e number = e.number < number
+
+-- an event above those of all entries
+abbrev pub IsNext : List Entry → ℕ → Type 0
+IsNext es number = (number < NONE) × All (λ e. IsBelow e number) es
 
 abbrev pub IsAtMost : List Begun → ℕ → Type 0
 IsAtMost [] frame = Unit {0}
 IsAtMost (o ∷ os) frame = o.frame ≤ frame
 
-abbrev pub IsWithin : List Begun → ℕ → Type 0
-IsWithin [] entries = Unit {0}
-IsWithin (o ∷ os) entries = o.mark ≤ entries
+abbrev pub MayBegin : List Begun → ℕ → ℕ → Type 0
+MayBegin os frame statement = IsAtMost os frame × (mark_in os frame statement ≡ Absent)
 
--- a statement of a frame is the innermost that is open, and began with so many entries
-abbrev pub IsInnermost : List Begun → ℕ → ℕ → ℕ → Type 0
-IsInnermost [] frame statement mark = ⊥
-IsInnermost (o ∷ os) frame statement mark = (o.frame ≡ frame) × (o.statement ≡ statement) × (o.mark ≡ mark)
-
--- the frames of open statements rise
+-- the frames of statements that have begun rise
 abbrev pub Rises : List Begun → Type 0
 Rises [] = Unit {0}
 Rises (o ∷ os) = IsAtMost os o.frame × Rises os
@@ -97,6 +111,7 @@ IsUnder [] bound = Unit {0}
 IsUnder (n ∷ ns) bound = n ≤ bound
 
 pub record IsStanding (begun : List Begun) (active : List Entry) (scopes : List ℕ) : Type 0 where
-  pub fits : Fits begun active
+  pub sits : All (λ e. Sits begun e.number e.reach) active
+  pub ascends : Ascends active
   pub rises : Rises begun
   pub falls : Falls scopes (length active)

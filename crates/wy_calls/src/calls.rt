@@ -1,12 +1,15 @@
 //! The bodies that run with their locals, and the events that are active.
 
 ghost use Rattle.std.specs.Prelude.{◌≡◌, ◌<◌, ◌+◌, IfErr, IfOk, OnOk, length, nat_le, slice_get};
+ghost use Rattle.std.specs.List.{All};
 ghost use Rattle.wy_event.specs.Record.{present};
 ghost use Rattle.wy_steps.specs.State.{Around, Through};
 ghost use Rattle.wy_steps.specs.Steps.{depth_limit, parent};
-ghost use Rattle.wy_calls.specs.Calls.{Refuses, activated, closed, ended, entered, frame_of, held, left, locals_of, nothing_runs, opened, with_local};
+ghost use Rattle.wy_calls.specs.Calls.{IsUpTo, Refuses, activated, closed, ended, entered, frame_of, held, left, locals_of, nothing_runs, opened, with_local};
 
-use crate::entry::{end, has_begun, innermost_mark, is_past, is_sealed};
+use crate::entry::{
+    close, count_below, end, is_innermost, is_next, is_sealed, mark_of, may_begin, next_mark,
+};
 use crate::error::CallError;
 use crate::frame::{find, local, newest, place, running};
 use crate::parts::{Begun, Entry, Live, Reach};
@@ -130,9 +133,10 @@ impl Calls {
         Ok(())
     }
 
-    /// The number of the newest active entry, or NONE.
+    /// The number of the newest active entry, which is the greatest, or NONE.
     pub fn control(&self) -> u32
-        ensures { present result ≡ parent self.now.active }
+        ensures parent { present result ≡ parent self.now.active }
+        ensures greatest { All (λ a. IsUpTo result a) self.now.active }
     {
         match self.active.last() {
             Some(entry) => entry.number,
@@ -140,11 +144,11 @@ impl Calls {
         }
     }
 
-    /// An event is active until its scope is closed.
+    /// An event is active until its scope is closed. It comes after all that are active.
     pub fn activate(&mut self, event: u32) -> Result<(), AllocError>
         ensures { OnOk result (self.new ≡ activated event Around self.old) }
     {
-        if event == NONE {
+        if !is_next(&self.active, event) {
             return Err(AllocError);
         }
         self.active.push(Entry {
@@ -154,12 +158,16 @@ impl Calls {
         Ok(())
     }
 
-    /// An event is active until a statement of the newest body ends, or its scope is closed. A statement that hasn't begun is refused.
+    /// An event is active until a statement of the newest body ends, or its scope is closed. It comes after all that are active. A
+    /// statement that hasn't begun is refused.
     pub fn test(&mut self, event: u32, statement: u32) -> Result<(), AllocError>
         ensures { OnOk result (self.new ≡ activated event (Through (frame_of self.old) statement) self.old) }
     {
         let frame = running(&self.frames)?;
-        if event == NONE || !has_begun(&self.begun, frame, statement)? {
+        let Some(mark) = mark_of(&self.begun, frame, statement) else {
+            return Err(AllocError);
+        };
+        if event < mark || !is_next(&self.active, event) {
             return Err(AllocError);
         }
         self.active.push(Entry {
@@ -175,33 +183,36 @@ impl Calls {
         ensures { OnOk result (self.new ≡ self.old) }
     {
         let frame = running(&self.frames)?;
-        if innermost_mark(&self.begun, frame, statement).is_some() {
+        if is_innermost(&self.begun, frame, statement) {
             return Ok(());
         }
-        if has_begun(&self.begun, frame, statement)? {
+        if !may_begin(&self.begun, frame, statement) {
             return Err(AllocError);
         }
+        let mark = next_mark(&self.active);
         self.begun.push(Begun {
             frame,
             statement,
-            mark: self.active.len(),
+            mark,
         })?;
         Ok(())
     }
 
-    /// The innermost statement that has begun ends, and with it each test that reaches through it. Another statement is refused.
+    /// A statement of the newest body that has begun ends, and with it what reaches through it. A statement that hasn't begun is
+    /// refused, and one that began before the newest scope was opened, if something around the scope reaches through it.
     pub fn end(&mut self, statement: u32) -> Result<(), AllocError>
         ensures { OnOk result (self.new ≡ ended statement self.old) }
     {
         let frame = running(&self.frames)?;
-        let Some(mark) = innermost_mark(&self.begun, frame, statement) else {
+        let Some(mark) = mark_of(&self.begun, frame, statement) else {
             return Err(AllocError);
         };
-        if is_sealed(&self.scopes, mark) {
+        let from = count_below(&self.active, mark);
+        if is_sealed(&self.scopes, from) {
             return Err(AllocError);
         }
-        self.begun.pop();
-        end(&mut self.active, mark, frame, statement);
+        close(&mut self.begun, frame, statement);
+        end(&mut self.active, from, frame, statement);
         Ok(())
     }
 
@@ -223,7 +234,7 @@ impl Calls {
         let Some(mark) = self.scopes.pop() else {
             return Err(AllocError);
         };
-        if self.scopes.len() != scope.depth || is_past(&self.begun, mark) {
+        if self.scopes.len() != scope.depth {
             return Err(AllocError);
         }
         self.active.truncate(mark);

@@ -1,32 +1,36 @@
 //! The active entries, and the statements whose ends they may wait for.
 
-ghost use Rattle.std.specs.Prelude.{◌≡◌, ◌≤◌, ◌<◌, IfOk, IfSome, reverse, length, take, false};
-ghost use Rattle.std.specs.List.{filter};
-ghost use Rattle.wy_calls.specs.Layout.{ends_with, has_begun, outlasts, IsAtMost, IsInnermost, IsUnder, IsWithin, Rises};
+ghost use Rattle.std.specs.Prelude.{◌≡◌, ◌≤◌, reverse, length, take, true, false};
+ghost use Rattle.std.specs.List.{All, filter};
+ghost use Rattle.wy_calls.specs.Layout.{ends_with, is_innermost, mark_in, outlasts, without, Ascends, IsAtMost, IsBelow, IsNext, IsUnder, MayBegin, Rises};
 
 use crate::parts::{Begun, Entry, Reach};
-use std::alloc::AllocError;
+use wy_kernel::types::NONE;
 
-/// Whether a statement of the newest frame is open. Only those of that frame are looked at.
-pub fn has_begun(begun: &[Begun], frame: u32, statement: u32) -> Result<bool, AllocError>
+/// The mark of a statement that has begun. Those of older frames are not looked at.
+pub fn mark_of(begun: &[Begun], frame: u32, statement: u32) -> Option<u32>
     requires { Rises (reverse begun.now) }
-    ensures found { IfOk result (λ b. b ≡ has_begun (reverse begun.now) frame statement) }
-    ensures newest { IfOk result (λ b. IsAtMost (reverse begun.now) frame) }
+    ensures { result ≡ mark_in (reverse begun.now) frame statement }
 {
-    if is_above(begun, frame) {
-        return Err(AllocError);
-    }
     let mut begun = begun;
     while let Some((innermost, around)) = begun.split_last() {
-        if innermost.frame != frame {
-            return Ok(false);
+        if innermost.frame == frame && innermost.statement == statement {
+            return Some(innermost.mark);
         }
-        if innermost.statement == statement {
-            return Ok(true);
+        if innermost.frame < frame {
+            return None;
         }
         begun = around;
     }
-    Ok(false)
+    None
+}
+
+/// Whether a statement may begin: it hasn't begun, and none of a newer frame has.
+pub fn may_begin(begun: &[Begun], frame: u32, statement: u32) -> bool
+    requires { Rises (reverse begun.now) }
+    ensures { result ≡ true → MayBegin (reverse begun.now) frame statement }
+{
+    !is_above(begun, frame) && mark_of(begun, frame, statement).is_none()
 }
 
 fn is_above(begun: &[Begun], frame: u32) -> bool
@@ -38,26 +42,58 @@ fn is_above(begun: &[Begun], frame: u32) -> bool
     }
 }
 
-/// The mark of a statement that is the innermost that is open.
-pub fn innermost_mark(begun: &[Begun], frame: u32, statement: u32) -> Option<usize>
-    ensures { IfSome result (λ mark. IsInnermost (reverse begun.now) frame statement mark) }
+/// Whether a statement is the innermost that has begun.
+pub fn is_innermost(begun: &[Begun], frame: u32, statement: u32) -> bool
+    ensures { result ≡ is_innermost (reverse begun.now) frame statement }
 {
-    let innermost = begun.last()?;
-    if innermost.frame == frame && innermost.statement == statement {
-        Some(innermost.mark)
-    } else {
-        None
+    match begun.last() {
+        Some(innermost) => innermost.frame == frame && innermost.statement == statement,
+        None => false,
     }
 }
 
-/// Whether a statement that is open began with more entries than these.
-pub fn is_past(begun: &[Begun], entries: usize) -> bool
-    ensures { result ≡ false → IsWithin (reverse begun.now) entries }
+/// Takes a statement away where it is the innermost that has begun.
+pub fn close(begun: &mut Vec<Begun>, frame: u32, statement: u32)
+    ensures { reverse begun.new.items ≡ without (reverse begun.old.items) frame statement }
 {
-    match begun.last() {
-        Some(innermost) => innermost.mark > entries,
-        None => false,
+    if is_innermost(begun, frame, statement) {
+        begun.pop();
     }
+}
+
+/// Whether an event is above those of all entries.
+pub fn is_next(entries: &[Entry], event: u32) -> bool
+    requires { Ascends entries.now }
+    ensures { result ≡ true → IsNext entries.now event }
+{
+    match entries.last() {
+        Some(newest) => newest.number < event && event < NONE,
+        None => event < NONE,
+    }
+}
+
+/// The mark of a statement that begins: the events of all entries are below it.
+pub fn next_mark(entries: &[Entry]) -> u32 {
+    match entries.last() {
+        Some(newest) => newest.number + 1,
+        None => 0,
+    }
+}
+
+/// How many entries are of events below a mark. It looks at the others alone.
+pub fn count_below(entries: &[Entry], mark: u32) -> usize
+    requires { Ascends entries.now }
+    ensures inside { result ≤ length entries.now }
+    ensures below { All (λ e. IsBelow e mark) (take result entries.now) }
+{
+    let mut entries = entries;
+    while let Some((newest, older)) = entries.split_last() {
+        if newest.number < mark {
+            return entries.len();
+        }
+        entries = older;
+    }
+    0
 }
 
 /// Whether the newest scope has more entries than these.
@@ -82,14 +118,14 @@ fn ends_with(reach: Reach, frame: u32, statement: u32) -> bool
     }
 }
 
-/// Takes the entries away that end with a statement. It looks at those from a mark on: all below it outlast the statement.
-pub fn end(entries: &mut Vec<Entry>, mark: usize, frame: u32, statement: u32)
-    requires inside { mark ≤ length entries.old.items }
-    requires below { filter (outlasts frame statement) (take mark entries.old.items) ≡ take mark entries.old.items }
+/// Takes the entries away that end with a statement. It looks at those from a place on: all below it outlast the statement.
+pub fn end(entries: &mut Vec<Entry>, from: usize, frame: u32, statement: u32)
+    requires inside { from ≤ length entries.old.items }
+    requires below { filter (outlasts frame statement) (take from entries.old.items) ≡ take from entries.old.items }
     ensures { entries.new.items ≡ filter (outlasts frame statement) entries.old.items }
 {
-    let mut kept = mark;
-    for at in mark..entries.len() {
+    let mut kept = from;
+    for at in from..entries.len() {
         let entry = entries[at];
         if !ends_with(entry.reach, frame, statement) {
             entries[kept] = entry;

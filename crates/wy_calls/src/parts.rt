@@ -25,10 +25,10 @@ pub struct Entry {
     pub ghost is_number: { number < 4294967295 },
 }
 
-/// A statement of a frame that has begun and hasn't ended, with the number of entries when it began.
+/// A statement of a frame that has begun and hasn't ended. The entries that were there when it began are of events below its mark.
 #[derive(Clone, Copy)]
 pub struct Begun {
     pub frame: u32,
     pub statement: u32,
-    pub mark: usize,
+    pub mark: u32,
 }

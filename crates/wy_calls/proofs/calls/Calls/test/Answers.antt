@@ -1,16 +1,20 @@
-use Rattle.std.proofs.Common.{◌≡◌, ◌∙◌, ap, sym, reverse, true, Some}
+use Rattle.std.proofs.Common.{◌≡◌, ◌∙◌, ap, sym, reverse, subst, ◌≤◌, List, Some}
+use Rattle.std.specs.Option.{IsSomeAnd}
+use Rattle.wy_calls.specs.declared.parts.Begun.{Begun}
 use Rattle.wy_steps.specs.State.{Through}
 use Rattle.wy_calls.specs.Calls.{Standing, activated, event_of}
-use Rattle.wy_calls.specs.Layout.{has_begun, newest_of}
+use Rattle.wy_calls.specs.Layout.{mark_in, newest_of, IsNext}
 use Rattle.wy_calls.proofs.Frames.{newest_has_event}
 use Rattle.wy_calls.proofs.Standing.{activated_is, stands_with_more}
 use Rattle.wy_calls.proofs.calls.Calls.test.Goals as goal
 
 pub invariant_of-self-2 : goal.invariant_of-self-2
 invariant_of-self-2 c =
-    let is : has_begun (reverse c.self.inside.begun.items) c.in_ok-frame.frame c.args.statement ≡ true =
-    ap (λ os. has_begun (reverse os) c.in_ok-frame.frame c.args.statement) (sym c.deref-else-event-eq-NONE.ensures.value) ∙ sym c.in_ok-has_begun.ensures.found ∙ c.if-not-branch.false in
-    rw c.in_ok-push.ensures.items (stands_with_more _ _ _ _ is c.self.invariant)
+    let is : mark_in (reverse c.self.inside.begun.items) c.in_ok-frame.frame c.args.statement ≡ Some c.in-Some.mark =
+    ap (λ (bs : List Begun). mark_in (reverse bs) c.in_ok-frame.frame c.args.statement) (sym c.deref-2.ensures.value) ∙ sym c.in-Some.ensures in
+    let sits : IsSomeAnd (mark_in (reverse c.self.inside.begun.items) c.in_ok-frame.frame c.args.statement) (λ m. m ≤ c.args.event) = subst (λ x. IsSomeAnd x (λ m. m ≤ c.args.event)) (sym is) c.if-event-mark.false in
+    let next : IsNext c.self.inside.active.items c.args.event = subst (λ es. IsNext es c.args.event) c.deref-else-event-mark.ensures.value (c.is_next.ensures c.if-not-is_next.false) in
+    rw c.in_ok-push.ensures.items (stands_with_more _ _ _ _ sits next c.self.invariant)
 
 pub returns : goal.returns
 returns c =
