@@ -8,5 +8,7 @@ mod heap;
 pub mod law;
 mod layout;
 mod plan;
+#[cfg(test)]
+mod tests;
 
 pub use heap::{Heap, HeapError};
