@@ -72,7 +72,7 @@ fn next_begin(values: &[Value]) -> Result<u32, AllocError>
 }
 
 impl Heap {
-    ghost use Rattle.std.specs.Prelude.{◌≡◌, ◌≤◌, ◌<◌, ◌+◌, ◌↔◌, ℕ, IfOk, OnOk, OnErr, IsErrOf, IsSome, MatchBool, Some, None, true, false, length, option_map};
+    ghost use Rattle.std.specs.Prelude.{◌≡◌, ◌≤◌, ◌<◌, ◌+◌, ◌↔◌, ℕ, IfOk, OnOk, OnErr, IsErrOf, IsSome, MatchBool, Some, None, true, false, length, nat_le, option_map};
     ghost use Rattle.wy_heap.specs.Block.{block_at};
     ghost use Rattle.wy_heap.specs.Changes.{IsNew, Keeps, MakesArray, MakesClass, MakesObject, MakesText, Writes};
     ghost use Rattle.wy_heap.specs.Heap.{code, element_count, element_place, field_place, held, heap_limit, is_live, is_made, plan, size, static_place, text, unit_count};
@@ -299,6 +299,22 @@ impl Heap {
         Ok(())
     }
 
+    /// Whether so many elements more are within the limit.
+    #[tactic(auto, unfolding(crate::specs::Heap::element_count))]
+    pub fn has_room_for_elements(&self, many: u32) -> bool
+        ensures { result ≡ nat_le (element_count self.now + many) heap_limit }
+    {
+        u64::from(self.elements) + u64::from(many) <= u64::from(LIMIT)
+    }
+
+    /// Whether so many units more are within the limit.
+    #[tactic(auto, unfolding(crate::specs::Heap::unit_count))]
+    pub fn has_room_for_units(&self, many: usize) -> bool
+        ensures { result ≡ nat_le (unit_count self.now + many) heap_limit }
+    {
+        self.units.len().saturating_add(many) <= LIMIT as usize
+    }
+
     /// Makes an array of a type by its code, with the number of its event.
     pub fn make_array(&mut self, number: u32, code: u32, length: u32) -> Result<(), HeapError>
         ensures limit { IsErrOf result HeapError.HeapLimit
@@ -306,7 +322,7 @@ impl Heap {
         ensures made { OnOk result (MakesArray number code length self.old self.new) }
         ensures refused { OnErr result (Keeps self.old self.new) }
     {
-        if u64::from(self.elements) + u64::from(length) > u64::from(LIMIT) {
+        if !self.has_room_for_elements(length) {
             return Err(HeapError::HeapLimit);
         }
         self.add_array(number, code, length)?;
@@ -338,7 +354,7 @@ impl Heap {
         ensures made { OnOk result (MakesText number units.now self.old self.new) }
         ensures refused { OnErr result (Keeps self.old self.new) }
     {
-        if self.units.len().saturating_add(units.len()) > LIMIT as usize {
+        if !self.has_room_for_units(units.len()) {
             return Err(HeapError::HeapLimit);
         }
         self.add_text(number, units)?;
