@@ -1,6 +1,6 @@
 -- Runs that fail: a form with its operands, in a call, a store, a division, an array creation, an initializer, and a method that falls off its end.
 use Rattle.std.proofs.Common.{◌≡◌, refl}
-use Rattle.std.specs.Prelude.{pos, negsuc, true, false, [], ◌∷◌, Some, codes}
+use Rattle.std.specs.Prelude.{pos, negsuc, true, false, [], ◌∷◌, Some, codes, option_and_then, slice_get}
 use Rattle.std.specs.Prelude.{None as Absent}
 use Rattle.wy_kernel.specs.declared.operator.Primitive.TheVariants as prim
 use Rattle.wy_kernel.specs.declared.operator.BinOp.TheVariants as op
@@ -9,12 +9,14 @@ use Rattle.wy_kernel.specs.declared.types.Ty.TheVariants.{Void, Of}
 use Rattle.wy_kernel.specs.declared.types.MethodForm.TheVariants as kinds
 use Rattle.wy_kernel.specs.declared.form.CallForm.TheVariants as calling
 use Rattle.wy_kernel.specs.Form.{Null, Int, Const, Str, Read, Set, Upd, Bin, NewArray, Call, Local, Static, Elem, absent, the, none, more, Stmt, Block, Eval, If, Return, Try, Print, nothing, this, done, first, uncaught}
-use Rattle.wy_kernel.specs.Program.{Program}
+use Rattle.wy_kernel.specs.Program.{Program, base_of, class_of_type, type_of_code}
 use Rattle.wy_value.specs.declared.value.Value.TheVariants as val
 use Rattle.wy_event.specs.declared.record.Kind.TheVariants as kind
 use Rattle.wy_event.specs.declared.record.Slot.TheVariants as slot
 use Rattle.wy_event.specs.declared.record.Use.TheVariants as used
 use Rattle.wy_steps.specs.Steps.{going_on, never_left}
+use Rattle.wy_meaning.specs.Run.{thrown_in}
+use Rattle.wy_meaning.specs.World.{object_in, type_in}
 use Rattle.wy_meaning.proofs.Computed.{told, event, cover, class_named, method_named, field_named, body_with}
 use Rattle.wy_meaning.proofs.Builtin.{program}
 
@@ -55,6 +57,11 @@ null_array_run : told null_array [] 1000 ≡ record {
 }
 unfolding told
 null_array_run = refl
+
+-- a NullPointerException, at the place of the element
+null_array_thrown : thrown_in (told null_array [] 1000).events (option_and_then (slice_get (told null_array [] 1000).events) (told null_array [] 1000).last) ≡ record { class = Some 16; site = Some 27 }
+unfolding told thrown_in type_in object_in type_of_code base_of class_of_type
+null_array_thrown = refl
 
 -- class Main {
 --   int f(int n) { return n; }

@@ -2,9 +2,10 @@
 use Rattle.std.specs.Prelude.{map}
 use Rattle.wy_event.specs.declared.record.Cover.{Cover}
 use Rattle.wy_event.specs.declared.record.Tail.{Tail as Kept}
+use Rattle.wy_event.specs.declared.record.Thrown.{Thrown as KeptThrown}
 use Rattle.wy_event.specs.Record.{present}
 use Rattle.wy_steps.specs.State.{Covered}
-use Rattle.wy_meaning.specs.Run.{Tail}
+use Rattle.wy_meaning.specs.Run.{Tail, Thrown}
 
 -- the cause of a statement that nothing left, and of one that a stop found going on, is the number that stands for it
 unfoldable pub covered_of : Cover → Covered
@@ -20,3 +21,6 @@ kept_tail t = record {
   uses = t.uses;
   output = t.output;
 }
+
+unfoldable pub kept_thrown : KeptThrown → Thrown
+kept_thrown t = record { class = present t.class; site = present t.site }

@@ -1,16 +1,16 @@
 -- The run of a program with an input and a step budget (JLS 12.1, 12.4).
-use Rattle.std.specs.Prelude.{ℕ, zero, suc, ◌-◌, pos, List, [], ◌∷◌, length, map, reverse, Option, Some}
+use Rattle.std.specs.Prelude.{ℕ, zero, suc, ◌-◌, pos, List, [], ◌∷◌, length, map, reverse, Option, Some, option_and_then, slice_get}
 use Rattle.std.specs.Prelude.{None as Absent}
 use Rattle.wy_kernel.specs.declared.types.Base.TheVariants.{Class as Named}
 use Rattle.wy_kernel.specs.declared.types.Ty.{Ty}
 use Rattle.wy_kernel.specs.declared.types.Ty.TheVariants.{Of}
-use Rattle.wy_kernel.specs.Program.{Program, Body, method, class, body, init_body, string_class}
+use Rattle.wy_kernel.specs.Program.{Program, Body, method, class, body, init_body, string_class, class_of_type}
 use Rattle.wy_value.specs.declared.value.Value.TheVariants.{Int, Object}
 use Rattle.wy_event.specs.Record.{Recorded}
 use Rattle.wy_steps.specs.Sets.{Sets}
 use Rattle.wy_steps.specs.State.{Carried, Store, Noted, Covered, State, Stop, StepLimit, EventLimit, UseLimit, ElementLimit, UnitLimit, OutputLimit, DepthLimit, Unassigned, FellOff, InitFailed, Reason, Jumped, Returned, Threw, Outcome, Done, Left, Stopped, Run, ◌>>=◌, ◌>>◌, return, stop}
 use Rattle.wy_steps.specs.Steps.{constant, value_of, depth_limit, never_left}
-use Rattle.wy_meaning.specs.World.{World}
+use Rattle.wy_meaning.specs.World.{World, object_in, type_in}
 use Rattle.wy_meaning.specs.Place.{initialize}
 use Rattle.wy_meaning.specs.Call.{call_method, initialization}
 use Rattle.wy_meaning.specs.Array.{make_array}
@@ -107,6 +107,16 @@ last_of (Done x s) = Absent
 last_of (Left why s) = last_of_reason why
 last_of (Stopped why s) = last_of_stop why
 
+-- the class of the object that a Throw threw, and the site of the Throw
+pub record Thrown : Type 0 where
+  pub class : Option ℕ
+  pub site : Option ℕ
+
+-- those of a Throw, by the records; both are absent where there is none
+unfoldable pub thrown_in : List Recorded → Option Recorded → Thrown
+thrown_in records Absent = record { class = Absent; site = Absent }
+thrown_in records (Some e) = record { class = Some (class_of_type (type_in (slice_get records (object_in e.value)))); site = Some e.site }
+
 pub record Tail : Type 0 where
   pub coverage : List Covered
   pub stop : ℕ
@@ -144,6 +154,10 @@ output A p input budget = (end (outcome {A = A} p input budget)).output
 
 unfoldable pub tail : (A : Sets) → Program → List ℕ → ℕ → Tail
 tail A p input budget = tail_of p budget (outcome {A = A} p input budget)
+
+-- the Throw that ended the run
+unfoldable pub thrown : (A : Sets) → Program → List ℕ → ℕ → Thrown
+thrown A p input budget = thrown_in (events A p input budget) (option_and_then (slice_get (events A p input budget)) (tail A p input budget).last)
 
 -- the store at the end
 unfoldable pub final_store : (A : Sets) → Program → List ℕ → ℕ → Store A

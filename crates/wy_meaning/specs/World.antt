@@ -84,6 +84,10 @@ unfoldable pub is_true : Value → Bool
 is_true (Boolean b) = b
 is_true _ = false
 
+unfoldable pub object_in : Value → ℕ
+object_in (Object n) = n
+object_in _ = 0
+
 unfoldable pub type_in : Option Recorded → Ty
 type_in Absent = OfNull
 type_in (Some e) = type_of_code (code_of e.what)

@@ -1,0 +1,13 @@
+pub mod Firsts
+pub mod Plans
+pub mod Planned
+pub mod Rows
+pub mod Owns
+pub mod Laid
+pub mod Places
+pub mod Slots
+pub mod Written
+pub mod Classes
+pub mod Apart
+pub mod Made
+pub mod Empty
