@@ -10,6 +10,4 @@ pub mod program;
 pub mod range;
 mod search;
 pub mod table;
-#[cfg(test)]
-mod tests;
 pub mod types;

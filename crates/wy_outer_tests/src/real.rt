@@ -1,57 +1,16 @@
-use super::shelf::read_front;
-use super::sink::write_whole;
-use super::source::read_some;
-use crate::real::{FileShelf, StdinSource, StdoutSink};
-use crate::shelf::{Shelf, ShelfError};
-use crate::sink::{Sink, SinkError};
-use crate::source::{Source, SourceError};
+//! The loops over the system's reads and writes, at readers and writers that are interrupted or fail in mid-stream.
+//! That files are read whole is shown by the runs of tools/checks.
+
 use std::alloc::Allocator;
 use std::cell::Cell;
 use std::fmt::Display;
+use std::io;
 use std::io::{BufRead, ErrorKind, Input, Lines, Print, Read};
 use std::test::Fail;
-use std::{fs, io};
-
-const FOLDER: &str = "wy_outside_test";
-
-const FIVE: &str = "wy_outside_test/Five.java";
-
-#[test]
-fn a_file_is_read_by_its_path(rt: HostRuntime) -> Result<(), Fail> {
-    let _ = fs::remove_dir_all(&rt, FOLDER);
-    fs::create_dir(&rt, FOLDER)?;
-    fs::write(&rt, FIVE, "12345")?;
-    let rows: [(&str, u32, Result<&[u8], ShelfError>); 6] = [
-        (FIVE, 4, Ok(b"1234")),
-        (FIVE, 5, Ok(b"12345")),
-        (FIVE, 1_048_577, Ok(b"12345")),
-        ("wy_outside_test/None.java", 9, Err(ShelfError::Absent)),
-        (FOLDER, 9, Err(ShelfError::Failed)),
-        ("wy_outside_test/Five.java/x", 9, Err(ShelfError::Failed)),
-    ];
-    let mut shelf = FileShelf::new(rt);
-    for (name, max, want) in rows {
-        let got = shelf.read(rt.alloc(), name, max);
-        match (&got, want) {
-            (Ok(bytes), Ok(wanted)) => assert_eq!(rt; bytes.as_slice(), wanted, "{name} {max}"),
-            (Err(error), Err(wanted)) => assert_eq!(rt; *error, wanted, "{name} {max}"),
-            _ => panic!(rt; "{name} {max}: {got:?}"),
-        }
-    }
-    let long = vec![in rt.alloc(); b'x'; 20_000]?;
-    fs::write(&rt, FIVE, long.as_slice())?;
-    for (max, count) in [
-        (8_192, 8_192),
-        (16_385, 16_385),
-        (20_000, 20_000),
-        (20_001, 20_000),
-    ] {
-        let got = shelf.read(rt.alloc(), FIVE, max)?;
-        assert_eq!(rt; got.as_slice(), long.get(..count).unwrap_or(&[]), "{max}");
-    }
-    fs::remove_dir_all(&rt, FOLDER)?;
-    Ok(())
-}
+use wy_outside::real::{StdinSource, StdoutSink, read_front, read_some};
+use wy_outside::shelf::ShelfError;
+use wy_outside::sink::{Sink, SinkError};
+use wy_outside::source::{Source, SourceError};
 
 /// Gives a byte a call, but at one call it is interrupted, and at one it fails.
 #[derive(Drop)]
@@ -82,42 +41,46 @@ impl Read for Flaky {
     }
 }
 
+/// At which call a reader of `abc` fails, and what is read of it: None where that is a fault.
+static FRONTS: [(u32, Option<&[u8]>); 3] = [(9, Some(b"abc")), (3, None), (5, None)];
+
 #[test]
 fn an_interrupted_read_goes_on_and_a_failing_one_is_no_end(rt: HostRuntime) -> Result<(), Fail> {
-    let rows: [(u32, Result<&[u8], ShelfError>); 3] = [
-        (9, Ok(b"abc")),
-        (3, Err(ShelfError::Failed)),
-        (5, Err(ShelfError::Failed)),
-    ];
-    for (failing_at, want) in rows {
+    for &(failing_at, want) in &FRONTS {
         let mut file = Flaky {
             bytes: b"abc",
             calls: 0,
             interrupted_at: 2,
             failing_at,
         };
-        let got = read_front(&mut file, rt.alloc(), 9);
-        match (&got, want) {
-            (Ok(bytes), Ok(wanted)) => assert_eq!(rt; bytes.as_slice(), wanted),
-            (Err(error), Err(wanted)) => assert_eq!(rt; *error, wanted),
-            _ => panic!(rt; "{failing_at}: {got:?}"),
+        match read_front(&mut file, rt.alloc(), 9) {
+            Ok(bytes) => assert!(rt; want == Some(bytes.as_slice()), "{failing_at}"),
+            Err(error) => assert!(rt;
+                want.is_none() && error == ShelfError::Failed,
+                "{failing_at}"
+            ),
         }
     }
+    Ok(())
+}
+
+/// What each call gives of an input of `a` that is interrupted first and fails at its third call.
+static PIECES: [Option<&[u8]>; 3] = [Some(b"a"), None, Some(b"")];
+
+#[test]
+fn an_input_goes_on_behind_a_failing_read(rt: HostRuntime) -> Result<(), Fail> {
     let mut input = Flaky {
         bytes: b"a",
         calls: 0,
         interrupted_at: 1,
         failing_at: 3,
     };
-    assert_eq!(rt;
-        read_some(&mut input, rt.alloc(), 9)?.as_slice(),
-        b"a".as_slice()
-    );
-    assert_eq!(rt;
-        read_some(&mut input, rt.alloc(), 9).err(),
-        Some(SourceError::Failed)
-    );
-    assert!(rt; read_some(&mut input, rt.alloc(), 9)?.is_empty());
+    for want in PIECES {
+        match read_some(&mut input, rt.alloc(), 9) {
+            Ok(bytes) => assert!(rt; want == Some(bytes.as_slice())),
+            Err(error) => assert!(rt; want.is_none() && error == SourceError::Failed),
+        }
+    }
     Ok(())
 }
 
@@ -144,8 +107,9 @@ impl Input for OneLine {
 #[test]
 fn standard_input_gives_what_is_there(rt: HostRuntime) -> Result<(), Fail> {
     let mut source = StdinSource::new(OneLine);
-    assert_eq!(rt; source.read(rt.alloc(), 3)?.as_slice(), b"why".as_slice());
-    assert_eq!(rt; source.read(rt.alloc(), 9)?.as_slice(), b"why\n".as_slice());
+    for (max, want) in [(3, b"why".as_slice()), (9, b"why\n".as_slice())] {
+        assert!(rt; source.read(rt.alloc(), max)?.as_slice() == want, "{max}");
+    }
     Ok(())
 }
 
@@ -186,19 +150,14 @@ impl Print for FlakyPrint {
 }
 
 #[test]
-fn standard_output_fails_in_the_call_that_the_system_refuses(rt: HostRuntime) -> Result<(), Fail> {
-    let mut full_device = fs::OpenOptions::new().write(true).open(&rt, "/dev/full")?;
-    assert!(rt; !write_whole(&mut full_device, b"1"));
+fn standard_output_fails_in_the_call_that_the_system_refuses(rt: HostRuntime) {
     for (failing_at, want, taken) in [(9, Ok(()), 5), (4, Err(SinkError::Failed), 4)] {
         let out = FlakyPrint {
             calls: Cell::new(0),
             taken: Cell::new(0),
             failing_at,
         };
-        let mut sink = StdoutSink::new(&out);
-        assert_eq!(rt; sink.write(b"12345"), want);
-        assert_eq!(rt; out.taken.get(), taken);
+        let given = StdoutSink::new(&out).write(b"12345");
+        assert!(rt; given == want && out.taken.get() == taken, "{failing_at}");
     }
-    assert_eq!(rt; StdoutSink::new(rt).write(b""), Ok(()));
-    Ok(())
 }
