@@ -4,6 +4,8 @@
 #   text   a whole source
 #   main   the statements of a main
 #   print  what a main prints
+#   body   the statements of a method
+#   world  the statements of a method beside the classes below; the answer is the rule alone
 #   lines  a source with a token on each line; the answer is how many there are, and Syntax names one of them with its line
 # WHYLINE names another program than ./whyline.
 set -u
@@ -37,6 +39,13 @@ check_text() { # NAME STATUS ANSWER
   report "$1" "$same"
 }
 
+check_rule() { # NAME STATUS RULE
+  local same=1
+  answer "$2" || same=0
+  grep -qx "program: $3 at line 6 token [0-9]*" out || same=0
+  report "$1" "$same"
+}
+
 check_lines() { # NAME STATUS COUNT: the token is one of so many or the end, and its line is that of a token
   local same=1 line token
   answer "$2" || same=0
@@ -53,18 +62,26 @@ times() { # COUNT TEXT
   for ((i = 0; i < $1; i++)); do printf '%s' "$2"; done
 }
 
+world='class A { A() { } A(int n) { } void f(int a, long b) { } void f(long a, int b) { } void g(long a) { } void g(int a) { }
+  void k(String a) { } void k(B a) { } private int p() { return 1; } public int s() { return 1; } }
+class B extends A { }
+interface I { Object r(); int s(); } interface J extends I { String r(); }
+abstract class C extends B implements J { }'
+
 while IFS=$'\t' read -r kind status answer source || [ -n "$kind" ]; do
   case $kind in
     text | lines) printf '%b' "$source" ;;
     main) printf 'class Main { public static void main(String[] args) { %b } }' "$source" ;;
     print) printf 'class Main { public static void main(String[] args) { System.out.println(%b); } }' "$source" ;;
+    body) printf 'class A { void f() { %b } }' "$source" ;;
+    world) printf '%s\nclass X { void f() { %b } }' "$world" "$source" ;;
     *) continue ;;
   esac >Main.java
-  if [ "$kind" = lines ]; then
-    check_lines "$source" "$status" "$answer"
-  else
-    check_text "$source" "$status" "$answer"
-  fi
+  case $kind in
+    lines) check_lines "$source" "$status" "$answer" ;;
+    world) check_rule "$source" "$status" "$answer" ;;
+    *) check_text "$source" "$status" "$answer" ;;
+  esac
 done <"$rows"
 
 main() { # STATEMENTS: the program whose main they are

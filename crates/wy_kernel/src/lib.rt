@@ -7,7 +7,6 @@ pub mod closure;
 pub mod form;
 pub mod operator;
 pub mod program;
-pub mod range;
 mod search;
 pub mod table;
 pub mod types;

@@ -1,6 +1,6 @@
 use Rattle.std.proofs.Common.{◌+◌, ◌*◌, ◌≤◌, length}
 use Rattle.wy_tree.specs.Ast.{view, views, deep, deepest}
-use Rattle.wy_parser.proofs.tests.+show.Given as goal
+use Rattle.wy_front_tests.proofs.trees.+show.Given as goal
 
 abbrev pub decreases-show : goal.decreases-show
 decreases-show l = 2 * deep (view l.tree.now)

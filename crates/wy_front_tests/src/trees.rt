@@ -1,87 +1,12 @@
-//! Texts, given with a blank between tokens, and their trees.
+//! Trees of small texts, a production each. How deep a tree and how many brackets a type may have is shown by tools/checks.
 
-use crate::parse::{ParseError, parse};
+use crate::source::joined;
 use std::alloc::{AllocError, Global};
 use std::test::Fail;
-use wy_tree::token::{Spanned, Token};
+use wy_lexer::lex;
+use wy_parser::parse::parse;
+use wy_tree::token::Token;
 use wy_tree::tree::{Form, Tree};
-
-const KEYS: [&str; 44] = [
-    "class",
-    "interface",
-    "extends",
-    "implements",
-    "throws",
-    "void",
-    "this",
-    "super",
-    "new",
-    "if",
-    "else",
-    "while",
-    "do",
-    "for",
-    "break",
-    "continue",
-    "return",
-    "throw",
-    "try",
-    "catch",
-    "finally",
-    "instanceof",
-    "static",
-    "final",
-    "public",
-    "private",
-    "protected",
-    "abstract",
-    "boolean",
-    "byte",
-    "short",
-    "char",
-    "int",
-    "long",
-    "true",
-    "false",
-    "null",
-    "switch",
-    "case",
-    "default",
-    "double",
-    "float",
-    "enum",
-    "assert",
-];
-
-fn token_of(alloc: Global, word: &str) -> Result<Token, AllocError> {
-    let text = String::from_str(alloc, word)?;
-    for key in KEYS {
-        if key == word {
-            return Ok(Token::Key(text));
-        }
-    }
-    match word.as_bytes() {
-        [b'a'..=b'z' | b'A'..=b'Z', ..] => Ok(Token::Word(text)),
-        [b'0'..=b'9', ..] => Ok(Token::Int {
-            value: word.parse::<u32>().unwrap_or(0),
-            decimal: true,
-        }),
-        _ => Ok(Token::Sign(text)),
-    }
-}
-
-fn tokens_in(alloc: Global, text: &str) -> Result<Vec<Spanned>, AllocError> {
-    let mut all = Vec::new(alloc);
-    for word in text.split_ascii_whitespace() {
-        all.push(Spanned {
-            token: token_of(alloc, word)?,
-            start: 0,
-            end: 0,
-            line: 1,
-        })?;
-    }
-    Ok(all)
-}
 
 fn form_name(form: Form) -> &'static str {
     match form {
@@ -148,23 +73,23 @@ fn show_all(out: &mut String, parts: &[Tree]) -> Result<(), AllocError> {
 }
 
 /// The tree of a text as a text, or `no tree`.
-fn tree_in(alloc: Global, text: &str) -> Result<String, AllocError> {
-    let tokens = tokens_in(alloc, text)?;
-    if tokens.len() > 1_048_576 {
-        return String::from_str(alloc, "too long");
+fn tree_in(alloc: Global, text: &str) -> Result<String, Fail> {
+    let mut out = String::new(alloc);
+    if text.len() > 1000 {
+        return Err(Fail::new("a long text"));
     }
-    match parse(alloc, &tokens) {
-        Ok(tree) => {
-            let mut out = String::new(alloc);
-            show(&mut out, &tree)?;
-            Ok(out)
-        }
-        Err(ParseError::Syntax { .. }) => String::from_str(alloc, "no tree"),
-        Err(ParseError::NoMemory) => Err(AllocError),
+    let tokens = lex(alloc, text.as_bytes())?;
+    if tokens.len() > 1000 {
+        return Err(Fail::new("many tokens"));
     }
+    match parse(alloc, tokens.as_slice()) {
+        Ok(tree) => show(&mut out, &tree)?,
+        Err(_) => out.push_str("no tree")?,
+    }
+    Ok(out)
 }
 
-const EXPRESSIONS: [(&str, &str); 26] = [
+static EXPRESSIONS: [(&str, &str); 26] = [
     ("( a ) - 1", "(Binary (Primary ( a )) - 1)"),
     ("( int ) - 1", "(Cast ( int ) (Unary - 1))"),
     ("( a ) b", "(Cast ( a ) b)"),
@@ -202,7 +127,7 @@ const EXPRESSIONS: [(&str, &str); 26] = [
     ("new int [ ] { 1 , { , } , } [ 1 ]", "no tree"),
 ];
 
-const STATEMENTS: [(&str, &str); 26] = [
+static STATEMENTS: [(&str, &str); 26] = [
     (";", ";"),
     ("{ int a ; }", "(Block { (Stmt int a ;) })"),
     (
@@ -255,7 +180,7 @@ const STATEMENTS: [(&str, &str); 26] = [
     ("switch ( a ) { }", "no tree"),
 ];
 
-const PROGRAMS: [(&str, &str); 12] = [
+static PROGRAMS: [(&str, &str); 12] = [
     ("", "(Unit)"),
     (";", ";"),
     (
@@ -291,99 +216,44 @@ const PROGRAMS: [(&str, &str); 12] = [
     ("class A { } }", "no tree"),
 ];
 
-fn around(alloc: Global, before: &str, middle: &str, behind: &str) -> Result<String, AllocError> {
-    let mut all = String::from_str(alloc, before)?;
-    all.push_str(middle)?;
-    all.push_str(behind)?;
-    Ok(all)
+/// What stands before and behind a text, and before and behind its tree.
+struct Around {
+    text: (&'static str, &'static str),
+    tree: (&'static str, &'static str),
 }
 
-fn is_read_as(
-    alloc: Global,
-    text: &str,
-    tree: &str,
-    in_text: (&str, &str),
-    in_tree: (&str, &str),
-) -> Result<bool, AllocError> {
-    let program = around(alloc, in_text.0, text, in_text.1)?;
-    let wanted = if tree == "no tree" {
-        String::from_str(alloc, tree)?
-    } else {
-        around(alloc, in_tree.0, tree, in_tree.1)?
-    };
-    let found = tree_in(alloc, program.as_str())?;
-    Ok(found.as_str() == wanted.as_str())
-}
+static VALUE: Around = Around {
+    text: ("class A { int f = ", " ; }"),
+    tree: ("(Class class A { (Member int (Decl f = ", ") ;) })"),
+};
+
+static BLOCK: Around = Around {
+    text: ("class A { { ", " } }"),
+    tree: ("(Class class A { (Block { ", " }) })"),
+};
+
+static WHOLE: Around = Around {
+    text: ("", ""),
+    tree: ("", ""),
+};
 
 #[test]
 fn texts_have_the_trees_of_their_productions(rt: HostRuntime) -> Result<(), Fail> {
-    let alloc = rt.alloc();
-    let in_text = ("class A { int f = ", " ; }");
-    let in_tree = ("(Class class A { (Member int (Decl f = ", ") ;) })");
-    for (text, tree) in EXPRESSIONS {
-        let same = is_read_as(alloc, text, tree, in_text, in_tree)?;
-        assert!(&rt; same, "{text}");
-    }
-    let in_text = ("class A { { ", " } }");
-    let in_tree = ("(Class class A { (Block { ", " }) })");
-    for (text, tree) in STATEMENTS {
-        let same = is_read_as(alloc, text, tree, in_text, in_tree)?;
-        assert!(&rt; same, "{text}");
-    }
-    for (text, tree) in PROGRAMS {
-        let same = is_read_as(alloc, text, tree, ("", ""), ("", ""))?;
-        assert!(&rt; same, "{text}");
-    }
-    Ok(())
-}
-
-fn push_times(out: &mut String, text: &str, times: u32) -> Result<(), AllocError> {
-    for _ in 0..times {
-        out.push_str(text)?;
-    }
-    Ok(())
-}
-
-fn has_tree(alloc: Global, text: &str) -> Result<bool, AllocError> {
-    let tree = tree_in(alloc, text)?;
-    Ok(tree.as_str() != "no tree")
-}
-
-fn groups_have_a_tree(alloc: Global, groups: u32) -> Result<bool, AllocError> {
-    let mut text = String::from_str(alloc, "class A { int f = ")?;
-    push_times(&mut text, "( ", groups)?;
-    text.push_str("1 ")?;
-    push_times(&mut text, ") ", groups)?;
-    text.push_str("; }")?;
-    has_tree(alloc, text.as_str())
-}
-
-fn brackets_have_a_tree(alloc: Global, pairs: u32, behind: &str) -> Result<bool, AllocError> {
-    let mut text = String::from_str(alloc, "class A { int ")?;
-    push_times(&mut text, "[ ] ", pairs)?;
-    text.push_str("f ")?;
-    text.push_str(behind)?;
-    text.push_str("; }")?;
-    has_tree(alloc, text.as_str())
-}
-
-// A class, its member, its declarator and the literal are four levels.
-#[test]
-fn trees_end_at_300_levels_and_types_at_255_brackets(rt: HostRuntime) -> Result<(), Fail> {
-    let alloc = rt.alloc();
-    for (groups, wanted) in [(296, true), (297, false)] {
-        let found = groups_have_a_tree(alloc, groups)?;
-        assert_eq!(&rt; found, wanted, "{groups} groups");
-    }
-    let rows = [
-        (255, "", true),
-        (256, "", false),
-        (254, "[ ] ", true),
-        (255, "[ ] ", false),
+    let tables = [
+        (&VALUE, EXPRESSIONS.as_slice()),
+        (&BLOCK, STATEMENTS.as_slice()),
+        (&WHOLE, PROGRAMS.as_slice()),
     ];
-    for (pairs, behind, wanted) in rows {
-        let found = brackets_have_a_tree(alloc, pairs, behind)?;
-        assert_eq!(&rt; found, wanted, "{pairs} pairs and {behind}");
+    for (around, rows) in tables {
+        for (text, tree) in rows {
+            let program = joined(rt.alloc(), &[around.text.0, text, around.text.1])?;
+            let wanted = joined(rt.alloc(), &[around.tree.0, tree, around.tree.1])?;
+            let found = tree_in(rt.alloc(), program.as_str())?;
+            assert!(rt;
+                found == wanted || (found.as_str() == *tree && *tree == "no tree"),
+                "{text}"
+            );
+        }
     }
     Ok(())
 }
