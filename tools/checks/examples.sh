@@ -54,6 +54,11 @@ head -c 1048577 /dev/zero | tr '\0' ' ' >"$scratch/long.java"
 expect_line "the step limit" 0 '-- step limit' run "$scratch/endless.java"
 expect_line "no words" 2 'usage: whyline run SRC'
 expect_line "a word too many" 2 'usage: whyline run SRC' run examples/first.java more
+expect_line "a name without letters" 2 'usage: whyline run SRC' run ''
+expect_line "no name" 2 'usage: whyline run SRC' run
+expect_line "a word in capitals" 2 'usage: whyline run SRC' Run examples/first.java
+expect_line "words in another order" 2 'usage: whyline run SRC' examples/first.java run
+expect_line "another word" 2 'usage: whyline run SRC' record examples/first.java
 expect_line "a name that begins with a minus sign" 2 'usage: whyline run SRC' run -x
 expect_line "a word that isn't UTF-8" 2 'usage: whyline run SRC' run "$(printf '\377')"
 expect_line "no such file" 3 "absent: $scratch/none.java" run "$scratch/none.java"

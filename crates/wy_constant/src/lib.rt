@@ -12,8 +12,6 @@ mod names;
 mod rule;
 mod scope;
 mod simple;
-#[cfg(test)]
-mod tests;
 mod variable;
 
 pub use arithmetic::cast;

@@ -11,7 +11,5 @@ mod names;
 mod part;
 mod program;
 mod shape;
-#[cfg(test)]
-mod tests;
 
 pub use program::unit;

@@ -1,10 +1,6 @@
 //! Whole programs about bodies: exceptions, conditions, texts, arrays, input and assignments. The places, numbers and forms of their
 //! statements are written as in `programs.rt`.
 
-use crate::listed::listed;
-use crate::source::{Reading, read};
-use std::test::Fail;
-
 // Nested `try`: what catches a `throw` in a catch, and jumps out of each part.
 const CAUGHT: (&str, &str) = (
     "class Lost extends RuntimeException {
@@ -359,15 +355,4 @@ main 39 of 95
 ",
 );
 
-#[test]
-fn the_forms_of_a_body_stand_where_its_text_says(rt: HostRuntime) -> Result<(), Fail> {
-    let rows = [CAUGHT, CONDITIONS, TEXTS, ARRAYS, INPUT, STEPS];
-    for (text, wanted) in rows {
-        let seen = match read(rt.alloc(), text) {
-            Reading::Program(program) => listed(rt.alloc(), &program)?,
-            _ => "none".to_string(rt.alloc())?,
-        };
-        assert_eq!(rt; seen.as_str(), wanted);
-    }
-    Ok(())
-}
+pub static ROWS: [(&str, &str); 6] = [CAUGHT, CONDITIONS, TEXTS, ARRAYS, INPUT, STEPS];

@@ -2,7 +2,7 @@
 //! the methods that calls mean, and assignments with the type in which they are done.
 
 use crate::listed::main_shown;
-use crate::source::{Reading, joined, read};
+use crate::source::{joined, read};
 use std::test::Fail;
 
 // The classes 18 A, 19 B, 20 I and 21 Main: the methods 36 A(), 37 B(), 38 B(int), 39 go, 40 Main(), 41 f(int), 42 f(long),
@@ -20,7 +20,7 @@ class Main {
   public static void main(String[] args) {
 ";
 
-static ROWS: [(&str, &str); 24] = [
+static ROWS: [(&str, &str); 25] = [
     ("int x = 2 + 3 * 4;", "Eval: (= l1 14)\n"),
     (
         "long x = 5; x = 'a';",
@@ -282,17 +282,100 @@ Eval: (= l4 (== l2 l1))
 Eval: (= l4 (is #19 l2))
 ",
     ),
+    (
+        "int x = -2147483648 - 1; char c = true ? 'a' : 1; int y = true ? 'a' : -1; boolean t = \"a\" + 12 == \"a12\";
+byte b = 'a'; b = -128; y = 'a'; final byte SEVEN = 7; c = SEVEN; String s = \"a\";",
+        "Eval: (= l1 2147483647)
+Eval: (= l2 97c)
+Eval: (= l3 97)
+Eval: (= l4 true)
+Eval: (= l5 97b)
+Eval: (= l5 -128b)
+Eval: (= l3 97)
+Eval: (= l6 7b)
+Eval: (= l2 7c)
+Eval: (= l7 $1)
+",
+    ),
+];
+
+// The classes 18 A, 19 B, 20 I, 21 J, 22 C and 23 Main. The methods of A are 36 A(), 37 A(int), 38 f(int, long), 39 f(long, int),
+// 40 g(long), 41 g(int), 42 h(Object), 43 h(String), 44 k(String), 45 k(B), 46 p, 47 q, 48 s and 49 v; 50 is B(), 51 the q of B; 52 and
+// 53 the r and s of I; 54 and 55 the r and t of J; 56 is C().
+const WORLD: &str = "class A { A() { } A(int n) { }
+  void f(int a, long b) { } void f(long a, int b) { } void g(long a) { } void g(int a) { }
+  void h(Object a) { } void h(String a) { } void k(String a) { } void k(B a) { }
+  private int p() { return 1; } Object q() { return null; } public int s() { return 1; } static void v(int a) { } }
+class B extends A { String q() { return null; } }
+interface I { Object r(); int s(); }
+interface J extends I { String r(); int t(); }
+abstract class C extends B implements J { }
+class Main {
+  public static void main(String[] args) {
+";
+
+// What calls mean (JLS 15.12.2). Those that mean nothing, or no one method, are rows of tools/checks.
+static CHOICES: [(&str, &str); 3] = [
+    (
+        "A a = null; C c = null; long l = 1; byte y = 1; char u = 'a'; a.f(1, l); c.f(l, y); a.g(1); a.g(u); a.g(l);
+a.h(null); a.h(\"\"); a.h(args); a.k(c);",
+        "Eval: (= l1 null)
+Eval: (= l2 null)
+Eval: (= l3 1L)
+Eval: (= l4 1b)
+Eval: (= l5 97c)
+Eval: (chosen #18 m38 l1 1 l3)
+Eval: (chosen #22 m39 l2 l3 (to int l4))
+Eval: (chosen #18 m41 l1 1)
+Eval: (chosen #18 m41 l1 (to int l5))
+Eval: (chosen #18 m40 l1 l3)
+Eval: (chosen #18 m43 l1 null)
+Eval: (chosen #18 m43 l1 $1)
+Eval: (chosen #18 m42 l1 l0)
+Eval: (chosen #18 m45 l1 l2)
+",
+    ),
+    (
+        "A a = null; B b = null; C c = null; I i = null; J j = null; a.q(); b.q(); c.q(); i.r(); j.r(); c.r(); c.s(); j.s(); c.t();",
+        "Eval: (= l1 null)
+Eval: (= l2 null)
+Eval: (= l3 null)
+Eval: (= l4 null)
+Eval: (= l5 null)
+Eval: (chosen #18 m47 l1)
+Eval: (chosen #19 m51 l2)
+Eval: (chosen #22 m51 l3)
+Eval: (chosen #20 m52 l4)
+Eval: (chosen #21 m54 l5)
+Eval: (chosen #22 m54 l3)
+Eval: (chosen #22 m48 l3)
+Eval: (chosen #21 m53 l5)
+Eval: (chosen #22 m55 l3)
+",
+    ),
+    (
+        "byte y = 1; new A(y); new B(); C.v(1); new Exception(\"m\"); new RuntimeException().toString(); J j = null; j.equals(\"m\");",
+        "Eval: (= l1 1b)
+Eval: (new #18 m37 (to int l1))
+Eval: (new #19 m50)
+Eval: (static m49 - 1)
+Eval: (new #3 m7 $1)
+Eval: (chosen #5 m5 (new #5 m10))
+Eval: (= l2 null)
+Eval: (chosen #21 m1 l2 $1)
+",
+    ),
 ];
 
 #[test]
 fn an_expression_becomes_the_forms_of_its_operators(rt: HostRuntime) -> Result<(), Fail> {
-    for (body, wanted) in ROWS {
-        let text = joined(rt.alloc(), &[FRONT, body, "\n  }\n}\n"])?;
-        let seen = match read(rt.alloc(), text.as_str()) {
-            Reading::Program(program) => main_shown(rt.alloc(), &program)?,
-            _ => "none".to_string(rt.alloc())?,
-        };
-        assert_eq!(rt; seen.as_str(), wanted, "{body}");
+    for (front, rows) in [(FRONT, ROWS.as_slice()), (WORLD, CHOICES.as_slice())] {
+        for (body, wanted) in rows {
+            let text = joined(rt.alloc(), &[front, body, "\n  }\n}\n"])?;
+            let program = read(rt.alloc(), text.as_str()).ok_or("no program")?;
+            let seen = main_shown(rt.alloc(), &program)?;
+            assert_eq!(rt; seen.as_str(), *wanted, "{body}");
+        }
     }
     Ok(())
 }

@@ -1,9 +1,5 @@
 //! Whole programs about types, constants and names. The places, numbers and forms of their statements are written as in `programs.rt`.
 
-use crate::listed::listed;
-use crate::source::{Reading, read};
-use std::test::Fail;
-
 // The types of `?:`, shown by the methods that are chosen for them, and indices of each type.
 const KINDS: (&str, &str) = (
     "class Kinds {
@@ -214,15 +210,4 @@ main 41 of 117
 ",
 );
 
-#[test]
-fn types_constants_and_names_are_those_that_a_text_says(rt: HostRuntime) -> Result<(), Fail> {
-    let rows = [KINDS, FIXED, NAMES];
-    for (text, wanted) in rows {
-        let seen = match read(rt.alloc(), text) {
-            Reading::Program(program) => listed(rt.alloc(), &program)?,
-            _ => "none".to_string(rt.alloc())?,
-        };
-        assert_eq!(rt; seen.as_str(), wanted);
-    }
-    Ok(())
-}
+pub static ROWS: [(&str, &str); 3] = [KINDS, FIXED, NAMES];

@@ -1,5 +1,6 @@
-//! Tests across the crates that make a program of a text: the tokens, the tree, and the program or the rule that is broken.
-//! It holds nothing else. What is expected was worked out from the rules of docs/language.md, by hand.
+//! Tests across the crates that make a program of a text: its tokens, its tree, and the program that it is.
+//! It holds nothing else. What is expected was worked out from the rules of docs/language.md, by hand. The rule that a text breaks, and
+//! the byte at which it has no token, are rows of tools/checks.
 #![tactic(auto)]
 
 #[cfg(test)]
@@ -15,8 +16,12 @@ mod members;
 #[cfg(test)]
 mod programs;
 #[cfg(test)]
-mod refusals;
-#[cfg(test)]
 mod shown;
 #[cfg(test)]
 mod source;
+#[cfg(test)]
+mod tables;
+#[cfg(test)]
+mod tokens;
+#[cfg(test)]
+mod trees;

@@ -1,10 +1,6 @@
 //! Whole programs about classes: the methods that calls mean, static fields, constants, results and constructors. The places, numbers
 //! and forms of their statements are written as in `programs.rt`.
 
-use crate::listed::listed;
-use crate::source::{Reading, read};
-use std::test::Fail;
-
 // Methods chosen by class, private ones and those of `super`, which are not, and static ones; arguments brought to their parameters.
 const CALLS: (&str, &str) = (
     "interface Named { String name(); }
@@ -310,17 +306,4 @@ main 49 of 124
 ",
 );
 
-#[test]
-fn a_program_of_classes_has_the_calls_and_fields_that_its_text_says(
-    rt: HostRuntime,
-) -> Result<(), Fail> {
-    let rows = [CALLS, MEMBERS, STATICS, RESULTS];
-    for (text, wanted) in rows {
-        let seen = match read(rt.alloc(), text) {
-            Reading::Program(program) => listed(rt.alloc(), &program)?,
-            _ => "none".to_string(rt.alloc())?,
-        };
-        assert_eq!(rt; seen.as_str(), wanted);
-    }
-    Ok(())
-}
+pub static ROWS: [(&str, &str); 4] = [CALLS, MEMBERS, STATICS, RESULTS];

@@ -1,40 +1,28 @@
 //! From a text to its program, through the crates that do it.
 
-ghost use Rattle.std.specs.Prelude.{IfOk};
-
 use std::alloc::{AllocError, Global};
-use wy_constant::{Rule, TypeError};
 use wy_elab_stmt::elaborate;
 use wy_kernel::program::Program;
 use wy_lexer::lex;
 use wy_parser::parse::parse;
 
-/// What a text is.
-#[derive(Drop)]
-pub enum Reading {
-    Program(Program),
-    Broken { rule: Rule, token: u32 },
-    /// It has no tokens or no tree, or memory ran out.
-    Nothing,
-}
-
-pub fn read(alloc: Global, text: &str) -> Reading {
+/// The program of a text: None where it has no tokens or no tree, or breaks a rule, and where memory ran out.
+pub fn read(alloc: Global, text: &str) -> Option<Program> {
     if text.len() > 1_048_576 {
-        return Reading::Nothing;
+        return None;
     }
     let Ok(tokens) = lex(alloc, text.as_bytes()) else {
-        return Reading::Nothing;
+        return None;
     };
     if tokens.len() > 1_048_576 {
-        return Reading::Nothing;
+        return None;
     }
     let Ok(tree) = parse(alloc, tokens.as_slice()) else {
-        return Reading::Nothing;
+        return None;
     };
     match elaborate(alloc, &tree, tokens.as_slice()) {
-        Ok(program) => Reading::Program(program),
-        Err(TypeError::Broken { rule, token }) => Reading::Broken { rule, token },
-        Err(TypeError::NoMemory) => Reading::Nothing,
+        Ok(program) => Some(program),
+        Err(_) => None,
     }
 }
 

@@ -7,4 +7,3 @@ pub mod Numbered
 pub mod Builtins
 pub mod Taking
 pub mod Closing
-pub mod Ranges

@@ -7,9 +7,6 @@ pub mod closure;
 pub mod form;
 pub mod operator;
 pub mod program;
-pub mod range;
 mod search;
 pub mod table;
-#[cfg(test)]
-mod tests;
 pub mod types;

@@ -9,8 +9,6 @@ pub mod lexer;
 mod literal;
 mod number;
 mod piece;
-#[cfg(test)]
-mod tests;
 mod words;
 
 pub use error::LexError;

@@ -6,8 +6,6 @@ mod constructors;
 mod form;
 mod make;
 mod object;
-#[cfg(test)]
-mod tests;
 mod throwable;
 
 pub use bodies::{library_bodies, library_init_bodies};

@@ -25,7 +25,6 @@ pub mod Knowns
 pub mod KnownParts
 pub mod KnownMembers
 pub mod Judgeable
-pub mod InOrder
 pub mod Library
 pub mod Written
 mod Shapes

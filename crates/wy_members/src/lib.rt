@@ -18,8 +18,6 @@ mod program_table;
 pub mod rows;
 mod signature;
 mod subtyping;
-#[cfg(test)]
-mod tests;
 mod tree_table;
 mod unit_table;
 mod written_type;

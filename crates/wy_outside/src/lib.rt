@@ -11,5 +11,3 @@ pub mod real;
 pub mod shelf;
 pub mod sink;
 pub mod source;
-#[cfg(test)]
-mod tests;

@@ -2,8 +2,6 @@
 mod shelf;
 mod sink;
 mod source;
-#[cfg(test)]
-mod tests;
 
 pub use shelf::MemoryShelf;
 pub use sink::MemorySink;

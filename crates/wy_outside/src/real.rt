@@ -4,9 +4,7 @@
 mod shelf;
 mod sink;
 mod source;
-#[cfg(test)]
-mod tests;
 
-pub use shelf::FileShelf;
+pub use shelf::{FileShelf, read_front};
 pub use sink::StdoutSink;
-pub use source::StdinSource;
+pub use source::{StdinSource, read_some};

@@ -12,5 +12,3 @@ pub mod row;
 pub mod rule;
 pub mod stop;
 pub mod symbol;
-#[cfg(test)]
-mod tests;

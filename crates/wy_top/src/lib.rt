@@ -7,8 +7,6 @@ pub mod laws;
 mod lines;
 pub mod reading;
 pub mod status;
-#[cfg(test)]
-mod tests;
 pub mod top;
 mod words;
 

@@ -7,8 +7,6 @@ mod encoding;
 pub mod law;
 mod numeral;
 mod operator;
-#[cfg(test)]
-mod tests;
 mod text;
 mod value;
 mod word;
