@@ -1,6 +1,7 @@
 -- What the code of this crate gives, as the definitions see it.
 use Rattle.std.specs.Prelude.{◌≡◌, ℕ, List, [], ◌∷◌, ◌++◌, map, Option, Some, None, if◌then◌else◌, Result, Ok, Err}
 use Rattle.std.specs.declared.alloc.Global.{Global}
+use Rattle.std.specs.declared.boxed.Box.{Box}
 use Rattle.std.specs.declared.vec.Vec.{Vec}
 use Rattle.wy_kernel.specs.declared.form.Expr.{Expr}
 use Rattle.wy_kernel.specs.Form as kernel
@@ -30,9 +31,13 @@ use Rattle.wy_elab_expr.specs.Members.{Spot, spot, front, int_type, LibraryMetho
 use Rattle.wy_elab_expr.specs.Elaboration.{ClassName, Listing, listing, Printed, Typed, Stream, Input, Output, is_index}
 use Rattle.wy_elab_expr.specs.Operators.{Judgement, Settles, OperandTypes}
 
+-- a form that stands in another
+abbrev pub inner_of : Box Expr Global → kernel.Expression
+inner_of e = expression e.value
+
 abbrev pub meaning_of : memory.Meaning → Meaning
 meaning_of (meanings.Known value token) = Known (constant_value value) token
-meaning_of (meanings.Formed form ty) = Formed (expression form) ty
+meaning_of (meanings.Formed form ty) = Formed (inner_of form) ty
 
 -- what a function returned, seen by a view, and the texts after it, are what the definition gives; want of memory is free
 abbrev pub GetsTo : {X A : Type 0} → (X → A) → Result X TypeError → List FixedText → Result (A × List FixedText) Refusal → Type 0
@@ -76,7 +81,7 @@ behind_elements forms sites (Err e) = Err e
 
 abbrev pub through_of : memory_through.Through → Through
 through_of throughs.Nothing = Nothing
-through_of (throughs.Object e) = Object (expression e)
+through_of (throughs.Object e) = Object (inner_of e)
 through_of throughs.OfClass = OfClass
 through_of throughs.Super = Super
 

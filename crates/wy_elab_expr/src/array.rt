@@ -8,7 +8,7 @@ ghost use Rattle.wy_elab_expr.specs.Meaning.{Formed, give};
 ghost use Rattle.wy_elab_expr.specs.Views.{GivesAlways, listing_of, meaning_of, row_seen};
 
 use crate::build;
-use crate::meaning::Meaning;
+use crate::meaning::{Meaning, of_form};
 use crate::names::with_brackets;
 use crate::refusal::refused;
 use std::alloc::Global;
@@ -55,10 +55,8 @@ pub fn new_array(
         return Err(TypeError::NoMemory);
     }
     let ty = with_brackets(ty, many as u32 + brackets)?;
-    Ok(Meaning::Formed {
-        form: build::new_array(ty, dims, Vec::new(alloc), Vec::new(alloc), token),
-        ty,
-    })
+    let form = build::new_array(ty, dims, Vec::new(alloc), Vec::new(alloc), token);
+    Ok(of_form(alloc, form, ty)?)
 }
 
 /// How many there are.

@@ -1,6 +1,6 @@
 //! Assignment, `op=`, `++` and `--`, and the variables that they are about (JLS 15.14, 15.15, 15.26).
 
-ghost use Rattle.std.specs.Prelude.{◌≡◌, false, option_map, option_and_then, slice_get};
+ghost use Rattle.std.specs.Prelude.{◌≡◌, IfOk, false, option_map, option_and_then, slice_get};
 ghost use Rattle.wy_kernel.specs.ClassTable.{table_of};
 ghost use Rattle.wy_kernel.specs.View.{expression};
 ghost use Rattle.wy_constant.specs.Fields.{field_of};
@@ -9,17 +9,17 @@ ghost use Rattle.wy_elab_expr.specs.Elaboration.{above, adds_text, assigned, ass
 ghost use Rattle.wy_elab_expr.specs.Views.{GetsTo, GivesAlways, Judged, class_name_of, meaning_of, size_of, spot_of};
 
 use crate::assignable::is_assignable;
-use crate::bring::{brought, formed, primitive, type_of};
+use crate::bring::{brought, brought_in, formed_in, primitive, type_of};
 use crate::build;
 use crate::fields::{field_spot, no_field, object_field, qualified_spot};
 use crate::kinds::{is_text, is_void, number_type, primitive_in};
-use crate::meaning::Meaning;
+use crate::meaning::{Meaning, of_form};
 use crate::names::ClassName;
 use crate::operand::operand_types;
 use crate::refusal::refused;
 use crate::spot::Spot;
 use crate::texts::Texts;
-use std::alloc::Global;
+use std::alloc::{AllocError, Global};
 use wy_constant::{Rule, Scope, TypeError, field_by_name};
 use wy_kernel::form::Expr;
 use wy_kernel::operator::{BinOp, Primitive};
@@ -55,7 +55,10 @@ pub fn super_spot(
     }
     let class = above(table, scope);
     match field_by_name(table, class, name) {
-        Some(k) => object_field(alloc, table, scope, build::this(), k, token),
+        Some(k) => {
+            let this = Box::new(alloc, build::this())?;
+            object_field(table, scope, this, k, token)
+        }
         None => Err(refused(no_field(class), token)),
     }
 }
@@ -103,11 +106,10 @@ pub fn element_spot(
         None => Err(refused(Rule::BadOperand, token)),
         Some(ty) => {
             if is_index(type_of(&index)) {
-                let a = formed(alloc, texts, array)?;
-                let i = brought(alloc, texts, primitive(Primitive::Int), index)?;
-                let place = build::element(alloc, a, i, token)?;
+                let a = formed_in(alloc, texts, array)?;
+                let i = brought_in(alloc, texts, primitive(Primitive::Int), index)?;
                 Ok(Spot {
-                    place,
+                    place: build::element(a, i, token),
                     ty,
                     is_fixed: false,
                 })
@@ -178,8 +180,8 @@ pub fn assigned(
             }
             let ty = p.ty;
             let value = assigned_value(alloc, table, texts, ty, m, token)?;
-            let form = build::set(alloc, p.place, value, token)?;
-            Ok(Meaning::Formed { form, ty })
+            let value = Box::new(alloc, value)?;
+            Ok(of_form(alloc, build::set(p.place, value, token), ty)?)
         }
     }
 }
@@ -222,9 +224,9 @@ fn updated_in(
     }
     let value_ty = type_of(&m);
     let ty = p.ty;
-    let value = formed(alloc, texts, m)?;
-    let form = build::update(alloc, p.place, op, value, value_ty, ty, wide, token)?;
-    Ok(Meaning::Formed { form, ty })
+    let value = formed_in(alloc, texts, m)?;
+    let form = build::update(p.place, op, value, value_ty, ty, wide, token);
+    Ok(of_form(alloc, form, ty)?)
 }
 
 fn left_primitive(table: &ClassTable, op: BinOp, left: Ty, right: Ty) -> Option<Primitive>
@@ -289,6 +291,7 @@ pub fn updated(
 }
 
 fn stepped_in(
+    alloc: Global,
     wide: Option<Primitive>,
     op: BinOp,
     gives_old: bool,
@@ -304,10 +307,8 @@ fn stepped_in(
                 return Err(refused(Rule::BadAssign, token));
             }
             let ty = p.ty;
-            Ok(Meaning::Formed {
-                form: build::step(p.place, op, ty, wide, gives_old, token),
-                ty,
-            })
+            let form = build::step(p.place, op, ty, wide, gives_old, token);
+            Ok(of_form(alloc, form, ty)?)
         }
     }
 }
@@ -315,6 +316,7 @@ fn stepped_in(
 /// `++` and `--`
 #[tactic(auto, unfolding(crate::specs::Elaboration::stepped))]
 pub fn stepped(
+    alloc: Global,
     is_before: bool,
     is_up: bool,
     p: Option<Spot>,
@@ -327,19 +329,16 @@ pub fn stepped(
         Some(p) => {
             let wide = number_type(p.ty);
             let op = if is_up { BinOp::Add } else { BinOp::Sub };
-            stepped_in(wide, op, !is_before, p, token)
+            stepped_in(alloc, wide, op, !is_before, p, token)
         }
     }
 }
 
 /// The value of a place.
-pub fn read(p: Spot) -> Meaning
-    ensures { meaning_of result ≡ read (spot_of p) }
+pub fn read(alloc: Global, p: Spot) -> Result<Meaning, AllocError>
+    ensures { IfOk result (λ m. meaning_of m ≡ read (spot_of p)) }
 {
-    Meaning::Formed {
-        form: build::read(p.place),
-        ty: p.ty,
-    }
+    of_form(alloc, build::read(p.place), p.ty)
 }
 
 fn is_an_array(ty: Ty) -> bool

@@ -9,7 +9,7 @@ ghost use Rattle.wy_kernel.specs.View.{expression};
 ghost use Rattle.wy_kernel.specs.Table.{constant_value, Simple};
 ghost use Rattle.wy_value.specs.Conversion.{converted};
 ghost use Rattle.wy_elab_expr.specs.Meaning.{brought, constant_for, constant_type, converted_form, formed, type_of, Known};
-ghost use Rattle.wy_elab_expr.specs.Views.{GetsTo, meaning_of};
+ghost use Rattle.wy_elab_expr.specs.Views.{GetsTo, inner_of, meaning_of};
 
 use crate::build;
 use crate::meaning::Meaning;
@@ -23,8 +23,8 @@ use wy_value::{Value, convert};
 
 /// A value of the second type as one of the first.
 #[tactic(auto, unfolding(crate::specs::Meaning::converted_form))]
-pub fn converted_form(alloc: Global, to: Ty, from: Ty, form: Expr) -> Result<Expr, AllocError>
-    ensures { IfOk result (λ e. expression e ≡ converted_form to from (expression form)) }
+fn converted_form(alloc: Global, to: Ty, from: Ty, form: Box<Expr>) -> Result<Box<Expr>, AllocError>
+    ensures { IfOk result (λ e. inner_of e ≡ converted_form to from (inner_of form)) }
 {
     match (to, from) {
         (
@@ -40,7 +40,7 @@ pub fn converted_form(alloc: Global, to: Ty, from: Ty, form: Expr) -> Result<Exp
             if is_same_primitive(p, q) {
                 Ok(form)
             } else {
-                build::conversion(alloc, p, form)
+                Ok(Box::new(alloc, build::conversion(p, form))?)
             }
         }
         _ => Ok(form),
@@ -145,15 +145,31 @@ fn constant_form(to: Ty, value: Const) -> Expr
     }
 }
 
-/// One form of the target type.
+/// One form of the target type, to stand in another.
 #[tactic(auto, unfolding(crate::specs::Meaning::brought))]
+pub fn brought_in(
+    alloc: Global,
+    texts: &mut Texts,
+    to: Ty,
+    m: Meaning,
+) -> Result<Box<Expr>, TypeError>
+    ensures { GetsTo inner_of result texts.new (brought to (meaning_of m) texts.old) }
+{
+    match m {
+        Meaning::Known { value, token } => {
+            let form = brought_constant(texts, to, value, token)?;
+            Ok(Box::new(alloc, form)?)
+        }
+        Meaning::Formed { form, ty } => Ok(converted_form(alloc, to, ty, form)?),
+    }
+}
+
+/// One form of the target type.
 pub fn brought(alloc: Global, texts: &mut Texts, to: Ty, m: Meaning) -> Result<Expr, TypeError>
     ensures { GetsTo expression result texts.new (brought to (meaning_of m) texts.old) }
 {
-    match m {
-        Meaning::Known { value, token } => brought_constant(texts, to, value, token),
-        Meaning::Formed { form, ty } => Ok(converted_form(alloc, to, ty, form)?),
-    }
+    let form = brought_in(alloc, texts, to, m)?;
+    Ok(Box::into_inner(form))
 }
 
 #[tactic(auto, unfolding(crate::specs::Meaning::brought))]
@@ -170,6 +186,14 @@ fn brought_constant(texts: &mut Texts, to: Ty, value: Const, token: u32) -> Resu
         Const::Int(_) => Ok(constant_form(to, value)),
         Const::Long(_) => Ok(constant_form(to, value)),
     }
+}
+
+/// One form of its own type, to stand in another.
+pub fn formed_in(alloc: Global, texts: &mut Texts, m: Meaning) -> Result<Box<Expr>, TypeError>
+    ensures { GetsTo inner_of result texts.new (formed (meaning_of m) texts.old) }
+{
+    let ty = type_of(&m);
+    brought_in(alloc, texts, ty, m)
 }
 
 /// One form of its own type.

@@ -5,9 +5,9 @@ ghost use Rattle.wy_kernel.specs.Form as kernel;
 ghost use Rattle.wy_kernel.specs.View.{constant_of, expression, place as place_seen, row_of};
 ghost use Rattle.wy_elab_expr.specs.Members.{int_type, this_form};
 ghost use Rattle.wy_elab_expr.specs.Operators.{lazy_form};
+ghost use Rattle.wy_elab_expr.specs.Views.{inner_of};
 
 use crate::bring::primitive;
-use std::alloc::{AllocError, Global};
 use wy_kernel::form::{CallForm, CondForm, Const, Expr, LibOp, Place};
 use wy_kernel::operator::{BinOp, Primitive, UnOp};
 use wy_kernel::types::{NONE, Ty};
@@ -34,151 +34,107 @@ pub fn read(place: Place) -> Expr
 }
 
 #[tactic(auto, using(crate::proofs::KernelViews::view_un))]
-pub fn unary(alloc: Global, op: UnOp, operand: Expr) -> Result<Expr, AllocError>
-    ensures { IfOk result (λ e. expression e ≡ kernel.Un op (expression operand)) }
+pub fn unary(op: UnOp, operand: Box<Expr>) -> Expr
+    ensures { expression result ≡ kernel.Un op (inner_of operand) }
 {
-    Ok(Expr::Un {
-        op,
-        operand: Box::new(alloc, operand)?,
-    })
+    Expr::Un { op, operand }
 }
 
 #[tactic(auto, using(crate::proofs::KernelViews::view_bin))]
-pub fn binary(
-    alloc: Global,
-    op: BinOp,
-    left: Expr,
-    right: Expr,
-    site: u32,
-) -> Result<Expr, AllocError>
-    ensures { IfOk result (λ e. expression e ≡ kernel.Bin op (expression left) (expression right) site) }
+pub fn binary(op: BinOp, left: Box<Expr>, right: Box<Expr>, site: u32) -> Expr
+    ensures { expression result ≡ kernel.Bin op (inner_of left) (inner_of right) site }
 {
-    Ok(Expr::Bin {
+    Expr::Bin {
         op,
-        left: Box::new(alloc, left)?,
-        right: Box::new(alloc, right)?,
+        left,
+        right,
         site,
-    })
+    }
 }
 
 #[tactic(auto, using(crate::proofs::KernelViews::view_conv))]
-pub fn conversion(alloc: Global, to: Primitive, operand: Expr) -> Result<Expr, AllocError>
-    ensures { IfOk result (λ e. expression e ≡ kernel.Conv to (expression operand)) }
+pub fn conversion(to: Primitive, operand: Box<Expr>) -> Expr
+    ensures { expression result ≡ kernel.Conv to (inner_of operand) }
 {
-    Ok(Expr::Conv {
-        to,
-        operand: Box::new(alloc, operand)?,
-    })
+    Expr::Conv { to, operand }
 }
 
 #[tactic(auto, using(crate::proofs::KernelViews::view_cast))]
-pub fn cast(alloc: Global, ty: Ty, operand: Expr, site: u32) -> Result<Expr, AllocError>
-    ensures { IfOk result (λ e. expression e ≡ kernel.Cast ty (expression operand) site) }
+pub fn cast(ty: Ty, operand: Box<Expr>, site: u32) -> Expr
+    ensures { expression result ≡ kernel.Cast ty (inner_of operand) site }
 {
-    Ok(Expr::Cast {
-        ty,
-        operand: Box::new(alloc, operand)?,
-        site,
-    })
+    Expr::Cast { ty, operand, site }
 }
 
 #[tactic(auto, using(crate::proofs::KernelViews::view_instance))]
-pub fn instance_of(alloc: Global, ty: Ty, operand: Expr) -> Result<Expr, AllocError>
-    ensures { IfOk result (λ e. expression e ≡ kernel.InstanceOf ty (expression operand)) }
+pub fn instance_of(ty: Ty, operand: Box<Expr>) -> Expr
+    ensures { expression result ≡ kernel.InstanceOf ty (inner_of operand) }
 {
-    Ok(Expr::InstanceOf {
-        ty,
-        operand: Box::new(alloc, operand)?,
-    })
+    Expr::InstanceOf { ty, operand }
 }
 
 #[tactic(auto, using(crate::proofs::KernelViews::view_cat))]
-pub fn join(
-    alloc: Global,
-    left: Expr,
-    right: Expr,
-    left_ty: Ty,
-    right_ty: Ty,
-    site: u32,
-) -> Result<Expr, AllocError>
-    ensures { IfOk result (λ e. expression e ≡ kernel.Cat (expression left) (expression right) left_ty right_ty site) }
+pub fn join(left: Box<Expr>, right: Box<Expr>, left_ty: Ty, right_ty: Ty, site: u32) -> Expr
+    ensures { expression result ≡ kernel.Cat (inner_of left) (inner_of right) left_ty right_ty site }
 {
-    Ok(Expr::Cat {
-        left: Box::new(alloc, left)?,
-        right: Box::new(alloc, right)?,
+    Expr::Cat {
+        left,
+        right,
         left_ty,
         right_ty,
         site,
-    })
+    }
 }
 
 /// `?:`
 #[tactic(auto, using(crate::proofs::KernelViews::view_cond_choice))]
-pub fn choice(
-    alloc: Global,
-    test: Expr,
-    main: Expr,
-    other: Expr,
-    site: u32,
-) -> Result<Expr, AllocError>
-    ensures { IfOk result (λ e. expression e ≡ kernel.Cond CondForm.Choice (expression test) (kernel.the (expression main)) (kernel.the (expression other)) site) }
+pub fn choice(test: Box<Expr>, main: Box<Expr>, other: Box<Expr>, site: u32) -> Expr
+    ensures { expression result ≡ kernel.Cond CondForm.Choice (inner_of test) (kernel.the (inner_of main)) (kernel.the (inner_of other)) site }
 {
-    Ok(Expr::Cond {
+    Expr::Cond {
         form: CondForm::Choice,
-        test: Box::new(alloc, test)?,
-        yes: Some(Box::new(alloc, main)?),
-        no: Some(Box::new(alloc, other)?),
+        test,
+        yes: Some(main),
+        no: Some(other),
         site,
-    })
+    }
 }
 
 /// `&&` and `||`
 #[tactic(auto, using(crate::proofs::KernelViews::view_cond_first, crate::proofs::KernelViews::view_cond_second))]
-pub fn lazy(
-    alloc: Global,
-    form: CondForm,
-    left: Expr,
-    right: Expr,
-    site: u32,
-) -> Result<Expr, AllocError>
-    ensures { IfOk result (λ e. expression e ≡ lazy_form form (expression left) (expression right) site) }
+pub fn lazy(form: CondForm, left: Box<Expr>, right: Box<Expr>, site: u32) -> Expr
+    ensures { expression result ≡ lazy_form form (inner_of left) (inner_of right) site }
 {
-    let test = Box::new(alloc, left)?;
-    let arm = Box::new(alloc, right)?;
     match form {
-        CondForm::And => Ok(Expr::Cond {
+        CondForm::And => Expr::Cond {
             form: CondForm::And,
-            test,
-            yes: Some(arm),
+            test: left,
+            yes: Some(right),
             no: None,
             site,
-        }),
-        CondForm::Or => Ok(Expr::Cond {
+        },
+        CondForm::Or => Expr::Cond {
             form: CondForm::Or,
-            test,
+            test: left,
             yes: None,
-            no: Some(arm),
+            no: Some(right),
             site,
-        }),
-        CondForm::Choice => Ok(Expr::Cond {
+        },
+        CondForm::Choice => Expr::Cond {
             form: CondForm::Choice,
-            test,
+            test: left,
             yes: None,
-            no: Some(arm),
+            no: Some(right),
             site,
-        }),
+        },
     }
 }
 
 #[tactic(auto, using(crate::proofs::KernelViews::view_set))]
-pub fn set(alloc: Global, place: Place, value: Expr, site: u32) -> Result<Expr, AllocError>
-    ensures { IfOk result (λ e. expression e ≡ kernel.Set (place_seen place) (expression value) site) }
+pub fn set(place: Place, value: Box<Expr>, site: u32) -> Expr
+    ensures { expression result ≡ kernel.Set (place_seen place) (inner_of value) site }
 {
-    Ok(Expr::Set {
-        place,
-        value: Box::new(alloc, value)?,
-        site,
-    })
+    Expr::Set { place, value, site }
 }
 
 #[tactic(auto, using(crate::proofs::KernelViews::view_lib))]
@@ -237,24 +193,23 @@ pub fn new_array(
 /// A call with a receiver.
 #[tactic(auto, using(crate::proofs::KernelViews::view_call_on))]
 pub fn call(
-    alloc: Global,
     form: CallForm,
     method: u32,
-    receiver: Expr,
+    receiver: Box<Expr>,
     ty: Ty,
     args: Vec<Expr>,
     site: u32,
-) -> Result<Expr, AllocError>
-    ensures { IfOk result (λ e. expression e ≡ kernel.Call form method (kernel.the (expression receiver)) ty (row_of (map expression args.items)) site) }
+) -> Expr
+    ensures { expression result ≡ kernel.Call form method (kernel.the (inner_of receiver)) ty (row_of (map expression args.items)) site }
 {
-    Ok(Expr::Call {
+    Expr::Call {
         form,
         method,
-        receiver: Some(Box::new(alloc, receiver)?),
+        receiver: Some(receiver),
         ty,
         args,
         site,
-    })
+    }
 }
 
 /// A call of a static method.
@@ -275,27 +230,26 @@ pub fn static_call(method: u32, args: Vec<Expr>, site: u32) -> Expr
 /// `op=`
 #[tactic(auto, using(crate::proofs::KernelViews::view_upd_value))]
 pub fn update(
-    alloc: Global,
     place: Place,
     op: BinOp,
-    value: Expr,
+    value: Box<Expr>,
     value_ty: Ty,
     ty: Ty,
     wide: Option<Primitive>,
     site: u32,
-) -> Result<Expr, AllocError>
-    ensures { IfOk result (λ e. expression e ≡ kernel.Upd (place_seen place) op (kernel.the (expression value)) value_ty ty wide false site) }
+) -> Expr
+    ensures { expression result ≡ kernel.Upd (place_seen place) op (kernel.the (inner_of value)) value_ty ty wide false site }
 {
-    Ok(Expr::Upd {
+    Expr::Upd {
         place,
         op,
-        value: Some(Box::new(alloc, value)?),
+        value: Some(value),
         value_ty,
         ty,
         wide,
         gives_old: false,
         site,
-    })
+    }
 }
 
 /// `++` and `--`
@@ -330,25 +284,21 @@ pub fn static_field(field: u32, site: u32) -> Place
 }
 
 #[tactic(auto, using(crate::proofs::KernelViews::view_field))]
-pub fn field(alloc: Global, object: Expr, field: u32, site: u32) -> Result<Place, AllocError>
-    ensures { IfOk result (λ p. place_seen p ≡ kernel.Field (expression object) field site) }
+pub fn field(object: Box<Expr>, field: u32, site: u32) -> Place
+    ensures { place_seen result ≡ kernel.Field (inner_of object) field site }
 {
-    Ok(Place::Field {
-        object: Box::new(alloc, object)?,
+    Place::Field {
+        object,
         field,
         site,
-    })
+    }
 }
 
 #[tactic(auto, using(crate::proofs::KernelViews::view_elem))]
-pub fn element(alloc: Global, array: Expr, index: Expr, site: u32) -> Result<Place, AllocError>
-    ensures { IfOk result (λ p. place_seen p ≡ kernel.Elem (expression array) (expression index) site) }
+pub fn element(array: Box<Expr>, index: Box<Expr>, site: u32) -> Place
+    ensures { place_seen result ≡ kernel.Elem (inner_of array) (inner_of index) site }
 {
-    Ok(Place::Elem {
-        array: Box::new(alloc, array)?,
-        index: Box::new(alloc, index)?,
-        site,
-    })
+    Place::Elem { array, index, site }
 }
 
 /// `this`

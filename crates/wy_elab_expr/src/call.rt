@@ -4,16 +4,16 @@ ghost use Rattle.std.specs.Prelude.{◌≡◌, ◌<◌, IfOk, OnSome, map, optio
 ghost use Rattle.wy_kernel.specs.ClassTable.{table_of};
 ghost use Rattle.wy_kernel.specs.Form as kernel;
 ghost use Rattle.wy_kernel.specs.View.{expression, method_of as method_seen, row_of};
-ghost use Rattle.wy_elab_expr.specs.Members.{broken, broken_by, call_form, call_of, called, called_at, called_unless, constructed, created, instance_if, is_abstract, is_static, new_plain, receiver, Super};
+ghost use Rattle.wy_elab_expr.specs.Members.{broken, broken_by, call_form, call_of, called, called_at, called_unless, constructed, created, instance_if, is_abstract, is_static, new_plain, receiver, this_form, Super};
 ghost use Rattle.wy_elab_expr.specs.Operators.{class_of};
-ghost use Rattle.wy_elab_expr.specs.Views.{GetsTo, GivesAlways, Judged, meaning_of, through_of};
+ghost use Rattle.wy_elab_expr.specs.Views.{GetsTo, GivesAlways, Judged, inner_of, meaning_of, through_of};
 
 use crate::allowed::is_interface;
 use crate::arguments::{brought_all, method_for, some_void};
 use crate::bring::{OBJECT, class};
 use crate::build;
 use crate::fields::is_outside;
-use crate::meaning::Meaning;
+use crate::meaning::{Meaning, of_form};
 use crate::refusal::refused;
 use crate::texts::Texts;
 use std::alloc::{AllocError, Global};
@@ -26,7 +26,7 @@ use wy_kernel::types::{Method, MethodForm, Ty};
 #[derive(Drop)]
 pub enum Through {
     Nothing,
-    Object(Expr),
+    Object(Box<Expr>),
     OfClass,
     Super,
 }
@@ -109,15 +109,21 @@ fn broken(scope: &Scope, through: &Through, m: &Method) -> Option<Rule>
     }
 }
 
-fn receiver(through: Through) -> Expr
-    ensures { receiver (through_of through) ≡ kernel.the (expression result) }
+fn receiver(alloc: Global, through: Through) -> Result<Box<Expr>, AllocError>
+    ensures { IfOk result (λ e. receiver (through_of through) ≡ kernel.the (inner_of e)) }
 {
     match through {
-        Through::Object(object) => object,
-        Through::Nothing => build::this(),
-        Through::OfClass => build::this(),
-        Through::Super => build::this(),
+        Through::Object(object) => Ok(object),
+        Through::Nothing => this(alloc),
+        Through::OfClass => this(alloc),
+        Through::Super => this(alloc),
     }
+}
+
+fn this(alloc: Global) -> Result<Box<Expr>, AllocError>
+    ensures { IfOk result (λ e. inner_of e ≡ this_form) }
+{
+    Ok(Box::new(alloc, build::this())?)
 }
 
 // A method that isn't private is chosen by the class of its receiver, unless it is called through `super`.
@@ -152,7 +158,8 @@ fn call_of(
         return Ok(build::static_call(k, args, token));
     }
     let form = call_form(&through, m);
-    build::call(alloc, form, k, receiver(through), ty, args, token)
+    let receiver = receiver(alloc, through)?;
+    Ok(build::call(form, k, receiver, ty, args, token))
 }
 
 fn called_unless(
@@ -174,7 +181,7 @@ fn called_unless(
             let forms = Vec::new(alloc);
             let args = brought_all(alloc, texts, forms, m.params.as_slice(), args)?;
             let form = call_of(alloc, through, k, m, ty, args, token)?;
-            Ok(Meaning::Formed { form, ty: m.result })
+            Ok(of_form(alloc, form, m.result)?)
         }
     }
 }
@@ -249,10 +256,8 @@ fn constructed(
     }
     let forms = Vec::new(alloc);
     let args = brought_all(alloc, texts, forms, m.params.as_slice(), args)?;
-    Ok(Meaning::Formed {
-        form: build::new_by(made, k, args, token),
-        ty: class(made),
-    })
+    let form = build::new_by(made, k, args, token);
+    Ok(of_form(alloc, form, class(made))?)
 }
 
 // Object has no constructor to call.
@@ -260,10 +265,8 @@ fn new_plain(alloc: Global, args: &[Meaning], token: u32) -> Result<Meaning, Typ
     ensures { GivesAlways meaning_of result (new_plain (map meaning_of args.now) token) }
 {
     if args.is_empty() {
-        return Ok(Meaning::Formed {
-            form: build::new_plain(Vec::new(alloc), token),
-            ty: OBJECT,
-        });
+        let form = build::new_plain(Vec::new(alloc), token);
+        return Ok(of_form(alloc, form, OBJECT)?);
     }
     if some_void(args) {
         Err(refused(Rule::BadOperand, token))

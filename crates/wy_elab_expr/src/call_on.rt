@@ -7,7 +7,7 @@ ghost use Rattle.wy_elab_expr.specs.Elaboration.{called_on, called_on_class, cal
 ghost use Rattle.wy_elab_expr.specs.Views.{GetsTo, Judged, class_name_of, library_method, meaning_of};
 
 use crate::arguments::some_void;
-use crate::bring::{class, formed, type_of};
+use crate::bring::{class, formed_in, type_of};
 use crate::call::{Through, called};
 use crate::fields::is_library_name;
 use crate::kinds::{is_text, is_void};
@@ -118,7 +118,7 @@ pub fn called_on(
     if is_void(ty) {
         return Err(refused(Rule::BadOperand, token));
     }
-    let object = formed(alloc, texts, m)?;
+    let object = formed_in(alloc, texts, m)?;
     if is_text(ty) {
         let methods = text_methods();
         return library_call(

@@ -9,10 +9,10 @@ ghost use Rattle.wy_elab_expr.specs.Operators.{cast_form, cast_known, cast_of, i
 ghost use Rattle.wy_elab_expr.specs.Views.{GetsTo, Judged, meaning_of};
 
 use crate::allowed::can_cast;
-use crate::bring::{brought, formed, primitive, type_of};
+use crate::bring::{brought_in, formed_in, primitive, type_of};
 use crate::build;
 use crate::kinds::{is_nullable, is_text, is_void, primitive_in};
-use crate::meaning::Meaning;
+use crate::meaning::{Meaning, of_form};
 use crate::refusal::refused;
 use crate::texts::Texts;
 use std::alloc::{AllocError, Global};
@@ -77,13 +77,12 @@ fn cast_form(
 {
     match primitive_in(to) {
         Some(_) => {
-            let form = brought(alloc, texts, to, m)?;
+            let form = brought_in(alloc, texts, to, m)?;
             Ok(Meaning::Formed { form, ty: to })
         }
         None => {
-            let operand = formed(alloc, texts, m)?;
-            let form = build::cast(alloc, to, operand, token)?;
-            Ok(Meaning::Formed { form, ty: to })
+            let operand = formed_in(alloc, texts, m)?;
+            Ok(of_form(alloc, build::cast(to, operand, token), to)?)
         }
     }
 }
@@ -119,12 +118,9 @@ pub fn cast_of(
 fn tested(alloc: Global, texts: &mut Texts, ty: Ty, m: Meaning) -> Result<Meaning, TypeError>
     ensures { GetsTo meaning_of result texts.new (tested ty (meaning_of m) texts.old) }
 {
-    let operand = formed(alloc, texts, m)?;
-    let form = build::instance_of(alloc, ty, operand)?;
-    Ok(Meaning::Formed {
-        form,
-        ty: primitive(Primitive::Bool),
-    })
+    let operand = formed_in(alloc, texts, m)?;
+    let form = build::instance_of(ty, operand);
+    Ok(of_form(alloc, form, primitive(Primitive::Bool))?)
 }
 
 /// `m instanceof ty`

@@ -10,10 +10,10 @@ ghost use Rattle.wy_elab_expr.specs.Operators.{choice_formed, choice_of, choice_
 ghost use Rattle.wy_elab_expr.specs.Views.{GetsTo, Judged, meaning_of};
 
 use crate::allowed::{is_below, is_interface};
-use crate::bring::{OBJECT, brought, class, primitive, type_of};
+use crate::bring::{OBJECT, brought_in, class, primitive, type_of};
 use crate::build;
 use crate::kinds::{is_boolean, is_nullable, primitive_in};
-use crate::meaning::Meaning;
+use crate::meaning::{Meaning, of_form};
 use crate::operation::token_of;
 use crate::refusal::refused;
 use crate::texts::Texts;
@@ -151,11 +151,10 @@ fn choice_formed(
     match ty {
         None => Err(refused(Rule::BadOperand, token)),
         Some(ty) => {
-            let z = brought(alloc, texts, primitive(Primitive::Bool), test)?;
-            let x = brought(alloc, texts, ty, a)?;
-            let y = brought(alloc, texts, ty, b)?;
-            let form = build::choice(alloc, z, x, y, token)?;
-            Ok(Meaning::Formed { form, ty })
+            let z = brought_in(alloc, texts, primitive(Primitive::Bool), test)?;
+            let x = brought_in(alloc, texts, ty, a)?;
+            let y = brought_in(alloc, texts, ty, b)?;
+            Ok(of_form(alloc, build::choice(z, x, y, token), ty)?)
         }
     }
 }

@@ -21,7 +21,7 @@ use crate::cast::{cast_of, instance_of};
 use crate::choice::choice_of;
 use crate::fields::{field_read, named, named_spot, qualified_name};
 use crate::literal::literal_meaning;
-use crate::meaning::Meaning;
+use crate::meaning::{Meaning, of_form};
 use crate::names::{class_for_new, class_in, is_place, stream_in, type_with, type_written};
 use crate::operation::{binary_of, both_of, either_of, unary_of};
 use crate::printing::called_on_stream;
@@ -49,14 +49,11 @@ pub fn elaborated(
     ensures { Judged (table_of table.now) (λ j. GetsTo meaning_of result texts.new (elaborated j (table_of table.now) scope.now (expression_of e.now) texts.old)) }
 {
     match e {
-        Expression::Literal { value, token } => literal_meaning(value, *token),
+        Expression::Literal { value, token } => literal_meaning(alloc, value, *token),
         Expression::Name { name, token } => named(alloc, table, scope, name.as_str(), *token),
         Expression::This { token } => {
             if scope.has_this() {
-                Ok(Meaning::Formed {
-                    form: build::this(),
-                    ty: class(scope.class()),
-                })
+                Ok(of_form(alloc, build::this(), class(scope.class()))?)
             } else {
                 Err(refused(Rule::NotInStatic, *token))
             }
@@ -74,7 +71,7 @@ pub fn elaborated(
             name,
             token,
         } => match class_in(table, scope, object) {
-            Some(c) => qualified_name(table, scope, c.name, name.as_str(), c.token, *token),
+            Some(c) => qualified_name(alloc, table, scope, c.name, name.as_str(), c.token, *token),
             None => {
                 let m = elaborated(alloc, table, scope, texts, object)?;
                 field_read(alloc, table, scope, texts, m, name.as_str(), *token)
@@ -104,7 +101,7 @@ pub fn elaborated(
         },
         Expression::SuperField { name, token } => {
             let p = super_spot(alloc, table, scope, name.as_str(), *token)?;
-            Ok(read(p))
+            Ok(read(alloc, p)?)
         }
         Expression::SuperInvoke { name, args, token } => {
             let args = elaborated_all(alloc, table, scope, texts, args)?;
@@ -130,7 +127,7 @@ pub fn elaborated(
             let a = elaborated(alloc, table, scope, texts, array)?;
             let i = elaborated(alloc, table, scope, texts, index)?;
             let p = element_spot(alloc, texts, a, i, *token)?;
-            Ok(read(p))
+            Ok(read(alloc, p)?)
         }
         Expression::NewObject {
             class: of,
@@ -165,10 +162,7 @@ pub fn elaborated(
             let ty = type_with(table, base, *brackets, *base_token)?;
             let inner = or_type(element_of(ty), *brace)?;
             let all = elements_of(alloc, table, scope, texts, inner, elements)?;
-            Ok(Meaning::Formed {
-                form: listed_form(alloc, ty, all, *token),
-                ty,
-            })
+            Ok(of_form(alloc, listed_form(alloc, ty, all, *token), ty)?)
         }
         Expression::Unary { op, operand, token } => {
             let m = elaborated(alloc, table, scope, texts, operand)?;
@@ -182,10 +176,10 @@ pub fn elaborated(
         } => {
             if is_place(operand) {
                 let p = target(alloc, table, scope, texts, operand)?;
-                return stepped(*is_before, *is_up, p, *token);
+                return stepped(alloc, *is_before, *is_up, p, *token);
             }
             let _m = elaborated(alloc, table, scope, texts, operand)?;
-            stepped(*is_before, *is_up, None, *token)
+            stepped(alloc, *is_before, *is_up, None, *token)
         }
         Expression::Binary {
             op,

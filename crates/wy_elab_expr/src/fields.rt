@@ -4,15 +4,15 @@ ghost use Rattle.std.specs.Prelude.{◌≡◌, IfOk, option_map, slice_get};
 ghost use Rattle.wy_kernel.specs.ClassTable.{table_of};
 ghost use Rattle.wy_kernel.specs.Table.{constant_value};
 ghost use Rattle.wy_kernel.specs.Form as kernel;
-ghost use Rattle.wy_kernel.specs.View.{expression, field_of as field_seen};
+ghost use Rattle.wy_kernel.specs.View.{field_of as field_seen};
 ghost use Rattle.wy_constant.specs.Fields.{field_of};
 ghost use Rattle.wy_elab_expr.specs.Meaning.{type_of};
 ghost use Rattle.wy_elab_expr.specs.Members.{field_of_class, field_read, field_spot, field_through, is_length, is_library_name, is_outside, member_of_class, named, named_spot, no_field, object_field, own_field, own_field_named, qualified_name, qualified_spot, read_as, spot, static_field};
-ghost use Rattle.wy_elab_expr.specs.Views.{GetsTo, GivesAlways, meaning_of, spot_of};
+ghost use Rattle.wy_elab_expr.specs.Views.{GetsTo, GivesAlways, inner_of, meaning_of, spot_of};
 
-use crate::bring::{formed, primitive, type_of};
+use crate::bring::{formed, formed_in, primitive, type_of};
 use crate::build;
-use crate::meaning::Meaning;
+use crate::meaning::{Meaning, of_form};
 use crate::refusal::refused;
 use crate::spot::Spot;
 use crate::texts::Texts;
@@ -52,20 +52,14 @@ fn static_spot(k: u32, f: &Field, token: u32) -> Spot
     }
 }
 
-fn field_spot_of(
-    alloc: Global,
-    object: Expr,
-    k: u32,
-    f: &Field,
-    token: u32,
-) -> Result<Spot, AllocError>
-    ensures { IfOk result (λ p. spot_of p ≡ spot (kernel.Field (expression object) k token) (field_seen f.now).ty (field_seen f.now).is_fixed) }
+fn field_spot_of(object: Box<Expr>, k: u32, f: &Field, token: u32) -> Spot
+    ensures { spot_of result ≡ spot (kernel.Field (inner_of object) k token) (field_seen f.now).ty (field_seen f.now).is_fixed }
 {
-    Ok(Spot {
-        place: build::field(alloc, object, k, token)?,
+    Spot {
+        place: build::field(object, k, token),
         ty: f.ty,
         is_fixed: f.is_fixed,
-    })
+    }
 }
 
 // A field by its simple name.
@@ -88,7 +82,8 @@ fn own_field(
         return Ok(static_spot(k, f, token));
     }
     if scope.has_this() {
-        Ok(field_spot_of(alloc, build::this(), k, f, token)?)
+        let this = Box::new(alloc, build::this())?;
+        Ok(field_spot_of(this, k, f, token))
     } else {
         Err(refused(Rule::NotInStatic, token))
     }
@@ -118,15 +113,12 @@ pub fn named_spot(
     }
 }
 
-fn read_as(value: Option<Const>, p: Spot, token: u32) -> Meaning
-    ensures { meaning_of result ≡ read_as (option_map constant_value value) (spot_of p) token }
+fn read_as(alloc: Global, value: Option<Const>, p: Spot, token: u32) -> Result<Meaning, AllocError>
+    ensures { IfOk result (λ m. meaning_of m ≡ read_as (option_map constant_value value) (spot_of p) token) }
 {
     match value {
-        Some(value) => Meaning::Known { value, token },
-        None => Meaning::Formed {
-            form: build::read(p.place),
-            ty: p.ty,
-        },
+        Some(value) => Ok(Meaning::Known { value, token }),
+        None => of_form(alloc, build::read(p.place), p.ty),
     }
 }
 
@@ -143,7 +135,7 @@ pub fn named(
 {
     let p = named_spot(alloc, table, scope, name, token)?;
     let value = value_of_name(table, scope, name)?;
-    Ok(read_as(value, p, token))
+    Ok(read_as(alloc, value, p, token)?)
 }
 
 /// The rule that a member breaks that a class doesn't have: the library has no other, and a source class none of an unknown name.
@@ -222,6 +214,7 @@ pub fn qualified_spot(
 /// A class's name with a field's name: MAX_VALUE or MIN_VALUE, or a static field.
 #[tactic(auto, unfolding(crate::specs::Members::qualified_name))]
 pub fn qualified_name(
+    alloc: Global,
     table: &ClassTable,
     scope: &Scope,
     class: &str,
@@ -242,19 +235,18 @@ pub fn qualified_name(
         };
     }
     let p = qualified_spot(table, scope, class, name, class_token, token)?;
-    Ok(read_as(value, p, class_token))
+    Ok(read_as(alloc, value, p, class_token)?)
 }
 
 /// A field of an object.
 pub fn object_field(
-    alloc: Global,
     table: &ClassTable,
     scope: &Scope,
-    object: Expr,
+    object: Box<Expr>,
     k: u32,
     token: u32,
 ) -> Result<Spot, TypeError>
-    ensures { GivesAlways spot_of result (object_field scope.now (expression object) k (slice_get (table_of table.now).fields k) token) }
+    ensures { GivesAlways spot_of result (object_field scope.now (inner_of object) k (slice_get (table_of table.now).fields k) token) }
 {
     let Some(f) = field_at(table, k) else {
         return Err(refused(Rule::UnknownName, token));
@@ -265,23 +257,22 @@ pub fn object_field(
     if f.is_static {
         Err(refused(Rule::NotOffered, token))
     } else {
-        Ok(field_spot_of(alloc, object, k, f, token)?)
+        Ok(field_spot_of(object, k, f, token))
     }
 }
 
 fn field_through(
-    alloc: Global,
     table: &ClassTable,
     scope: &Scope,
     class: u32,
-    object: Expr,
+    object: Box<Expr>,
     name: &str,
     token: u32,
 ) -> Result<Spot, TypeError>
-    ensures { GivesAlways spot_of result (field_through (table_of table.now) scope.now class (expression object) (field_of (table_of table.now) class name.now) token) }
+    ensures { GivesAlways spot_of result (field_through (table_of table.now) scope.now class (inner_of object) (field_of (table_of table.now) class name.now) token) }
 {
     match field_by_name(table, class, name) {
-        Some(k) => object_field(alloc, table, scope, object, k, token),
+        Some(k) => object_field(table, scope, object, k, token),
         None => Err(refused(no_field(class), token)),
     }
 }
@@ -304,8 +295,8 @@ pub fn field_spot(
             base: Base::Class(class),
             brackets: 0,
         } => {
-            let object = formed(alloc, texts, m)?;
-            field_through(alloc, table, scope, class, object, name, token)
+            let object = formed_in(alloc, texts, m)?;
+            field_through(table, scope, class, object, name, token)
         }
         Ty::Void => Err(refused(Rule::BadOperand, token)),
         _ => Err(refused(Rule::UnknownName, token)),
@@ -337,14 +328,9 @@ pub fn field_read(
     if is_length(type_of(&m), name) {
         let array = formed(alloc, texts, m)?;
         let args = vec![in alloc; array]?;
-        return Ok(Meaning::Formed {
-            form: build::library(LibOp::ArrayLength, args, token),
-            ty: primitive(Primitive::Int),
-        });
+        let form = build::library(LibOp::ArrayLength, args, token);
+        return Ok(of_form(alloc, form, primitive(Primitive::Int))?);
     }
     let p = field_spot(alloc, table, scope, texts, m, name, token)?;
-    Ok(Meaning::Formed {
-        form: build::read(p.place),
-        ty: p.ty,
-    })
+    Ok(of_form(alloc, build::read(p.place), p.ty)?)
 }

@@ -34,7 +34,7 @@ pub use allowed::is_below;
 pub use arguments::{brought_all, method_for, some_void};
 pub use assignable::is_assignable;
 pub use assignment::{assigned_value, element_of};
-pub use bring::{brought, class, formed, primitive, type_of};
+pub use bring::{brought, brought_in, class, formed, primitive, type_of};
 pub use elaboration::{elaborated, elaborated_all, initialized};
 pub use kinds::{is_boolean, is_text, is_void, number_type};
 pub use meaning::Meaning;

@@ -3,14 +3,13 @@
 ghost use Rattle.std.specs.Prelude.{◌≡◌, ◌&&◌, bytes_eq, map, option_map};
 ghost use Rattle.wy_kernel.specs.ClassTable.{table_of};
 ghost use Rattle.wy_elab_expr.specs.Members.{applicable, are_below, brought_all, has_name, library_call, library_form};
-ghost use Rattle.wy_elab_expr.specs.Views.{GetsTo, Judged, fronted, library_method, meaning_of, row_seen};
-ghost use Rattle.wy_kernel.specs.View.{expression};
+ghost use Rattle.wy_elab_expr.specs.Views.{GetsTo, Judged, fronted, inner_of, library_method, meaning_of, row_seen};
 
 use crate::allowed::is_below;
 use crate::arguments::{brought_all, some_void, types_of};
 use crate::build;
 use crate::library::LibraryMethod;
-use crate::meaning::Meaning;
+use crate::meaning::{Meaning, of_form};
 use crate::refusal::refused;
 use crate::texts::Texts;
 use std::alloc::Global;
@@ -79,15 +78,15 @@ pub fn has_name(methods: &[LibraryMethod], name: &str) -> bool
 fn forms_behind(
     alloc: Global,
     texts: &mut Texts,
-    object: Option<Expr>,
+    object: Option<Box<Expr>>,
     params: &[Ty],
     args: Vec<Meaning>,
 ) -> Result<Vec<Expr>, TypeError>
-    ensures { GetsTo row_seen result texts.new (fronted (option_map expression object) (brought_all params.now (map meaning_of args.items) texts.old)) }
+    ensures { GetsTo row_seen result texts.new (fronted (option_map inner_of object) (brought_all params.now (map meaning_of args.items) texts.old)) }
 {
     match object {
         Some(object) => {
-            let forms = vec![in alloc; object]?;
+            let forms = vec![in alloc; Box::into_inner(object)]?;
             brought_all(alloc, texts, forms, params, args)
         }
         None => {
@@ -102,19 +101,17 @@ fn library_form(
     texts: &mut Texts,
     m: Option<LibraryMethod>,
     is_offered: bool,
-    object: Option<Expr>,
+    object: Option<Box<Expr>>,
     args: Vec<Meaning>,
     token: u32,
 ) -> Result<Meaning, TypeError>
-    ensures { GetsTo meaning_of result texts.new (library_form (option_map library_method m) is_offered (option_map expression object) (map meaning_of args.items) token texts.old) }
+    ensures { GetsTo meaning_of result texts.new (library_form (option_map library_method m) is_offered (option_map inner_of object) (map meaning_of args.items) token texts.old) }
 {
     match m {
         Some(m) => {
             let args = forms_behind(alloc, texts, object, m.params, args)?;
-            Ok(Meaning::Formed {
-                form: build::library(m.op, args, token),
-                ty: m.outcome,
-            })
+            let form = build::library(m.op, args, token);
+            Ok(of_form(alloc, form, m.outcome)?)
         }
         None => {
             if is_offered {
@@ -133,12 +130,12 @@ pub fn library_call(
     table: &ClassTable,
     texts: &mut Texts,
     methods: &[LibraryMethod],
-    object: Option<Expr>,
+    object: Option<Box<Expr>>,
     name: &str,
     args: Vec<Meaning>,
     token: u32,
 ) -> Result<Meaning, TypeError>
-    ensures { Judged (table_of table.now) (λ j. GetsTo meaning_of result texts.new (library_call j (map library_method methods.now) (option_map expression object) name.now (map meaning_of args.items) token texts.old)) }
+    ensures { Judged (table_of table.now) (λ j. GetsTo meaning_of result texts.new (library_call j (map library_method methods.now) (option_map inner_of object) name.now (map meaning_of args.items) token texts.old)) }
 {
     if some_void(args.as_slice()) {
         return Err(refused(Rule::BadOperand, token));

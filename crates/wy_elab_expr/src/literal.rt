@@ -6,7 +6,8 @@ ghost use Rattle.wy_elab_expr.specs.Elaboration.{literal_meaning};
 ghost use Rattle.wy_elab_expr.specs.Views.{GivesAlways, meaning_of};
 
 use crate::build;
-use crate::meaning::Meaning;
+use crate::meaning::{Meaning, of_form};
+use std::alloc::Global;
 use wy_constant::{TypeError, literal_value};
 use wy_kernel::form::Const;
 use wy_kernel::types::Ty;
@@ -14,14 +15,11 @@ use wy_tree::token::Token;
 
 /// A literal, or null.
 #[tactic(auto, unfolding(crate::specs::Elaboration::literal_meaning))]
-pub fn literal_meaning(value: &Token, token: u32) -> Result<Meaning, TypeError>
+pub fn literal_meaning(alloc: Global, value: &Token, token: u32) -> Result<Meaning, TypeError>
     ensures { GivesAlways meaning_of result (literal_meaning (seen value.now) token) }
 {
     match literal_value(value)? {
         Some(value) => Ok(Meaning::Known { value, token }),
-        None => Ok(Meaning::Formed {
-            form: build::constant(Const::Null),
-            ty: Ty::Null,
-        }),
+        None => Ok(of_form(alloc, build::constant(Const::Null), Ty::Null)?),
     }
 }

@@ -8,10 +8,10 @@ ghost use Rattle.wy_elab_expr.specs.Meaning.{refuse, type_of};
 ghost use Rattle.wy_elab_expr.specs.Operators.{binary_formed, binary_known, binary_of, is_boolean, joined, known_or, lazy_formed, lazy_of, token_of, truth_known, unary_formed, unary_known, unary_of, unary_type};
 ghost use Rattle.wy_elab_expr.specs.Views.{GetsTo, Judged, meaning_of, operands_of};
 
-use crate::bring::{TEXT, brought, formed, primitive, type_of};
+use crate::bring::{TEXT, brought_in, formed_in, primitive, type_of};
 use crate::build;
 use crate::kinds::{is_boolean, number_type};
-use crate::meaning::Meaning;
+use crate::meaning::{Meaning, of_form};
 use crate::operand::{OperandTypes, joins, operand_types};
 use crate::refusal::refused;
 use crate::texts::Texts;
@@ -59,12 +59,8 @@ fn unary_formed(
     match p {
         None => Err(refused(Rule::BadOperand, token)),
         Some(p) => {
-            let operand = brought(alloc, texts, primitive(p), m)?;
-            let form = build::unary(alloc, op, operand)?;
-            Ok(Meaning::Formed {
-                form,
-                ty: primitive(p),
-            })
+            let operand = brought_in(alloc, texts, primitive(p), m)?;
+            Ok(of_form(alloc, build::unary(op, operand), primitive(p))?)
         }
     }
 }
@@ -129,13 +125,10 @@ fn binary_formed(
     match types {
         None => Err(refused(Rule::BadOperand, token)),
         Some(types) => {
-            let x = brought(alloc, texts, types.left, a)?;
-            let y = brought(alloc, texts, types.right, b)?;
-            let form = build::binary(alloc, op, x, y, token)?;
-            Ok(Meaning::Formed {
-                form,
-                ty: types.outcome,
-            })
+            let x = brought_in(alloc, texts, types.left, a)?;
+            let y = brought_in(alloc, texts, types.right, b)?;
+            let form = build::binary(op, x, y, token);
+            Ok(of_form(alloc, form, types.outcome)?)
         }
     }
 }
@@ -152,10 +145,10 @@ fn joined(
 {
     let left_ty = type_of(&a);
     let right_ty = type_of(&b);
-    let x = formed(alloc, texts, a)?;
-    let y = formed(alloc, texts, b)?;
-    let form = build::join(alloc, x, y, left_ty, right_ty, token)?;
-    Ok(Meaning::Formed { form, ty: TEXT })
+    let x = formed_in(alloc, texts, a)?;
+    let y = formed_in(alloc, texts, b)?;
+    let form = build::join(x, y, left_ty, right_ty, token);
+    Ok(of_form(alloc, form, TEXT)?)
 }
 
 /// `a op b`
@@ -208,10 +201,9 @@ fn lazy_formed(
     ensures { GetsTo meaning_of result texts.new (lazy_formed form (meaning_of a) (meaning_of b) token texts.old) }
 {
     let ty = primitive(Primitive::Bool);
-    let x = brought(alloc, texts, ty, a)?;
-    let y = brought(alloc, texts, ty, b)?;
-    let form = build::lazy(alloc, form, x, y, token)?;
-    Ok(Meaning::Formed { form, ty })
+    let x = brought_in(alloc, texts, ty, a)?;
+    let y = brought_in(alloc, texts, ty, b)?;
+    Ok(of_form(alloc, build::lazy(form, x, y, token), ty)?)
 }
 
 fn lazy_unless_known(

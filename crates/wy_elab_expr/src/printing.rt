@@ -9,7 +9,7 @@ use crate::arguments::some_void;
 use crate::bring::{brought, primitive, type_of};
 use crate::build;
 use crate::kinds::is_void;
-use crate::meaning::Meaning;
+use crate::meaning::{Meaning, of_form};
 use crate::refusal::refused;
 use crate::texts::Texts;
 use std::alloc::Global;
@@ -170,10 +170,7 @@ fn print_call(
     ensures { GetsTo meaning_of result texts.new (print_call name.now (map meaning_of args.items) token texts.old) }
 {
     let _operand = print_operand(alloc, texts, name, args, token)?;
-    Ok(Meaning::Formed {
-        form: build::constant(Const::Null),
-        ty: Ty::Void,
-    })
+    Ok(of_form(alloc, build::constant(Const::Null), Ty::Void)?)
 }
 
 // The next byte of the input.
@@ -184,10 +181,8 @@ fn byte_read(alloc: Global, name: &str, args: &[Meaning], token: u32) -> Result<
         return Err(refused(Rule::NotOffered, token));
     }
     if args.is_empty() {
-        Ok(Meaning::Formed {
-            form: build::library(LibOp::ReadByte, Vec::new(alloc), token),
-            ty: primitive(Primitive::Int),
-        })
+        let form = build::library(LibOp::ReadByte, Vec::new(alloc), token);
+        Ok(of_form(alloc, form, primitive(Primitive::Int))?)
     } else {
         Err(refused(Rule::NoMethod, token))
     }

@@ -5,7 +5,7 @@ ghost use Rattle.wy_kernel.specs.View.{act, body_of, expression, row_of};
 ghost use Rattle.wy_library.specs.Library as library;
 
 use crate::form::{call_on_this, other};
-use crate::make::{body, evaluated, local, site_of, statement};
+use crate::make::{alone, body, evaluated, local, site_of, statement};
 use std::alloc::{AllocError, Global};
 use wy_kernel::form::{Body, CallForm, Expr, StmtForm};
 
@@ -55,7 +55,7 @@ fn plain_constructor(alloc: Global, class: u32, above: u32) -> Result<Option<Bod
     let number = 14 + 4 * (class - EXCEPTION);
     let called = first_constructor(above);
     let call = superclass_called(alloc, method, called, above, Vec::new(alloc))?;
-    let parts = vec![in alloc; statement(method, number + 1, call)]?;
+    let parts = alone(alloc, statement(method, number + 1, call))?;
     body(alloc, method, number, class, None, parts)
 }
 
@@ -75,7 +75,7 @@ fn constructor_with_message(
     let called = first_constructor(above) + 1;
     let args = vec![in alloc; other()]?;
     let call = superclass_called(alloc, method, called, above, args)?;
-    let parts = vec![in alloc; statement(method, number + 1, call)]?;
+    let parts = alone(alloc, statement(method, number + 1, call))?;
     let m = local(alloc, method, "m", STRING)?;
     body(alloc, method, number, class, Some(m), parts)
 }

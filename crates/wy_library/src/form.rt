@@ -28,15 +28,22 @@ pub fn local(index: u32) -> Place
     Place::Local { index }
 }
 
-#[tactic(auto, using(crate::proofs::FormViews::view_field))]
-pub fn field(alloc: Global, object: Expr, field: u32, site: u32) -> Result<Place, AllocError>
-    ensures { IfOk result (λ p. place_seen p ≡ kernel.Field (expression object) field site) }
+/// A form, to stand in another.
+pub fn boxed(alloc: Global, form: Expr) -> Result<Box<Expr>, AllocError>
+    ensures { IfOk result (λ e. e.value ≡ form) }
 {
-    Ok(Place::Field {
-        object: Box::new(alloc, object)?,
+    Ok(Box::new(alloc, form)?)
+}
+
+#[tactic(auto, using(crate::proofs::FormViews::view_field))]
+pub fn field(object: Box<Expr>, field: u32, site: u32) -> Place
+    ensures { place_seen result ≡ kernel.Field (expression object.value) field site }
+{
+    Place::Field {
+        object,
         field,
         site,
-    })
+    }
 }
 
 #[tactic(auto, using(crate::proofs::FormViews::view_read))]
@@ -75,41 +82,37 @@ pub fn text(text: u32) -> Expr
 }
 
 #[tactic(auto, using(crate::proofs::FormViews::view_set))]
-pub fn set(alloc: Global, place: Place, value: Expr, site: u32) -> Result<Expr, AllocError>
-    ensures { IfOk result (λ e. expression e ≡ kernel.Set (place_seen place) (expression value) site) }
+pub fn set(place: Place, value: Box<Expr>, site: u32) -> Expr
+    ensures { expression result ≡ kernel.Set (place_seen place) (expression value.value) site }
 {
-    Ok(Expr::Set {
-        place,
-        value: Box::new(alloc, value)?,
-        site,
-    })
+    Expr::Set { place, value, site }
 }
 
 /// `==`
 #[tactic(auto, using(crate::proofs::FormViews::view_bin))]
-pub fn equal(alloc: Global, left: Expr, right: Expr, site: u32) -> Result<Expr, AllocError>
-    ensures { IfOk result (λ e. expression e ≡ kernel.Bin BinOp.Eq (expression left) (expression right) site) }
+pub fn equal(left: Box<Expr>, right: Box<Expr>, site: u32) -> Expr
+    ensures { expression result ≡ kernel.Bin BinOp.Eq (expression left.value) (expression right.value) site }
 {
-    Ok(Expr::Bin {
+    Expr::Bin {
         op: BinOp::Eq,
-        left: Box::new(alloc, left)?,
-        right: Box::new(alloc, right)?,
+        left,
+        right,
         site,
-    })
+    }
 }
 
 /// `+` of two texts.
 #[tactic(auto, using(crate::proofs::FormViews::view_cat))]
-pub fn join(alloc: Global, left: Expr, right: Expr, site: u32) -> Result<Expr, AllocError>
-    ensures { IfOk result (λ e. expression e ≡ kernel.Cat (expression left) (expression right) library.text_type library.text_type site) }
+pub fn join(left: Box<Expr>, right: Box<Expr>, site: u32) -> Expr
+    ensures { expression result ≡ kernel.Cat (expression left.value) (expression right.value) library.text_type library.text_type site }
 {
-    Ok(Expr::Cat {
-        left: Box::new(alloc, left)?,
-        right: Box::new(alloc, right)?,
+    Expr::Cat {
+        left,
+        right,
         left_ty: class_type(1),
         right_ty: class_type(1),
         site,
-    })
+    }
 }
 
 /// An operation of the library on `this`.
@@ -139,7 +142,7 @@ pub fn call_on_this(
     Ok(Expr::Call {
         form,
         method,
-        receiver: Some(Box::new(alloc, this())?),
+        receiver: Some(boxed(alloc, this())?),
         ty: class_type(class),
         args,
         site,

@@ -1,6 +1,6 @@
 //! The statements and the bodies of the library's methods: all their sites are that of the method.
 
-ghost use Rattle.std.specs.Prelude.{◌≡◌, ◌<◌, false, ◌∷◌, IfOk, codes, map, option_map};
+ghost use Rattle.std.specs.Prelude.{◌≡◌, ◌<◌, false, [], ◌∷◌, IfOk, codes, map, option_map};
 ghost use Rattle.std.specs.Option.{option_to_list};
 ghost use Rattle.wy_kernel.specs.Builtin.{method_site};
 ghost use Rattle.wy_kernel.specs.Form as kernel;
@@ -60,14 +60,23 @@ pub fn evaluated(value: Expr) -> StmtForm
 
 /// An `if` without `else`.
 #[tactic(auto, using(crate::proofs::FormViews::view_guard))]
-pub fn guarded(alloc: Global, test: Expr, yes: Stmt) -> Result<StmtForm, AllocError>
-    ensures { IfOk result (λ f. act f ≡ kernel.If (expression test) (statement yes) kernel.nothing) }
+pub fn guarded(test: Expr, yes: Box<Stmt>) -> StmtForm
+    ensures { act result ≡ kernel.If (expression test) (statement yes.value) kernel.nothing }
 {
-    Ok(StmtForm::If {
+    StmtForm::If {
         test,
-        yes: Box::new(alloc, yes)?,
+        yes,
         no: None,
-    })
+    }
+}
+
+/// One statement alone.
+pub fn alone(alloc: Global, part: Stmt) -> Result<Vec<Stmt>, AllocError>
+    ensures { IfOk result (λ parts. parts.items ≡ part ∷ []) }
+{
+    let mut parts = Vec::new(alloc);
+    parts.push(part)?;
+    Ok(parts)
 }
 
 /// A local of a method, of a class of the library.
@@ -118,9 +127,10 @@ pub fn body(
     requires { method < 36 }
     ensures { IfOk result (λ b. option_map body_of b ≡ library.body_of method number class (map local_of (option_to_list other)) (statements_of (map statement parts.items))) }
 {
+    let locals = locals(alloc, method, class, other)?;
     Ok(Some(Body {
         block: block(method, number, parts),
-        locals: locals(alloc, method, class, other)?,
+        locals,
         end: site_of(method),
     }))
 }

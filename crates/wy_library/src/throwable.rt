@@ -7,9 +7,9 @@ ghost use Rattle.wy_kernel.specs.Builtin.{method_site};
 ghost use Rattle.wy_library.specs.Library as library;
 
 use crate::form::{
-    self, call_on_this, equal, field, join, null, on_this, other, read, set, text, this,
+    self, boxed, call_on_this, equal, field, join, null, on_this, other, read, set, text, this,
 };
-use crate::make::{body, evaluated, guarded, local, reaching, returned, site_of, statement};
+use crate::make::{alone, body, evaluated, guarded, local, reaching, returned, site_of, statement};
 use std::alloc::{AllocError, Global};
 use wy_kernel::form::{Body, CallForm, Expr, LibOp, Place, StmtForm};
 
@@ -29,15 +29,16 @@ fn message(alloc: Global, method: u32) -> Result<Place, AllocError>
     requires { method < 36 }
     ensures { IfOk result (λ p. place p ≡ kernel.Field library.this_form 0 (method_site method)) }
 {
-    field(alloc, this(), 0, site_of(method))
+    Ok(field(boxed(alloc, this())?, 0, site_of(method)))
 }
 
 /// The constructor with a message.
 pub fn throwable_with_message(alloc: Global) -> Result<Option<Body>, AllocError>
     ensures { IfOk result (λ b. option_map body_of b ≡ library.throwable_with_message) }
 {
-    let kept = set(alloc, message(alloc, 3)?, other(), site_of(3))?;
-    let parts = vec![in alloc; statement(3, 6, evaluated(kept))]?;
+    let value = boxed(alloc, other())?;
+    let kept = set(message(alloc, 3)?, value, site_of(3));
+    let parts = alone(alloc, statement(3, 6, evaluated(kept)))?;
     let m = local(alloc, 3, "m", STRING)?;
     body(alloc, 3, 5, THROWABLE, Some(m), parts)
 }
@@ -47,7 +48,7 @@ pub fn get_message(alloc: Global) -> Result<Option<Body>, AllocError>
     ensures { IfOk result (λ b. option_map body_of b ≡ library.get_message) }
 {
     let value = read(message(alloc, 4)?);
-    let parts = vec![in alloc; statement(4, 8, returned(value))]?;
+    let parts = alone(alloc, statement(4, 8, returned(value)))?;
     body(alloc, 4, 7, THROWABLE, None, parts)
 }
 
@@ -62,35 +63,37 @@ fn message_asked(alloc: Global) -> Result<StmtForm, AllocError>
 {
     let args = Vec::new(alloc);
     let asked = call_on_this(alloc, CallForm::Chosen, 4, THROWABLE, args, site_of(5))?;
-    let kept = set(alloc, form::local(1), asked, site_of(5))?;
-    Ok(evaluated(kept))
+    let asked = boxed(alloc, asked)?;
+    Ok(evaluated(set(form::local(1), asked, site_of(5))))
 }
 
 fn without_message(alloc: Global) -> Result<StmtForm, AllocError>
     ensures { IfOk result (λ f. act f ≡ library.without_message) }
 {
-    let test = equal(alloc, other(), null(), site_of(5))?;
-    let yes = statement(5, 12, returned(class_text(alloc)?));
-    guarded(alloc, test, yes)
+    let left = boxed(alloc, other())?;
+    let right = boxed(alloc, null())?;
+    let yes = Box::new(alloc, statement(5, 12, returned(class_text(alloc)?)))?;
+    Ok(guarded(equal(left, right, site_of(5)), yes))
 }
 
 // The class, `: ` and the message.
 fn with_message(alloc: Global) -> Result<StmtForm, AllocError>
     ensures { IfOk result (λ f. act f ≡ library.with_message) }
 {
-    let front = join(alloc, class_text(alloc)?, text(0), site_of(5))?;
-    let all = join(alloc, front, other(), site_of(5))?;
-    Ok(returned(all))
+    let class = boxed(alloc, class_text(alloc)?)?;
+    let colon = boxed(alloc, text(0))?;
+    let front = boxed(alloc, join(class, colon, site_of(5)))?;
+    let message = boxed(alloc, other())?;
+    Ok(returned(join(front, message, site_of(5))))
 }
 
 /// `toString`
 pub fn throwable_to_string(alloc: Global) -> Result<Option<Body>, AllocError>
     ensures { IfOk result (λ b. option_map body_of b ≡ library.throwable_to_string) }
 {
-    let first = statement(5, 10, message_asked(alloc)?);
-    let second = reaching(5, 11, 9, without_message(alloc)?);
-    let third = statement(5, 13, with_message(alloc)?);
+    let mut parts = alone(alloc, statement(5, 10, message_asked(alloc)?))?;
+    parts.push(reaching(5, 11, 9, without_message(alloc)?))?;
+    parts.push(statement(5, 13, with_message(alloc)?))?;
     let kept = local(alloc, 5, "text", STRING)?;
-    let parts = vec![in alloc; first, second, third]?;
     body(alloc, 5, 9, THROWABLE, Some(kept), parts)
 }

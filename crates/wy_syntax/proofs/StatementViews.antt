@@ -17,7 +17,7 @@ use Rattle.wy_syntax.specs.declared.statement.Statement.TheOpen as layer
 use Rattle.wy_syntax.specs.declared.statement.Statement.TheVariants as acts
 use Rattle.wy_syntax.specs.declared.statement.Statement.TheFolds.{fold-roll-Statement, fold_out-Catch, fold_out-Block}
 use Rattle.wy_syntax.specs.Syntax as plain
-use Rattle.wy_syntax.specs.View.{Clause, statement_step, block_step, catch_step, statement_of, clause_of, block_of, statements_of, clauses_of, last_of, named_of, type_seen, declarators_of, effect_of, for_init_of, expression_of}
+use Rattle.wy_syntax.specs.View.{Clause, statement_step, block_step, catch_step, statement_of, clause_of, block_of, body_of, other_body_of, statements_of, clauses_of, last_of, named_of, type_seen, declarators_of, effect_of, for_init_of, expression_of}
 
 pub view_block : (block : Block) → statement_of (acts.Block block) ≡ plain.Statement.Block (block_of block)
 unfolding statement_of clause_of block_of
@@ -67,13 +67,10 @@ pub view_throw : (value : Expression) (token : ℕ) → statement_of (acts.Throw
 unfolding statement_of clause_of block_of
 view_throw value token = ap statement_of (sym (acts.rolls-Throw value token)) ∙ fold-roll-Statement plain.Statement plain.Braced Clause statement_step block_step catch_step (layer.Throw value token)
 
-pub view_if_alone : (test : Expression) (main : Box Statement Global) (token : ℕ) → statement_of (acts.If test main None token) ≡ plain.If (expression_of test) (statement_of main.value) plain.absent token
+pub view_if : (test : Expression) (main : Box Statement Global) (other : Option (Box Statement Global)) (token : ℕ) → statement_of (acts.If test main other token) ≡ plain.If (expression_of test) (body_of main) (other_body_of other) token
 unfolding statement_of clause_of block_of
-view_if_alone test main token = ap statement_of (sym (acts.rolls-If test main None token)) ∙ fold-roll-Statement plain.Statement plain.Braced Clause statement_step block_step catch_step (layer.If test main None token)
-
-pub view_if_else : (test : Expression) (main other : Box Statement Global) (token : ℕ) → statement_of (acts.If test main (Some other) token) ≡ plain.If (expression_of test) (statement_of main.value) (plain.present (statement_of other.value)) token
-unfolding statement_of clause_of block_of
-view_if_else test main other token = ap statement_of (sym (acts.rolls-If test main (Some other) token)) ∙ fold-roll-Statement plain.Statement plain.Braced Clause statement_step block_step catch_step (layer.If test main (Some other) token)
+view_if test main None token = ap statement_of (sym (acts.rolls-If test main None token)) ∙ fold-roll-Statement plain.Statement plain.Braced Clause statement_step block_step catch_step (layer.If test main None token)
+view_if test main (Some other) token = ap statement_of (sym (acts.rolls-If test main (Some other) token)) ∙ fold-roll-Statement plain.Statement plain.Braced Clause statement_step block_step catch_step (layer.If test main (Some other) token)
 
 pub view_try : (main : Block) (catches : Vec Catch Global) (last : Option Block) (token : ℕ) → statement_of (acts.Try main catches last token) ≡ plain.Try (block_of main) (clauses_of (map clause_of catches.items)) (last_of (option_map block_of last)) token
 unfolding statement_of clause_of block_of

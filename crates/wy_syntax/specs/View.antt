@@ -98,6 +98,10 @@ element_step e rest = plain.element e.before e.initial rest
 unfoldable pub expression_of : Expression → plain.Expression
 expression_of = fold-Expression plain.Expression plain.Initial Before expression_step initial_step element_step
 
+-- what stands in another
+abbrev pub inner_of : Box Expression Global → plain.Expression
+inner_of e = expression_of e.value
+
 unfoldable pub initial_of : Initial → plain.Initial
 initial_of = fold-Initial plain.Expression plain.Initial Before expression_step initial_step element_step
 
@@ -123,10 +127,6 @@ for_init_of (inits.Effects effects) = plain.ForInit.Effects (map effect_of effec
 abbrev pub statements_of : List plain.Statement → plain.Statements
 statements_of [] = plain.done
 statements_of (s ∷ rest) = plain.first s (statements_of rest)
-
-abbrev pub other_seen : Option plain.Statement → plain.Other
-other_seen None = plain.absent
-other_seen (Some s) = plain.present s
 
 abbrev pub other_of : Option (Box plain.Statement Global) → plain.Other
 other_of None = plain.absent
@@ -175,6 +175,14 @@ block_step b = plain.braced b.brace (statements_of b.parts.items) b.end
 -- what a statement says, a clause of a `try`, and a block
 unfoldable pub statement_of : Statement → plain.Statement
 statement_of = fold-Statement plain.Statement plain.Braced Clause statement_step block_step catch_step
+
+-- what stands in another, and what may stand in it
+abbrev pub body_of : Box Statement Global → plain.Statement
+body_of s = statement_of s.value
+
+abbrev pub other_body_of : Option (Box Statement Global) → plain.Other
+other_body_of None = plain.absent
+other_body_of (Some s) = plain.present (body_of s)
 
 unfoldable pub clause_of : Catch → Clause
 clause_of = fold-Catch plain.Statement plain.Braced Clause statement_step block_step catch_step

@@ -6,7 +6,7 @@ ghost use Rattle.wy_tree.specs.Seen.{seen};
 ghost use Rattle.wy_syntax.specs.Names.{width, widths, named, written};
 ghost use Rattle.wy_syntax.specs.Statements.{statement, effect, label, value, thrown, declared, declarators};
 ghost use Rattle.wy_syntax.specs.Syntax as plain;
-ghost use Rattle.wy_syntax.specs.View.{effect_of, expression_of, for_init_of, other_seen, statement_of};
+ghost use Rattle.wy_syntax.specs.View.{body_of, effect_of, expression_of, for_init_of, other_body_of, statement_of};
 
 use crate::expression::Expression;
 use crate::lower::expression::expression;
@@ -124,83 +124,66 @@ pub fn returned(
     Ok(Statement::Return { value, token })
 }
 
-/// `if` without `else`, or with the statement behind it.
-#[tactic(auto, using(crate::proofs::StatementViews::view_if_alone, crate::proofs::StatementViews::view_if_else))]
+/// `if`, with a statement behind `else` or without.
+#[tactic(auto, using(crate::proofs::StatementViews::view_if))]
 pub fn conditional(
-    alloc: Global,
     test: Expression,
-    main: Statement,
-    other: Option<Statement>,
+    main: Box<Statement>,
+    other: Option<Box<Statement>>,
     token: u32,
-) -> Result<Statement, AllocError>
-    ensures { IfOk result (λ s. statement_of s ≡ plain.If (expression_of test) (statement_of main) (other_seen (option_map statement_of other)) token) }
+) -> Statement
+    ensures { statement_of result ≡ plain.If (expression_of test) (body_of main) (other_body_of other) token }
 {
-    let main = Box::new(alloc, main)?;
-    let Some(other) = other else {
-        return Ok(Statement::If {
-            test,
-            main,
-            other: None,
-            token,
-        });
-    };
-    let other = Box::new(alloc, other)?;
-    Ok(Statement::If {
+    Statement::If {
         test,
         main,
-        other: Some(other),
+        other,
         token,
-    })
+    }
 }
 
 /// `while`
 #[tactic(auto, using(crate::proofs::StatementViews::view_while))]
-pub fn repeated(
-    alloc: Global,
-    test: Expression,
-    body: Statement,
-    token: u32,
-) -> Result<Statement, AllocError>
-    ensures { IfOk result (λ s. statement_of s ≡ plain.While (expression_of test) (statement_of body) token) }
+pub fn repeated(test: Expression, body: Box<Statement>, token: u32) -> Statement
+    ensures { statement_of result ≡ plain.While (expression_of test) (body_of body) token }
 {
-    let body = Box::new(alloc, body)?;
-    Ok(Statement::While { test, body, token })
+    Statement::While { test, body, token }
 }
 
 /// `do`
 #[tactic(auto, using(crate::proofs::StatementViews::view_do))]
-pub fn repeated_first(
-    alloc: Global,
-    body: Statement,
-    test: Expression,
-    token: u32,
-) -> Result<Statement, AllocError>
-    ensures { IfOk result (λ s. statement_of s ≡ plain.Do (statement_of body) (expression_of test) token) }
+pub fn repeated_first(body: Box<Statement>, test: Expression, token: u32) -> Statement
+    ensures { statement_of result ≡ plain.Do (body_of body) (expression_of test) token }
 {
-    let body = Box::new(alloc, body)?;
-    Ok(Statement::Do { body, test, token })
+    Statement::Do { body, test, token }
 }
 
 /// `for`
 #[tactic(auto, using(crate::proofs::StatementViews::view_for))]
 pub fn counted(
-    alloc: Global,
     init: ForInit,
     test: Option<Expression>,
     updates: Vec<Effect>,
-    body: Statement,
+    body: Box<Statement>,
     token: u32,
-) -> Result<Statement, AllocError>
-    ensures { IfOk result (λ s. statement_of s ≡ plain.For (for_init_of init) (option_map expression_of test) (map effect_of updates.items) (statement_of body) token) }
+) -> Statement
+    ensures { statement_of result ≡ plain.For (for_init_of init) (option_map expression_of test) (map effect_of updates.items) (body_of body) token }
 {
-    let body = Box::new(alloc, body)?;
-    Ok(Statement::For {
+    Statement::For {
         init,
         test,
         updates,
         body,
         token,
-    })
+    }
+}
+
+/// No statement, where one should stand in another.
+#[tactic(auto, using(crate::proofs::StatementViews::view_wrong))]
+pub fn wrong_body(alloc: Global) -> Result<Box<Statement>, AllocError>
+    ensures { IfOk result (λ s. body_of s ≡ plain.Statement.Unknown) }
+{
+    Ok(Box::new(alloc, Statement::Wrong)?)
 }
 
 /// A statement with a label, whose name has this number.
@@ -209,11 +192,10 @@ pub fn labelled(
     alloc: Global,
     name: &Tree,
     at: u32,
-    body: Statement,
+    body: Box<Statement>,
 ) -> Result<Statement, AllocError>
-    ensures { IfOk result (λ s. statement_of s ≡ plain.Labelled (named at (view name.now)) (statement_of body)) }
+    ensures { IfOk result (λ s. statement_of s ≡ plain.Labelled (named at (view name.now)) (body_of body)) }
 {
-    let body = Box::new(alloc, body)?;
     let name = named(alloc, name, at)?;
     Ok(Statement::Labelled { name, body })
 }

@@ -5,7 +5,7 @@ ghost use Rattle.std.specs.Prelude.{◌≡◌, ◌≤◌, ◌<◌, ◌+◌, IfOk
 ghost use Rattle.wy_tree.specs.Ast.{view, views, Node};
 ghost use Rattle.wy_syntax.specs.Names.{width, widths};
 ghost use Rattle.wy_syntax.specs.Expressions.{expression, three, four, assignment, choice, binary, unary, cast, postfix, primary, creation, array, sizes, listed, elements, inside, arguments_of, arguments, initial};
-ghost use Rattle.wy_syntax.specs.View.{expression_of, initial_of, element_of, elements_of, row_of, base_seen};
+ghost use Rattle.wy_syntax.specs.View.{expression_of, inner_of, initial_of, element_of, elements_of, row_of, base_seen};
 
 use crate::expression::{Element, Expression, Initial};
 use crate::lower::made::{
@@ -29,6 +29,15 @@ pub fn expression(alloc: Global, tree: &Tree, first: u32) -> Result<Expression, 
         Tree::Leaf(token) => leaf(alloc, token, first),
         Tree::Node { form, parts } => production(alloc, *form, parts, first),
     }
+}
+
+// The expression of a tree, to stand in another.
+#[cycle(lowering)]
+fn boxed(alloc: Global, tree: &Tree, first: u32) -> Result<Box<Expression>, AllocError>
+    requires { first + width (view tree.now) ≤ 1048576 }
+    ensures { IfOk result (λ e. inner_of e ≡ expression first (view tree.now)) }
+{
+    Ok(Box::new(alloc, expression(alloc, tree, first)?)?)
 }
 
 #[cycle(lowering)]
@@ -68,9 +77,9 @@ fn assignment(alloc: Global, parts: &[Tree], first: u32) -> Result<Expression, A
         return Ok(Expression::Wrong);
     };
     let token = first + width(left);
-    let left = expression(alloc, left, first)?;
-    let value = expression(alloc, value, token + 1)?;
-    assigned(alloc, sign, left, value, token)
+    let left = boxed(alloc, left, first)?;
+    let value = boxed(alloc, value, token + 1)?;
+    Ok(assigned(sign, left, value, token))
 }
 
 #[cycle(lowering)]
@@ -85,10 +94,10 @@ fn choice(alloc: Global, parts: &[Tree], first: u32) -> Result<Expression, Alloc
     let token = first + width(test);
     let main_at = token + width(question);
     let other_at = main_at + width(main) + width(colon);
-    let test = expression(alloc, test, first)?;
-    let main = expression(alloc, main, main_at)?;
-    let other = expression(alloc, other, other_at)?;
-    chosen(alloc, test, main, other, token)
+    let test = boxed(alloc, test, first)?;
+    let main = boxed(alloc, main, main_at)?;
+    let other = boxed(alloc, other, other_at)?;
+    Ok(chosen(test, main, other, token))
 }
 
 #[cycle(lowering)]
@@ -104,12 +113,12 @@ fn binary(alloc: Global, parts: &[Tree], first: u32) -> Result<Expression, Alloc
         return Ok(Expression::Wrong);
     };
     let token = first + width(left);
-    let left = expression(alloc, left, first)?;
+    let left = boxed(alloc, left, first)?;
     if is_kind(kind_at(sign), Kind::Instanceof) {
         return instance_of(alloc, left, right, token);
     }
-    let right = expression(alloc, right, token + 1)?;
-    joined(alloc, sign, left, right, token)
+    let right = boxed(alloc, right, token + 1)?;
+    Ok(joined(sign, left, right, token))
 }
 
 #[cycle(lowering)]
@@ -124,8 +133,8 @@ fn unary(alloc: Global, parts: &[Tree], first: u32) -> Result<Expression, AllocE
     let Tree::Leaf(sign) = sign else {
         return Ok(Expression::Wrong);
     };
-    let operand = expression(alloc, operand, first + 1)?;
-    prefixed(alloc, sign, operand, first)
+    let operand = boxed(alloc, operand, first + 1)?;
+    Ok(prefixed(sign, operand, first))
 }
 
 #[cycle(lowering)]
@@ -138,7 +147,7 @@ fn cast(alloc: Global, parts: &[Tree], first: u32) -> Result<Expression, AllocEr
         return Ok(Expression::Wrong);
     };
     let at = first + width(paren);
-    let operand = expression(alloc, operand, at + width(ty) + width(close))?;
+    let operand = boxed(alloc, operand, at + width(ty) + width(close))?;
     cast_to(alloc, ty, at, operand, first)
 }
 
@@ -190,14 +199,14 @@ fn three(
 {
     let behind = first + width(front);
     if is_leaf(front, Kind::OpenParen) {
-        let inner = expression(alloc, middle, behind)?;
-        return grouped(alloc, inner, first);
+        let inner = boxed(alloc, middle, behind)?;
+        return Ok(grouped(inner, first));
     }
     let token = behind + width(middle);
     if is_leaf(front, Kind::Super) {
         return super_field(alloc, last, token);
     }
-    let object = expression(alloc, front, first)?;
+    let object = boxed(alloc, front, first)?;
     field(alloc, object, last, token)
 }
 
@@ -217,16 +226,16 @@ fn four(
     let behind = first + width(front);
     let at = behind + width(middle);
     if is_leaf(middle, Kind::OpenBracket) {
-        let array = expression(alloc, front, first)?;
-        let index = expression(alloc, inner, at)?;
-        return element_of(alloc, array, index, behind);
+        let array = boxed(alloc, front, first)?;
+        let index = boxed(alloc, inner, at)?;
+        return Ok(element_of(array, index, behind));
     }
     let token = at + width(inner);
     let args = arguments_of(alloc, last, token)?;
     if is_leaf(front, Kind::Super) {
         return super_invoked(alloc, inner, args, token);
     }
-    let object = expression(alloc, front, first)?;
+    let object = boxed(alloc, front, first)?;
     invoked_on(alloc, object, inner, args, token)
 }
 

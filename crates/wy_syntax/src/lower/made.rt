@@ -7,7 +7,7 @@ ghost use Rattle.wy_tree.specs.Seen.{seen};
 ghost use Rattle.wy_syntax.specs.Names.{width, widths, name_of, named, written};
 ghost use Rattle.wy_syntax.specs.Expressions.{leaf, joined, assigned, prefixed, empty_pairs, is_mark, stepped};
 ghost use Rattle.wy_syntax.specs.Syntax as plain;
-ghost use Rattle.wy_syntax.specs.View.{expression_of, row_of};
+ghost use Rattle.wy_syntax.specs.View.{expression_of, inner_of, row_of};
 
 use crate::expression::Expression;
 use crate::operator::{is_up, operator, prefix, updating};
@@ -38,78 +38,61 @@ pub fn leaf(alloc: Global, token: &Token, at: u32) -> Result<Expression, AllocEr
 
 /// An operator between two expressions.
 #[tactic(auto, using(crate::proofs::ExpressionViews::view_both, crate::proofs::ExpressionViews::view_either, crate::proofs::ExpressionViews::view_binary))]
-pub fn joined(
-    alloc: Global,
-    sign: &Token,
-    left: Expression,
-    right: Expression,
-    token: u32,
-) -> Result<Expression, AllocError>
-    ensures { IfOk result (λ e. expression_of e ≡ joined (seen sign.now) (expression_of left) (expression_of right) token) }
+pub fn joined(sign: &Token, left: Box<Expression>, right: Box<Expression>, token: u32) -> Expression
+    ensures { expression_of result ≡ joined (seen sign.now) (inner_of left) (inner_of right) token }
 {
-    let left = Box::new(alloc, left)?;
-    let right = Box::new(alloc, right)?;
     if is_kind(kind_at(sign), Kind::AndAlso) {
-        return Ok(Expression::Both { left, right, token });
+        return Expression::Both { left, right, token };
     }
     if is_kind(kind_at(sign), Kind::OrElse) {
-        return Ok(Expression::Either { left, right, token });
+        return Expression::Either { left, right, token };
     }
     let op = operator(sign_of(sign));
-    Ok(Expression::Binary {
+    Expression::Binary {
         op,
         left,
         right,
         token,
-    })
+    }
 }
 
 /// An assignment, plain or compound.
 #[tactic(auto, using(crate::proofs::ExpressionViews::view_assign, crate::proofs::ExpressionViews::view_update))]
 pub fn assigned(
-    alloc: Global,
     sign: &Token,
-    left: Expression,
-    value: Expression,
+    left: Box<Expression>,
+    value: Box<Expression>,
     token: u32,
-) -> Result<Expression, AllocError>
-    ensures { IfOk result (λ e. expression_of e ≡ assigned (seen sign.now) (expression_of left) (expression_of value) token) }
+) -> Expression
+    ensures { expression_of result ≡ assigned (seen sign.now) (inner_of left) (inner_of value) token }
 {
-    let left = Box::new(alloc, left)?;
-    let value = Box::new(alloc, value)?;
     if is_kind(kind_at(sign), Kind::Assign) {
-        return Ok(Expression::Assign { left, value, token });
+        return Expression::Assign { left, value, token };
     }
     let op = updating(sign_of(sign));
-    Ok(Expression::Update {
+    Expression::Update {
         op,
         left,
         value,
         token,
-    })
+    }
 }
 
 /// An operator before an expression.
 #[tactic(auto, using(crate::proofs::ExpressionViews::view_step, crate::proofs::ExpressionViews::view_unary))]
-pub fn prefixed(
-    alloc: Global,
-    sign: &Token,
-    operand: Expression,
-    token: u32,
-) -> Result<Expression, AllocError>
-    ensures { IfOk result (λ e. expression_of e ≡ prefixed (seen sign.now) (expression_of operand) token) }
+pub fn prefixed(sign: &Token, operand: Box<Expression>, token: u32) -> Expression
+    ensures { expression_of result ≡ prefixed (seen sign.now) (inner_of operand) token }
 {
-    let operand = Box::new(alloc, operand)?;
     if is_kind(kind_at(sign), Kind::Step) {
-        return Ok(Expression::Step {
+        return Expression::Step {
             is_before: true,
             is_up: is_up(sign_of(sign)),
             operand,
             token,
-        });
+        };
     }
     let op = prefix(sign_of(sign));
-    Ok(Expression::Unary { op, operand, token })
+    Expression::Unary { op, operand, token }
 }
 
 /// The steps behind an expression, the first of which has this number.
@@ -146,37 +129,32 @@ pub fn stepped(
 /// `test ? main : other`
 #[tactic(auto, using(crate::proofs::ExpressionViews::view_choice))]
 pub fn chosen(
-    alloc: Global,
-    test: Expression,
-    main: Expression,
-    other: Expression,
+    test: Box<Expression>,
+    main: Box<Expression>,
+    other: Box<Expression>,
     token: u32,
-) -> Result<Expression, AllocError>
-    ensures { IfOk result (λ e. expression_of e ≡ plain.Choice (expression_of test) (expression_of main) (expression_of other) token) }
+) -> Expression
+    ensures { expression_of result ≡ plain.Choice (inner_of test) (inner_of main) (inner_of other) token }
 {
-    let test = Box::new(alloc, test)?;
-    let main = Box::new(alloc, main)?;
-    let other = Box::new(alloc, other)?;
-    Ok(Expression::Choice {
+    Expression::Choice {
         test,
         main,
         other,
         token,
-    })
+    }
 }
 
 /// `left instanceof ty`
 #[tactic(auto, using(crate::proofs::ExpressionViews::view_instance_of))]
 pub fn instance_of(
     alloc: Global,
-    left: Expression,
+    left: Box<Expression>,
     ty: &Tree,
     token: u32,
 ) -> Result<Expression, AllocError>
     requires { token + 1 + width (view ty.now) ≤ 1048576 }
-    ensures { IfOk result (λ e. expression_of e ≡ plain.InstanceOf (expression_of left) (written (token + 1) (view ty.now)) token) }
+    ensures { IfOk result (λ e. expression_of e ≡ plain.InstanceOf (inner_of left) (written (token + 1) (view ty.now)) token) }
 {
-    let left = Box::new(alloc, left)?;
     let ty = written(alloc, ty, token + 1)?;
     Ok(Expression::InstanceOf { left, ty, token })
 }
@@ -187,37 +165,34 @@ pub fn cast_to(
     alloc: Global,
     ty: &Tree,
     at: u32,
-    operand: Expression,
+    operand: Box<Expression>,
     token: u32,
 ) -> Result<Expression, AllocError>
     requires { at + width (view ty.now) ≤ 1048576 }
-    ensures { IfOk result (λ e. expression_of e ≡ plain.Cast (written at (view ty.now)) (expression_of operand) token) }
+    ensures { IfOk result (λ e. expression_of e ≡ plain.Cast (written at (view ty.now)) (inner_of operand) token) }
 {
     let ty = written(alloc, ty, at)?;
-    let operand = Box::new(alloc, operand)?;
     Ok(Expression::Cast { ty, operand, token })
 }
 
 /// An expression in parentheses.
 #[tactic(auto, using(crate::proofs::ExpressionViews::view_group))]
-pub fn grouped(alloc: Global, inner: Expression, token: u32) -> Result<Expression, AllocError>
-    ensures { IfOk result (λ e. expression_of e ≡ plain.Group (expression_of inner) token) }
+pub fn grouped(inner: Box<Expression>, token: u32) -> Expression
+    ensures { expression_of result ≡ plain.Group (inner_of inner) token }
 {
-    let inner = Box::new(alloc, inner)?;
-    Ok(Expression::Group { inner, token })
+    Expression::Group { inner, token }
 }
 
 /// A field of an object.
 #[tactic(auto, using(crate::proofs::ExpressionViews::view_field))]
 pub fn field(
     alloc: Global,
-    object: Expression,
+    object: Box<Expression>,
     name: &Tree,
     token: u32,
 ) -> Result<Expression, AllocError>
-    ensures { IfOk result (λ e. expression_of e ≡ plain.Field (expression_of object) (name_of (view name.now)) token) }
+    ensures { IfOk result (λ e. expression_of e ≡ plain.Field (inner_of object) (name_of (view name.now)) token) }
 {
-    let object = Box::new(alloc, object)?;
     let name = name_of(alloc, name)?;
     Ok(Expression::Field {
         object,
@@ -237,21 +212,14 @@ pub fn super_field(alloc: Global, name: &Tree, token: u32) -> Result<Expression,
 
 /// An element of an array.
 #[tactic(auto, using(crate::proofs::ExpressionViews::view_element))]
-pub fn element_of(
-    alloc: Global,
-    array: Expression,
-    index: Expression,
-    token: u32,
-) -> Result<Expression, AllocError>
-    ensures { IfOk result (λ e. expression_of e ≡ plain.Element (expression_of array) (expression_of index) token) }
+pub fn element_of(array: Box<Expression>, index: Box<Expression>, token: u32) -> Expression
+    ensures { expression_of result ≡ plain.Element (inner_of array) (inner_of index) token }
 {
-    let array = Box::new(alloc, array)?;
-    let index = Box::new(alloc, index)?;
-    Ok(Expression::Element {
+    Expression::Element {
         array,
         index,
         token,
-    })
+    }
 }
 
 /// A call by a name alone.
@@ -272,14 +240,13 @@ pub fn invoked(
 #[tactic(auto, using(crate::proofs::ExpressionViews::view_invoke_on))]
 pub fn invoked_on(
     alloc: Global,
-    object: Expression,
+    object: Box<Expression>,
     name: &Tree,
     args: Vec<Expression>,
     token: u32,
 ) -> Result<Expression, AllocError>
-    ensures { IfOk result (λ e. expression_of e ≡ plain.InvokeOn (expression_of object) (name_of (view name.now)) (row_of (map expression_of args.items)) token) }
+    ensures { IfOk result (λ e. expression_of e ≡ plain.InvokeOn (inner_of object) (name_of (view name.now)) (row_of (map expression_of args.items)) token) }
 {
-    let object = Box::new(alloc, object)?;
     let name = name_of(alloc, name)?;
     Ok(Expression::InvokeOn {
         object,

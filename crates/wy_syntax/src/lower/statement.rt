@@ -5,14 +5,13 @@ ghost use Rattle.std.specs.Prelude.{◌≡◌, ◌≤◌, ◌+◌, IfOk, OnOk, m
 ghost use Rattle.wy_tree.specs.Ast.{view, views, Node, more, none};
 ghost use Rattle.wy_tree.specs.Conditions.{first_kind};
 ghost use Rattle.wy_syntax.specs.Names.{width, widths};
-ghost use Rattle.wy_syntax.specs.Statements.{statement, braces, block, statements, by_word, branch, otherwise, loop_while, loop_do, loop_for, behind_init, for_test, for_tested, body_behind, other, tried, catches, clause, caught, last_of};
+ghost use Rattle.wy_syntax.specs.Statements.{statement, braces, block, statements, by_word, branch, otherwise, loop_while, loop_do, loop_for, behind_init, for_test, body_behind, other, tried, catches, clause, caught, last_of};
 ghost use Rattle.wy_syntax.specs.Syntax as plain;
-ghost use Rattle.wy_syntax.specs.View.{expression_of, statement_of, statements_of, block_of, clause_of, clauses_of, for_init_of, other_seen, clauses_before, last_of as last_seen};
+ghost use Rattle.wy_syntax.specs.View.{body_of, statement_of, statements_of, block_of, clause_of, clauses_of, for_init_of, other_body_of, clauses_before, last_of as last_seen};
 
-use crate::expression::Expression;
 use crate::lower::act::{
     broken, conditional, continued, counted, declaration, declared, labelled, lone, performed,
-    repeated, repeated_first, returned, thrown,
+    repeated, repeated_first, returned, thrown, wrong_body,
 };
 use crate::lower::expression::expression;
 use crate::lower::head::{effects, for_init};
@@ -33,6 +32,15 @@ pub fn statement(alloc: Global, tree: &Tree, first: u32) -> Result<Statement, Al
         Tree::Leaf(token) => Ok(lone(token, first)),
         Tree::Node { form, parts } => production(alloc, *form, parts, first),
     }
+}
+
+// The statement of a tree, to stand in another.
+#[cycle(statement)]
+fn boxed(alloc: Global, tree: &Tree, first: u32) -> Result<Box<Statement>, AllocError>
+    requires { first + width (view tree.now) ≤ 1048576 }
+    ensures { IfOk result (λ s. body_of s ≡ statement first (view tree.now)) }
+{
+    Ok(Box::new(alloc, statement(alloc, tree, first)?)?)
 }
 
 #[cycle(statement)]
@@ -175,22 +183,26 @@ fn branch(alloc: Global, parts: &[Tree], first: u32, token: u32) -> Result<State
     let test_at = first + width(paren);
     let main_at = test_at + width(test) + width(close);
     let other_at = main_at + width(main);
-    let test = expression(alloc, test, test_at)?;
-    let main = statement(alloc, main, main_at)?;
+    let main = boxed(alloc, main, main_at)?;
     let other = otherwise(alloc, behind, other_at)?;
-    conditional(alloc, test, main, other, token)
+    let test = expression(alloc, test, test_at)?;
+    Ok(conditional(test, main, other, token))
 }
 
 // The statement behind `else`.
 #[cycle(statement)]
-fn otherwise(alloc: Global, parts: &[Tree], first: u32) -> Result<Option<Statement>, AllocError>
+fn otherwise(
+    alloc: Global,
+    parts: &[Tree],
+    first: u32,
+) -> Result<Option<Box<Statement>>, AllocError>
     requires { first + widths (views parts.now) ≤ 1048576 }
-    ensures { IfOk result (λ s. other_seen (option_map statement_of s) ≡ otherwise first (views parts.now)) }
+    ensures { IfOk result (λ s. other_body_of s ≡ otherwise first (views parts.now)) }
 {
     let [word, body] = parts else {
         return Ok(None);
     };
-    let body = statement(alloc, body, first + width(word))?;
+    let body = boxed(alloc, body, first + width(word))?;
     Ok(Some(body))
 }
 
@@ -210,9 +222,9 @@ fn loop_while(
     };
     let test_at = first + width(paren);
     let body_at = test_at + width(test) + width(close);
+    let body = boxed(alloc, body, body_at)?;
     let test = expression(alloc, test, test_at)?;
-    let body = statement(alloc, body, body_at)?;
-    repeated(alloc, test, body, token)
+    Ok(repeated(test, body, token))
 }
 
 // A `do`, from its body on.
@@ -225,9 +237,9 @@ fn loop_do(alloc: Global, parts: &[Tree], first: u32, token: u32) -> Result<Stat
         return Ok(Statement::Wrong);
     };
     let test_at = first + width(body) + width(word) + width(paren);
-    let body = statement(alloc, body, first)?;
+    let body = boxed(alloc, body, first)?;
     let test = expression(alloc, test, test_at)?;
-    repeated_first(alloc, body, test, token)
+    Ok(repeated_first(body, test, token))
 }
 
 // A `for`, from its `(` on.
@@ -271,49 +283,36 @@ fn for_test(
     };
     let at = first + width(test);
     if is_leaf(test, Kind::Semicolon) {
-        return for_tested(alloc, init, None, behind, at, token);
+        let updates = effects(alloc, behind, at)?;
+        let body = body_behind(alloc, behind, at)?;
+        return Ok(counted(init, None, updates, body, token));
     }
+    let updates_at = at + width(next);
+    let updates = effects(alloc, further, updates_at)?;
+    let body = body_behind(alloc, further, updates_at)?;
     let test = expression(alloc, test, first)?;
-    for_tested(alloc, init, Some(test), further, at + width(next), token)
-}
-
-// A `for`, from its updates on.
-#[cycle(statement)]
-fn for_tested(
-    alloc: Global,
-    init: ForInit,
-    test: Option<Expression>,
-    parts: &[Tree],
-    first: u32,
-    token: u32,
-) -> Result<Statement, AllocError>
-    requires { first + widths (views parts.now) ≤ 1048576 }
-    ensures { IfOk result (λ s. statement_of s ≡ for_tested token (for_init_of init) (option_map expression_of test) first (views parts.now)) }
-{
-    let updates = effects(alloc, parts, first)?;
-    let body = body_behind(alloc, parts, first)?;
-    counted(alloc, init, test, updates, body, token)
+    Ok(counted(init, Some(test), updates, body, token))
 }
 
 // The statement behind `)`.
 #[cycle(statement)]
-fn body_behind(alloc: Global, parts: &[Tree], first: u32) -> Result<Statement, AllocError>
+fn body_behind(alloc: Global, parts: &[Tree], first: u32) -> Result<Box<Statement>, AllocError>
     requires { first + widths (views parts.now) ≤ 1048576 }
-    ensures { IfOk result (λ s. statement_of s ≡ body_behind first (views parts.now)) }
+    ensures { IfOk result (λ s. body_of s ≡ body_behind first (views parts.now)) }
 {
     let mut at = first;
     let mut left = parts;
     while let [part, behind @ ..] = left {
         let [body, ..] = behind else {
-            return Ok(Statement::Wrong);
+            return wrong_body(alloc);
         };
         at += width(part);
         if is_leaf(part, Kind::CloseParen) {
-            return statement(alloc, body, at);
+            return boxed(alloc, body, at);
         }
         left = behind;
     }
-    Ok(Statement::Wrong)
+    wrong_body(alloc)
 }
 
 // An expression, a label or a declaration.
@@ -343,7 +342,7 @@ fn two_behind(
 {
     let at = first + width(front);
     if is_leaf(mark, Kind::Colon) {
-        let body = statement(alloc, last, at + width(mark))?;
+        let body = boxed(alloc, last, at + width(mark))?;
         return labelled(alloc, front, first, body);
     }
     declaration(alloc, front, mark, first)

@@ -57,8 +57,9 @@ fn declarator(alloc: Global, tree: &Tree, first: u32) -> Result<Declarator, Allo
     let [name, behind @ ..] = parts else {
         return lone(alloc, tree, first);
     };
-    let initial = initial_in(alloc, behind, first + width(name))?;
+    let at = first + width(name);
     let name = named(alloc, name, first)?;
+    let initial = initial_in(alloc, behind, at)?;
     Ok(Declarator {
         name,
         brackets: pairs(behind),

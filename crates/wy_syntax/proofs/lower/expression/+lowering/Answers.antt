@@ -47,15 +47,15 @@ production-returns-in_default t c =
 
 -- ---- assignments, choices and operators
 
-pub assignment-expression-requires-2 : goal.assignment-expression-requires-2
-assignment-expression-requires-2 t c =
+pub assignment-boxed-requires-2 : goal.assignment-boxed-requires-2
+assignment-boxed-requires-2 t c =
     let shape = three_are c.args.parts.now _ _ _ c.in-len3.len_at_least c.in-len3.len_below c.left-item.is c.sign-item.is c.value-item.is in
     (omega (arith, ap deepest shape), omega (arith, ap widths (shape ∙ ap (λ s. more (view c.left-item.result) (more s (more (view c.value-item.result) none))) (leaf_is _ _ c.in-Leaf.is))))
 
 pub assignment-returns : goal.assignment-returns
 assignment-returns t c =
     let shape = three_are c.args.parts.now _ _ _ c.in-len3.len_at_least c.in-len3.len_below c.left-item.is c.sign-item.is c.value-item.is in
-    carried _ expression_of _ _ (assignment_is _ _ _ _ _ _ _ _ _ shape (leaf_is _ _ c.in-Leaf.is) c.width.ensures c.in_ok-left.ensures c.in_ok-value.ensures) c.assigned.ensures
+    c.assigned.ensures ∙ assignment_is _ _ _ _ _ _ _ _ _ shape (leaf_is _ _ c.in-Leaf.is) c.width.ensures c.in_ok-left.ensures c.in_ok-value.ensures
 
 pub assignment-returns-in_default-sign : goal.assignment-returns-in_default-sign
 assignment-returns-in_default-sign t c =
@@ -69,14 +69,14 @@ assignment-returns-in_default t c =
 pub choice-returns : goal.choice-returns
 choice-returns t c =
     let shape = five_are c.args.parts.now _ _ _ _ _ c.in-len5.len_at_least c.in-len5.len_below c.test-item.is c.question-item.is c.main-item.is c.colon-item.is c.other-item.is in
-    carried _ expression_of _ _ (choice_is _ _ _ _ _ _ _ _ _ _ _ _ _ _ shape c.width.ensures c.width-2.ensures c.width-3.ensures c.width-4.ensures c.in_ok-test.ensures c.in_ok-main.ensures c.in_ok-other.ensures) c.chosen.ensures
+    c.chosen.ensures ∙ choice_is _ _ _ _ _ _ _ _ _ _ _ _ _ _ shape c.width.ensures c.width-2.ensures c.width-3.ensures c.width-4.ensures c.in_ok-test.ensures c.in_ok-main.ensures c.in_ok-other.ensures
 
 pub choice-returns-in_default : goal.choice-returns-in_default
 choice-returns-in_default t c =
     view_wrong ∙ choice_wrong c.args.first c.args.parts.now (elim c.in_default.branch [ choice-in_default-via-then-parts-lt5 w ↦ λ e. omega (arith, ltb-true, ltb-false) | choice-in_default-via-else-parts-lt5+else-parts-lt6 w ↦ λ e. omega (arith, ltb-true, ltb-false) ])
 
-pub binary-expression-requires-2 : goal.binary-expression-requires-2
-binary-expression-requires-2 t c =
+pub binary-boxed-requires-2 : goal.binary-boxed-requires-2
+binary-boxed-requires-2 t c =
     let shape = three_are c.args.parts.now _ _ _ c.in-len3.len_at_least c.in-len3.len_below c.left-item.is c.sign-item.is c.right-item.is in
     (omega (arith, ap deepest shape), omega (arith, ap widths (shape ∙ ap (λ s. more (view c.left-item.result) (more s (more (view c.right-item.result) none))) (leaf_is _ _ c.in-Leaf.is))))
 
@@ -93,7 +93,7 @@ binary-returns-then-is_kind t c =
 pub binary-returns : goal.binary-returns
 binary-returns t c =
     let shape = three_are c.args.parts.now _ _ _ c.in-len3.len_at_least c.in-len3.len_below c.left-item.is c.sign-item.is c.right-item.is in
-    carried _ expression_of _ _ (binary_is _ _ _ _ _ _ _ _ _ shape (leaf_is _ _ c.in-Leaf.is) (cc) c.width.ensures c.in_ok-left.ensures c.in_ok-right.ensures) c.joined.ensures
+    c.joined.ensures ∙ binary_is _ _ _ _ _ _ _ _ _ shape (leaf_is _ _ c.in-Leaf.is) (cc) c.width.ensures c.in_ok-left.ensures c.in_ok-right.ensures
 
 pub binary-returns-in_default-sign : goal.binary-returns-in_default-sign
 binary-returns-in_default-sign t c =
@@ -104,15 +104,15 @@ pub binary-returns-in_default : goal.binary-returns-in_default
 binary-returns-in_default t c =
     view_wrong ∙ binary_wrong c.args.first c.args.parts.now (elim c.in_default.branch [ binary-in_default-via-then-parts-lt3 w ↦ λ e. omega (arith, ltb-true, ltb-false) | binary-in_default-via-else-parts-lt3+else-parts-lt4 w ↦ λ e. omega (arith, ltb-true, ltb-false) ])
 
-pub unary-expression-requires : goal.unary-expression-requires
-unary-expression-requires t c =
+pub unary-boxed-requires : goal.unary-boxed-requires
+unary-boxed-requires t c =
     let shape = two_are c.args.parts.now _ _ c.in-len2.len_at_least c.in-len2.len_below c.sign-item.is c.operand-item.is in
     (omega (arith, ap deepest shape), omega (arith, ap widths (shape ∙ ap (λ s. more s (more (view c.operand-item.result) none)) (leaf_is _ _ c.in-Leaf.is))))
 
 pub unary-returns : goal.unary-returns
 unary-returns t c =
     let shape = two_are c.args.parts.now _ _ c.in-len2.len_at_least c.in-len2.len_below c.sign-item.is c.operand-item.is in
-    carried _ expression_of _ _ (unary_is _ _ _ _ _ _ shape (leaf_is _ _ c.in-Leaf.is) c.in_ok-operand.ensures) c.prefixed.ensures
+    c.prefixed.ensures ∙ unary_is _ _ _ _ _ _ shape (leaf_is _ _ c.in-Leaf.is) c.in_ok-operand.ensures
 
 pub unary-returns-in_default-sign : goal.unary-returns-in_default-sign
 unary-returns-in_default-sign t c =

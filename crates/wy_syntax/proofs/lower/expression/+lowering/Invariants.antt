@@ -9,6 +9,9 @@ use Rattle.wy_syntax.proofs.lower.expression.+lowering.Given as goal
 abbrev pub decreases-expression : goal.decreases-expression
 decreases-expression l = 8 * deep (view l.tree.now)
 
+abbrev pub decreases-boxed : goal.decreases-boxed
+decreases-boxed l = 8 * deep (view l.tree.now) + 1
+
 abbrev pub decreases-production : goal.decreases-production
 decreases-production l = 8 * deepest (views l.parts.now) + 7
 

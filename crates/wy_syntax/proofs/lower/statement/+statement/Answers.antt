@@ -3,7 +3,7 @@ use Rattle.std.proofs.lemmas.Bool.{ltb-true, ltb-false}
 use Rattle.wy_tree.specs.Ast.{Node, view, views, deepest}
 use Rattle.wy_syntax.specs.Names.{widths}
 use Rattle.wy_syntax.specs.Statements.{braces, clause}
-use Rattle.wy_syntax.specs.View.{statement_of, statements_of, block_of, clause_of, clauses_of, clauses_before}
+use Rattle.wy_syntax.specs.View.{statement_of, body_of, statements_of, block_of, clause_of, clauses_of, clauses_before}
 use Rattle.wy_syntax.proofs.StatementViews.{view_wrong, view_block, view_braced, view_try}
 use Rattle.wy_syntax.proofs.Rows.{statements_before, statements_before_done, clauses_before_none}
 use Rattle.wy_syntax.proofs.Shapes.{carried, leaf_is, node_is, one_is, two_are, four_are, one_before, two_before, four_before, six_are, seven_are, with_first}
@@ -105,7 +105,7 @@ statements-returns t c =
 pub branch-returns : goal.branch-returns
 branch-returns t c =
     let shape = four_before c.args.parts.now _ _ _ _ c.in-len4-up.len_at_least c.paren-item.is c.test-item.is c.close-item.is c.main-item.is in
-    carried _ statement_of _ _ (branch_is _ _ _ _ _ _ _ _ _ _ _ _ _ _ _ shape c.width.ensures c.width-2.ensures c.width-3.ensures c.width-4.ensures c.in_ok-test.ensures c.in_ok-main.ensures c.in_ok-other.ensures) c.conditional.ensures
+    c.conditional.ensures ∙ branch_is _ _ _ _ _ _ _ _ _ _ _ _ _ _ _ shape c.width.ensures c.width-2.ensures c.width-3.ensures c.width-4.ensures c.in_ok-test.ensures c.in_ok-main.ensures c.in_ok-other.ensures
 
 pub branch-returns-in_default : goal.branch-returns-in_default
 branch-returns-in_default t c = view_wrong ∙ no_branch _ _ c.args.parts.now c.in_default.len_below
@@ -122,7 +122,7 @@ otherwise-returns-in_default t c =
 pub loop_while-returns : goal.loop_while-returns
 loop_while-returns t c =
     let shape = four_are c.args.parts.now _ _ _ _ c.in-len4.len_at_least c.in-len4.len_below c.paren-item.is c.test-item.is c.close-item.is c.body-item.is in
-    carried _ statement_of _ _ (while_is _ _ _ _ _ _ _ _ _ _ _ _ shape c.width.ensures c.width-2.ensures c.width-3.ensures c.in_ok-test.ensures c.in_ok-body.ensures) c.repeated.ensures
+    c.repeated.ensures ∙ while_is _ _ _ _ _ _ _ _ _ _ _ _ shape c.width.ensures c.width-2.ensures c.width-3.ensures c.in_ok-test.ensures c.in_ok-body.ensures
 
 pub loop_while-returns-in_default : goal.loop_while-returns-in_default
 loop_while-returns-in_default t c =
@@ -131,7 +131,7 @@ loop_while-returns-in_default t c =
 pub loop_do-returns : goal.loop_do-returns
 loop_do-returns t c =
     let shape = four_before c.args.parts.now _ _ _ _ c.in-len4-up.len_at_least c.body-item.is c.word-item.is c.paren-item.is c.test-item.is in
-    carried _ statement_of _ _ (do_is _ _ _ _ _ _ _ _ _ _ _ _ _ shape c.width.ensures c.width-2.ensures c.width-3.ensures c.in_ok-body.ensures c.in_ok-test.ensures) c.repeated_first.ensures
+    c.repeated_first.ensures ∙ do_is _ _ _ _ _ _ _ _ _ _ _ _ _ shape c.width.ensures c.width-2.ensures c.width-3.ensures c.in_ok-body.ensures c.in_ok-test.ensures
 
 pub loop_do-returns-in_default : goal.loop_do-returns-in_default
 loop_do-returns-in_default t c = view_wrong ∙ no_do _ _ c.args.parts.now c.in_default.len_below
@@ -169,22 +169,19 @@ pub for_test-returns-then-is_leaf : goal.for_test-returns-then-is_leaf
 for_test-returns-then-is_leaf t c =
     let shape = one_before c.args.parts.now _ c.in-len1-up.len_at_least c.test-item.is in
     let after = one_before _ _ c.in-len1-up-behind.len_at_least c.next-item.is in
-    carried _ statement_of _ _ (test_absent _ _ _ _ _ _ _ _ _ shape after (cc) c.width.ensures) c.for_tested.ensures
+    c.counted.ensures ∙ tested_is _ _ _ _ _ _ _ c.in_ok-updates.ensures c.in_ok-body.ensures ∙ test_absent _ _ _ _ _ _ _ _ _ shape after (cc) c.width.ensures
 
 pub for_test-returns : goal.for_test-returns
 for_test-returns t c =
     let shape = one_before c.args.parts.now _ c.in-len1-up.len_at_least c.test-item.is in
     let after = one_before _ _ c.in-len1-up-behind.len_at_least c.next-item.is in
-    carried _ statement_of _ _ (test_given _ _ _ _ _ _ _ _ _ _ _ shape after (cc) c.width.ensures c.width-2.ensures c.in_ok-test.ensures) c.for_tested-2.ensures
-
-pub for_tested-returns : goal.for_tested-returns
-for_tested-returns t c = carried _ statement_of _ _ (tested_is _ _ _ _ _ _ _ c.in_ok-updates.ensures c.in_ok-body.ensures) c.counted.ensures
+    c.counted-2.ensures ∙ tested_is _ _ _ _ _ _ _ c.in_ok-updates-2.ensures c.in_ok-body-2.ensures ∙ test_given _ _ _ _ _ _ _ _ _ _ _ shape after (cc) c.width.ensures c.width-2.ensures c.in_ok-test.ensures
 
 pub body_behind-returns-then-is_leaf : goal.body_behind-returns-then-is_leaf
 body_behind-returns-then-is_leaf t c =
     let shape = one_before c.loop-left.left.now _ c.in-len1-up.len_at_least c.part-item.is in
     let after = one_before _ _ c.in-len1-up-behind.len_at_least c.body-item.is in
-    carried _ statement_of _ _ (body_here _ _ _ _ _ _ _ _ shape after (cc) c.width-at.ensures c.loop-left.invariant.rest) c.statement.ensures
+    carried _ body_of _ _ (body_here _ _ _ _ _ _ _ _ shape after (cc) c.width-at.ensures c.loop-left.invariant.rest) c.boxed.ensures
 
 pub body_behind-loop-left-preserved : goal.body_behind-loop-left-preserved
 body_behind-loop-left-preserved t c =
@@ -199,10 +196,10 @@ body_behind-loop-left-preserved t c =
 pub body_behind-returns-in_default-behind : goal.body_behind-returns-in_default-behind
 body_behind-returns-in_default-behind t c =
     let shape = one_before c.loop-left.left.now _ c.in-len1-up.len_at_least c.part-item.is in
-    view_wrong ∙ body_alone _ _ _ _ _ shape c.in_default-behind.len_below c.loop-left.invariant.rest
+    carried _ body_of _ _ (body_alone _ _ _ _ _ shape c.in_default-behind.len_below c.loop-left.invariant.rest) c.wrong_body.ensures
 
 pub body_behind-returns : goal.body_behind-returns
-body_behind-returns t c = view_wrong ∙ body_end _ c.loop-left.left.now _ c.in_default.len_below c.loop-left.invariant.rest
+body_behind-returns t c = carried _ body_of _ _ (body_end _ c.loop-left.left.now _ c.in_default.len_below c.loop-left.invariant.rest) c.wrong_body-2.ensures
 
 -- ---- expressions, labels and declarations
 

@@ -9,6 +9,9 @@ use Rattle.wy_syntax.proofs.lower.statement.+statement.Given as goal
 abbrev pub decreases-statement : goal.decreases-statement
 decreases-statement l = 16 * deep (view l.tree.now)
 
+abbrev pub decreases-boxed : goal.decreases-boxed
+decreases-boxed l = 16 * deep (view l.tree.now) + 1
+
 abbrev pub decreases-production : goal.decreases-production
 decreases-production l = 16 * deepest (views l.parts.now) + 15
 
@@ -47,9 +50,6 @@ decreases-loop_for l = 16 * deepest (views l.parts.now) + 12
 
 abbrev pub decreases-for_test : goal.decreases-for_test
 decreases-for_test l = 16 * deepest (views l.parts.now) + 11
-
-abbrev pub decreases-for_tested : goal.decreases-for_tested
-decreases-for_tested l = 16 * deepest (views l.parts.now) + 10
 
 abbrev pub decreases-body_behind : goal.decreases-body_behind
 decreases-body_behind l = 16 * deepest (views l.parts.now) + 9
