@@ -1,0 +1,8 @@
+mod Onward
+mod Agreement
+mod Budget
+mod Numbers
+mod Bodies
+mod Statics
+mod Slots
+mod Records

@@ -1,0 +1,119 @@
+//! Records: each is handed to the recorder, and a write is stored.
+
+ghost use Rattle.std.specs.Prelude.{◌≡◌, ◌≢◌, ◌+◌, [], false, IfOk, OnOk};
+ghost use Rattle.wy_event.specs.declared.record.Kind.{Kind};
+ghost use Rattle.wy_event.specs.Record.{recorded};
+ghost use Rattle.wy_kernel.specs.Program.{Program};
+ghost use Rattle.wy_steps.specs.Steps.{note, note_write};
+ghost use Rattle.wy_state.specs.Agrees.{shape, Answers, IsSameButLocals, Recording, event_of, itself};
+ghost use Rattle.wy_state.specs.Seen.{draft_of, given, made_of};
+
+use crate::parts::{Draft, Halt, Limit};
+use crate::state::{EVENT_LIMIT, State, USE_LIMIT};
+use std::alloc::AllocError;
+use std::mem;
+use wy_event::record::{Event, Kind, Use};
+use wy_event::sequence::Sequence;
+use wy_record::{Phase, RecordError, Recorder};
+
+impl<'a, R: Recorder> State<'a, R> {
+    /// Records an event with these units and uses, and gives its number and the units back. The state then has one event more.
+    pub fn record(
+        &mut self,
+        draft: Draft,
+        units: Vec<u16>,
+        uses: &[Use],
+    ) -> Result<(u32, Vec<u16>), Halt>
+        ensures recorded { Recording (draft_of draft units.items) uses.now result
+            (shape R.keeps R.kept self.old) (shape R.keeps R.kept self.new) }
+        ensures units { IfOk result (λ pair. pair.1.items ≡ units.items) }
+        ensures calls { self.new.calls ≡ self.old.calls }
+        ensures left { self.new.left ≡ self.old.left }
+        ensures events { OnOk result (self.new.events ≡ self.old.events + 1) }
+    {
+        let number = self.events;
+        if number >= EVENT_LIMIT {
+            return Err(Halt::Stopped(Limit::Events));
+        }
+        let total = u64::from(self.uses) + uses.len() as u64;
+        if total > u64::from(USE_LIMIT) {
+            return Err(Halt::Stopped(Limit::Uses));
+        }
+        let event = self.event(draft, units, uses)?;
+        let Phase::Recording = self.recorder.phase() else {
+            return Err(Halt::Memory);
+        };
+        match self.recorder.note(&event) {
+            Ok(()) => {}
+            Err(RecordError::NoMemory) => return Err(Halt::Memory),
+            Err(error) => return Err(Halt::Recorder(error)),
+        }
+        self.spare = event.uses.into_vec();
+        self.events = number + 1;
+        self.uses = total as u32;
+        Ok((number, event.units.into_vec()))
+    }
+
+    /// The next event.
+    fn event(&mut self, draft: Draft, units: Vec<u16>, uses: &[Use]) -> Result<Event, AllocError>
+        ensures event { IfOk result (λ e. recorded e ≡ event_of (draft_of draft units.items) uses.now
+            (shape R.keeps R.kept self.old)) }
+        ensures units { IfOk result (λ e. e.units ≡ units.items) }
+        ensures same { shape R.keeps R.kept self.new ≡ shape R.keeps R.kept self.old }
+    {
+        let mut copied = mem::replace(&mut self.spare, Vec::new(self.alloc));
+        copied.clear();
+        copied.extend_from_slice(uses)?;
+        Ok(Event {
+            kind: draft.kind,
+            site: draft.site,
+            frame: self.calls.frame(),
+            control: self.calls.control(),
+            what: draft.what,
+            slot: draft.slot,
+            value: draft.value,
+            units: Sequence::new(units),
+            uses: Sequence::new(copied),
+        })
+    }
+
+    /// Records an event that makes nothing, and gives its number.
+    pub fn note(&mut self, draft: Draft, uses: &[Use]) -> Result<u32, Halt>
+        ensures step { (p : Program) → Answers p made_of result (shape R.keeps R.kept self.old)
+            (note (draft_of draft []) (given draft.value uses.now)) (shape R.keeps R.kept self.new) }
+        ensures number { IfOk result (λ n. n ≡ self.old.events) }
+        ensures calls { self.new.calls ≡ self.old.calls }
+        ensures left { self.new.left ≡ self.old.left }
+        ensures events { OnOk result (self.new.events ≡ self.old.events + 1) }
+    {
+        if is_init(draft.kind) {
+            return Err(Halt::Memory);
+        }
+        let (number, _units) = self.record(draft, Vec::new(self.alloc), uses)?;
+        Ok(number)
+    }
+
+    /// Records a Bind, Set or Catch, whose slot then holds the value.
+    pub fn note_write(&mut self, draft: Draft, uses: &[Use]) -> Result<u32, Halt>
+        ensures step { (p : Program) → Answers p made_of result (shape R.keeps R.kept self.old)
+            (note_write (draft_of draft []) (given draft.value uses.now))
+            (shape R.keeps R.kept self.new) }
+        ensures frames { OnOk result (IsSameButLocals self.old.calls self.new.calls) }
+        ensures left { self.new.left ≡ self.old.left }
+        ensures events { OnOk result (self.new.events ≡ self.old.events + 1) }
+    {
+        let number = self.note(draft, uses)?;
+        self.put(draft.slot, draft.value)?;
+        Ok(number)
+    }
+}
+
+/// Whether an event of the kind makes a class.
+fn is_init(kind: Kind) -> bool
+    ensures { result ≡ false → kind ≢ Kind.Init }
+{
+    match kind {
+        Kind::Init => true,
+        _ => false,
+    }
+}
