@@ -6,3 +6,6 @@ mod Bodies
 mod Statics
 mod Slots
 mod Records
+mod Makers
+mod Texts
+mod Inits

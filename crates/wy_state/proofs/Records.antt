@@ -95,13 +95,13 @@ module _ (p : Program) (m : Shape) (s : State nothing) (a : Agrees p m s) (d : D
   known_before : (n : ℕ) → (m.events ≤ n → ⊥) → n ≢ length s.noted
   known_before n le is = le (omega (arith, is, a.events))
 
-  codes_stay : HasCodes (next_event d c s ∷ s.noted) m.heap
+  pub codes_stay : HasCodes (next_event d c s ∷ s.noted) m.heap
   codes_stay n k is = rw (older_event (next_event d c s) s.noted n (known_before n (λ le. let none = (a.unmade n le).no_code in cc))) (a.codes n k is)
 
-  sizes_stay : HasSizes (next_event d c s ∷ s.noted) m.heap
+  pub sizes_stay : HasSizes (next_event d c s ∷ s.noted) m.heap
   sizes_stay n k is = rw (older_event (next_event d c s) s.noted n (known_before n (λ le. let none = (a.unmade n le).no_size in cc))) (a.sizes n k is)
 
-  texts_stay : HasTexts (next_event d c s ∷ s.noted) m.heap
+  pub texts_stay : HasTexts (next_event d c s ∷ s.noted) m.heap
   texts_stay n us is = rw (older_event (next_event d c s) s.noted n (known_before n (λ le. let none = (a.unmade n le).no_text in cc))) (a.texts n us is)
 
   -- an event that makes nothing

@@ -5,6 +5,7 @@
 mod body;
 mod cover;
 mod event;
+mod make;
 pub mod parts;
 mod slot;
 pub mod state;

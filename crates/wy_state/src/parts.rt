@@ -5,6 +5,7 @@ ghost use Rattle.wy_state.specs.declared.parts.Halt.TheVariants.{Memory};
 
 use std::alloc::{AllocError, AllocFailed};
 use wy_event::record::{Kind, Slot};
+use wy_heap::HeapError;
 use wy_kernel::types::NONE;
 use wy_record::RecordError;
 use wy_value::Value;
@@ -54,6 +55,14 @@ impl<T: Drop> From<AllocFailed<T>> for Halt {
     ghost from_gives = { λ a e. e ≡ Memory };
 
     fn from(_: AllocFailed<T>) -> Halt {
+        Halt::Memory
+    }
+}
+
+impl From<HeapError> for Halt {
+    ghost from_gives = { λ a e. e ≡ Memory };
+
+    fn from(_: HeapError) -> Halt {
         Halt::Memory
     }
 }
