@@ -6,6 +6,7 @@ mod Bodies
 mod Statics
 mod Slots
 mod Records
+mod Rounds
 mod Makers
 mod Texts
 mod Inits

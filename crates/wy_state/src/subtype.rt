@@ -7,7 +7,7 @@ use wy_kernel::operator::Primitive;
 use wy_kernel::types::{Base, Ty};
 
 /// Object, by its number.
-const OBJECT: u32 = 0;
+pub const OBJECT: u32 = 0;
 
 /// A pair of brackets counts this much in the code of a type.
 const BRACKETS: u32 = 1 << 24;
@@ -16,7 +16,7 @@ const BRACKETS: u32 = 1 << 24;
 const CLASSES: u32 = 16;
 
 #[tactic(auto, unfolding(wy_kernel::specs::Program::primitive_code))]
-fn primitive_code(primitive: Primitive) -> u32
+pub fn primitive_code(primitive: Primitive) -> u32
     ensures code { result ≡ primitive_code primitive }
     ensures low { result < 6 }
 {
