@@ -7,6 +7,7 @@ mod Statics
 mod Slots
 mod Records
 mod Rounds
+mod Names
 mod Makers
 mod Texts
 mod Inits

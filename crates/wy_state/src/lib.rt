@@ -7,6 +7,7 @@ mod body;
 mod cover;
 mod event;
 mod make;
+pub mod name;
 pub mod parts;
 mod slot;
 pub mod state;
