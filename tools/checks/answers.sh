@@ -9,23 +9,10 @@
 #   lines  a source with a token on each line; the answer is how many there are, and Syntax names one of them with its line
 # WHYLINE names another program than ./whyline.
 set -u
-cd "$(dirname "$0")/../.." || exit 1
+source "$(dirname "$0")/counting.bash"
 program=$(readlink -f "${WHYLINE:-./whyline}")
 rows=$PWD/tools/checks/answers.tsv
-scratch=$(mktemp -d) || exit 1
-trap 'rm -rf "$scratch"' EXIT
 cd "$scratch" || exit 1
-passed=0
-failed=0
-
-report() { # NAME OK
-  if [ "$2" = 1 ]; then
-    passed=$((passed + 1))
-  else
-    failed=$((failed + 1))
-    echo "differs: $1"
-  fi
-}
 
 answer() { # STATUS: runs Main.java, and says whether the status is this one
   "$program" run Main.java >out 2>err
@@ -124,5 +111,4 @@ check_text "as many blanks as a file may have" 4 'program: NoMain at line 1 toke
 { times 2500 '/* a comment */ ' && printf 'class Main { public static void main(String[] args) { System.out.println(1); } }'; } >Main.java
 check_text "a file that is read in many pieces" 0 '1\n-- finished'
 
-echo "answers: $passed passed, $failed failed"
-[ "$failed" = 0 ]
+finish answers

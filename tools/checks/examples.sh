@@ -2,20 +2,7 @@
 # Runs each example through ./whyline and compares what it writes and its status with the stored ones,
 # and then one call for each other status. Ends with a failure if one differs.
 set -u
-cd "$(dirname "$0")/../.." || exit 1
-passed=0
-failed=0
-scratch=$(mktemp -d) || exit 1
-trap 'rm -rf "$scratch"' EXIT
-
-report() { # NAME OK
-  if [ "$2" = 1 ]; then
-    passed=$((passed + 1))
-  else
-    failed=$((failed + 1))
-    echo "differs: $1"
-  fi
-}
+source "$(dirname "$0")/counting.bash"
 
 expect() { # NAME STATUS FILE WORD..: the call writes what the file holds, and has this status
   local name=$1 status=$2 wanted=$3 same=1
@@ -82,5 +69,4 @@ expect_line "a file of a byte too many" 8 "too long: $scratch/long.java" run "$s
 (cd "$scratch" && "$OLDPWD/whyline" run endless.java >here 2>/dev/null)
 printf -- '-- step limit\n' | cmp -s - "$scratch/here" && report "the caller's folder" 1 || report "the caller's folder" 0
 
-echo "examples: $passed passed, $failed failed"
-[ "$failed" = 0 ]
+finish examples
