@@ -51,5 +51,21 @@ abbrev pub joined_last : ℕ → Value → Values → Values
 joined_last n v vs = given v (uses_of_last n vs) ∷ under_many n vs
 
 -- the same with one more use
-abbrev pub joined_last_with : ℕ → Value → Use → Values → Values
-joined_last_with n v used vs = given v (uses_of_last n vs ++ used ∷ []) ∷ under_many n vs
+abbrev pub joined_with : ℕ → Value → Use → Values → Values
+joined_with n v used vs = given v (uses_of_last n vs ++ used ∷ []) ∷ under_many n vs
+
+-- the value with so many above it, on top once more
+abbrev pub with_copy : ℕ → Values → Values
+with_copy n vs = at n vs ∷ vs
+
+-- a value with the uses of the top, and one more
+abbrev pub with_after : Value → Use → Values → Values
+with_after v used vs = given v ((top vs).uses ++ used ∷ []) ∷ vs
+
+-- the value of an event in place of so many of the newest
+abbrev pub with_event : ℕ → Value → ℕ → Values → Values
+with_event n v e vs = valued e v ∷ under_many n vs
+
+-- the second of the three newest, in place of all three
+abbrev pub with_second_of_three : Values → Values
+with_second_of_three vs = at 1 vs ∷ under_many 3 vs

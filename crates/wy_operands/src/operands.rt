@@ -4,9 +4,9 @@
 ghost use Rattle.std.specs.Prelude.{◌≡◌, ℕ, ◌≤◌, ◌-◌, List, [], ◌∷◌, ◌++◌, length, take, drop, slice_range, OnOk};
 ghost use Rattle.wy_event.specs.declared.record.Use.{Use};
 ghost use Rattle.wy_steps.specs.Steps.{joined_all};
-ghost use Rattle.wy_operands.specs.Values.{given, valued, top, at, under_many, last_many, uses_of_last};
-ghost use Rattle.wy_operands.specs.Values.{joined_last, joined_last_with};
-ghost use Rattle.wy_operands.specs.Layout.{values_of, rest_of, beginning};
+ghost use Rattle.wy_operands.specs.Values.{given, top, at, under_many, last_many, uses_of_last};
+ghost use Rattle.wy_operands.specs.Values.{joined_last, joined_with, with_copy, with_after, with_event, with_second_of_three};
+ghost use Rattle.wy_operands.specs.Layout.{values_of, Begins, beginning};
 
 use std::alloc::{AllocError, Global};
 use wy_event::record::Use;
@@ -53,8 +53,7 @@ fn keep_part(uses: &mut Vec<Use>, begin: usize, from: usize, to: usize)
     requires third { to ≤ length uses.old.items }
     ensures { uses.new.items ≡ take begin uses.old.items ++ slice_range uses.old.items from to }
 {
-    uses.truncate(to);
-    uses[begin..].rotate_left(from - begin);
+    uses.copy_within(from..to, begin);
     uses.truncate(begin + (to - from));
 }
 
@@ -95,22 +94,19 @@ impl Operands {
 
     /// Puts the value with so many above it on once more, with its uses.
     pub fn push_copy(&mut self, above: usize) -> Result<(), AllocError>
-        ensures { OnOk result (values_of self.new ≡ at above (values_of self.old) ∷ values_of self.old) }
+        ensures { OnOk result (values_of self.new ≡ with_copy above (values_of self.old)) }
     {
         let value = self.value_at(above);
         let from = self.uses.len();
-        if above < self.values.len() {
-            let begin = self.beginning_of_last(above + 1);
-            let end = self.beginning_of_last(above);
-            self.uses.extend_from_within(begin..end)?;
-        }
+        let (begin, end) = self.place_of_uses(above);
+        self.uses.extend_from_within(begin..end)?;
         self.values.push(Operand { value, from })?;
         Ok(())
     }
 
     /// Puts a value on that uses what the top uses, and this.
     pub fn push_after(&mut self, value: Value, used: Use) -> Result<(), AllocError>
-        ensures { OnOk result (values_of self.new ≡ given value ((top (values_of self.old)).uses ++ used ∷ []) ∷ values_of self.old) }
+        ensures { OnOk result (values_of self.new ≡ with_after value used (values_of self.old)) }
     {
         let from = self.uses.len();
         let begin = self.beginning_of_last(1);
@@ -122,12 +118,23 @@ impl Operands {
 
     /// Where the uses of the last values begin.
     fn beginning_of_last(&self, many: usize) -> usize
-        ensures within { result ≤ length self.now.uses.items }
-        ensures uses { drop result self.now.uses.items ≡ uses_of_last many (values_of self.now) }
-        ensures rest { rest_of self.now many result ≡ under_many many (values_of self.now) }
+        ensures { Begins self.now many result }
     {
         let kept = self.values.len().saturating_sub(many);
         beginning(&self.values[kept..], self.uses.len())
+    }
+
+    /// From where to where the uses of the value with so many above it lie.
+    fn place_of_uses(&self, above: usize) -> (usize, usize)
+        ensures in_order { result.0 ≤ result.1 }
+        ensures within { result.1 ≤ length self.now.uses.items }
+        ensures uses { slice_range self.now.uses.items result.0 result.1 ≡ (at above (values_of self.now)).uses }
+    {
+        if above >= self.values.len() {
+            return (0, 0);
+        }
+        let from = self.beginning_of_last(above + 1);
+        (from, self.beginning_of_last(above))
     }
 
     /// The value with so many above it, or none.
@@ -152,11 +159,7 @@ impl Operands {
     pub fn uses_at(&self, above: usize) -> &[Use]
         ensures { result.now ≡ (at above (values_of self.now)).uses }
     {
-        if above >= self.values.len() {
-            return &[];
-        }
-        let from = self.beginning_of_last(above + 1);
-        let to = self.beginning_of_last(above);
+        let (from, to) = self.place_of_uses(above);
         &self.uses[from..to]
     }
 
@@ -190,7 +193,7 @@ impl Operands {
 
     /// Puts a value made of the last ones and of one more in their place.
     pub fn join_with(&mut self, many: usize, value: Value, used: Use) -> Result<(), AllocError>
-        ensures { OnOk result (values_of self.new ≡ joined_last_with many value used (values_of self.old)) }
+        ensures { OnOk result (values_of self.new ≡ joined_with many value used (values_of self.old)) }
     {
         let from = self.beginning_of_last(many);
         forget_last(&mut self.values, many);
@@ -201,7 +204,7 @@ impl Operands {
 
     /// Puts the value of an event in place of the last ones.
     pub fn replace(&mut self, many: usize, value: Value, event: u32) -> Result<(), AllocError>
-        ensures { OnOk result (values_of self.new ≡ valued event value ∷ under_many many (values_of self.old)) }
+        ensures { OnOk result (values_of self.new ≡ with_event many value event (values_of self.old)) }
     {
         self.drop_last(many);
         self.push_with(value, Use::Value { event })
@@ -209,7 +212,7 @@ impl Operands {
 
     /// Leaves the second of the last three values in place of all three.
     pub fn keep_second_of_three(&mut self) -> Result<(), AllocError>
-        ensures { OnOk result (values_of self.new ≡ at 1 (values_of self.old) ∷ under_many 3 (values_of self.old)) }
+        ensures { OnOk result (values_of self.new ≡ with_second_of_three (values_of self.old)) }
     {
         let value = self.value_at(1);
         let from = self.beginning_of_last(3);
