@@ -46,8 +46,8 @@ throwing_typed {X = X} site v s = cases (note (plain kind.Throw site v.value) v 
     cases (run.Left why t) = refl
     cases (run.Stopped why t) = refl
 
-pub throws : {X Y : Type 0} (view : X → Y) (p : Program) (e : Halt) (m n : Shape) (site : ℕ) (v : Carried nothing) → Ends p e m (throwing site v) n → Answers p view (Err e) m (throwing site v) n
-throws view p e m n site v a = answers_after p m n _ (itself {X = ⊥}) view (λ x. absurd x) _ e (throwing_typed site v) a
+pub throws : (X : Type 0) (p : Program) (e : Halt) (m n : Shape) (site : ℕ) (v : Carried nothing) → Ends p e m (throwing site v) n → Answers p (itself {X = X}) (Err e) m (throwing site v) n
+throws X p e m n site v a = answers_after p m n _ (itself {X = ⊥}) itself (λ x. absurd x) _ e (throwing_typed site v) a
 
 -- ---- an exception of a class
 
@@ -65,8 +65,8 @@ module _ (w : World nothing) (c site : ℕ) where
       cases (run.Left why t) = refl
       cases (run.Stopped why t) = refl
 
-  pub fails : {X Y : Type 0} (view : X → Y) (p : Program) (e : Halt) (m n : Shape) (v : Carried nothing) → Ends p e m (fail w c site v) n → Answers p view (Err e) m (fail w c site v) n
-  fails view p e m n v a = answers_after p m n _ (itself {X = ⊥}) view (λ x. absurd x) _ e (fail_typed v) a
+  pub fails : (X : Type 0) (p : Program) (e : Halt) (m n : Shape) (v : Carried nothing) → Ends p e m (fail w c site v) n → Answers p (itself {X = X}) (Err e) m (fail w c site v) n
+  fails X p e m n v a = answers_after p m n _ (itself {X = ⊥}) itself (λ x. absurd x) _ e (fail_typed v) a
 
 -- a record is made of the uses alone
 pub note_new_as : (p : Program) (d : Draft) (v u : Value) (us : List Use) (s : State nothing) → note_new p d (given v us) s ≡ note_new p d (given u us) s

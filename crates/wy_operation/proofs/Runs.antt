@@ -35,6 +35,13 @@ answers_next p view (Err e) m n l f g a b = answers_then view p e m n l f g a b
 
 -- ---- records by their drafts in memory
 
+module _ (p : Program) (r : Result ℕ Halt) (m n : Shape) (d : Drafted) (us : List Use) (draft : Draft) (v : Value) where
+  pub noted_as : draft_of d [] ≡ draft → d.value ≡ v → Answers p made_of r m (note (draft_of d []) (given d.value us)) n → Answers p made_of r m (note draft (given v us)) n
+  noted_as drafted same a = rw (← drafted, ← same) a
+
+  pub written_as : draft_of d [] ≡ draft → d.value ≡ v → Answers p made_of r m (note_write (draft_of d []) (given d.value us)) n → Answers p made_of r m (note_write draft (given v us)) n
+  written_as drafted same a = rw (← drafted, ← same) a
+
 module _ (p : Program) (e : Halt) (m n : Shape) (d : Drafted) (us : List Use) (draft : Draft) (v : Value) where
   pub note_as : draft_of d [] ≡ draft → d.value ≡ v → Answers p made_of (Err e) m (note (draft_of d []) (given d.value us)) n → Answers p made_of (Err e) m (note draft (given v us)) n
   note_as drafted same a = rw (← drafted, ← same) a
