@@ -2,7 +2,6 @@
 use Rattle.std.proofs.Common.{◌≡◌, ◌∙◌, ℕ, Bool, true, false, List, [], ◌∷◌, map, refl, ap, ap₂, Option, Some}
 use Rattle.std.specs.Prelude.{None as Absent}
 use Rattle.wy_kernel.specs.declared.form.Catch.{Catch}
-use Rattle.wy_kernel.specs.Form as plain
 use Rattle.wy_kernel.specs.Program.{Program, is_subclass}
 use Rattle.wy_kernel.specs.View.{clause, clauses_of, statement}
 use Rattle.wy_kernel.proofs.Views.{view_clause, view_statement}

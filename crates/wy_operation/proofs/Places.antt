@@ -46,7 +46,7 @@ module _ (p : Program) (m : Shape) (x : Slot) (v : Value) (found : Onward p m (v
   pub read_goes : Onward p m (read x) m (return seen)
   read_goes = record { from = read_comes }
 
-  module _ (parts : Carried nothing) (us : List Use) (are : parts.uses ≡ us) where
+  module _ (parts : Carried nothing) where
     abbrev pub fetched : Carried nothing → Run nothing (Carried nothing)
     fetched c = choose (lacks_value x c.value) (stop Unassigned) (return (joined c.value parts c))
 
@@ -54,9 +54,9 @@ module _ (p : Program) (m : Shape) (x : Slot) (v : Value) (found : Onward p m (v
     unfolding fetch
     fetch_starts = onward_as (λ s. refl) (done_first (read x) fetched seen read_goes)
 
-    pub fetch_goes : lacks_value x v ≡ false → Onward p m (fetch (spot_of x parts)) m (return (given v (us ++ Place x m.events ∷ [])))
+    pub fetch_goes : lacks_value x v ≡ false → Onward p m (fetch (spot_of x parts)) m (return (given v (parts.uses ++ Place x m.events ∷ [])))
     unfolding choose joined
-    fetch_goes has = onward_then fetch_starts (rw (has, ← are) (onward_same p m _))
+    fetch_goes has = onward_then fetch_starts (rw has (onward_same p m _))
 
     pub fetch_stops : lacks_value x v ≡ true → Onward p m (fetch (spot_of x parts)) m (stop Unassigned)
     unfolding choose

@@ -27,14 +27,11 @@ use wy_state::subtype::element_type;
 use wy_value::Value;
 
 /// The value in a slot, and the slot as its use; a local that has no value stops the run.
-pub fn fetch<R: Recorder>(
-    state: &State<'_, R>,
-    slot: Slot,
-    parts: &[Use],
-) -> Result<(Value, Use), Halt>
-    ensures { (p : kernel.Program) (c : Carried nothing) → c.uses ≡ parts.now
-        → Answers p (λ r. given r.0 (parts.now ++ r.1 ∷ [])) result
-        (shape R.keeps R.kept state.now) (fetch (spot_of slot c)) (shape R.keeps R.kept state.now) }
+pub fn fetch<R: Recorder>(state: &State<'_, R>, slot: Slot) -> Result<(Value, Use), Halt>
+    ensures { (p : kernel.Program) (parts : Carried nothing)
+        → Answers p (λ r. given r.0 (parts.uses ++ r.1 ∷ [])) result
+        (shape R.keeps R.kept state.now) (fetch (spot_of slot parts))
+        (shape R.keeps R.kept state.now) }
 {
     let value = state.read(slot)?;
     if lacks_value(slot, value) {
