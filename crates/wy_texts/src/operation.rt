@@ -38,8 +38,9 @@ pub fn library<R: Recorder>(
 ) -> Result<Found, Halt>
     ensures step { (w : World nothing) → w.program ≡ program_of program.now
         → (joined_all (map carried parts.now)).uses ≡ all.now
-        → Answers (program_of program.now) (found_of all.now) result (shape R.keeps R.kept state.old)
-        (library w op site (map carried parts.now)) (shape R.keeps R.kept state.new) }
+        → Answers (program_of program.now) (found_of all.now) result
+        (shape R.keeps R.kept state.old) (library w op site (map carried parts.now))
+        (shape R.keeps R.kept state.new) }
     ensures around { Keeps result state.old.calls state.new.calls }
 {
     match parts {

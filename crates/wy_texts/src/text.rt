@@ -12,10 +12,9 @@ ghost use Rattle.wy_operation.specs.Operands.{Pair, carried};
 ghost use Rattle.wy_state.specs.Agrees.{shape, Answers, Meets, itself};
 ghost use Rattle.wy_state.specs.Seen.{given};
 ghost use Rattle.wy_steps.specs.Sets.{nothing};
-ghost use Rattle.wy_steps.specs.Steps.{joined};
 ghost use Rattle.wy_value.specs.Numeral.{text_of};
 ghost use Rattle.wy_texts.specs.Found.{found_of};
-ghost use Rattle.wy_texts.specs.Words.{joined_texts, sameness, text_of_event};
+ghost use Rattle.wy_texts.specs.Words.{equality, joined_texts, sameness, text_of_event};
 
 use crate::found::Found;
 use std::alloc::{AllocError, Global};
@@ -140,7 +139,7 @@ pub fn text_equals<R: Recorder>(
     right: Part<'_>,
 ) -> Result<bool, Halt>
     ensures { (w : World nothing) → w.program ≡ program_of program.now
-        → Answers (program_of program.now) (λ b. joined (Value.Bool b) (carried left.entry) (carried right.entry)) result
+        → Answers (program_of program.now) (equality left.entry right.entry) result
         (shape R.keeps R.kept state.now) (text_equals w (carried left.entry) (carried right.entry))
         (shape R.keeps R.kept state.now) }
 {

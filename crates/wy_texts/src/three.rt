@@ -39,7 +39,8 @@ pub fn library_three<R: Recorder>(
     ensures step { (w : World nothing) (a b c : List Use) → w.program ≡ program_of program.now
         → Answers (program_of program.now) (found_of uses.now) result
         (shape R.keeps R.kept state.old)
-        (library_three w op site (given Value.None uses.now) (given text a) (given from b) (given to c))
+        (library_three w op site (given Value.None uses.now)
+        (given text a) (given from b) (given to c))
         (shape R.keeps R.kept state.new) }
     ensures around { Keeps result state.old.calls state.new.calls }
 {
@@ -61,7 +62,8 @@ fn part_between<R: Recorder>(
     ensures step { (w : World nothing) (a b c : List Use) → w.program ≡ program_of program.now
         → Answers (program_of program.now) (found_of uses.now) result
         (shape R.keeps R.kept state.old)
-        (library_three w LibOp.Part site (given Value.None uses.now) (given text a) (given from b) (given to c))
+        (library_three w LibOp.Part site (given Value.None uses.now)
+        (given text a) (given from b) (given to c))
         (shape R.keeps R.kept state.new) }
     ensures around { Keeps result state.old.calls state.new.calls }
 {

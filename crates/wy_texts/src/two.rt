@@ -37,7 +37,8 @@ pub fn library_two<R: Recorder>(
     ensures step { (w : World nothing) (a b : List Use) → w.program ≡ program_of program.now
         → Answers (program_of program.now) (found_of uses.now) result
         (shape R.keeps R.kept state.old)
-        (library_two w op site (given Value.None uses.now) (given left a) (given right b))
+        (library_two w op site (given Value.None uses.now)
+        (given left a) (given right b))
         (shape R.keeps R.kept state.new) }
     ensures around { Keeps result state.old.calls state.new.calls }
 {
@@ -63,7 +64,8 @@ fn char_at<R: Recorder>(
     ensures step { (w : World nothing) (a b : List Use) → w.program ≡ program_of program.now
         → Answers (program_of program.now) (found_of uses.now) result
         (shape R.keeps R.kept state.old)
-        (library_two w LibOp.CharAt site (given Value.None uses.now) (given text a) (given index b))
+        (library_two w LibOp.CharAt site (given Value.None uses.now)
+        (given text a) (given index b))
         (shape R.keeps R.kept state.new) }
     ensures around { Keeps result state.old.calls state.new.calls }
 {
@@ -90,7 +92,8 @@ fn part_from<R: Recorder>(
     ensures step { (w : World nothing) (a b : List Use) → w.program ≡ program_of program.now
         → Answers (program_of program.now) (found_of uses.now) result
         (shape R.keeps R.kept state.old)
-        (library_two w LibOp.PartFrom site (given Value.None uses.now) (given text a) (given from b))
+        (library_two w LibOp.PartFrom site (given Value.None uses.now)
+        (given text a) (given from b))
         (shape R.keeps R.kept state.new) }
     ensures around { Keeps result state.old.calls state.new.calls }
 {
@@ -119,7 +122,8 @@ fn same_text<R: Recorder>(
     ensures step { (w : World nothing) (a b : List Use) → w.program ≡ program_of program.now
         → Answers (program_of program.now) (found_of uses.now) result
         (shape R.keeps R.kept state.old)
-        (library_two w LibOp.Same site (given Value.None uses.now) (given left a) (given right b))
+        (library_two w LibOp.Same site (given Value.None uses.now)
+        (given left a) (given right b))
         (shape R.keeps R.kept state.new) }
     ensures around { Keeps result state.old.calls state.new.calls }
 {
@@ -141,7 +145,8 @@ fn compare_texts<R: Recorder>(
     ensures step { (w : World nothing) (a b : List Use) → w.program ≡ program_of program.now
         → Answers (program_of program.now) (found_of uses.now) result
         (shape R.keeps R.kept state.old)
-        (library_two w LibOp.Compare site (given Value.None uses.now) (given left a) (given right b))
+        (library_two w LibOp.Compare site (given Value.None uses.now)
+        (given left a) (given right b))
         (shape R.keeps R.kept state.new) }
     ensures around { Keeps result state.old.calls state.new.calls }
 {
