@@ -1,4 +1,4 @@
-mod Onward
+pub mod Onward
 mod Agreement
 mod Budget
 mod Numbers

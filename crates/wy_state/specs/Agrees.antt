@@ -176,6 +176,14 @@ pub record IsSameButLocals (old new : Standing) : Type 0 where
   pub active : new.active ≡ old.active
   pub scopes : new.scopes ≡ old.scopes
 
+-- so it is after what was done, was left or stopped; the recorder or memory may refuse in the middle
+abbrev pub KeepsFrames : {X : Type 0} → Result X Halt → Standing → Standing → Type 0
+KeepsFrames (Ok x) old new = IsSameButLocals old new
+KeepsFrames (Err (Left why)) old new = IsSameButLocals old new
+KeepsFrames (Err (Stopped why)) old new = IsSameButLocals old new
+KeepsFrames (Err (Recorder e)) old new = Unit {0}
+KeepsFrames (Err Memory) old new = Unit {0}
+
 -- the statement was left by the event, and the covers of the others stay
 abbrev pub IsCaused : ℕ → ℕ → List Cover → List Cover → Type 0
 IsCaused n e old new = (n < length old) × (new ≡ slice_set old n (record (slice_index_or old n blank) { cause = e }))

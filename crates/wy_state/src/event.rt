@@ -5,7 +5,7 @@ ghost use Rattle.wy_event.specs.declared.record.Kind.{Kind};
 ghost use Rattle.wy_event.specs.Record.{recorded};
 ghost use Rattle.wy_kernel.specs.Program.{Program};
 ghost use Rattle.wy_steps.specs.Steps.{note, note_write};
-ghost use Rattle.wy_state.specs.Agrees.{shape, Answers, IsSameButLocals, Recording, event_of, itself};
+ghost use Rattle.wy_state.specs.Agrees.{shape, Answers, KeepsFrames, Recording, event_of, itself};
 ghost use Rattle.wy_state.specs.Seen.{draft_of, given, made_of};
 
 use crate::parts::{Draft, Halt, Limit};
@@ -98,7 +98,7 @@ impl<'a, R: Recorder> State<'a, R> {
         ensures step { (p : Program) → Answers p made_of result (shape R.keeps R.kept self.old)
             (note_write (draft_of draft []) (given draft.value uses.now))
             (shape R.keeps R.kept self.new) }
-        ensures frames { OnOk result (IsSameButLocals self.old.calls self.new.calls) }
+        ensures frames { KeepsFrames result self.old.calls self.new.calls }
         ensures left { self.new.left ≡ self.old.left }
         ensures events { OnOk result (self.new.events ≡ self.old.events + 1) }
     {

@@ -1,0 +1,7 @@
+use Rattle.std.proofs.Common.{refl}
+use Rattle.wy_operands.specs.Layout.{values_of}
+use Rattle.wy_operands.proofs.operands.Operands.clear.Goals as goal
+
+pub returns : goal.returns
+unfolding values_of
+returns c = rw c.clear.ensures.items refl

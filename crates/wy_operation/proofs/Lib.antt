@@ -1,0 +1,10 @@
+pub mod Runs
+pub mod Exceptions
+pub mod Kept
+mod Operators
+mod Places
+pub mod Updates
+mod Endings
+pub mod Arrays
+mod Binds
+pub mod Clauses

@@ -1,0 +1,9 @@
+use Rattle.wy_operation.proofs.Endings.{return_goes, return_halts}
+use Rattle.wy_operation.proofs.Runs.{note_as, note_as_done}
+use Rattle.wy_operation.proofs.ending.return_value.Goals as goal
+
+pub returns-in-Ok-clause-step : goal.returns-in-Ok-clause-step
+returns-in-Ok-clause-step g c p = return_goes p _ _ _ _ _ _ (note_as_done p _ _ _ _ _ _ _ c.plain.ensures.draft c.plain.ensures.value (c.in-Ok.ensures.step p))
+
+pub returns-in-Err-clause-step : goal.returns-in-Err-clause-step
+returns-in-Err-clause-step g c p = return_halts p _ _ _ _ _ c.in-Err.why (note_as p c.in-Err.why _ _ _ _ _ _ c.plain.ensures.draft c.plain.ensures.value (c.in-Err.ensures.step p))

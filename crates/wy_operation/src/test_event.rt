@@ -1,0 +1,53 @@
+//! Tests: those of statements, which are active until a statement ends, and those of `?:`, `&&` and `||`, until their scope does.
+
+ghost use Rattle.std.specs.Prelude.{◌≡◌};
+ghost use Rattle.wy_event.specs.declared.record.Kind.TheVariants as kind;
+ghost use Rattle.wy_kernel.specs.Program.{Program};
+ghost use Rattle.wy_meaning.specs.Statement.{tested};
+ghost use Rattle.wy_meaning.specs.World.{plain};
+ghost use Rattle.wy_operation.specs.Around.{Keeps};
+ghost use Rattle.wy_state.specs.Agrees.{shape, Answers, itself};
+ghost use Rattle.wy_state.specs.Seen.{given, made_of};
+ghost use Rattle.wy_steps.specs.State.{Around, return};
+ghost use Rattle.wy_steps.specs.Steps.{activating, note};
+
+use crate::operand::is_true;
+use wy_event::record::{Kind, Use};
+use wy_record::Recorder;
+use wy_state::parts::{Draft, Halt};
+use wy_state::state::State;
+use wy_value::Value;
+
+/// Records the Test of a statement's condition, which is active until the statement that it reaches through ends.
+pub fn test<R: Recorder>(
+    state: &mut State<'_, R>,
+    site: u32,
+    reach: u32,
+    value: Value,
+    uses: &[Use],
+) -> Result<bool, Halt>
+    ensures step { (p : Program) → Answers p itself result (shape R.keeps R.kept state.old)
+        (tested site reach (return (given value uses.now))) (shape R.keeps R.kept state.new) }
+    ensures around { Keeps result state.old.calls state.new.calls }
+{
+    let event = state.note(Draft::plain(Kind::Test, site, value), uses)?;
+    state.activate_through(event, reach)?;
+    Ok(is_true(value))
+}
+
+/// Records the Test of an expression, which is active until the scope that is open is closed.
+pub fn test_around<R: Recorder>(
+    state: &mut State<'_, R>,
+    site: u32,
+    value: Value,
+    uses: &[Use],
+) -> Result<u32, Halt>
+    ensures step { (p : Program) → Answers p made_of result (shape R.keeps R.kept state.old)
+        (activating Around (note (plain kind.Test site value) (given value uses.now)))
+        (shape R.keeps R.kept state.new) }
+    ensures around { Keeps result state.old.calls state.new.calls }
+{
+    let event = state.note(Draft::plain(Kind::Test, site, value), uses)?;
+    state.activate(event)?;
+    Ok(event)
+}

@@ -1,0 +1,5 @@
+mod Runs
+pub mod Texts
+mod Arguments
+mod Numbers
+mod Operations
