@@ -5,6 +5,7 @@ ghost use Rattle.wy_event.specs.Record.{recorded};
 ghost use Rattle.wy_view.specs.References.{RefersBelow};
 
 use crate::steps::Steps;
+use std::alloc::AllocError;
 use std::sync::ledger::Ledger;
 use thiserror::Error;
 use wy_event::record::Event;
@@ -27,6 +28,17 @@ pub enum ViewError {
     },
     #[error("out of memory")]
     NoMemory,
+}
+
+impl From<AllocError> for ViewError {
+    ghost use Rattle.std.specs.Prelude.{◌≡◌};
+    ghost use Rattle.wy_view.specs.declared.view.ViewError.TheVariants.{NoMemory};
+
+    ghost from_gives = { λ _ error. error ≡ NoMemory };
+
+    fn from(_error: AllocError) -> ViewError {
+        ViewError::NoMemory
+    }
 }
 
 /// The events of a trace. Each refers to earlier events alone, wherever it comes from.
