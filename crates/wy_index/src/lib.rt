@@ -1,0 +1,13 @@
+//! Where to look in the records of a trace: who wrote a slot last, what happened at a site, what was printed, called and made.
+//! Nothing here follows a dependence.
+#![tactic(auto)]
+
+mod build;
+pub mod found;
+pub mod index;
+pub mod posting;
+mod slot;
+
+pub use found::{Hit, Made};
+pub use index::Index;
+pub use posting::{Posting, Postings};

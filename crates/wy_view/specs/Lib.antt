@@ -1,0 +1,4 @@
+pub mod Counts
+pub mod References
+pub mod View
+pub mod Whole

@@ -1,0 +1,5 @@
+pub mod Marks
+pub mod Uses
+pub mod Answer
+pub mod Sources
+pub mod Walk
