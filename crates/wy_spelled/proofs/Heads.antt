@@ -21,10 +21,10 @@ use Rattle.wy_frames.proofs.Scans.{inner_is, some_is}
 use Rattle.wy_spelled.specs.Laws.{AreBytes}
 use Rattle.wy_spelled.proofs.Numbers.{bytes_behind, bytes_before, read_then, passing, Spelled, number_spelled, block_spelled, one_after}
 
-abbrev done : {A : Type 0} → A → Result A DamageRule
+abbrev pub done : {A : Type 0} → A → Result A DamageRule
 done x = Ok x
 
-ok_is : {A : Type 0} (x y : A) → done x ≡ done y → x ≡ y
+pub ok_is : {A : Type 0} (x y : A) → done x ≡ done y → x ≡ y
 ok_is x y e = cc
 
 -- ---- the payload
