@@ -2,7 +2,7 @@
 //! The functions do nothing: their contracts are the laws.
 #![tactic(auto)]
 
-ghost use Rattle.wy_spelled.specs.Laws.{CoveragesAreSpelled, HeadsAreSpelled, TailsAreSpelled};
+ghost use Rattle.wy_spelled.specs.Laws.{CoveragesAreSpelled, HeadsAreSpelled, SlotsAreSpelled, TailsAreSpelled};
 
 /// A head that bytes are read to begin with is spelled there, with the magic before it and nothing between.
 pub fn heads_are_spelled()
@@ -17,4 +17,9 @@ pub fn coverages_are_spelled()
 /// The end of a run that a payload is read as is spelled by it.
 pub fn tails_are_spelled()
     ensures { TailsAreSpelled }
+{}
+
+/// A slot that bytes are read to begin with is spelled there.
+pub fn slots_are_spelled()
+    ensures { SlotsAreSpelled }
 {}
