@@ -1,0 +1,10 @@
+pub mod Frames
+pub mod Pieces
+pub mod Standing
+pub mod Holds
+pub mod Scan
+pub mod Ends
+pub mod Scanning
+pub mod Decoding
+pub mod Heads
+pub mod Traces

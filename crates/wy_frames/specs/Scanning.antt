@@ -1,0 +1,57 @@
+-- What a scanner has read of the bytes that it was fed.
+use Rattle.std.specs.Prelude.{◌≡◌, ℕ, List, ◌++◌, length, Some, Result, Ok, Err, IfSome}
+use Rattle.std.specs.Prelude.{None as Absent}
+use Rattle.std.specs.Global.{Vec}
+use Rattle.wy_kernel.specs.declared.program.Program.{Program}
+use Rattle.wy_event.specs.declared.record.Head.{Head}
+use Rattle.wy_payload.specs.Ranges.{ranges_of}
+use Rattle.wy_event.specs.declared.record.Tail.{Tail}
+use Rattle.wy_spelling.specs.Spelling.{opening}
+use Rattle.wy_frames.specs.declared.error.TraceError.{TraceError}
+use Rattle.wy_frames.specs.declared.error.TraceError.TheVariants.{Cut, NoMemory}
+use Rattle.wy_frames.specs.declared.stage.Stage.TheVariants as stages
+use Rattle.wy_frames.specs.declared.stage.Placed.{Placed}
+use Rattle.wy_frames.specs.declared.scanner.Scanner.{Scanner}
+use Rattle.wy_frames.specs.Ends.{IsUnsealed}
+use Rattle.wy_frames.specs.Standing.{Standing, start}
+use Rattle.wy_frames.specs.Holds.{Holds}
+use Rattle.wy_frames.specs.Scan.{Waits, turn, Leaves, Refused}
+
+-- what was read of the program is what it says
+abbrev pub KnowsRanges : Scanner → Type 0
+KnowsRanges s = IfSome s.ranges (λ r. r ≡ ranges_of s.program.now)
+
+-- of the bytes behind the head, so much stands, and no frame more is whole
+pub record Scans (s : Scanner) (p : Program) (head : Head) (fed : List ℕ) (t : Standing) : Type 0 where
+  pub program : s.program.now ≡ p
+  pub steps : s.steps ≡ head.steps
+  pub knows : KnowsRanges s
+  pub sound : s.failure ≡ Absent
+  pub holds : Holds s.past t
+  pub leaves : Leaves (ranges_of p) head.steps (start head) fed t s.rest.items
+  pub waits : turn (ranges_of p) head.steps t s.rest.items ≡ Waits
+
+-- what was refused stays so
+pub record Stays (s : Scanner) (p : Program) (head : Head) (fed : List ℕ) (e : TraceError) : Type 0 where
+  pub failure : s.failure ≡ Some e
+  pub refused : Refused (ranges_of p) head.steps (start head) fed e
+
+-- with a piece more, these events more stand, or the bytes are refused
+abbrev pub Scanned : Result Unit TraceError → List Placed → List Placed → Scanner → Program → Head → List ℕ → Standing → Type 0
+Scanned (Ok u) old new s p head fed before = (t : Standing) × (more : List Placed) × Scans s p head fed t × (t.placed ≡ before.placed ++ more) × (new ≡ old ++ more)
+Scanned (Err e) old new s p head fed before = Refused (ranges_of p) head.steps (start head) fed e
+
+abbrev pub Fed : Result Unit TraceError → List Placed → List Placed → Scanner → Program → Head → List ℕ → Standing → Type 0
+Fed (Ok u) old new s p head fed before = (t : Standing) × (more : List Placed) × Scans s p head fed t × (t.placed ≡ before.placed ++ more) × (new ≡ old ++ more)
+Fed (Err e) old new s p head fed before = Stays s p head fed e
+
+abbrev pub Feeds : Result (Vec Placed) TraceError → Scanner → Program → Head → List ℕ → Standing → Type 0
+Feeds (Ok placed) s p head fed before = (t : Standing) × Scans s p head fed t × (t.placed ≡ before.placed ++ placed.items)
+Feeds (Err e) s p head fed before = Stays s p head fed e
+
+-- the frames end with the seal, and else the bytes are cut
+abbrev pub Finishes : Result (Tail × List ℕ) TraceError → Head → List ℕ → Standing → Type 0
+Finishes (Ok x) head fed t = t.stage ≡ stages.Sealed x.0 x.1
+Finishes (Err (Cut byte)) head fed t = (byte ≡ length (opening head ++ fed)) × IsUnsealed t.stage
+Finishes (Err NoMemory) head fed t = Unit {0}
+Finishes (Err e) head fed t = ⊥

@@ -1,0 +1,42 @@
+-- What the ranges of a trace read of a program, and what is known of the events before one.
+use Rattle.std.specs.Prelude.{ℕ, List, length, map}
+use Rattle.wy_kernel.specs.declared.program.Program.{Program}
+use Rattle.wy_kernel.specs.Parts.{program_of}
+use Rattle.wy_kernel.specs.Statements.{statements_of}
+use Rattle.wy_value.specs.Encoding.{utf8_of}
+use Rattle.wy_event.specs.declared.record.Event.{Event}
+use Rattle.wy_event.specs.declared.record.Kind.{Kind}
+use Rattle.wy_event.specs.declared.record.Kind.TheVariants as kind
+use Rattle.wy_payload.specs.Bodies.{locals_of, newlines_of}
+use Rattle.wy_payload.specs.declared.ranges.Ranges.{Ranges}
+use Rattle.wy_payload.specs.declared.known.Known.{Known}
+use Rattle.wy_payload.specs.declared.known.Known.TheVariants as known
+
+unfoldable pub ranges_of : Program → Ranges
+ranges_of p = record {
+  tokens = length p.lines.items;
+  classes = length p.classes.items;
+  methods = length p.methods.items;
+  statements = p.statements;
+  statics = map (λ f. f.is_static) p.fields.items;
+  method_locals = map locals_of p.bodies.items;
+  class_locals = map locals_of p.init_bodies.items;
+  fixed = map (λ t. length (utf8_of t.items)) p.fixed_texts.items;
+  newlines = newlines_of (statements_of (program_of p));
+}
+
+-- of an event what later ones may refer to; of a Text how many bytes it prints
+abbrev pub known_as : Kind → ℕ → List ℕ → Known
+known_as kind.Init what units = known.Init what
+known_as kind.New what units = known.New what
+known_as kind.Call what units = known.Call what
+known_as kind.Test what units = known.Test
+known_as kind.Text what units = known.Text (length (utf8_of units))
+known_as kind.Jump what units = known.Jump
+known_as kind.Return what units = known.Return
+known_as kind.Throw what units = known.Throw
+known_as kind.Catch what units = known.Catch
+known_as _ what units = known.Other
+
+abbrev pub known_of : Event → Known
+known_of e = known_as e.kind e.what e.units

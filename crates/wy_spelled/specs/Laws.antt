@@ -1,0 +1,33 @@
+-- What is read is spelled so.
+use Rattle.std.specs.Prelude.{◌≡◌, ℕ, ◌<◌, ◌++◌, List, take, Ok, slice_index}
+use Rattle.wy_event.specs.declared.record.Head.{Head}
+use Rattle.wy_spelling.specs.Spelling.{coverage_payload, opening, slot_bytes, tail_payload}
+use Rattle.wy_event.specs.declared.record.Coverage.{Coverage}
+use Rattle.wy_event.specs.declared.record.Tail.{Tail}
+use Rattle.wy_event.specs.declared.record.Slot.{Slot}
+use Rattle.wy_payload.specs.declared.ranges.Ranges.{Ranges}
+use Rattle.wy_payload.specs.declared.slot.SlotForm.{SlotForm}
+use Rattle.wy_payload.specs.Places.{slot_at}
+use Rattle.wy_payload.specs.declared.known.Known.{Known}
+use Rattle.wy_payload.specs.declared.closing.Totals.{Totals}
+use Rattle.wy_payload.specs.Reading.{all_of}
+use Rattle.wy_payload.specs.Closing.{coverage_at, tail_at}
+use Rattle.wy_frames.specs.Heads.{head_of}
+
+-- each is below 256
+abbrev pub AreBytes : List ℕ → Type 0
+AreBytes bytes = (i : ℕ) → slice_index bytes i < 256
+
+abbrev pub HeadsAreSpelled : Type 0
+HeadsAreSpelled = (bytes : List ℕ) (head : Head) (end : ℕ) → AreBytes bytes → head_of bytes ≡ Ok (head, end) → take end bytes ≡ opening head
+
+-- a coverage and the end of a run that payloads are read as, to their ends
+abbrev pub CoveragesAreSpelled : Type 0
+CoveragesAreSpelled = (statements : ℕ) (earlier : List Known) (payload : List ℕ) (c : Coverage) → AreBytes payload → all_of (coverage_at statements earlier payload) ≡ Ok c → payload ≡ coverage_payload c
+
+abbrev pub TailsAreSpelled : Type 0
+TailsAreSpelled = (earlier : List Known) (totals : Totals) (coverage : Coverage) (payload : List ℕ) (t : Tail) → AreBytes payload → all_of (tail_at earlier totals coverage payload) ≡ Ok t → payload ≡ tail_payload t
+
+-- a slot that bytes are read to begin with
+abbrev pub SlotsAreSpelled : Type 0
+SlotsAreSpelled = (r : Ranges) (earlier : List Known) (wanted : SlotForm) (bytes : List ℕ) (x : Slot) (rest : List ℕ) → AreBytes bytes → slot_at r earlier wanted bytes ≡ Ok (x, rest) → bytes ≡ slot_bytes x ++ rest

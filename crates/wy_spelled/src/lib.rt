@@ -1,0 +1,25 @@
+//! What is read of a trace is spelled so, byte for byte.
+//! The functions do nothing: their contracts are the laws.
+#![tactic(auto)]
+
+ghost use Rattle.wy_spelled.specs.Laws.{CoveragesAreSpelled, HeadsAreSpelled, SlotsAreSpelled, TailsAreSpelled};
+
+/// A head that bytes are read to begin with is spelled there, with the magic before it and nothing between.
+pub fn heads_are_spelled()
+    ensures { HeadsAreSpelled }
+{}
+
+/// A coverage that a payload is read as is spelled by it.
+pub fn coverages_are_spelled()
+    ensures { CoveragesAreSpelled }
+{}
+
+/// The end of a run that a payload is read as is spelled by it.
+pub fn tails_are_spelled()
+    ensures { TailsAreSpelled }
+{}
+
+/// A slot that bytes are read to begin with is spelled there.
+pub fn slots_are_spelled()
+    ensures { SlotsAreSpelled }
+{}

@@ -1,0 +1,158 @@
+-- The one spelling of a trace: eight bytes that name the format, then frames. Numbers are big-endian, of four bytes where nothing is said.
+use Rattle.std.specs.Prelude.{ℕ, List, [], ◌∷◌, ◌++◌, length, codes, if◌then◌else◌, Option, Some}
+use Rattle.std.specs.Prelude.{None as Absent}
+use Rattle.std.specs.List.{flat_map}
+use Rattle.std.specs.Int.{w8, w16, w32, w64, to_be_bytes, cast_unsigned}
+use Rattle.sha2.specs.Sha256.{sha256}
+use Rattle.wy_value.specs.declared.value.Value.{Value}
+use Rattle.wy_value.specs.declared.value.Value.TheVariants as val
+use Rattle.wy_event.specs.declared.record.Kind.{Kind}
+use Rattle.wy_event.specs.declared.record.Kind.TheVariants as kind
+use Rattle.wy_event.specs.declared.record.Slot.{Slot}
+use Rattle.wy_event.specs.declared.record.Slot.TheVariants as slots
+use Rattle.wy_event.specs.declared.record.Use.{Use}
+use Rattle.wy_event.specs.declared.record.Use.TheVariants as used
+use Rattle.wy_event.specs.declared.record.Event.{Event}
+use Rattle.wy_event.specs.declared.record.Cover.{Cover}
+use Rattle.wy_event.specs.declared.record.Coverage.{Coverage}
+use Rattle.wy_event.specs.declared.record.Head.{Head}
+use Rattle.wy_event.specs.declared.record.Tail.{Tail}
+use Rattle.wy_event.specs.declared.record.Trace.{Trace}
+use Rattle.wy_event.specs.Record.{Recorded, NONE, recorded}
+
+-- the greatest length of a trace
+abbrev pub trace_limit : ℕ
+trace_limit = 1073741824
+
+-- ---- parts of an event
+
+abbrev pub number : ℕ → List ℕ
+number n = to_be_bytes w32 n
+
+abbrev pub optional : Option ℕ → List ℕ
+optional Absent = number NONE
+optional (Some n) = number n
+
+abbrev pub kind_number : Kind → ℕ
+kind_number kind.Init = 0
+kind_number kind.New = 1
+kind_number kind.Call = 2
+kind_number kind.Bind = 3
+kind_number kind.Set = 4
+kind_number kind.Test = 5
+kind_number kind.Text = 6
+kind_number kind.Read = 7
+kind_number kind.Print = 8
+kind_number kind.Return = 9
+kind_number kind.Jump = 10
+kind_number kind.Throw = 11
+kind_number kind.Catch = 12
+
+-- a tag, and the numbers that tell the slot
+unfoldable pub slot_bytes : Slot → List ℕ
+slot_bytes slots.None = 0 ∷ []
+slot_bytes (slots.Local frame index) = 1 ∷ number frame ++ number index
+slot_bytes (slots.Static field) = 2 ∷ number field
+slot_bytes (slots.Field object field) = 3 ∷ number object ++ number field
+slot_bytes (slots.Elem array index) = 4 ∷ number array ++ number index
+
+-- a tag, and the number that the value is, in as many bytes as its type has
+unfoldable pub value_bytes : Value → List ℕ
+value_bytes val.None = 0 ∷ []
+value_bytes (val.Bool b) = 1 ∷ (if b then 1 else 0) ∷ []
+value_bytes (val.Byte z) = 2 ∷ cast_unsigned w8 z ∷ []
+value_bytes (val.Short z) = 3 ∷ to_be_bytes w16 (cast_unsigned w16 z)
+value_bytes (val.Char u) = 4 ∷ to_be_bytes w16 u
+value_bytes (val.Int z) = 5 ∷ to_be_bytes w32 (cast_unsigned w32 z)
+value_bytes (val.Long z) = 6 ∷ to_be_bytes w64 (cast_unsigned w64 z)
+value_bytes val.Null = 7 ∷ []
+value_bytes (val.Object n) = 8 ∷ number n
+value_bytes (val.Text n) = 9 ∷ number n
+value_bytes (val.Fixed n) = 10 ∷ number n
+
+-- what a Text made: a tag, how many units, and the units in two bytes each
+unfoldable pub units_bytes : List ℕ → List ℕ
+units_bytes units = 11 ∷ number (length units) ++ flat_map (to_be_bytes w16) units
+
+-- the units where the event is a Text, and else the value
+abbrev pub content_bytes : Kind → Value → List ℕ → List ℕ
+content_bytes kind.Text v units = units_bytes units
+content_bytes _ v units = value_bytes v
+
+unfoldable pub use_bytes : Use → List ℕ
+use_bytes (used.Place slot moment) = 1 ∷ slot_bytes slot ++ number moment
+use_bytes (used.Value event) = 2 ∷ number event
+use_bytes (used.Choice event) = 3 ∷ number event
+
+unfoldable pub uses_bytes : List Use → List ℕ
+uses_bytes uses = number (length uses) ++ flat_map use_bytes uses
+
+-- ---- frames
+
+-- a byte that names the kind, the length of what follows, and this
+abbrev pub frame : ℕ → List ℕ → List ℕ
+frame letter payload = letter ∷ number (length payload) ++ payload
+
+-- what an event is and where it stands
+unfoldable pub origin_bytes : Recorded → List ℕ
+origin_bytes e = kind_number e.kind ∷ number e.site ++ (optional e.frame ++ (optional e.control ++ optional e.what))
+
+unfoldable pub event_payload : Recorded → List ℕ
+event_payload e = origin_bytes e ++ (slot_bytes e.slot ++ (content_bytes e.kind e.value e.units ++ uses_bytes e.uses))
+
+unfoldable pub head_payload : Head → List ℕ
+head_payload head = number head.steps ++ (number (length head.input) ++ (head.input ++ (number (length head.source) ++ head.source)))
+
+unfoldable pub cover_bytes : Cover → List ℕ
+cover_bytes c = number c.begins ++ (number c.ends ++ (number c.first ++ number c.cause))
+
+unfoldable pub coverage_payload : Coverage → List ℕ
+coverage_payload coverage = number (length coverage.statements) ++ flat_map cover_bytes coverage.statements
+
+-- steps, events, uses and bytes of output
+unfoldable pub count_bytes : Tail → List ℕ
+count_bytes tail = number tail.steps ++ (number tail.events ++ (number tail.uses ++ number tail.output))
+
+unfoldable pub tail_payload : Tail → List ℕ
+tail_payload tail = tail.stop ∷ number tail.last ++ count_bytes tail
+
+-- `H`, `E`, `C`, `T` and `S`
+unfoldable pub head_frame : Head → List ℕ
+head_frame head = frame 72 (head_payload head)
+
+unfoldable pub event_frame : Recorded → List ℕ
+event_frame e = frame 69 (event_payload e)
+
+unfoldable pub coverage_frame : Coverage → List ℕ
+coverage_frame coverage = frame 67 (coverage_payload coverage)
+
+unfoldable pub end_frame : Tail → List ℕ
+end_frame tail = frame 84 (tail_payload tail)
+
+unfoldable pub seal_frame : List ℕ → List ℕ
+seal_frame seal = frame 83 seal
+
+-- ---- a trace
+
+abbrev pub magic : List ℕ
+magic = codes "WHYTRAC1"
+
+unfoldable pub opening : Head → List ℕ
+opening head = magic ++ head_frame head
+
+unfoldable pub tail_frames : Tail → List ℕ
+tail_frames tail = coverage_frame tail.coverage ++ end_frame tail
+
+unfoldable pub events_bytes : List Event → List ℕ
+events_bytes events = flat_map (λ e. event_frame (recorded e)) events
+
+-- bytes, and the digest of them
+unfoldable pub sealed : List ℕ → List ℕ
+sealed bytes = bytes ++ seal_frame (sha256 bytes)
+
+-- what closes the bytes of head and events
+unfoldable pub closing : Tail → List ℕ → List ℕ
+closing tail bytes = tail_frames tail ++ seal_frame (sha256 (bytes ++ tail_frames tail))
+
+unfoldable pub trace_bytes : Trace → List ℕ
+trace_bytes t = sealed (opening t.head ++ (events_bytes t.events ++ tail_frames t.tail))
