@@ -6,7 +6,7 @@ use Rattle.wy_value.specs.declared.value.Value.TheVariants.{None as Nothing}
 use Rattle.wy_event.specs.declared.record.Use.{Use}
 use Rattle.wy_operands.specs.declared.operands.Operand.{Operand}
 use Rattle.wy_operands.specs.declared.operands.Operands.{Operands}
-use Rattle.wy_operands.specs.Values.{given, top, under_many, at, uses_of_last}
+use Rattle.wy_operands.specs.Values.{given, top, under, under_many, at, uses_of_last}
 use Rattle.wy_operands.specs.Layout.{Begins, carried, values_of}
 use Rattle.wy_operands.proofs.Places.{under_past, uses_split, length-carried}
 
@@ -51,6 +51,15 @@ part_is s above many from to one more fewer =
       in_order = omega (arith, more.within, fewer.within, count);
       uses = ap (take (to - from)) split ∙ take_at (at above (values_of s)).uses (drop to s.uses.items) (to - from) own;
     }
+
+-- between where the uses of the last three begin, and those of the top
+pub under_top : (s : Operands) (from to : ℕ) → Begins s 3 from → Begins s 1 to → (from ≤ to) × (slice_range s.uses.items from to ≡ uses_of_last 2 (under (values_of s)))
+under_top s from to more fewer =
+    let split : drop from s.uses.items ≡ uses_of_last 2 (under (values_of s)) ++ drop to s.uses.items = more.uses ∙ ap (λ us. uses_of_last 2 (under (values_of s)) ++ us) (sym fewer.uses) in
+    let count : length s.uses.items - from ≡ length (uses_of_last 2 (under (values_of s))) + (length s.uses.items - to) =
+    sym (length-drop from s.uses.items) ∙ ap length split ∙ length-append (uses_of_last 2 (under (values_of s))) (drop to s.uses.items) ∙ ap (λ n. length (uses_of_last 2 (under (values_of s))) + n) (length-drop to s.uses.items) in
+    let own : length (uses_of_last 2 (under (values_of s))) ≡ to - from = omega (arith, more.within, fewer.within, count) in
+    (omega (arith, more.within, fewer.within, count), ap (take (to - from)) split ∙ take_at (uses_of_last 2 (under (values_of s))) (drop to s.uses.items) (to - from) own)
 
 at_carried : (os : List Operand) (us : List Use) (n : ℕ) (d : Operand) → n < length os → (at n (carried os us)).value ≡ (get_or os n d).value
 at_carried [] us n d low = absurd (omega arith)

@@ -4,7 +4,7 @@
 ghost use Rattle.std.specs.Prelude.{◌≡◌, ℕ, ◌≤◌, ◌-◌, List, [], ◌∷◌, ◌++◌, length, take, drop, slice_range, OnOk};
 ghost use Rattle.wy_event.specs.declared.record.Use.{Use};
 ghost use Rattle.wy_steps.specs.Steps.{joined_all};
-ghost use Rattle.wy_operands.specs.Values.{given, top, at, under_many, last_many, uses_of_last};
+ghost use Rattle.wy_operands.specs.Values.{under, given, top, at, under_many, last_many, uses_of_last};
 ghost use Rattle.wy_operands.specs.Values.{joined_last, joined_with, with_copy, with_after, with_event, with_second_of_three};
 ghost use Rattle.wy_operands.specs.Layout.{values_of, Begins, beginning};
 
@@ -170,6 +170,25 @@ impl Operands {
     {
         let from = self.beginning_of_last(many);
         &self.uses[from..]
+    }
+
+    /// From where to where the uses of the two values under the top lie.
+    fn place_under_top(&self) -> (usize, usize)
+        ensures in_order { result.0 ≤ result.1 }
+        ensures within { result.1 ≤ length self.now.uses.items }
+        ensures uses { slice_range self.now.uses.items result.0 result.1
+            ≡ uses_of_last 2 (under (values_of self.now)) }
+    {
+        let from = self.beginning_of_last(3);
+        (from, self.beginning_of_last(1))
+    }
+
+    /// The uses of the two values that lie under the top, joined.
+    pub fn uses_under_top(&self) -> &[Use]
+        ensures { result.now ≡ uses_of_last 2 (under (values_of self.now)) }
+    {
+        let (from, to) = self.place_under_top();
+        &self.uses[from..to]
     }
 
     /// Takes the last values off with their uses.

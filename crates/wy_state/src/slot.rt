@@ -1,6 +1,7 @@
 //! Steps of slots, and what a value refers to.
 
 ghost use Rattle.std.specs.Prelude.{◌≡◌, ℕ, IfOk, OnOk, Some};
+ghost use Rattle.wy_heap.specs.Heap.{is_made};
 ghost use Rattle.wy_kernel.specs.Program as kernel;
 ghost use Rattle.wy_meaning.specs.World.{World, length_of, type_of, units_of};
 ghost use Rattle.wy_steps.specs.Sets.{nothing};
@@ -169,8 +170,9 @@ impl<'a, R: Recorder> State<'a, R> {
 
     /// The initialization of a class is going on or done.
     pub fn is_begun(&self, class: u32) -> bool
-        ensures { (p : kernel.Program) → Onward p (shape R.keeps R.kept self.now) (is_begun class)
+        ensures step { (p : kernel.Program) → Onward p (shape R.keeps R.kept self.now) (is_begun class)
             (shape R.keeps R.kept self.now) (return result) }
+        ensures made { result ≡ is_made self.now.heap class }
     {
         self.heap.is_begun(class)
     }

@@ -1,0 +1,101 @@
+-- Updates whose old value and right side are there.
+use Rattle.std.proofs.Common.{◌≡◌, ◌∙◌, ℕ, Bool, true, false, List, [], ◌∷◌, ◌++◌, refl, ap, sym, subst, Bor, Option, Some, Result, Ok, Err}
+use Rattle.std.specs.Prelude.{None as Absent, if◌then◌else◌}
+use Rattle.wy_kernel.specs.Program.{Program}
+use Rattle.wy_kernel.specs.Form.{Expression}
+use Rattle.wy_kernel.specs.Form as plain
+use Rattle.wy_kernel.specs.View.{expression}
+use Rattle.wy_kernel.specs.declared.form.Expr.{Expr}
+use Rattle.wy_kernel.specs.declared.operator.BinOp.{BinOp}
+use Rattle.wy_kernel.specs.declared.operator.Primitive.{Primitive}
+use Rattle.wy_kernel.specs.declared.types.Ty.{Ty}
+use Rattle.wy_value.specs.declared.value.Value.{Value}
+use Rattle.wy_event.specs.declared.record.Slot.{Slot}
+use Rattle.wy_event.specs.declared.record.Use.{Use}
+use Rattle.wy_steps.specs.Sets.{nothing}
+use Rattle.wy_steps.specs.State.{State, Carried, Run, go_on, ◌>>=◌, return}
+use Rattle.wy_meaning.specs.World.{World}
+use Rattle.wy_meaning.specs.Run.{world}
+use Rattle.wy_meaning.specs.Text.{concatenated}
+use Rattle.wy_state.specs.declared.parts.Halt.{Halt}
+use Rattle.wy_state.specs.Agrees.{Shape, Onward, Answers}
+use Rattle.wy_state.specs.Seen.{given, valued}
+use Rattle.wy_state.proofs.Onward.{onward_as, onward_same}
+use Rattle.wy_operation.specs.Around.{IsSameAround, KeepsAt}
+use Rattle.wy_operation.specs.Spots.{spot_of}
+use Rattle.wy_operation.specs.Updated.{Places, updated}
+use Rattle.wy_operands.specs.Values.{Values, at, top, under, under_many, uses_of_last, with_event, with_second_of_three}
+use Rattle.wy_work.specs.declared.frame.Frame.TheVariants as frames
+use Rattle.wy_work.specs.declared.frame.ExprStep.TheVariants as step
+use Rattle.wy_work.specs.Expressions.{expr_step, put_on, right_side, updating, updating_of}
+use Rattle.wy_work.specs.Frames.{Standing, around, after, goes, pushed, then_all, Does, Resumed}
+use Rattle.wy_work.proofs.Runs.{go_on-go_on, turned_after, world_program}
+use Rattle.wy_meaning.specs.Place.{Located, Spot, find}
+use Rattle.wy_meaning.specs.Expression.{update}
+use Rattle.wy_work.specs.Operands.{Given}
+use Rattle.wy_work.proofs.Updates.{update_is}
+use Rattle.wy_work.proofs.Places.{Storing, first_failed, first_went, put_as}
+
+joined_thrice : (a b c : List Use) → a ++ (b ++ c) ≡ (a ++ b) ++ c
+joined_thrice [] b c = refl
+joined_thrice (x ∷ a) b c = ap (λ all. x ∷ all) (joined_thrice a b c)
+
+module _ (p : Program) (m : Standing) (slot : Slot) (place : plain.Place) (op : BinOp) (part : plain.Part) (value_ty ty : Ty) (site : ℕ) where
+  -- the parts of the place and the text are there
+  pub text_stored : (wide : Option Primitive) (gives_old : Bool) (r : Result (Unit {0}) Halt) (n : Standing) (x : Expression) → x ≡ plain.Upd place op part value_ty ty wide gives_old site → Storing p slot 2 site m r n → Does p (λ w. expr_step w x (step.Store slot)) m r n
+  text_stored wide gives_old r n x seen a =
+      subst (λ z. Does p (λ w. expr_step w z (step.Store slot)) m r n) (sym seen) (a (record { spot = spot_of slot (at 1 m.values); right = top m.values; is_slot = refl; is_right = refl; are_joined = refl }))
+
+  -- the text of the old value and the right side comes first
+  pub text_next : (gives_old : Bool) (r : Result (Unit {0}) Halt) (n q : Standing) (e : Bor Expr) → expression e.now ≡ plain.Upd place op part value_ty ty Absent gives_old site → q ≡ pushed (frames.Expr e (step.Store slot)) m →
+      Does p (λ w vs. put_on (under_many 2 vs) (concatenated w site (at 1 vs) (top vs))) q r n → Does p (λ w. expr_step w (expression e.now) (step.Assign slot)) m r n
+  unfolding go_on return ◌>>=◌
+  text_next gives_old r n q e seen is a =
+      turned_after p m.state m n (then_all p m (expr_step (world p m.depth) (expression e.now) (step.Assign slot) m.values)) (then_all p (pushed (frames.Expr e (step.Store slot)) m) (put_on (under_many 2 m.values) (concatenated (world p m.depth) site (at 1 m.values) (top m.values)))) r (λ u. return n.values)
+      (onward_as (λ s. ap (after p (around m) m.work) (rw (seen) (go_on-go_on (concatenated (world p m.depth) site (at 1 m.values) (top m.values) s) _ _ ∙ sym (go_on-go_on (concatenated (world p m.depth) site (at 1 m.values) (top m.values) s) _ _)))) (onward_same p m.state _))
+      (subst (λ z. Does p (λ w vs. put_on (under_many 2 vs) (concatenated w site (at 1 vs) (top vs))) z r n) is a)
+
+  module _ (s : Shape) (us : Values) (wide : Primitive) (gives_old : Bool) (x : Expression) (seen : x ≡ plain.Upd place op part value_ty ty (Some wide) gives_old site) (left right : Value) (operands used : List Use)
+      (l : left ≡ (at 1 m.values).value) (h : right ≡ (top m.values).value) (two : operands ≡ uses_of_last 2 m.values) (three : used ≡ uses_of_last 3 m.values) where
+    abbrev here : Places slot left right operands used
+    here = record { spot = spot_of slot (at 2 m.values); old = at 1 m.values; value = top m.values; is_slot = refl; is_left = sym l; is_right = sym h; are_operands = sym two;
+      are_joined = ap (λ z. (at 2 m.values).uses ++ z) two ∙ joined_thrice (at 2 m.values).uses (at 1 m.values).uses (top m.values).uses ∙ sym three }
+
+    abbrev pub run_here : Run nothing (Carried nothing)
+    run_here = updated (world p m.depth) op ty wide site (spot_of slot (at 2 m.values)) (at 1 m.values) (top m.values)
+
+    pub number_set : (value : Value) (e : ℕ) (given_back : Carried nothing) → ((q : Program) (w : World nothing) (o : Places slot left right operands used) → w.program ≡ q → Onward q m.state (updated w op ty wide site o.spot o.old o.value) s (return (valued e value))) → IsSameAround m.state.calls s.calls →
+        (if gives_old then at 1 m.values else valued e value) ≡ given_back → us ≡ given_back ∷ under_many 3 m.values → Resumed p (then_all p m (expr_step (world p m.depth) x (step.Assign slot) m.values)) m.state (Ok tt) (record m { state = s; values = us })
+    unfolding go_on return
+    number_set value e given_back a same back is =
+        subst (λ z. Resumed p (then_all p m (expr_step (world p m.depth) z (step.Assign slot) m.values)) m.state (Ok tt) (record m { state = s; values = us })) (sym seen)
+        (first_went p m s run_here (λ set. return (if gives_old then at 1 m.values else set)) (under_many 3 m.values) (valued e value) (Ok tt) (record m { state = s; values = us }) (a p (world p m.depth) here (world_program p m.depth)) same
+        (onward_as (λ st. ap (λ c. after p (around (record m { state = s })) m.work (return (c ∷ under_many 3 m.values) st)) back ∙ ap (λ z. after p (around (record m { state = s })) m.work (return z st)) (sym is)) (onward_same p s _)))
+
+    pub number_refused : (e : Halt) → ((q : Program) (w : World nothing) (o : Places slot left right operands used) → w.program ≡ q → Answers {X = Value × ℕ} q (λ r. valued r.1 r.0) (Err e) m.state (updated w op ty wide site o.spot o.old o.value) s) → KeepsAt e m.state.calls s.calls →
+        Resumed p (then_all p m (expr_step (world p m.depth) x (step.Assign slot) m.values)) m.state (Err e) (record m { state = s })
+    number_refused e a same =
+        subst (λ z. Resumed p (then_all p m (expr_step (world p m.depth) z (step.Assign slot) m.values)) m.state (Err e) (record m { state = s })) (sym seen)
+        (first_failed p m s run_here (λ set. return (if gives_old then at 1 m.values else set)) (under_many 3 m.values) (λ (r : Value × ℕ). valued r.1 r.0) e (a p (world p m.depth) here (world_program p m.depth)) same)
+
+-- ---- an update whose parts are there
+
+-- what is done once the place is found
+abbrev pub Locating : Expression → Slot → ℕ → Standing → Result (Unit {0}) Halt → Standing → Type 0
+Locating x slot many m r n = (p : Program) (c : Carried nothing) → c.uses ≡ uses_of_last many m.values → Does p (λ w vs. updating_of w x (spot_of slot c) (under_many many vs)) m r n
+
+module _ (p : Program) (m : Standing) (s : Shape) (n : Standing) (r : Result (Unit {0}) Halt) (x : Expression) (slot : Slot) (op : BinOp) (value : plain.Part) (value_ty ty : Ty) (wide : Option Primitive) (gives_old : Bool) (site : ℕ) where
+  abbrev right : Given
+  right = right_side (world p m.depth) value
+
+  -- its place is found, and the rest is done from there
+  update_found : (place : plain.Place) (at : Located nothing) (f : Run nothing (Spot nothing)) (many : ℕ) (c : Carried nothing) → x ≡ plain.Upd place op value value_ty ty wide gives_old site →
+      ((s : State nothing) → find (world p m.depth) at s ≡ f s) → Onward p m.state f s (return (spot_of slot c)) → IsSameAround m.state.calls s.calls → c.uses ≡ uses_of_last many m.values → Locating x slot many (record m { state = s }) r n →
+      Resumed p (then_all p m (put_on (under_many many m.values) (update (world p m.depth) at op right ty wide gives_old site))) m.state r n
+  unfolding ◌>>=◌
+  update_found place at f many c is found a same own next =
+      let w = world p m.depth in
+      put_as p m (update w at op right ty wide gives_old site) (f >>= (λ spot. updating w spot op right ty wide gives_old site)) (under_many many m.values) r n
+      (λ st. update_is w at op right ty wide gives_old site st ∙ ap (λ o. go_on o (λ spot. updating w spot op right ty wide gives_old site)) (found st))
+      (first_went p m s f (λ spot. updating w spot op right ty wide gives_old site) (under_many many m.values) (spot_of slot c) r n a same
+      (subst (λ y. Does p (λ w vs. updating_of w y (spot_of slot c) (under_many many vs)) (record m { state = s }) r n) is (next p c own)))

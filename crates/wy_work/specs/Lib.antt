@@ -1,0 +1,8 @@
+pub mod Operands
+pub mod Listed
+pub mod Expressions
+pub mod Statements
+pub mod Frames
+pub mod Machines
+pub mod Calls
+pub mod Handlers

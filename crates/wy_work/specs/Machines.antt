@@ -1,0 +1,16 @@
+-- How contracts see a machine in memory.
+use Rattle.std.specs.Prelude.{Bool, List, map, reverse}
+use Rattle.wy_event.specs.Record.{Recorded}
+use Rattle.wy_state.specs.Agrees.{shape}
+use Rattle.wy_operands.specs.Layout.{values_of}
+use Rattle.wy_work.specs.declared.machine.Machine.{Machine}
+use Rattle.wy_work.specs.Frames.{Standing}
+
+abbrev pub standing : {R : Type 0} → Bool → (R → List Recorded) → Machine R → Standing
+standing keeps kept m = record {
+  state = shape keeps kept m.state;
+  depth = m.depth;
+  work = reverse m.work.items;
+  values = values_of m.stack;
+  saved = reverse (map values_of m.saved.items);
+}
