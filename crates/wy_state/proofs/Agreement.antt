@@ -26,6 +26,7 @@ module _ (p : Program) (m : Shape) (s : State nothing) where
     active = a.active;
     frame = a.frame;
     covers = a.covers;
+    throws = a.throws;
     fall = a.fall;
     locals = a.locals;
     fresh_locals = a.fresh_locals;
@@ -52,6 +53,7 @@ module _ (p : Program) (m : Shape) (s : State nothing) where
     active = a.active;
     frame = a.frame;
     covers = a.covers;
+    throws = a.throws;
     fall = a.fall;
     locals = a.locals;
     fresh_locals = a.fresh_locals;
@@ -78,6 +80,7 @@ module _ (p : Program) (m : Shape) (s : State nothing) where
     active = a.active;
     frame = a.frame;
     covers = a.covers;
+    throws = a.throws;
     fall = a.fall;
     locals = a.locals;
     fresh_locals = a.fresh_locals;
@@ -104,6 +107,7 @@ module _ (p : Program) (m : Shape) (s : State nothing) where
     active = a.active;
     frame = a.frame;
     covers = a.covers;
+    throws = a.throws;
     fall = a.fall;
     locals = a.locals;
     fresh_locals = a.fresh_locals;
@@ -130,6 +134,7 @@ module _ (p : Program) (m : Shape) (s : State nothing) where
     active = a.active;
     frame = a.frame;
     covers = a.covers;
+    throws = a.throws;
     fall = a.fall;
     locals = a.locals;
     fresh_locals = a.fresh_locals;
@@ -156,6 +161,7 @@ module _ (p : Program) (m : Shape) (s : State nothing) where
     active = a.active;
     frame = a.frame;
     covers = has;
+    throws = a.throws;
     fall = a.fall;
     locals = a.locals;
     fresh_locals = a.fresh_locals;
@@ -184,6 +190,7 @@ module _ (p : Program) (m : Shape) (s : State nothing) where
     active = is;
     frame = a.frame;
     covers = a.covers;
+    throws = a.throws;
     fall = a.fall;
     locals = a.locals;
     fresh_locals = a.fresh_locals;
@@ -212,6 +219,7 @@ module _ (p : Program) (m : Shape) (s : State nothing) where
     active = a.active;
     frame = is;
     covers = a.covers;
+    throws = a.throws;
     fall = falls;
     locals = has;
     fresh_locals = fresh;
@@ -241,6 +249,7 @@ module _ (p : Program) (m : Shape) (s : State nothing) where
     active = a.active;
     frame = a.frame ∙ sym same;
     covers = a.covers;
+    throws = a.throws;
     fall = falls;
     locals = has;
     fresh_locals = fresh;

@@ -23,7 +23,7 @@ use Rattle.wy_state.proofs.Onward.{answers_after, answers_then, onward_bind, onw
 use Rattle.wy_heap.specs.declared.heap.Heap.{Heap}
 use Rattle.wy_heap.specs.Heap.{plan, is_made}
 use Rattle.wy_heap.specs.Plan.{plan_of}
-use Rattle.wy_state.specs.Agrees.{Shape, Agrees, Answers, Onward, HasLocals, HasFreshLocals, HasSlots, HasFreshStatics, HasCodes, HasSizes, HasTexts, IsUnmade, Refusing, event_of, itself, with_record}
+use Rattle.wy_state.specs.Agrees.{Shape, Agrees, Answers, Onward, HasLocals, HasFreshLocals, HasSlots, HasFreshStatics, HasCodes, HasSizes, HasTexts, IsUnmade, Refusing, event_of, itself, throw_at, with_record}
 use Rattle.wy_state.specs.declared.parts.Draft.{Draft as Drafted}
 use Rattle.wy_state.specs.Seen.{draft_of, given, made_of}
 
@@ -78,6 +78,7 @@ module _ (p : Program) (m : Shape) (s : State nothing) (a : Agrees p m s) (d : D
     active = a.active;
     frame = a.frame;
     covers = a.covers;
+    throws = rw a.events (ap (λ ts. throw_at m.events d.kind d.site d.value ts) a.throws);
     fall = a.fall;
     locals = locals;
     fresh_locals = fresh;

@@ -321,6 +321,7 @@ module _ (p : Program) (m : Shape) (s : State nothing) (x : Slot) (v u : Value) 
     active = a.active;
     frame = a.frame;
     covers = a.covers;
+    throws = a.throws;
     fall = a.fall;
     locals = λ f i t is. ap (λ o. (held_of o).value) (other (Local f i) (unlike_local m.heap x u was f i)) ∙ a.locals f i t is;
     fresh_locals = λ f i le. other (Local f i) (unlike_local m.heap x u was f i) ∙ a.fresh_locals f i le;

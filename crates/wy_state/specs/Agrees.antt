@@ -7,6 +7,8 @@ use Rattle.wy_value.specs.declared.value.Value.{Value}
 use Rattle.wy_event.specs.declared.record.Slot.{Slot}
 use Rattle.wy_event.specs.declared.record.Slot.TheVariants.{Local, Static, Field, Elem}
 use Rattle.wy_event.specs.declared.record.Cover.{Cover}
+use Rattle.wy_event.specs.declared.record.Kind.{Kind}
+use Rattle.wy_event.specs.declared.record.Kind.TheVariants as kinds
 use Rattle.wy_event.specs.declared.record.Use.{Use}
 use Rattle.wy_event.specs.Record.{Recorded}
 use Rattle.wy_steps.specs.Sets.{nothing}
@@ -21,6 +23,7 @@ use Rattle.wy_heap.specs.Heap.{plan, held, code, size, text, is_made}
 use Rattle.wy_state.specs.declared.parts.Halt.{Halt}
 use Rattle.wy_state.specs.declared.parts.Halt.TheVariants.{Left, Stopped, Recorder, Memory}
 use Rattle.wy_state.specs.declared.parts.Limit.TheVariants as limit
+use Rattle.wy_state.specs.declared.parts.Throw.{Throw}
 use Rattle.wy_state.specs.declared.state.State.{State as Present}
 use Rattle.wy_state.specs.Seen.{blank, covered_of, reason_of, stop_of}
 
@@ -37,6 +40,7 @@ pub record Shape : Type 0 where
   pub output : List ℕ
   pub input : List ℕ
   pub covers : List Cover
+  pub throws : List Throw
   pub keeps : Bool
   pub kept : List Recorded
 
@@ -53,6 +57,7 @@ shape keeps kept p = record {
   output = p.output.items;
   input = p.input.now;
   covers = p.covers.items;
+  throws = reverse p.throws.items;
   keeps = keeps;
   kept = kept p.recorder;
 }
@@ -70,6 +75,16 @@ event_of d us m = record {
   units = d.units;
   uses = us;
 }
+
+-- a Throw among the records by its number, with its site and what it threw
+abbrev pub throw_at : ℕ → Kind → ℕ → Value → List Throw → List Throw
+throw_at n kinds.Throw site v throws = record { event = n; site = site; value = v } ∷ throws
+throw_at n _ site v throws = throws
+
+-- the Throws of the records, the newest first
+abbrev pub throws_in : List (Noted nothing) → List Throw
+throws_in [] = []
+throws_in (e ∷ noted) = throw_at (length noted) e.event.kind e.event.site e.event.value (throws_in noted)
 
 -- the value that a slot has
 abbrev pub value_in : Store nothing → Slot → Value
@@ -132,6 +147,7 @@ pub record Agrees (p : Program) (m : Shape) (s : State nothing) : Type 0 where
   pub active : s.active ≡ m.calls.active
   pub frame : s.frame ≡ frame_of m.calls
   pub covers : HasCovers s.coverage m.covers
+  pub throws : m.throws ≡ throws_in s.noted
   pub fall : Fall m.entered m.calls.frames
   pub locals : HasLocals s.store m.calls.frames
   pub fresh_locals : HasFreshLocals s.store m.entered
@@ -190,7 +206,7 @@ IsCaused n e old new = (n < length old) × (new ≡ slice_set old n (record (sli
 
 -- the state with one event more, handed to the recorder
 abbrev pub with_record : Draft → List Use → Shape → Shape
-with_record d us m = record m { events = m.events + 1; uses = m.uses + length us; kept = if m.keeps then m.kept ++ event_of d us m ∷ [] else m.kept }
+with_record d us m = record m { events = m.events + 1; uses = m.uses + length us; kept = if m.keeps then m.kept ++ event_of d us m ∷ [] else m.kept; throws = throw_at m.events d.kind d.site d.value m.throws }
 
 -- there was no room for an event or for its uses, or the recorder or memory refused
 abbrev pub Refusing : List Use → Halt → Shape → Shape → Type 0

@@ -1,14 +1,14 @@
 //! Records: each is handed to the recorder, and a write is stored.
 
-ghost use Rattle.std.specs.Prelude.{◌≡◌, ◌≢◌, ◌+◌, [], false, IfOk, OnOk};
+ghost use Rattle.std.specs.Prelude.{◌≡◌, ◌≢◌, ◌+◌, [], false, reverse, IfOk, OnOk};
 ghost use Rattle.wy_event.specs.declared.record.Kind.{Kind};
 ghost use Rattle.wy_event.specs.Record.{recorded};
 ghost use Rattle.wy_kernel.specs.Program.{Program};
 ghost use Rattle.wy_steps.specs.Steps.{note, note_write};
-ghost use Rattle.wy_state.specs.Agrees.{shape, Answers, KeepsFrames, Recording, event_of, itself};
+ghost use Rattle.wy_state.specs.Agrees.{shape, Answers, KeepsFrames, Recording, event_of, itself, throw_at};
 ghost use Rattle.wy_state.specs.Seen.{draft_of, given, made_of};
 
-use crate::parts::{Draft, Halt, Limit};
+use crate::parts::{Draft, Halt, Limit, Throw};
 use crate::state::{EVENT_LIMIT, State, USE_LIMIT};
 use std::alloc::AllocError;
 use std::mem;
@@ -48,6 +48,7 @@ impl<'a, R: Recorder> State<'a, R> {
             Err(RecordError::NoMemory) => return Err(Halt::Memory),
             Err(error) => return Err(Halt::Recorder(error)),
         }
+        remember(&mut self.throws, draft, number)?;
         self.spare = event.uses.into_vec();
         self.events = number + 1;
         self.uses = total as u32;
@@ -116,4 +117,25 @@ fn is_init(kind: Kind) -> bool
         Kind::Init => true,
         _ => false,
     }
+}
+
+/// Puts a Throw with its number behind those before it.
+fn remember(throws: &mut Vec<Throw>, draft: Draft, number: u32) -> Result<(), AllocError>
+    ensures { OnOk result (reverse throws.new.items
+        ≡ throw_at number draft.kind draft.site draft.value (reverse throws.old.items)) }
+{
+    if let Draft {
+        kind: Kind::Throw,
+        site,
+        value,
+        ..
+    } = draft
+    {
+        throws.push(Throw {
+            event: number,
+            site,
+            value,
+        })?;
+    }
+    Ok(())
 }

@@ -67,6 +67,14 @@ impl From<HeapError> for Halt {
     }
 }
 
+/// A Throw among the events, by its number.
+#[derive(Clone, Copy, Debug, PartialEq, Eq)]
+pub struct Throw {
+    pub event: u32,
+    pub site: u32,
+    pub value: Value,
+}
+
 /// What an event says of itself. Its units, where it is a Text, are given beside it.
 #[derive(Clone, Copy)]
 pub struct Draft {

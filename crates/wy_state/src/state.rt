@@ -8,7 +8,7 @@ ghost use Rattle.wy_steps.specs.Steps.{next_byte, steps_left, tick};
 ghost use Rattle.wy_state.specs.Agrees.{shape, Answers, Onward, itself};
 ghost use Rattle.wy_state.specs.Seen.{given};
 
-use crate::parts::{Draft, Halt, Limit};
+use crate::parts::{Draft, Halt, Limit, Throw};
 use std::alloc::{AllocError, Global};
 use wy_calls::Calls;
 use wy_event::record::{Cover, Kind, Use};
@@ -44,6 +44,8 @@ pub struct State<'a, R> {
     pub output: Vec<u8>,
     pub input: &'a [u8],
     pub covers: Vec<Cover>,
+    /// The Throws among the events, the newest last.
+    pub throws: Vec<Throw>,
     pub recorder: R,
     /// Room for the uses of the event that is noted.
     pub spare: Vec<Use>,
