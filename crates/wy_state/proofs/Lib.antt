@@ -5,7 +5,7 @@ mod Numbers
 mod Bodies
 mod Statics
 mod Slots
-mod Records
+pub mod Records
 mod Rounds
 mod Names
 mod Makers
