@@ -1,4 +1,4 @@
 pub mod Starts
 pub mod Going
-pub mod Throws
-
+mod Throws
+pub mod Ends

@@ -32,10 +32,10 @@ pub fn finish<'a, R: Recorder + Drop>(
     signal: Signal,
 ) -> Result<(Ended, R), AllocError>
     ensures ended { (p : kernel.Program) (vs : Values) (o : Outcome nothing Values)
-        → Comes p (shape R.keeps R.kept state) (outcome_at signal vs) o
+        → Comes p (shape R.keeps R.kept state.entry) (outcome_at signal vs) o
         → p.statements ≡ statements → IfOk result (λ r. IsEndFor p steps o r.0) }
     ensures kept { (p : kernel.Program) (vs : Values) (o : Outcome nothing Values)
-        → Comes p (shape R.keeps R.kept state) (outcome_at signal vs) o
+        → Comes p (shape R.keeps R.kept state.entry) (outcome_at signal vs) o
         → R.keeps ≡ true → IfOk result (λ r. R.kept r.1 ≡ events_of o) }
 {
     if state.covers.len() != statements as usize {
@@ -66,6 +66,7 @@ pub fn finish<'a, R: Recorder + Drop>(
 }
 
 /// A number, or NONE.
+#[tactic(auto, unfolding(wy_event::specs::Record::present))]
 fn number_of(number: Option<u32>) -> Result<u32, AllocError>
     ensures { IfOk result (λ n. present n ≡ number) }
 {
@@ -98,6 +99,7 @@ fn stop_number(signal: Signal) -> u8
     }
 }
 
+#[tactic(auto, unfolding(wy_meaning::specs::Run::stop_number))]
 fn limit_number(why: Limit) -> u8
     ensures { result ≡ meaning.stop_number (stop_of why) }
 {
