@@ -92,13 +92,13 @@ conditional_goes p m l scope e test n tests opens calls is =
 
 -- what an arm is of which the code has the part in memory
 pub arm_seen : (b : Bool) (yes no part : Option (Box Expr Global)) → part ≡ (if b then yes else no) → part_seen part ≡ (if b then part_seen yes else part_seen no)
-arm_seen true yes no part is = ap part_seen is
-arm_seen false yes no part is = ap part_seen is
+arm_seen true main other part is = ap part_seen is
+arm_seen false main other part is = ap part_seen is
 
 arm_is : (w : World nothing) (e : Made nothing) (v : Value) (b : Bool) (yes no : plain.Part) (s : State nothing) → choose b (arm e v (eval_part w yes)) (arm e v (eval_part w no)) s ≡ arm e v (eval_part w (if b then yes else no)) s
 unfolding choose
-arm_is w e v true yes no s = refl
-arm_is w e v false yes no s = refl
+arm_is w e v true main other s = refl
+arm_is w e v false main other s = refl
 
 module _ (p : Program) (m : Standing) (s : Shape) (x : Expression) (kind : CondForm) (test : Expression) (yes no : plain.Part) (site : ℕ) (seen : x ≡ plain.Cond kind test yes no site) (value : Value) (used : List Use) (l : value ≡ (top m.values).value) (u : used ≡ uses_of_last 1 m.values) where
   abbrev test_noted : Run nothing (Made nothing)
@@ -162,7 +162,7 @@ module _ (e : Expr) (kind : CondForm) (test : Box Expr Global) (yes no : Option 
 
 -- the arm in memory is that of the form
 pub no_arm : (b : Bool) (yes no part : Option (Box Expr Global)) → part ≡ (if b then yes else no) → part ≡ Absent → plain.absent ≡ (if b then part_seen yes else part_seen no)
-no_arm b yes no part is none = sym (ap part_seen none) ∙ arm_seen b yes no part is
+no_arm b main other part is none = sym (ap part_seen none) ∙ arm_seen b main other part is
 
 pub one_arm : (b : Bool) (yes no part : Option (Box Expr Global)) (found : Box Expr Global) (target : Expr) → part ≡ (if b then yes else no) → part ≡ Some found → target ≡ found.value → plain.the (expression target) ≡ (if b then part_seen yes else part_seen no)
-one_arm b yes no part found target is some same = ap (λ z. plain.the (expression z)) same ∙ sym (ap part_seen some) ∙ arm_seen b yes no part is
+one_arm b main other part found target is some same = ap (λ z. plain.the (expression z)) same ∙ sym (ap part_seen some) ∙ arm_seen b main other part is
