@@ -2,7 +2,12 @@
 use Rattle.std.proofs.Common.{◌≡◌, ◌∙◌, ℕ, Bool, List, [], ◌∷◌, ◌++◌, length, map, refl, ap, sym, subst, Option, Some, Result, Ok, Err}
 use Rattle.std.specs.Prelude.{None as Absent}
 use Rattle.wy_kernel.specs.Program.{Program}
+use Rattle.std.proofs.lemmas.List.{length-map}
+use Rattle.std.specs.declared.alloc.Global.{Global}
+use Rattle.std.specs.declared.vec.Vec.{Vec}
 use Rattle.wy_kernel.specs.Form.{Expression}
+use Rattle.wy_kernel.specs.declared.form.Expr.{Expr}
+use Rattle.wy_kernel.specs.View.{expression, row_of}
 use Rattle.wy_kernel.specs.Form as plain
 use Rattle.wy_kernel.specs.declared.form.CallForm.TheVariants as call_form
 use Rattle.wy_kernel.specs.declared.operator.BinOp.{BinOp}
@@ -23,6 +28,7 @@ use Rattle.wy_work.specs.Frames.{Standing, Does}
 use Rattle.wy_work.specs.Listed.{IsStatic}
 use Rattle.wy_work.specs.Operands.{list_of}
 use Rattle.wy_work.proofs.Places.{Fetching, Storing}
+use Rattle.wy_work.proofs.Views.{listed_row}
 
 pub record StaticOf (z : plain.Place) (slot : Slot) : Type 0 where
   pub field : ℕ
@@ -69,3 +75,7 @@ pub static_called : (p : Program) (m : Standing) (r : Result (Unit {0}) Halt) (n
     Does p (λ w vs. put_on (under_many count vs) (w.call site method Absent (last_many count vs))) m r n → Readying p x m r n
 static_called p m r n x method count receiver ty args site is many a =
     subst (λ y. Readying p y m r n) (sym is) (subst (λ k. Does p (λ w vs. put_on (under_many k vs) (w.call site method Absent (last_many k vs))) m r n) many a)
+
+-- as many arguments as the call in memory has
+pub as_many : (args : Vec Expr Global) (count : ℕ) → count ≡ length args.items → count ≡ length (list_of (row_of (map expression args.items)))
+as_many args count is = is ∙ sym (ap length (listed_row (map expression args.items)) ∙ length-map args.items expression)
