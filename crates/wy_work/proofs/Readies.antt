@@ -1,5 +1,5 @@
 -- What goes on once a class is initialized.
-use Rattle.std.proofs.Common.{◌≡◌, ◌∙◌, ℕ, Bool, List, [], ◌∷◌, ◌++◌, length, map, refl, ap, sym, subst, Option, Some, Result, Ok, Err}
+use Rattle.std.proofs.Common.{◌≡◌, ◌∙◌, ℕ, Bool, List, [], ◌∷◌, ◌++◌, length, map, refl, ap, sym, subst, Option, Some, Result, Ok, Err, rules, vec_len}
 use Rattle.std.specs.Prelude.{None as Absent}
 use Rattle.wy_kernel.specs.Program.{Program}
 use Rattle.std.proofs.lemmas.List.{length-map}
@@ -77,5 +77,7 @@ static_called p m r n x method count receiver ty args site is many a =
     subst (λ y. Readying p y m r n) (sym is) (subst (λ k. Does p (λ w vs. put_on (under_many k vs) (w.call site method Absent (last_many k vs))) m r n) many a)
 
 -- as many arguments as the call in memory has
-pub as_many : (args : Vec Expr Global) (count : ℕ) → count ≡ length args.items → count ≡ length (list_of (row_of (map expression args.items)))
-as_many args count is = is ∙ sym (ap length (listed_row (map expression args.items)) ∙ length-map args.items expression)
+pub as_many : (args : Vec Expr Global) (count : ℕ) → count ≡ vec_len args → count ≡ length (list_of (row_of (map expression args.items)))
+as_many args count is =
+    let same : vec_len args ≡ length args.items = search rules in
+    is ∙ same ∙ sym (ap length (listed_row (map expression args.items)) ∙ length-map args.items expression)
