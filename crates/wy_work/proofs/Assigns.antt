@@ -69,8 +69,16 @@ module _ (p : Program) (m : Standing) (slot : Slot) (place : plain.Place) (op : 
   module _ (s : Shape) (us : Values) (wide : Primitive) (gives_old : Bool) (x : Expression) (seen : x ≡ plain.Upd place op part value_ty ty (Some wide) gives_old site) (left right : Value) (operands used : List Use)
       (l : left ≡ (at 1 m.values).value) (h : right ≡ (top m.values).value) (two : operands ≡ uses_of_last 2 m.values) (three : used ≡ uses_of_last 3 m.values) where
     abbrev here : Places slot left right operands used
-    here = record { spot = spot_of slot (at 2 m.values); old = at 1 m.values; value = top m.values; is_slot = refl; is_left = sym l; is_right = sym h; are_operands = sym two;
-      are_joined = ap (λ z. (at 2 m.values).uses ++ z) two ∙ joined_thrice (at 2 m.values).uses (at 1 m.values).uses (top m.values).uses ∙ sym three }
+    here = record {
+      spot = spot_of slot (at 2 m.values);
+      old = at 1 m.values;
+      value = top m.values;
+      is_slot = refl;
+      is_left = sym l;
+      is_right = sym h;
+      are_operands = sym two;
+      are_joined = ap (λ z. (at 2 m.values).uses ++ z) two ∙ joined_thrice (at 2 m.values).uses (at 1 m.values).uses (top m.values).uses ∙ sym three;
+    }
 
     abbrev pub run_here : Run nothing (Carried nothing)
     run_here = updated (world p m.depth) op ty wide site (spot_of slot (at 2 m.values)) (at 1 m.values) (top m.values)

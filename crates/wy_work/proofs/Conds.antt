@@ -79,8 +79,8 @@ module _ (p : Program) (m : Standing) (l : Shape) (scope : Scope) (e test : Bor 
       (onward_as (λ s. ap C (conditional_is s)) (onward_then (within C (active_here p m.state tested))
       (onward_then (within (λ (o : Outcome nothing (Unit {0})). C (active_again m.state.calls.active (go_on o (λ u. tested)))) opens)
       (onward_as (λ s. ap (after p (around m) m.work) (frames_are s)
-          ∙ ap (λ (z : Calls). scoped_at z (go_on (found s) (expr_step (world p m.depth) (plain.Cond kind (expression test.now) yes no site) step.Decide))) (sym calls)
-          ∙ ap (λ y. scoped_at l.calls (go_on (found s) (expr_step (world p m.depth) y step.Decide))) (sym seen)) (onward_same p l _)))))
+      ∙ ap (λ (z : Calls). scoped_at z (go_on (found s) (expr_step (world p m.depth) (plain.Cond kind (expression test.now) yes no site) step.Decide))) (sym calls)
+      ∙ ap (λ y. scoped_at l.calls (go_on (found s) (expr_step (world p m.depth) y step.Decide))) (sym seen)) (onward_same p l _)))))
 
 pub conditional_goes : (p : Program) (m : Standing) (l : Shape) (scope : Scope) (e test : Bor Expr) (n : Standing) → IsTestOf (expression e.now) (expression test.now) → Onward p m.state do_nothing l (return tt) → l.calls ≡ opened m.state.calls →
     n ≡ pushed (frames.Expr test step.Find) (pushed (frames.Expr e step.Decide) (pushed (frames.Close scope) (record m { state = l }))) → Operating p (expression e.now) m (Ok tt) n
@@ -150,9 +150,9 @@ module _ (p : Program) (m : Standing) (s : Shape) (x : Expression) (kind : CondF
         arm_next (plain.the (expression found.now)) n is
         (subst (λ (z : Standing). Onward p s (then_all p (record m { state = s }) (put_on (under m.values) (armed (plain.the (expression found.now)) (made_of event)))) z.state (goes p z)) (sym frames_are)
         (onward_as (λ st. ap (after p (around (record m { state = s })) m.work)
-            (go_on-go_on (o st) _ _
-            ∙ sym (go_on-go_on (o st) (λ v. return (v ∷ given val.None (uses.Choice event ∷ []) ∷ under m.values)) (expr_step w (expression e.now) step.Chosen))
-            ∙ ap (λ (r : Values). go_on (go_on (o st) (λ v. return (v ∷ r))) (expr_step w (expression e.now) step.Chosen)) (sym values))) (onward_same p s _)))
+        (go_on-go_on (o st) _ _
+        ∙ sym (go_on-go_on (o st) (λ v. return (v ∷ given val.None (uses.Choice event ∷ []) ∷ under m.values)) (expr_step w (expression e.now) step.Chosen))
+        ∙ ap (λ (r : Values). go_on (go_on (o st) (λ v. return (v ∷ r))) (expr_step w (expression e.now) step.Chosen)) (sym values))) (onward_same p s _)))
 
 -- ---- the form in memory
 

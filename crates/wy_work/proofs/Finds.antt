@@ -59,5 +59,5 @@ module _ (w : World nothing) where
       let k = λ (v : Carried nothing) (us : Values). next (last_many (suc n) us) (under_many (suc n) us) in
       go_on-go_on (eval w e s) (λ v. put_all w (list_of rest) (v ∷ vs)) (λ us. next (last_many (suc n) us) (under_many (suc n) us))
       ∙ go_on_same (eval w e s) _ _ (λ v s. go_on_same (put_all w (list_of rest) (v ∷ vs) s) _ _ (λ us s. ap₂ (λ a b. next a b s) (last_many_next n us) (under_many_next n us))
-          ∙ row_found rest (v ∷ vs) (λ xs under_them. next (top under_them ∷ xs) (under under_them)) s)
+      ∙ row_found rest (v ∷ vs) (λ xs under_them. next (top under_them ∷ xs) (under under_them)) s)
       ∙ sym (go_on-go_on (eval w e s) _ (λ xs. next xs vs) ∙ go_on_same (eval w e s) _ _ (λ v s. go_on-go_on (all_of (eval_row w rest) s) _ (λ xs. next xs vs)))

@@ -131,8 +131,8 @@ module _ (p : Program) (m : Standing) (slot : Slot) (c : Carried nothing) (us : 
         subst (λ (z : Standing). Onward p m.state (then_all p m (updating_of w (expression e.now) (spot_of slot c) vs)) z.state (goes p z)) (sym is)
         (begun_with (plain.the (expression value.now)) n (goes p (pushed (frames.Expr value step.Find) (pushed (frames.Expr e (step.Assign slot)) (record m { values = second })))) seen
         (λ s. ap (after p (around m) m.work) (sym (go_on-go_on (o s) (λ v. return (v ∷ stack)) (expr_step w (plain.Upd place op (plain.the (expression value.now)) value_ty ty wide gives_old site) (step.Assign slot)))
-            ∙ ap (λ y. go_on (go_on (o s) (λ v. return (v ∷ stack))) (expr_step w y (step.Assign slot))) (sym seen)
-            ∙ ap (λ (r : Values). go_on (go_on (o s) (λ v. return (v ∷ r))) (expr_step w (expression e.now) (step.Assign slot))) (sym stacked))))
+        ∙ ap (λ y. go_on (go_on (o s) (λ v. return (v ∷ stack))) (expr_step w y (step.Assign slot))) (sym seen)
+        ∙ ap (λ (r : Values). go_on (go_on (o s) (λ v. return (v ∷ r))) (expr_step w (expression e.now) (step.Assign slot))) (sym stacked))))
 
     -- it is the number one
     pub right_one : (q : Standing) (third : Values) → expression e.now ≡ plain.Upd place op plain.absent value_ty ty wide gives_old site →
