@@ -1,5 +1,5 @@
 -- Updates whose old value and right side are there.
-use Rattle.std.proofs.Common.{◌≡◌, ◌∙◌, ℕ, Bool, true, false, List, [], ◌∷◌, ◌++◌, refl, ap, sym, subst, Bor, Option, Some, Result, Ok, Err}
+use Rattle.std.proofs.Common.{◌≡◌, ◌∙◌, ℕ, Bool, List, [], ◌∷◌, ◌++◌, refl, ap, sym, subst, Bor, Option, Some, Result, Ok, Err}
 use Rattle.std.specs.Prelude.{None as Absent, if◌then◌else◌}
 use Rattle.wy_kernel.specs.Program.{Program}
 use Rattle.wy_kernel.specs.Form.{Expression}
@@ -24,17 +24,17 @@ use Rattle.wy_state.proofs.Onward.{onward_as, onward_same}
 use Rattle.wy_operation.specs.Around.{IsSameAround, KeepsAt}
 use Rattle.wy_operation.specs.Spots.{spot_of}
 use Rattle.wy_operation.specs.Updated.{Places, updated}
-use Rattle.wy_operands.specs.Values.{Values, at, top, under, under_many, uses_of_last, with_event, with_second_of_three}
+use Rattle.wy_operands.specs.Values.{Values, at, top, under_many, uses_of_last}
 use Rattle.wy_work.specs.declared.frame.Frame.TheVariants as frames
 use Rattle.wy_work.specs.declared.frame.ExprStep.TheVariants as step
 use Rattle.wy_work.specs.Expressions.{expr_step, put_on, right_side, updating, updating_of}
-use Rattle.wy_work.specs.Frames.{Standing, around, after, goes, pushed, then_all, Does, Resumed}
+use Rattle.wy_work.specs.Frames.{Standing, around, after, pushed, then_all, Does, Resumed}
 use Rattle.wy_work.proofs.Runs.{go_on-go_on, turned_after, world_program}
 use Rattle.wy_kernel.specs.Program as kernel
 use Rattle.wy_event.specs.declared.record.Slot.TheVariants as slots
 use Rattle.wy_value.specs.declared.value.Value.TheVariants.{None as Nothing}
 use Rattle.wy_meaning.specs.Place.{Located, AtLocal, AtStatic, AtField, AtElem, Spot, element_spot, field_spot, find, initialize, local_spot, static_spot}
-use Rattle.wy_steps.specs.Steps.{constant, joined}
+use Rattle.wy_steps.specs.Steps.{constant}
 use Rattle.wy_state.specs.Steps.{local_slot}
 use Rattle.wy_operation.specs.Operands.{Pair}
 use Rattle.wy_work.specs.Expressions.{leaving}

@@ -1,5 +1,5 @@
 -- `?:`, `&&` and `||`: the test, the Test and the arm within a scope.
-use Rattle.std.proofs.Common.{◌≡◌, ◌∙◌, ℕ, Bool, true, false, List, [], ◌∷◌, ◌++◌, map, refl, ap, sym, subst, Bor, Option, Some, Result, Ok, Err}
+use Rattle.std.proofs.Common.{◌≡◌, ◌∙◌, ℕ, Bool, true, false, List, [], ◌∷◌, map, refl, ap, sym, subst, Bor, Option, Some, Result, Ok, Err}
 use Rattle.std.specs.Prelude.{None as Absent, if◌then◌else◌}
 use Rattle.std.specs.declared.alloc.Global.{Global}
 use Rattle.std.specs.declared.boxed.Box.{Box}
@@ -16,7 +16,6 @@ use Rattle.wy_event.specs.declared.record.Kind.TheVariants as kinds
 use Rattle.wy_event.specs.declared.record.Use.{Use}
 use Rattle.wy_event.specs.declared.record.Use.TheVariants as uses
 use Rattle.wy_steps.specs.Sets.{nothing}
-use Rattle.wy_steps.specs.State as run
 use Rattle.wy_steps.specs.State.{State, Carried, Run, Outcome, Around as Within, go_on, ◌>>=◌, return, choose}
 use Rattle.wy_steps.specs.Steps.{Made, activating, active_again, chosen, joined, note, scoped, value_of}
 use Rattle.wy_meaning.specs.World.{World, is_true}
@@ -31,7 +30,7 @@ use Rattle.wy_state.specs.Seen.{given, made_of}
 use Rattle.wy_state.specs.Steps.{do_nothing}
 use Rattle.wy_state.proofs.Onward.{within, onward_as, onward_same, onward_then}
 use Rattle.wy_operation.specs.Around.{IsSameAround, KeepsAt}
-use Rattle.wy_operands.specs.Values.{Values, at, top, under, under_many, joined_last, uses_of_last, with_event}
+use Rattle.wy_operands.specs.Values.{Values, top, under, joined_last, uses_of_last, with_event}
 use Rattle.wy_work.specs.declared.frame.Frame.TheVariants as frames
 use Rattle.wy_work.specs.declared.frame.ExprStep.TheVariants as step
 use Rattle.wy_work.specs.Expressions.{decided, expr_step, put_on}

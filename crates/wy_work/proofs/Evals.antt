@@ -1,6 +1,5 @@
 -- What an expression does is its step, its operands, and the rest of it with what they are.
-use Rattle.std.proofs.Common.{◌≡◌, ◌∙◌, ℕ, Bool, pos, suc, List, [], ◌∷◌, ◌++◌, length, map, refl, ap, sym, Option, Some}
-use Rattle.std.specs.Prelude.{None as Absent}
+use Rattle.std.proofs.Common.{◌≡◌, ◌∙◌, ℕ, Bool, pos, suc, List, ◌∷◌, length, map, refl, ap, sym, Option}
 use Rattle.wy_kernel.specs.Form.{Expression, Const, Str, Read, Set, Upd, Un, Bin, Conv, Cast, InstanceOf, Cond, New, NewArray, Call, Cat, Lib, Place, Local, Static, Field, Elem, Part, absent, the, Row, none, more}
 use Rattle.wy_kernel.specs.declared.operator.BinOp.{BinOp}
 use Rattle.wy_kernel.specs.declared.operator.UnOp.{UnOp}
@@ -14,8 +13,8 @@ use Rattle.wy_steps.specs.Sets.{nothing}
 use Rattle.wy_steps.specs.State.{State, Carried, Run, Outcome, go_on, ◌>>=◌, ◌>>◌, return}
 use Rattle.wy_steps.specs.Steps.{constant, tick}
 use Rattle.wy_meaning.specs.World.{World, all_of}
-use Rattle.wy_meaning.specs.Place.{AtLocal, AtStatic, AtField, AtElem, find, read_place, set_place, update_place}
-use Rattle.wy_meaning.specs.Text.{append_place, cat}
+use Rattle.wy_meaning.specs.Place.{AtLocal, AtStatic, AtField, AtElem, find, read_place, set_place}
+use Rattle.wy_meaning.specs.Text.{cat}
 use Rattle.wy_meaning.specs.Call.{call_on, call_static, create}
 use Rattle.wy_meaning.specs.Array.{create_array, new_array}
 use Rattle.wy_meaning.specs.Library.{library, library_form}

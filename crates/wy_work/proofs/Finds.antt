@@ -1,11 +1,10 @@
 -- How an expression begins: its operands, and then the rest of it.
-use Rattle.std.proofs.Common.{◌≡◌, ◌∙◌, ℕ, zero, suc, List, [], ◌∷◌, ◌++◌, length, map, refl, ap, ap₂, sym, subst, Bor, Result, Ok, Err}
+use Rattle.std.proofs.Common.{◌≡◌, ◌∙◌, ℕ, zero, suc, List, [], ◌∷◌, length, map, refl, ap, ap₂, sym, subst, Bor, Result, Ok}
 use Rattle.wy_kernel.specs.Program.{Program}
-use Rattle.wy_kernel.specs.Form.{Expression, Row, none, more}
+use Rattle.wy_kernel.specs.Form.{Row, none, more}
 use Rattle.wy_kernel.specs.View.{expression}
 use Rattle.wy_kernel.specs.declared.form.Expr.{Expr}
 use Rattle.wy_steps.specs.Sets.{nothing}
-use Rattle.wy_steps.specs.State as run
 use Rattle.wy_steps.specs.State.{State, Carried, Run, Outcome, go_on, ◌>>=◌, return}
 use Rattle.wy_meaning.specs.World.{World, all_of}
 use Rattle.wy_meaning.specs.Run.{world}
@@ -14,9 +13,8 @@ use Rattle.wy_state.specs.declared.parts.Halt.{Halt}
 use Rattle.wy_state.proofs.Onward.{onward_as, onward_same}
 use Rattle.wy_operands.specs.Values.{Values, top, under, under_many, last_many}
 use Rattle.wy_work.specs.declared.frame.Frame.TheVariants as frames
-use Rattle.wy_work.specs.declared.frame.ExprStep.TheVariants as step
 use Rattle.wy_work.specs.Expressions.{put_on, put_all}
-use Rattle.wy_work.specs.Frames.{Standing, around, after, pushed, then_all, Does, Resumed}
+use Rattle.wy_work.specs.Frames.{Standing, around, after, pushed, then_all, Does}
 use Rattle.wy_work.specs.Listed.{rows}
 use Rattle.wy_work.specs.Operands.{list_of}
 use Rattle.wy_work.proofs.Lasts.{last_many_next}

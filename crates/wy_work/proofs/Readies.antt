@@ -1,5 +1,5 @@
 -- What goes on once a class is initialized.
-use Rattle.std.proofs.Common.{◌≡◌, ◌∙◌, ℕ, Bool, List, [], ◌∷◌, ◌++◌, length, map, refl, ap, sym, subst, Option, Some, Result, Ok, Err, rules, vec_len}
+use Rattle.std.proofs.Common.{◌≡◌, ◌∙◌, ℕ, Bool, length, map, refl, ap, sym, subst, Option, Result, rules, vec_len}
 use Rattle.std.specs.Prelude.{None as Absent}
 use Rattle.wy_kernel.specs.Program.{Program}
 use Rattle.std.proofs.lemmas.List.{length-map}
@@ -21,7 +21,7 @@ use Rattle.wy_steps.specs.State.{Carried}
 use Rattle.wy_steps.specs.Steps.{constant}
 use Rattle.wy_state.specs.declared.parts.Halt.{Halt}
 use Rattle.wy_operation.specs.Spots.{spot_of}
-use Rattle.wy_operands.specs.Values.{Values, top, under_many, last_many, uses_of_last}
+use Rattle.wy_operands.specs.Values.{top, under_many, last_many, uses_of_last}
 use Rattle.wy_work.specs.declared.frame.ExprStep.TheVariants as step
 use Rattle.wy_work.specs.Expressions.{expr_step, put_on, updating_of}
 use Rattle.wy_work.specs.Frames.{Standing, Does}

@@ -1,5 +1,5 @@
 -- Texts of values: string conversion, and two texts one after the other.
-use Rattle.std.proofs.Common.{◌≡◌, ◌∙◌, ℕ, suc, List, [], ◌∷◌, refl, ap, sym, subst, Result, Ok, Err}
+use Rattle.std.proofs.Common.{◌≡◌, ◌∙◌, ℕ, List, [], ◌∷◌, refl, ap, sym, subst, Result, Ok, Err}
 use Rattle.wy_kernel.specs.Program.{Program}
 use Rattle.wy_value.specs.declared.value.Value.{Value}
 use Rattle.wy_value.specs.declared.value.Value.TheVariants as val
@@ -11,7 +11,6 @@ use Rattle.wy_meaning.specs.Run.{world}
 use Rattle.wy_meaning.specs.Text.{call_chosen, concatenated, shown, shown_as, to_string}
 use Rattle.wy_state.specs.declared.parts.Halt.{Halt}
 use Rattle.wy_state.specs.Agrees.{Shape, Onward, Answers}
-use Rattle.wy_state.proofs.Onward.{onward_as, onward_same}
 use Rattle.wy_operation.specs.Around.{IsSameAround, KeepsAt}
 use Rattle.wy_operation.specs.Operands.{Pair}
 use Rattle.wy_operands.specs.Values.{Values, at, top, under_many, last_many, uses_of_last, with_copy, with_event}
