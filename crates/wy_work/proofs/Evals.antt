@@ -1,6 +1,5 @@
 -- What an expression does is its step, its operands, and the rest of it with what they are.
-use Rattle.std.proofs.Common.{◌≡◌, ◌∙◌, ℕ, Bool, pos, suc, List, [], ◌∷◌, ◌++◌, length, map, refl, ap, sym, Option, Some}
-use Rattle.std.specs.Prelude.{None as Absent}
+use Rattle.std.proofs.Common.{◌≡◌, ◌∙◌, ℕ, Bool, pos, suc, List, ◌∷◌, length, map, refl, ap, sym, Option}
 use Rattle.wy_kernel.specs.Form.{Expression, Const, Str, Read, Set, Upd, Un, Bin, Conv, Cast, InstanceOf, Cond, New, NewArray, Call, Cat, Lib, Place, Local, Static, Field, Elem, Part, absent, the, Row, none, more}
 use Rattle.wy_kernel.specs.declared.operator.BinOp.{BinOp}
 use Rattle.wy_kernel.specs.declared.operator.UnOp.{UnOp}
@@ -14,8 +13,8 @@ use Rattle.wy_steps.specs.Sets.{nothing}
 use Rattle.wy_steps.specs.State.{State, Carried, Run, Outcome, go_on, ◌>>=◌, ◌>>◌, return}
 use Rattle.wy_steps.specs.Steps.{constant, tick}
 use Rattle.wy_meaning.specs.World.{World, all_of}
-use Rattle.wy_meaning.specs.Place.{AtLocal, AtStatic, AtField, AtElem, find, read_place, set_place, update_place}
-use Rattle.wy_meaning.specs.Text.{append_place, cat}
+use Rattle.wy_meaning.specs.Place.{AtLocal, AtStatic, AtField, AtElem, find, read_place, set_place}
+use Rattle.wy_meaning.specs.Text.{cat}
 use Rattle.wy_meaning.specs.Call.{call_on, call_static, create}
 use Rattle.wy_meaning.specs.Array.{create_array, new_array}
 use Rattle.wy_meaning.specs.Library.{library, library_form}
@@ -96,7 +95,7 @@ module _ (w : World nothing) where
     of_a_row op args site =
         go_on-go_on (all_of (eval_row w args) s) (library w op site) (λ v. return (v ∷ vs))
         ∙ sym (row_found w args vs (λ xs under_them. put_on under_them (library_form w op (map return xs) site)) s
-            ∙ go_on_same (all_of (eval_row w args) s) _ _ (λ xs s. ap (λ (o : Outcome nothing Values). go_on (go_on o (library w op site)) (λ v. return (v ∷ vs))) (all_evaluated xs s)))
+        ∙ go_on_same (all_of (eval_row w args) s) _ _ (λ xs s. ap (λ (o : Outcome nothing Values). go_on (go_on o (library w op site)) (λ v. return (v ∷ vs))) (all_evaluated xs s)))
 
     three_is : (x y z : Expression) (f : Given → Given → Given → Given) → ((a b c : Given) (s : State nothing) → f a b c s ≡ go_on (a s) (λ v s. go_on (b s) (λ u s. go_on (c s) (λ t. f (return v) (return u) (return t))))) →
         go_on (f (eval w x) (eval w y) (eval w z) s) (λ v. return (v ∷ vs)) ≡ go_on (go_on (eval w x s) (λ v s. go_on (eval w y s) (λ u s. go_on (eval w z s) (λ t. return (t ∷ u ∷ v ∷ vs))))) (λ us. put_on (under_many 3 us) (f (return (at 2 us)) (return (at 1 us)) (return (at 0 us))))
@@ -112,7 +111,7 @@ module _ (w : World nothing) where
     row_is row f k by =
         ap (λ o. go_on o (λ v. return (v ∷ vs))) (by (eval_row w row) s) ∙ go_on-go_on (all_of (eval_row w row) s) k (λ v. return (v ∷ vs))
         ∙ sym (row_found w row vs (λ xs under_them. put_on under_them (f (map return xs))) s
-            ∙ go_on_same (all_of (eval_row w row) s) _ _ (λ xs s. ap (λ o. go_on o (λ v. return (v ∷ vs))) (by (map return xs) s) ∙ ap (λ (o : Outcome nothing Values). go_on (go_on o k) (λ v. return (v ∷ vs))) (all_evaluated xs s)))
+        ∙ go_on_same (all_of (eval_row w row) s) _ _ (λ xs s. ap (λ o. go_on o (λ v. return (v ∷ vs))) (by (map return xs) s) ∙ ap (λ (o : Outcome nothing Values). go_on (go_on o k) (λ v. return (v ∷ vs))) (all_evaluated xs s)))
 
     headed_is : (r : Expression) (row : Row) (f : Given → List Given → Given) (k : Carried nothing → Values → Given) → ((m : Given) (ms : List Given) (s : State nothing) → f m ms s ≡ go_on (m s) (λ v s. go_on (all_of ms s) (k v))) →
         go_on (f (eval w r) (eval_row w row) s) (λ v. return (v ∷ vs)) ≡ go_on (put_all w (r ∷ list_of row) vs s) (λ us. put_on (under_many (suc (length (list_of row))) us) (of_first w f (last_many (suc (length (list_of row))) us)))
@@ -121,9 +120,9 @@ module _ (w : World nothing) where
         ap (λ o. go_on o (λ v. return (v ∷ vs))) (by (eval w r) (eval_row w row) s) ∙ go_on-go_on (eval w r s) _ _
         ∙ go_on_same (eval w r s) _ _ (λ v s. go_on-go_on (all_of (eval_row w row) s) (k v) (λ v. return (v ∷ vs)))
         ∙ sym (row_found w (more r row) vs (λ xs under_them. put_on under_them (of_first w f xs)) s
-            ∙ go_on-go_on (eval w r s) _ _
-            ∙ go_on_same (eval w r s) _ _ (λ v s. go_on-go_on (all_of (eval_row w row) s) _ _
-                ∙ go_on_same (all_of (eval_row w row) s) _ _ (λ xs s. ap (λ o. go_on o (λ v. return (v ∷ vs))) (by (return v) (map return xs) s) ∙ ap (λ (o : Outcome nothing Values). go_on (go_on o (k v)) (λ v. return (v ∷ vs))) (all_evaluated xs s))))
+        ∙ go_on-go_on (eval w r s) _ _
+        ∙ go_on_same (eval w r s) _ _ (λ v s. go_on-go_on (all_of (eval_row w row) s) _ _
+        ∙ go_on_same (all_of (eval_row w row) s) _ _ (λ xs s. ap (λ o. go_on o (λ v. return (v ∷ vs))) (by (return v) (map return xs) s) ∙ ap (λ (o : Outcome nothing Values). go_on (go_on o (k v)) (λ v. return (v ∷ vs))) (all_evaluated xs s))))
 
     read_is : (place : Place) → put_on vs (body (Read place)) s ≡ operated (Read place) vs s
     unfolding read_place find locate ◌>>=◌ go_on return
@@ -160,11 +159,11 @@ module _ (w : World nothing) where
     upd_is (Field object f at) op value value_ty ty wide gives_old site =
         let g = λ (m : Given). update w (AtField m f at) op (part_or (val.Int (pos 1)) (eval_part w value)) ty wide gives_old site in
         un_is object g (λ m s. update_is w (AtField m f at) op (part_or (val.Int (pos 1)) (eval_part w value)) ty wide gives_old site s ∙ go_on-go_on (m s) _ _
-            ∙ sym (go_on_same (m s) _ _ (λ v s. update_is w (AtField (return v) f at) op (part_or (val.Int (pos 1)) (eval_part w value)) ty wide gives_old site s)))
+        ∙ sym (go_on_same (m s) _ _ (λ v s. update_is w (AtField (return v) f at) op (part_or (val.Int (pos 1)) (eval_part w value)) ty wide gives_old site s)))
     upd_is (Elem array index at) op value value_ty ty wide gives_old site =
         let g = λ (a k : Given). update w (AtElem a k at) op (part_or (val.Int (pos 1)) (eval_part w value)) ty wide gives_old site in
         two_is array index g (λ a k s. update_is w (AtElem a k at) op (part_or (val.Int (pos 1)) (eval_part w value)) ty wide gives_old site s ∙ go_on-go_on (a s) _ _ ∙ go_on_same (a s) _ _ (λ v s. go_on-go_on (k s) _ _)
-            ∙ sym (go_on_same (a s) _ _ (λ v s. go_on_same (k s) _ _ (λ u s. update_is w (AtElem (return v) (return u) at) op (part_or (val.Int (pos 1)) (eval_part w value)) ty wide gives_old site s))))
+        ∙ sym (go_on_same (a s) _ _ (λ v s. go_on_same (k s) _ _ (λ u s. update_is w (AtElem (return v) (return u) at) op (part_or (val.Int (pos 1)) (eval_part w value)) ty wide gives_old site s))))
 
     -- what comes after the step of an expression: its operands, and then the rest
     pub body_is : (x : Expression) → put_on vs (body x) s ≡ operated x vs s

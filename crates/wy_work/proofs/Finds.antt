@@ -1,11 +1,10 @@
 -- How an expression begins: its operands, and then the rest of it.
-use Rattle.std.proofs.Common.{◌≡◌, ◌∙◌, ℕ, zero, suc, List, [], ◌∷◌, ◌++◌, length, map, refl, ap, ap₂, sym, subst, Bor, Result, Ok, Err}
+use Rattle.std.proofs.Common.{◌≡◌, ◌∙◌, ℕ, zero, suc, List, [], ◌∷◌, length, map, refl, ap, ap₂, sym, subst, Bor, Result, Ok}
 use Rattle.wy_kernel.specs.Program.{Program}
-use Rattle.wy_kernel.specs.Form.{Expression, Row, none, more}
+use Rattle.wy_kernel.specs.Form.{Row, none, more}
 use Rattle.wy_kernel.specs.View.{expression}
 use Rattle.wy_kernel.specs.declared.form.Expr.{Expr}
 use Rattle.wy_steps.specs.Sets.{nothing}
-use Rattle.wy_steps.specs.State as run
 use Rattle.wy_steps.specs.State.{State, Carried, Run, Outcome, go_on, ◌>>=◌, return}
 use Rattle.wy_meaning.specs.World.{World, all_of}
 use Rattle.wy_meaning.specs.Run.{world}
@@ -14,23 +13,23 @@ use Rattle.wy_state.specs.declared.parts.Halt.{Halt}
 use Rattle.wy_state.proofs.Onward.{onward_as, onward_same}
 use Rattle.wy_operands.specs.Values.{Values, top, under, under_many, last_many}
 use Rattle.wy_work.specs.declared.frame.Frame.TheVariants as frames
-use Rattle.wy_work.specs.declared.frame.ExprStep.TheVariants as step
 use Rattle.wy_work.specs.Expressions.{put_on, put_all}
-use Rattle.wy_work.specs.Frames.{Standing, around, after, pushed, then_all, Does, Resumed}
+use Rattle.wy_work.specs.Frames.{Standing, around, after, pushed, then_all, Does}
 use Rattle.wy_work.specs.Listed.{rows}
 use Rattle.wy_work.specs.Operands.{list_of}
 use Rattle.wy_work.proofs.Lasts.{last_many_next}
 use Rattle.wy_work.proofs.Updates.{go_on_same}
 use Rattle.wy_work.proofs.Runs.{go_on-go_on, turned_after}
 
-module _ (p : Program) (m q : Standing) (r : Result (Unit {0}) Halt) (n : Standing) (first : Expr) (rest : List Expr) (row : Bor (List Expr)) where
+module _ (p : Program) (m q : Standing) (r : Result (Unit {0}) Halt) (n : Standing) (es : List Expr) (first : Expr) (row : Bor (List Expr)) where
   -- the first is found, and the row of the others is a frame
-  pub row_goes : row.now ≡ rest → q ≡ pushed (frames.Row row) m → Does p (λ w vs. put_on vs (eval w (expression first))) q r n → Does p (λ w. put_all w (rows (first ∷ rest))) m r n
+  pub row_goes : es ≡ first ∷ row.now → q ≡ pushed (frames.Row row) m → Does p (λ w vs. put_on vs (eval w (expression first))) q r n → Does p (λ w. put_all w (rows es)) m r n
   unfolding go_on return
   row_goes is pushes a =
-      turned_after p m.state m n (then_all p m (put_all (world p m.depth) (rows (first ∷ rest)) m.values)) (then_all p (pushed (frames.Row row) m) (put_on m.values (eval (world p m.depth) (expression first)))) r (λ u. return n.values)
-      (onward_as (λ s. ap (after p (around m) m.work) (sym (ap (λ es. go_on (put_on m.values (eval (world p m.depth) (expression first)) s) (put_all (world p m.depth) (map expression es))) is ∙ go_on-go_on (eval (world p m.depth) (expression first) s) (λ v. return (v ∷ m.values)) (put_all (world p m.depth) (map expression rest))))) (onward_same p m.state _))
-      (subst (λ z. Does p (λ w vs. put_on vs (eval w (expression first))) z r n) pushes a)
+      subst (λ z. Does p (λ w. put_all w (rows z)) m r n) (sym is)
+      (turned_after p m.state m n (then_all p m (put_all (world p m.depth) (rows (first ∷ row.now)) m.values)) (then_all p (pushed (frames.Row row) m) (put_on m.values (eval (world p m.depth) (expression first)))) r (λ u. return n.values)
+      (onward_as (λ s. ap (after p (around m) m.work) (sym (go_on-go_on (eval (world p m.depth) (expression first) s) (λ v. return (v ∷ m.values)) (put_all (world p m.depth) (map expression row.now))))) (onward_same p m.state _))
+      (subst (λ z. Does p (λ w vs. put_on vs (eval w (expression first))) z r n) pushes a))
 
 -- there are no expressions left
 pub row_done : (p : Program) (m : Standing) (es : List Expr) → es ≡ [] → Does p (λ w. put_all w (rows es)) m (Ok tt) m
@@ -58,5 +57,5 @@ module _ (w : World nothing) where
       let k = λ (v : Carried nothing) (us : Values). next (last_many (suc n) us) (under_many (suc n) us) in
       go_on-go_on (eval w e s) (λ v. put_all w (list_of rest) (v ∷ vs)) (λ us. next (last_many (suc n) us) (under_many (suc n) us))
       ∙ go_on_same (eval w e s) _ _ (λ v s. go_on_same (put_all w (list_of rest) (v ∷ vs) s) _ _ (λ us s. ap₂ (λ a b. next a b s) (last_many_next n us) (under_many_next n us))
-          ∙ row_found rest (v ∷ vs) (λ xs under_them. next (top under_them ∷ xs) (under under_them)) s)
+      ∙ row_found rest (v ∷ vs) (λ xs under_them. next (top under_them ∷ xs) (under under_them)) s)
       ∙ sym (go_on-go_on (eval w e s) _ (λ xs. next xs vs) ∙ go_on_same (eval w e s) _ _ (λ v s. go_on-go_on (all_of (eval_row w rest) s) _ (λ xs. next xs vs)))

@@ -20,6 +20,7 @@ pub mod Bodies
 pub mod Conds
 pub mod Readies
 pub mod Evals
+pub mod Shows
 pub mod Classes
 pub mod Leaving
 pub mod Choices

@@ -1,8 +1,13 @@
 -- What goes on once a class is initialized.
-use Rattle.std.proofs.Common.{◌≡◌, ◌∙◌, ℕ, Bool, List, [], ◌∷◌, ◌++◌, length, map, refl, ap, sym, subst, Option, Some, Result, Ok, Err}
+use Rattle.std.proofs.Common.{◌≡◌, ◌∙◌, ℕ, Bool, length, map, refl, ap, sym, subst, Option, Result, rules, vec_len}
 use Rattle.std.specs.Prelude.{None as Absent}
 use Rattle.wy_kernel.specs.Program.{Program}
+use Rattle.std.proofs.lemmas.List.{length-map}
+use Rattle.std.specs.declared.alloc.Global.{Global}
+use Rattle.std.specs.declared.vec.Vec.{Vec}
 use Rattle.wy_kernel.specs.Form.{Expression}
+use Rattle.wy_kernel.specs.declared.form.Expr.{Expr}
+use Rattle.wy_kernel.specs.View.{expression, row_of}
 use Rattle.wy_kernel.specs.Form as plain
 use Rattle.wy_kernel.specs.declared.form.CallForm.TheVariants as call_form
 use Rattle.wy_kernel.specs.declared.operator.BinOp.{BinOp}
@@ -16,13 +21,14 @@ use Rattle.wy_steps.specs.State.{Carried}
 use Rattle.wy_steps.specs.Steps.{constant}
 use Rattle.wy_state.specs.declared.parts.Halt.{Halt}
 use Rattle.wy_operation.specs.Spots.{spot_of}
-use Rattle.wy_operands.specs.Values.{Values, top, under_many, last_many, uses_of_last}
+use Rattle.wy_operands.specs.Values.{top, under_many, last_many, uses_of_last}
 use Rattle.wy_work.specs.declared.frame.ExprStep.TheVariants as step
 use Rattle.wy_work.specs.Expressions.{expr_step, put_on, updating_of}
 use Rattle.wy_work.specs.Frames.{Standing, Does}
 use Rattle.wy_work.specs.Listed.{IsStatic}
 use Rattle.wy_work.specs.Operands.{list_of}
 use Rattle.wy_work.proofs.Places.{Fetching, Storing}
+use Rattle.wy_work.proofs.Views.{listed_row}
 
 pub record StaticOf (z : plain.Place) (slot : Slot) : Type 0 where
   pub field : ℕ
@@ -69,3 +75,9 @@ pub static_called : (p : Program) (m : Standing) (r : Result (Unit {0}) Halt) (n
     Does p (λ w vs. put_on (under_many count vs) (w.call site method Absent (last_many count vs))) m r n → Readying p x m r n
 static_called p m r n x method count receiver ty args site is many a =
     subst (λ y. Readying p y m r n) (sym is) (subst (λ k. Does p (λ w vs. put_on (under_many k vs) (w.call site method Absent (last_many k vs))) m r n) many a)
+
+-- as many arguments as the call in memory has
+pub as_many : (args : Vec Expr Global) (count : ℕ) → count ≡ vec_len args → count ≡ length (list_of (row_of (map expression args.items)))
+as_many args count is =
+    let same : vec_len args ≡ length args.items = search rules in
+    is ∙ same ∙ sym (ap length (listed_row (map expression args.items)) ∙ length-map args.items expression)

@@ -1,8 +1,7 @@
 -- `op=`, `++` and `--`: the place, its old value, the right side, and what comes of them.
-use Rattle.std.proofs.Common.{◌≡◌, ◌∙◌, ℕ, pos, Bool, true, false, List, [], ◌∷◌, ◌++◌, refl, ap, sym, subst, Bor, Option, Some, Result, Ok, Err}
-use Rattle.std.specs.Prelude.{None as Absent, if◌then◌else◌}
+use Rattle.std.proofs.Common.{◌≡◌, ◌∙◌, ℕ, pos, Bool, List, [], ◌∷◌, ◌++◌, refl, ap, sym, subst, Bor, Option, Some, Err}
+use Rattle.std.specs.Prelude.{None as Absent}
 use Rattle.wy_kernel.specs.Program.{Program}
-use Rattle.wy_kernel.specs.Program as kernel
 use Rattle.wy_kernel.specs.Form.{Expression}
 use Rattle.wy_kernel.specs.Form as plain
 use Rattle.wy_kernel.specs.View.{expression}
@@ -32,15 +31,14 @@ use Rattle.wy_meaning.specs.Text.{append_place, concatenated}
 use Rattle.wy_meaning.specs.Place.{Spot, Located, assign, check_store, fetch, find, store, update_place}
 use Rattle.wy_meaning.specs.Expression.{eval, eval_part, part_or, update}
 use Rattle.wy_state.specs.declared.parts.Halt.{Halt}
-use Rattle.wy_state.specs.Agrees.{Shape, Onward, Answers}
-use Rattle.wy_state.specs.Seen.{given, valued}
+use Rattle.wy_state.specs.Agrees.{Onward, Answers}
+use Rattle.wy_state.specs.Seen.{given}
 use Rattle.wy_state.proofs.Onward.{onward_as, onward_same, onward_then}
-use Rattle.wy_operation.specs.Around.{IsSameAround, KeepsAt}
-use Rattle.wy_operation.specs.Spots.{Stored, spot_of}
-use Rattle.wy_operation.specs.Updated.{Places, updated}
-use Rattle.wy_operands.specs.Values.{Values, at, top, under, under_many, uses_of_last}
+use Rattle.wy_operation.specs.Spots.{spot_of}
+use Rattle.wy_operation.specs.Updated.{updated}
+use Rattle.wy_operands.specs.Values.{Values, top}
 use Rattle.wy_work.specs.Expressions.{expr_step, put_on, right_side, update_rest, updating, updating_of}
-use Rattle.wy_work.specs.Frames.{Standing, around, after, goes, pushed, then_all, followed, Does, Resumed}
+use Rattle.wy_work.specs.Frames.{Standing, around, after, goes, pushed, then_all, followed, Resumed}
 use Rattle.wy_work.specs.Operands.{Given}
 use Rattle.wy_work.specs.declared.frame.Frame.TheVariants as frames
 use Rattle.wy_work.specs.declared.frame.ExprStep.TheVariants as step
@@ -131,8 +129,8 @@ module _ (p : Program) (m : Standing) (slot : Slot) (c : Carried nothing) (us : 
         subst (λ (z : Standing). Onward p m.state (then_all p m (updating_of w (expression e.now) (spot_of slot c) vs)) z.state (goes p z)) (sym is)
         (begun_with (plain.the (expression value.now)) n (goes p (pushed (frames.Expr value step.Find) (pushed (frames.Expr e (step.Assign slot)) (record m { values = second })))) seen
         (λ s. ap (after p (around m) m.work) (sym (go_on-go_on (o s) (λ v. return (v ∷ stack)) (expr_step w (plain.Upd place op (plain.the (expression value.now)) value_ty ty wide gives_old site) (step.Assign slot)))
-            ∙ ap (λ y. go_on (go_on (o s) (λ v. return (v ∷ stack))) (expr_step w y (step.Assign slot))) (sym seen)
-            ∙ ap (λ (r : Values). go_on (go_on (o s) (λ v. return (v ∷ r))) (expr_step w (expression e.now) (step.Assign slot))) (sym stacked))))
+        ∙ ap (λ y. go_on (go_on (o s) (λ v. return (v ∷ stack))) (expr_step w y (step.Assign slot))) (sym seen)
+        ∙ ap (λ (r : Values). go_on (go_on (o s) (λ v. return (v ∷ r))) (expr_step w (expression e.now) (step.Assign slot))) (sym stacked))))
 
     -- it is the number one
     pub right_one : (q : Standing) (third : Values) → expression e.now ≡ plain.Upd place op plain.absent value_ty ty wide gives_old site →

@@ -1,6 +1,6 @@
 //! `?:`, `&&` and `||`: the Test is active in the whole expression (JLS 15.23 to 15.25).
 
-ghost use Rattle.std.specs.Prelude.{◌≡◌};
+ghost use Rattle.std.specs.Prelude.{◌≡◌, if◌then◌else◌};
 ghost use Rattle.wy_kernel.specs.Program as kernel;
 ghost use Rattle.wy_kernel.specs.View.{expression};
 ghost use Rattle.wy_work.specs.Expressions.{expr_step};
@@ -44,8 +44,7 @@ impl<'a, R: Recorder> Machine<'a, R> {
         };
         let value = self.stack.top();
         let event = test_around(&mut self.state, *site, value, self.stack.last_uses(1))?;
-        let arm = if is_true(value) { yes } else { no };
-        let Some(arm) = arm else {
+        let Some(arm) = arm_of(is_true(value), yes, no) else {
             self.stack.replace(1, value, event)?;
             return Ok(());
         };
@@ -66,4 +65,15 @@ impl<'a, R: Recorder> Machine<'a, R> {
         self.stack.join(2, value)?;
         Ok(())
     }
+}
+
+/// The arm that a Test chooses.
+fn arm_of<'a>(
+    truth: bool,
+    yes: &'a Option<Box<Expr>>,
+    no: &'a Option<Box<Expr>>,
+) -> &'a Option<Box<Expr>>
+    ensures { result.now ≡ (if truth then yes.now else no.now) }
+{
+    if truth { yes } else { no }
 }

@@ -46,12 +46,15 @@ impl<'a, R: Recorder> Machine<'a, R> {
             }
             Expr::New { .. } => self.make_object(expr),
             Expr::Call {
-                form: CallForm::Static,
+                form,
                 method,
                 args,
                 site,
                 ..
-            } => self.call_static(on, *method, args.len(), *site),
+            } => match form {
+                CallForm::Static => self.call_static(on, *method, args.len(), *site),
+                _ => Err(Halt::Memory),
+            },
             _ => Err(Halt::Memory),
         }
     }

@@ -107,15 +107,7 @@ impl<'a, R: Recorder> Machine<'a, R> {
             ty: *ty,
             site: *site,
         };
-        let (value, event) = update(
-            &mut self.state,
-            slot,
-            form,
-            old,
-            right,
-            operands,
-            uses,
-        )?;
+        let (value, event) = update(&mut self.state, slot, form, old, right, operands, uses)?;
         if *gives_old {
             self.stack.keep_second_of_three()?;
         } else {
@@ -125,7 +117,12 @@ impl<'a, R: Recorder> Machine<'a, R> {
     }
 
     /// The parts of the place and the text are there.
-    pub fn store_text(&mut self, on: &Dispatcher<'a>, expr: &'a Expr, slot: Slot) -> Result<(), Halt>
+    pub fn store_text(
+        &mut self,
+        on: &Dispatcher<'a>,
+        expr: &'a Expr,
+        slot: Slot,
+    ) -> Result<(), Halt>
         ensures goes { Does (program_of on.now.program.now) (λ w. expr_step w (expression expr.now) (step.Store slot))
             (standing R.keeps R.kept self.old) result (standing R.keeps R.kept self.new) }
     {
