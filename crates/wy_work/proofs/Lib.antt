@@ -23,4 +23,5 @@ pub mod Evals
 pub mod Classes
 pub mod Leaving
 pub mod Choices
+pub mod CallForms
 pub mod Operands

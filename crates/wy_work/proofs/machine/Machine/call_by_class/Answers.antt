@@ -1,4 +1,4 @@
-use Rattle.std.proofs.Common.{ap, subst, suc, sym, ◌∙◌, ◌∷◌, Err}
+use Rattle.std.proofs.Common.{ap, subst, suc, sym, true, ◌≡◌, ◌∙◌, ◌∷◌, Err}
 use Rattle.wy_kernel.specs.Parts.{program_of}
 use Rattle.wy_meaning.specs.Run.{world}
 use Rattle.wy_meaning.specs.World.{fail, is_null, is_text, null_pointer}
@@ -34,7 +34,7 @@ returns-in-Text g c = record {
       let p = program_of c.args.on.now.program.now in
       let m = standing g.R.Recorder.keeps g.R.Recorder.kept c.args.self.now in
       let q = standing g.R.Recorder.keeps g.R.Recorder.kept c.call_on_text.new.self in
-      let text = ? in
+      let text : is_text c.value_at.result ≡ true = ? in
       resumed_as p m q c.call_on_text.result (under_many (suc c.args.count) m.values) _ _
       (chosen_on_text (world p m.depth) c.args.method (at c.args.count m.values) (last_many c.args.count m.values) c.args.site
         (ap is_null (sym c.value_at.ensures) ∙ text_apart _ text) (ap is_text (sym c.value_at.ensures) ∙ text))
