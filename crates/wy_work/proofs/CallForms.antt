@@ -1,7 +1,7 @@
 -- Calls as forms: on a text, through a class that is initialized first, on a receiver; and the call of main.
 use Rattle.std.specs.Prelude.{◌==◌, pos}
 use Rattle.std.specs.Prelude.{None as Absent}
-use Rattle.std.proofs.Common.{◌≡◌, ◌∙◌, ℕ, suc, Bool, true, false, List, [], ◌∷◌, ◌++◌, length, map, refl, ap, sym, subst, inl, inr, Bor, Option, Some, Result, Ok, Err}
+use Rattle.std.proofs.Common.{◌≡◌, ◌∙◌, ℕ, suc, Bool, true, false, List, [], ◌∷◌, ◌++◌, length, map, refl, ap, ap₂, sym, subst, inl, inr, Bor, Option, Some, Result, Ok, Err}
 use Rattle.std.proofs.lemmas.Bool.Decides.{eqb_tells}
 use Rattle.std.proofs.lemmas.List.{length-map}
 use Rattle.std.specs.declared.alloc.Global.{Global}
@@ -84,7 +84,7 @@ module _ (p : Program) (m : Standing) (number count : ℕ) where
         Onward p m.state (then_all p m (on_text (world p m.depth) number count m.values)) m.state (goes p (record m { values = us }))
     unfolding joined
     equals_found is_same us h values = onward_as (λ s. ap (after p (around m) m.work) (asked s))
-      (gave_at p m m.state us (text_equals (world p m.depth) (carried a) (carried b)) (equality a b is_same) (under_many 2 m.values) h (same_around m.state.calls) (rw (left, right) values))
+      (gave_at p m m.state us (text_equals (world p m.depth) (carried a) (carried b)) (equality a b is_same) (under_many 2 m.values) h (same_around m.state.calls) (values ∙ ap₂ (λ (x y : Carried nothing). given (val.Bool is_same) (x.uses ++ y.uses) ∷ under_many 2 m.values) (sym left) (sym right)))
 
   pub receiver_shown : (us mid : Values) (v : Value) → (number ≡ 1 → ⊥) → mid ≡ under_many count m.values → v ≡ (top mid).value → us ≡ joined_last 1 v mid →
       Onward p m.state (then_all p m (on_text (world p m.depth) number count m.values)) m.state (goes p (record m { values = us }))
@@ -103,17 +103,22 @@ module _ (w : World nothing) (number : ℕ) (receiver : plain.Part) (ty : Ty) (r
       ap (λ o. go_on (go_on o (λ xs z. go_on (initialize w site c z) (λ u. w.call site number Absent xs))) (λ v. return (v ∷ under_many k vs))) (all_there (last_many k vs) s)
       ∙ go_on-go_on (initialize w site c s) (λ u. w.call site number Absent (last_many k vs)) (λ v. return (v ∷ under_many k vs))
 
+-- a call that has a receiver
+abbrev pub IsReceived : CallForm → Type 0
+IsReceived form.Static = ⊥
+IsReceived _ = Unit {0}
+
 module _ (w : World nothing) (number : ℕ) (r : Expression) (ty : Ty) (row : plain.Row) (site : ℕ) (vs : Values) where
   abbrev receiving : CallForm → Type 0
   receiving f = expr_step w (plain.Call f number (plain.the r) ty row site) step.Operate vs ≡ put_on (under_many (suc (length (list_of row))) vs) (call_on w f number (return (at (length (list_of row)) vs)) (evaluated (last_many (length (list_of row)) vs)) site)
 
-  received : (f : CallForm) → (f ≡ form.Static → ⊥) → receiving f
-  received form.Static other = absurd (other refl)
+  received : (f : CallForm) → IsReceived f → receiving f
+  received form.Static other = absurd other
   received form.Direct other = let k = length (list_of row) in ap (λ xs. put_on (under_many (suc k) vs) (of_first w (λ receiver args. call_on w form.Direct number receiver args site) xs)) (last_more k vs)
   received form.Chosen other = let k = length (list_of row) in ap (λ xs. put_on (under_many (suc k) vs) (of_first w (λ receiver args. call_on w form.Chosen number receiver args site) xs)) (last_more k vs)
 
 many_args : (args : Vec Expr Global) → length (list_of (row_of (map expression args.items))) ≡ length args.items
-many_args args = ap length (listed_row (map expression args.items)) ∙ length-map expression args.items
+many_args args = ap length (listed_row (map expression args.items)) ∙ length-map args.items expression
 
 module _ (p : Program) (m n : Standing) (r : Result (Unit {0}) Halt) (e : Bor Expr) (number : ℕ) (receiver : Option (Box Expr Global)) (ty : Ty) (args : Vec Expr Global) (site : ℕ) where
   pub static_form : (f : CallForm) (q : Standing) (class : ℕ) → e.now ≡ memory.Call f number receiver ty args site → f ≡ form.Static → q ≡ pushed (frame.Expr e step.Ready) m → class ≡ (kernel.method p number).class →
@@ -129,7 +134,7 @@ module _ (p : Program) (m n : Standing) (r : Result (Unit {0}) Halt) (e : Bor Ex
             ∙ ap (λ d. go_on (initialize (world p d) site class s) (λ u. expr_step (world p m.depth) x step.Ready m.values)) (sym depth))
         a)
 
-  pub received_form : (f g : CallForm) (o : Box Expr Global) (count : ℕ) → e.now ≡ memory.Call f number receiver ty args site → f ≡ g → (g ≡ form.Static → ⊥) → receiver ≡ Some o → count ≡ length args.items →
+  pub received_form : (f g : CallForm) (o : Box Expr Global) (count : ℕ) → e.now ≡ memory.Call f number receiver ty args site → f ≡ g → IsReceived g → receiver ≡ Some o → count ≡ length args.items →
       Does p (λ w vs. put_on (under_many (suc count) vs) (call_on w g number (return (at count vs)) (evaluated (last_many count vs)) site)) m r n → Does p (λ w. expr_step w (expression e.now) step.Operate) m r n
   received_form f g o count is same other some many a =
       let seen = ap expression (is ∙ ap (λ z. memory.Call z number receiver ty args site) same ∙ ap (λ z. memory.Call g number z ty args site) some) ∙ view_call g number (Some o) ty args site in

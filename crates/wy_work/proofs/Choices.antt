@@ -30,7 +30,7 @@ resumed_as p m q (Err (Stopped why)) us f g same a = onward_as (λ s. ap (λ z. 
 resumed_as p m q (Err (Recorder e)) us f g same a = tt
 resumed_as p m q (Err Memory) us f g same a = tt
 
-all_there : (vs : Values) (s : State nothing) → all_of (map return vs) s ≡ return vs s
+pub all_there : (vs : Values) (s : State nothing) → all_of (map return vs) s ≡ return vs s
 unfolding all_of ◌>>=◌ go_on return
 all_there [] s = refl
 all_there (v ∷ vs) s = ap (λ o. go_on o (λ us. return (v ∷ us))) (all_there vs s)
@@ -86,6 +86,14 @@ module _ (w : World nothing) (m : ℕ) (r : Carried nothing) (args : Values) (si
 pub null_seen : (v : Value) → v ≡ val.Null → is_null v ≡ true
 unfolding is_null
 null_seen v is = rw is refl
+
+pub text_seen : (v : Value) (n : ℕ) → v ≡ val.Text n → is_text v ≡ true
+unfolding is_text
+text_seen v n is = rw is refl
+
+pub fixed_seen : (v : Value) (n : ℕ) → v ≡ val.Fixed n → is_text v ≡ true
+unfolding is_text
+fixed_seen v n is = rw is refl
 
 pub text_apart : (v : Value) → is_text v ≡ true → is_null v ≡ false
 unfolding is_text is_null

@@ -1,10 +1,10 @@
-use Rattle.std.proofs.Common.{ap, subst, suc, sym, true, ◌≡◌, ◌∙◌, ◌∷◌, Err}
+use Rattle.std.proofs.Common.{ap, inl, inr, subst, suc, sym, true, ◌≡◌, ◌∙◌, ◌∷◌, Err}
 use Rattle.wy_kernel.specs.Parts.{program_of}
 use Rattle.wy_meaning.specs.Run.{world}
 use Rattle.wy_meaning.specs.World.{fail, is_null, is_text, null_pointer}
 use Rattle.wy_operands.specs.Values.{at, last_many, under_many}
 use Rattle.wy_work.specs.Machines.{standing}
-use Rattle.wy_work.proofs.Choices.{chosen_by_class, chosen_fails, chosen_on_text, no_text, null_apart, null_seen, resumed_as, text_apart}
+use Rattle.wy_work.proofs.Choices.{chosen_by_class, chosen_fails, chosen_on_text, fixed_seen, no_text, null_apart, null_seen, resumed_as, text_apart, text_seen}
 use Rattle.wy_work.proofs.Runs.{failed_at, world_program}
 use Rattle.wy_operation.proofs.Exceptions.{fails}
 use Rattle.wy_operation.proofs.Runs.{answers_as}
@@ -34,7 +34,7 @@ returns-in-Text g c = record {
       let p = program_of c.args.on.now.program.now in
       let m = standing g.R.Recorder.keeps g.R.Recorder.kept c.args.self.now in
       let q = standing g.R.Recorder.keeps g.R.Recorder.kept c.call_on_text.new.self in
-      let text : is_text c.value_at.result ≡ true = ? in
+      let text : is_text c.value_at.result ≡ true = elim c.in-Text.is as (λ _. is_text c.value_at.result ≡ true) [ inl a ↦ text_seen _ a.0 a.1 | inr b ↦ fixed_seen _ b.0 b.1 ] in
       resumed_as p m q c.call_on_text.result (under_many (suc c.args.count) m.values) _ _
       (chosen_on_text (world p m.depth) c.args.method (at c.args.count m.values) (last_many c.args.count m.values) c.args.site
         (ap is_null (sym c.value_at.ensures) ∙ text_apart _ text) (ap is_text (sym c.value_at.ensures) ∙ text))
