@@ -1,7 +1,7 @@
 -- Calls as forms: on a text, through a class that is initialized first, on a receiver; and the call of main.
 use Rattle.std.specs.Prelude.{◌==◌, pos}
 use Rattle.std.specs.Prelude.{None as Absent}
-use Rattle.std.proofs.Common.{◌≡◌, ◌∙◌, ℕ, suc, Bool, true, false, List, [], ◌∷◌, ◌++◌, length, map, refl, ap, ap₂, sym, subst, inl, inr, Bor, Option, Some, Result, Ok, Err}
+use Rattle.std.proofs.Common.{◌≡◌, ◌∙◌, ℕ, suc, Bool, false, List, [], ◌∷◌, ◌++◌, length, map, refl, ap, ap₂, sym, subst, inl, inr, arith, Bor, Option, Some, Result, Err}
 use Rattle.std.proofs.lemmas.Bool.Decides.{eqb_tells}
 use Rattle.std.proofs.lemmas.List.{length-map}
 use Rattle.std.specs.declared.alloc.Global.{Global}
@@ -23,7 +23,7 @@ use Rattle.wy_event.specs.declared.record.Use.{Use}
 use Rattle.wy_steps.specs.Sets.{nothing}
 use Rattle.wy_steps.specs.State.{State, Carried, Run, go_on, ◌>>=◌, ◌>>◌, return}
 use Rattle.wy_steps.specs.Steps.{Made, constant, joined, value_of}
-use Rattle.wy_meaning.specs.World.{World, all_of}
+use Rattle.wy_meaning.specs.World.{World}
 use Rattle.wy_meaning.specs.Run.{world, strings}
 use Rattle.wy_meaning.specs.Place.{initialize}
 use Rattle.wy_meaning.specs.Array.{make_array}
@@ -31,7 +31,7 @@ use Rattle.wy_meaning.specs.Call.{call_on, call_on_text, call_static, equals, te
 use Rattle.wy_state.specs.declared.parts.Halt.{Halt}
 use Rattle.wy_state.specs.Agrees.{Shape, Onward, Answers}
 use Rattle.wy_state.specs.Seen.{given, made_of, valued}
-use Rattle.wy_state.proofs.Onward.{onward_as, onward_same}
+use Rattle.wy_state.proofs.Onward.{onward_as}
 use Rattle.wy_operation.specs.Around.{IsSameAround, KeepsAt}
 use Rattle.wy_operation.specs.Operands.{carried}
 use Rattle.wy_operation.specs.declared.operand.Part.{Part}
@@ -42,7 +42,7 @@ use Rattle.wy_work.specs.declared.frame.ExprStep.TheVariants as step
 use Rattle.wy_work.specs.Expressions.{expr_step, leaving, put_on}
 use Rattle.wy_work.specs.Frames.{Standing, Does, Resumed, after, around, followed, goes, main_called, pushed, then_all}
 use Rattle.wy_work.specs.Listed.{part_seen}
-use Rattle.wy_work.specs.Operands.{Given, evaluated, list_of, of_first}
+use Rattle.wy_work.specs.Operands.{evaluated, list_of, of_first}
 use Rattle.wy_work.proofs.Choices.{all_there}
 use Rattle.wy_work.proofs.Places.{once_initialized}
 use Rattle.wy_work.proofs.Rows.{last_more}
@@ -134,14 +134,15 @@ module _ (p : Program) (m n : Standing) (r : Result (Unit {0}) Halt) (e : Bor Ex
             ∙ ap (λ d. go_on (initialize (world p d) site class s) (λ u. expr_step (world p m.depth) x step.Ready m.values)) (sym depth))
         a)
 
-  pub received_form : (f g : CallForm) (o : Box Expr Global) (count : ℕ) → e.now ≡ memory.Call f number receiver ty args site → f ≡ g → IsReceived g → receiver ≡ Some o → count ≡ length args.items →
+  pub received_form : (f g : CallForm) (o : Box Expr Global) (count : ℕ) → e.now ≡ memory.Call f number receiver ty args site → f ≡ g → IsReceived g → receiver ≡ Some o → count ≡ args.len →
       Does p (λ w vs. put_on (under_many (suc count) vs) (call_on w g number (return (at count vs)) (evaluated (last_many count vs)) site)) m r n → Does p (λ w. expr_step w (expression e.now) step.Operate) m r n
   received_form f g o count is same other some many a =
       let seen = ap expression (is ∙ ap (λ z. memory.Call z number receiver ty args site) same ∙ ap (λ z. memory.Call g number z ty args site) some) ∙ view_call g number (Some o) ty args site in
       let row = row_of (map expression args.items) in
+      let all : count ≡ length args.items = omega (arith, many, args.ok) in
       subst (λ y. Resumed p (then_all p m (expr_step (world p m.depth) y step.Operate m.values)) m.state r n) (sym seen)
       (subst (λ k. Resumed p (then_all p m k) m.state r n) (sym (received (world p m.depth) number (expression o.value) ty row site m.values g other))
-      (subst (λ k. Resumed p (then_all p m (put_on (under_many (suc k) m.values) (call_on (world p m.depth) g number (return (at k m.values)) (evaluated (last_many k m.values)) site))) m.state r n) (many ∙ sym (many_args args)) a))
+      (subst (λ k. Resumed p (then_all p m (put_on (under_many (suc k) m.values) (call_on (world p m.depth) g number (return (at k m.values)) (evaluated (last_many k m.values)) site))) m.state r n) (all ∙ sym (many_args args)) a))
 
 -- ---- main
 

@@ -1,12 +1,12 @@
 -- Which method a call takes, once its operands are there.
 use Rattle.std.specs.Prelude.{◌==◌}
-use Rattle.std.proofs.Common.{◌≡◌, ◌∙◌, ℕ, suc, List, [], ◌∷◌, map, refl, ap, sym, subst, Bool, true, false, Option, Some, Result, Ok, Err}
+use Rattle.std.proofs.Common.{◌≡◌, ◌∙◌, ℕ, [], ◌∷◌, map, refl, ap, sym, subst, Bool, true, false, Some, Result, Ok, Err}
 use Rattle.wy_kernel.specs.Program.{Program, dispatch, class_of_type}
 use Rattle.wy_kernel.specs.declared.types.Ty.{Ty}
 use Rattle.wy_kernel.specs.declared.form.CallForm.TheVariants as form
 use Rattle.wy_value.specs.declared.value.Value.{Value}
 use Rattle.wy_steps.specs.Sets.{nothing}
-use Rattle.wy_steps.specs.State.{State, Carried, Run, go_on, ◌>>=◌, return, choose}
+use Rattle.wy_steps.specs.State.{State, Carried, go_on, ◌>>=◌, return, choose}
 use Rattle.wy_value.specs.declared.value.Value.TheVariants as val
 use Rattle.wy_meaning.specs.World.{World, all_of, fail, is_null, is_text, null_pointer, type_of}
 use Rattle.wy_meaning.specs.Run.{world}
@@ -14,9 +14,9 @@ use Rattle.wy_meaning.specs.Text.{call_chosen}
 use Rattle.wy_meaning.specs.Call.{call_form, call_on, call_on_text, equals}
 use Rattle.wy_state.specs.declared.parts.Halt.{Halt}
 use Rattle.wy_state.specs.declared.parts.Halt.TheVariants.{Left, Stopped, Recorder, Memory}
-use Rattle.wy_state.specs.Agrees.{Shape, Onward}
+use Rattle.wy_state.specs.Agrees.{Onward}
 use Rattle.wy_state.proofs.Onward.{within, onward_as, onward_then, onward_same}
-use Rattle.wy_operands.specs.Values.{Values, at}
+use Rattle.wy_operands.specs.Values.{Values}
 use Rattle.wy_work.specs.Expressions.{put_on}
 use Rattle.wy_work.specs.Operands.{Given, evaluated}
 use Rattle.wy_work.specs.Frames.{Standing, around, after, then_all, Resumed}

@@ -1,5 +1,5 @@
 -- The initialization of a class: nothing that it throws is left to whoever needs the class, so that its frames may catch twice.
-use Rattle.std.proofs.Common.{◌≡◌, ◌∙◌, ℕ, suc, List, [], ◌∷◌, map, refl, ap, ap₂, sym, subst, Bool, true, false, not, ◌<◌, nat_lt, nat_le, length, Option, Some, Err}
+use Rattle.std.proofs.Common.{◌≡◌, ◌∙◌, ℕ, suc, List, [], refl, ap, sym, subst, Bool, true, false, not, ◌<◌, nat_lt, nat_le, length, Option, Some, Err}
 use Rattle.std.specs.Prelude.{None as Absent, ◌+◌}
 use Rattle.wy_kernel.specs.Program.{Program, class, init_body, is_source}
 use Rattle.wy_event.specs.declared.record.Kind.TheVariants as kind
@@ -15,7 +15,7 @@ use Rattle.wy_meaning.specs.Call.{at_failure, initialization, initialize_above}
 use Rattle.std.proofs.lemmas.Bool.Decides.{Decides-ltb}
 use Rattle.wy_calls.proofs.Entries.{is_less}
 use Rattle.wy_state.specs.Agrees.{Onward}
-use Rattle.wy_state.proofs.Onward.{onward_as, onward_same, within}
+use Rattle.wy_state.proofs.Onward.{onward_as, onward_same, within, onward_then}
 use Rattle.wy_work.specs.Frames.{Standing, Turned, after, around, goes, pushed, then_all}
 use Rattle.wy_work.specs.Calls.{IsSameStack, Enters, begun}
 use Rattle.wy_work.proofs.Runs.{world_program}
@@ -31,7 +31,6 @@ use Rattle.wy_kernel.specs.Program.{Body as Code}
 use Rattle.wy_kernel.specs.View.{statement}
 use Rattle.wy_kernel.specs.declared.form.Stmt.{Stmt as Written}
 use Rattle.wy_meaning.specs.Statement.{exec}
-use Rattle.wy_state.proofs.Onward.{onward_then}
 use Rattle.wy_work.specs.declared.frame.Frame.TheVariants as frame
 use Rattle.wy_work.specs.declared.frame.Step.TheVariants as step
 use Rattle.wy_work.specs.declared.frame.StmtStep.TheVariants as doing

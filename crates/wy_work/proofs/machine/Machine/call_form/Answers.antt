@@ -1,4 +1,4 @@
-use Rattle.std.proofs.Common.{ap, sym}
+use Rattle.std.proofs.Common.{ap}
 use Rattle.wy_kernel.specs.Parts.{program_of}
 use Rattle.wy_kernel.specs.Program as kernel
 use Rattle.wy_kernel.specs.declared.form.CallForm.TheVariants as form
@@ -8,7 +8,7 @@ use Rattle.wy_work.proofs.machine.Machine.call_form.Goals as goal
 
 pub returns-in_ok-push_expr-in-Static-default : goal.returns-in_ok-push_expr-in-Static-default
 returns-in_ok-push_expr-in-Static-default g c = record {
-  goes = static_form (program_of c.args.on.now.program.now) (standing g.R.Recorder.keeps g.R.Recorder.kept c.args.self.now) (standing g.R.Recorder.keeps g.R.Recorder.kept c.initialize.new.self) c.initialize.result c.args.expr _ _ _ _ _ _ (standing g.R.Recorder.keeps g.R.Recorder.kept c.push_expr.new.self) _ c.in-Call.is {! c.in-Static.is-0 !} c.in_ok-push_expr-in-Static-default.ensures (ap (λ (z : kernel.Method). z.class) c.method.ensures) c.initialize.ensures.goes;
+  goes = static_form (program_of c.args.on.now.program.now) (standing g.R.Recorder.keeps g.R.Recorder.kept c.args.self.now) (standing g.R.Recorder.keeps g.R.Recorder.kept c.initialize.new.self) c.initialize.result c.args.expr _ _ _ _ _ _ (standing g.R.Recorder.keeps g.R.Recorder.kept c.push_expr.new.self) _ c.in-Call.is c.in-Static-default.is-0 c.in_ok-push_expr-in-Static-default.ensures (ap (λ (z : kernel.Method). z.class) c.method.ensures) c.initialize.ensures.goes;
 }
 
 pub returns-in-Direct-Some : goal.returns-in-Direct-Some

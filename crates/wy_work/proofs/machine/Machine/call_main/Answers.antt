@@ -1,4 +1,4 @@
-use Rattle.std.proofs.Common.{ap, sym, refl}
+use Rattle.std.proofs.Common.{ap, refl}
 use Rattle.std.specs.Prelude.{pos}
 use Rattle.std.proofs.lemmas.Result.{err_from_is_err_and}
 use Rattle.wy_kernel.specs.Parts.{program_of}
