@@ -78,13 +78,13 @@ module _ (p : Program) (m : Standing) (number count : ℕ) where
 
     pub equals_refused : (e : Halt) → Answers p (equality a b) (Err e) m.state (text_equals (world p m.depth) (carried a) (carried b)) m.state → Resumed p (then_all p m (on_text (world p m.depth) number count m.values)) m.state (Err e) m
     equals_refused e h = turned_as p m m _ _ (Err e) (λ u. return m.values) asked
-      (failed p m m (text_equals (world p m.depth) (carried a) (carried b)) (λ v. return (v ∷ under_many 2 m.values)) (equality a b) e (λ u. return m.values) h (settled_same m))
+        (failed p m m (text_equals (world p m.depth) (carried a) (carried b)) (λ v. return (v ∷ under_many 2 m.values)) (equality a b) e (λ u. return m.values) h (settled_same m))
 
     pub equals_found : (is_same : Bool) (us : Values) → Onward p m.state (text_equals (world p m.depth) (carried a) (carried b)) m.state (return (equality a b is_same)) → us ≡ joined_last 2 (val.Bool is_same) m.values →
         Onward p m.state (then_all p m (on_text (world p m.depth) number count m.values)) m.state (goes p (record m { values = us }))
     unfolding joined
     equals_found is_same us h values = onward_as (λ s. ap (after p (around m) m.work) (asked s))
-      (gave_at p m m.state us (text_equals (world p m.depth) (carried a) (carried b)) (equality a b is_same) (under_many 2 m.values) h (same_around m.state.calls) (values ∙ ap₂ (λ (x y : Carried nothing). given (val.Bool is_same) (x.uses ++ y.uses) ∷ under_many 2 m.values) (sym left) (sym right)))
+        (gave_at p m m.state us (text_equals (world p m.depth) (carried a) (carried b)) (equality a b is_same) (under_many 2 m.values) h (same_around m.state.calls) (values ∙ ap₂ (λ (x y : Carried nothing). given (val.Bool is_same) (x.uses ++ y.uses) ∷ under_many 2 m.values) (sym left) (sym right)))
 
   pub receiver_shown : (us mid : Values) (v : Value) → (number ≡ 1 → ⊥) → mid ≡ under_many count m.values → v ≡ (top mid).value → us ≡ joined_last 1 v mid →
       Onward p m.state (then_all p m (on_text (world p m.depth) number count m.values)) m.state (goes p (record m { values = us }))
@@ -129,10 +129,10 @@ module _ (p : Program) (m n : Standing) (r : Result (Unit {0}) Halt) (e : Bor Ex
       let depth = ap (λ (z : Standing). z.depth) pushes in
       subst (λ y. Resumed p (then_all p m (expr_step (world p m.depth) y step.Operate m.values)) m.state r n) (sym seen)
       (once_initialized p m q r n e x (initialize (world p q.depth) site class) (expr_step (world p m.depth) x step.Operate m.values) pushes seen
-        (λ s. static_is (world p m.depth) number (part_seen receiver) ty (row_of (map expression args.items)) site m.values s
-            ∙ ap (λ c. go_on (initialize (world p m.depth) site c s) (λ u. expr_step (world p m.depth) x step.Ready m.values)) (ap (λ k. (kernel.method k number).class) (world_program p m.depth) ∙ sym of)
-            ∙ ap (λ d. go_on (initialize (world p d) site class s) (λ u. expr_step (world p m.depth) x step.Ready m.values)) (sym depth))
-        a)
+      (λ s. static_is (world p m.depth) number (part_seen receiver) ty (row_of (map expression args.items)) site m.values s
+      ∙ ap (λ c. go_on (initialize (world p m.depth) site c s) (λ u. expr_step (world p m.depth) x step.Ready m.values)) (ap (λ k. (kernel.method k number).class) (world_program p m.depth) ∙ sym of)
+      ∙ ap (λ d. go_on (initialize (world p d) site class s) (λ u. expr_step (world p m.depth) x step.Ready m.values)) (sym depth))
+      a)
 
   pub received_form : (f g : CallForm) (o : Box Expr Global) (count : ℕ) → e.now ≡ memory.Call f number receiver ty args site → f ≡ g → IsReceived g → receiver ≡ Some o → count ≡ args.len →
       Does p (λ w vs. put_on (under_many (suc count) vs) (call_on w g number (return (at count vs)) (evaluated (last_many count vs)) site)) m r n → Does p (λ w. expr_step w (expression e.now) step.Operate) m r n
@@ -170,5 +170,5 @@ module _ (p : Program) (m : Standing) (site : ℕ) (at_main : site ≡ (kernel.m
   main_goes l vs array r q a same values next =
       turned_as p m q _ (followed array_made main_after) r (λ u. return q.values) main_is
       (turned_after p m.state (record m { state = l; values = vs }) q (then_all p m (followed array_made main_after)) (then_all p (record m { state = l; values = vs }) (main_after (made_of array))) r (λ u. return q.values)
-        (went p m (record m { state = l; values = vs }) array_made main_after (made_of array) a (kept_after p m l vs same))
-        (subst (λ us. Resumed p (then_all p (record m { state = l; values = vs }) (put_on (under_many 1 us) ((world p m.depth).call site p.main Absent (last_many 1 us)))) l r q) values next))
+      (went p m (record m { state = l; values = vs }) array_made main_after (made_of array) a (kept_after p m l vs same))
+      (subst (λ us. Resumed p (then_all p (record m { state = l; values = vs }) (put_on (under_many 1 us) ((world p m.depth).call site p.main Absent (last_many 1 us)))) l r q) values next))
