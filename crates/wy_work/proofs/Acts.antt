@@ -1,44 +1,42 @@
 -- What a statement does within its begin and its end, by the frames that it pushes.
-use Rattle.std.proofs.Common.{◌≡◌, ◌∙◌, ℕ, Bool, List, [], ◌∷◌, map, refl, ap, ap₂, sym, subst, Bor, Option, Some, Result, Ok, Err}
+use Rattle.std.proofs.Common.{◌≡◌, ◌∙◌, ℕ, Bool, List, [], ◌∷◌, map, refl, ap, sym, Bor, Option, Some, Err}
 use Rattle.std.specs.Prelude.{None as Absent}
 use Rattle.std.specs.declared.alloc.Global.{Global}
 use Rattle.std.specs.declared.boxed.Box.{Box}
 use Rattle.std.specs.declared.vec.Vec.{Vec}
 use Rattle.wy_kernel.specs.Program.{Program}
 use Rattle.wy_kernel.specs.Form as plain
-use Rattle.wy_kernel.specs.Form.{Expression, Statement, Act}
+use Rattle.wy_kernel.specs.Form.{Expression, Act}
 use Rattle.wy_kernel.specs.declared.form.Expr.{Expr}
 use Rattle.wy_kernel.specs.declared.form.Stmt.{Stmt as Memory}
 use Rattle.wy_kernel.specs.declared.form.StmtForm.{StmtForm}
 use Rattle.wy_kernel.specs.declared.form.StmtForm.TheVariants as form
 use Rattle.wy_kernel.specs.declared.form.Catch.{Catch}
 use Rattle.wy_kernel.specs.declared.types.Ty.{Ty}
-use Rattle.wy_kernel.specs.View.{act, clause, clauses_of, expression, statement, statements_of, test_of}
+use Rattle.wy_kernel.specs.View.{act, clause, clauses_of, expression, statement}
 use Rattle.wy_kernel.proofs.Views.{view_statement, view_block, view_eval, view_declare, view_if, view_labelled, view_jump, view_return, view_throw, view_try, view_print}
 use Rattle.wy_value.specs.declared.value.Value.TheVariants.{None as Nothing}
 use Rattle.wy_steps.specs.Sets.{nothing}
 use Rattle.wy_steps.specs.State as run
-use Rattle.wy_steps.specs.State.{State, Run, Outcome, go_on, go_on_left, catching, ◌>>=◌, ◌>>◌, return, stop, leave}
+use Rattle.wy_steps.specs.State.{State, Run, Outcome, go_on, go_on_left, catching, ◌>>=◌, ◌>>◌, return, leave}
 use Rattle.wy_steps.specs.Steps.{constant}
 use Rattle.wy_meaning.specs.World.{World}
 use Rattle.wy_meaning.specs.Run.{world}
 use Rattle.wy_meaning.specs.Expression.{eval, eval_part, part_or}
 use Rattle.wy_meaning.specs.Text.{print_value, print_nothing}
-use Rattle.wy_meaning.specs.Statement.{evaluated, tested, if_form, return_form, throw_form, print_form, declaration, jump, try_form, finally, at_throw, exec, exec_act, exec_all, exec_catches, exec_other, other_or}
+use Rattle.wy_meaning.specs.Statement.{evaluated, tested, if_form, return_form, throw_form, print_form, declaration, jump, try_form, finally, at_throw, exec, exec_act, exec_catches, exec_other, other_or}
 use Rattle.wy_state.specs.declared.parts.Halt.{Halt}
 use Rattle.wy_state.specs.Seen.{given}
 use Rattle.wy_state.specs.Agrees.{Shape, Onward, Answers, itself}
 use Rattle.wy_operation.proofs.Runs.{answers_as}
 use Rattle.wy_operation.specs.Around.{IsSameAround, KeepsAt, Leaves}
-use Rattle.wy_state.proofs.Onward.{within, onward_as, onward_then, onward_same}
-use Rattle.wy_operands.specs.Values.{Values, top}
-use Rattle.wy_work.specs.declared.frame.Frame.{Frame}
+use Rattle.wy_state.proofs.Onward.{within, onward_as, onward_same}
+use Rattle.wy_operands.specs.Values.{Values}
 use Rattle.wy_work.specs.declared.frame.Frame.TheVariants as frame
 use Rattle.wy_work.specs.declared.frame.ExprStep.TheVariants as expr_step
 use Rattle.wy_work.specs.declared.frame.StmtStep.TheVariants as step
-use Rattle.wy_work.specs.Expressions.{put_on}
 use Rattle.wy_work.specs.Statements.{act_on, emptied, forgotten, without_values, stmt_step}
-use Rattle.wy_work.specs.Frames.{Standing, around, after, pushed, then_all, goes, followed, Resumed}
+use Rattle.wy_work.specs.Frames.{Standing, around, after, pushed, then_all, goes, Resumed}
 use Rattle.wy_work.proofs.Runs.{go_on-go_on, IsSettled, went, failed_at, kept_after}
 
 -- the expression that comes first in a statement

@@ -1,5 +1,5 @@
 -- What the frames of a body stand for: its Binds, its block and its end.
-use Rattle.std.proofs.Common.{◌≡◌, ◌∙◌, ℕ, suc, List, [], ◌∷◌, map, refl, ap, ap₂, sym, subst, Bool, true, false, nat_lt, nat_le, length, Option, Some, Result, Ok, Err}
+use Rattle.std.proofs.Common.{◌≡◌, ◌∙◌, ℕ, suc, [], ◌∷◌, refl, ap, sym, subst, Bool, true, false, nat_lt, nat_le, length, Option, Some, Result, Ok, Err}
 use Rattle.std.specs.Prelude.{None as Absent, ◌+◌}
 use Rattle.std.specs.Borrow.{Bor}
 use Rattle.wy_kernel.specs.declared.form.Stmt.{Stmt as Written}
@@ -12,9 +12,9 @@ use Rattle.wy_event.specs.declared.record.Kind.TheVariants as kind
 use Rattle.wy_value.specs.declared.value.Value.TheVariants as val
 use Rattle.wy_steps.specs.Sets.{nothing}
 use Rattle.wy_steps.specs.State as run
-use Rattle.wy_steps.specs.State.{State, Carried, Run, Outcome, go_on, go_on_left, ◌>>=◌, ◌>>◌, return, stop, leave, choose, catching}
-use Rattle.wy_steps.specs.Steps.{constant, Draft, Made, note, note_write, writing, room_for, scoped, in_frame, event_limit, use_limit}
-use Rattle.wy_meaning.specs.World.{World, into, about}
+use Rattle.wy_steps.specs.State.{State, Carried, Run, Outcome, go_on, go_on_left, ◌>>=◌, ◌>>◌, return, stop, choose, catching}
+use Rattle.wy_steps.specs.Steps.{constant, Draft, note, note_write, writing, room_for, scoped, in_frame, event_limit, use_limit}
+use Rattle.wy_meaning.specs.World.{into, about}
 use Rattle.wy_meaning.specs.Run.{world, call_body}
 use Rattle.wy_meaning.specs.Call.{bind_all, bound, call_method, call_uses, end_body, at_return, run_body, frame_of_call, is_void}
 use Rattle.wy_meaning.specs.Statement.{exec}

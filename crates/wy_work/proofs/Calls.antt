@@ -1,7 +1,7 @@
 -- How a body begins and ends: its scope, its frame, and the values of the body that waits.
-use Rattle.std.proofs.Common.{◌≡◌, ◌≢◌, inl, inr, ◌∙◌, ℕ, suc, List, [], ◌∷◌, map, refl, ap, ap₂, sym, subst, Bool, true, false, nat_lt, nat_le, length, Option, Some, Result, Ok, Err, OnOk}
+use Rattle.std.proofs.Common.{◌≡◌, ◌≢◌, inl, inr, ◌∙◌, ℕ, List, [], ◌∷◌, map, refl, ap, ap₂, sym, subst, Option, Some, Result, Ok, Err, OnOk}
 use Rattle.std.specs.Prelude.{None as Absent, if◌then◌else◌}
-use Rattle.wy_kernel.specs.Program.{Program, Body as Code, local_site}
+use Rattle.wy_kernel.specs.Program.{Program}
 use Rattle.wy_value.specs.declared.value.Value.{Value}
 use Rattle.wy_event.specs.declared.record.Slot.TheVariants as slot
 use Rattle.wy_event.specs.Record.{present}
@@ -10,31 +10,26 @@ use Rattle.wy_event.specs.declared.record.Kind.TheVariants as kind
 use Rattle.wy_event.specs.declared.record.Use.{Use}
 use Rattle.wy_steps.specs.Sets.{nothing}
 use Rattle.wy_steps.specs.State as run
-use Rattle.wy_steps.specs.State.{State, Carried, Active, Reason, Run, Outcome, Around as Within, go_on, go_on_left, ◌>>=◌, ◌>>◌, return, stop, leave, choose, catching}
-use Rattle.wy_steps.specs.Steps.{Draft, Made, activating, active_again, scoped, go_in, entered, with_active, frame_again, in_frame, note, note_write, noting, writing, room_for, next_event, made, with_event, event_limit, use_limit}
-use Rattle.wy_meaning.specs.World.{World, into, about}
-use Rattle.wy_meaning.specs.Run.{world}
-use Rattle.wy_meaning.specs.Call.{bind_all, end_body, at_return, run_body, frame_of_call}
-use Rattle.wy_meaning.specs.Statement.{exec}
-use Rattle.wy_kernel.specs.Form.{Statement}
+use Rattle.wy_steps.specs.State.{State, Carried, Active, Run, Outcome, Around as Within, go_on, ◌>>=◌, ◌>>◌, return, stop, leave}
+use Rattle.wy_steps.specs.Steps.{Draft, Made, activating, active_again, scoped, go_in, entered, frame_again, in_frame, note, noting, room_for, next_event, made, with_event}
+use Rattle.wy_meaning.specs.World.{about}
 use Rattle.wy_calls.specs.declared.calls.Scope.{Scope}
-use Rattle.wy_calls.specs.Calls.{Frame as Body, Standing as Calls, opened, activated, frame_of, event_of, first_of, rest_of}
+use Rattle.wy_calls.specs.Calls.{Frame as Body, Standing as Calls, opened, activated, frame_of}
 use Rattle.wy_state.specs.declared.parts.Halt.{Halt}
 use Rattle.wy_state.specs.declared.parts.Halt.TheVariants.{Left, Stopped, Recorder, Memory}
-use Rattle.wy_state.specs.Agrees.{Agrees, Shape, Onward, Answers, itself}
+use Rattle.wy_state.specs.Agrees.{Shape, Onward, Answers}
 use Rattle.wy_state.specs.Seen.{given, made_of, reason_of, stop_of}
-use Rattle.wy_state.specs.Steps.{activate, do_nothing, enter_frame, back_to}
+use Rattle.wy_state.specs.Steps.{activate, do_nothing, enter_frame}
 use Rattle.std.proofs.lemmas.Bool.Decides.{eqb_tells}
-use Rattle.wy_state.proofs.Onward.{within, onward_as, onward_bind, onward_then, onward_same}
+use Rattle.wy_state.proofs.Onward.{within, onward_as, onward_then, onward_same}
 use Rattle.wy_operands.specs.Values.{Values, top, under_many}
-use Rattle.wy_work.specs.declared.frame.Frame.{Frame}
 use Rattle.wy_work.specs.declared.frame.Frame.TheVariants as frame
 use Rattle.wy_work.specs.declared.frame.Step.{Step}
 use Rattle.wy_work.specs.declared.frame.Step.TheVariants as step
 use Rattle.wy_work.specs.Calls.{IsSameStack, Enters, begun, used_by}
 use Rattle.wy_work.specs.Expressions.{put_on, leaving}
-use Rattle.wy_work.specs.Statements.{emptied, forgotten}
-use Rattle.wy_work.specs.Frames.{Around, Standing, around, after, newest, pushed, then_all, goes, followed, Turned, Resumed, without_body, returned}
+use Rattle.wy_work.specs.Statements.{emptied}
+use Rattle.wy_work.specs.Frames.{Around, Standing, around, after, pushed, then_all, goes, followed, Turned}
 use Rattle.wy_work.proofs.Begins.{newest_is}
 
 -- what comes after a body that begins, where the values are known

@@ -1,5 +1,5 @@
 -- The initialization of a class: nothing that it throws is left to whoever needs the class, so that its frames may catch twice.
-use Rattle.std.proofs.Common.{◌≡◌, ◌∙◌, ℕ, suc, List, [], ◌∷◌, map, refl, ap, ap₂, sym, subst, Bool, true, false, not, ◌<◌, nat_lt, nat_le, length, Option, Some, Err}
+use Rattle.std.proofs.Common.{◌≡◌, ◌∙◌, ℕ, suc, List, [], refl, ap, sym, subst, Bool, true, false, not, ◌<◌, nat_lt, nat_le, length, Option, Some, Err}
 use Rattle.std.specs.Prelude.{None as Absent, ◌+◌}
 use Rattle.wy_kernel.specs.Program.{Program, class, init_body, is_source}
 use Rattle.wy_event.specs.declared.record.Kind.TheVariants as kind
@@ -15,9 +15,9 @@ use Rattle.wy_meaning.specs.Call.{at_failure, initialization, initialize_above}
 use Rattle.std.proofs.lemmas.Bool.Decides.{Decides-ltb}
 use Rattle.wy_calls.proofs.Entries.{is_less}
 use Rattle.wy_state.specs.Agrees.{Onward}
-use Rattle.wy_state.proofs.Onward.{onward_as, onward_same, within}
-use Rattle.wy_work.specs.Frames.{Standing, Turned, after, around, then_all}
-use Rattle.wy_work.specs.Calls.{begun}
+use Rattle.wy_state.proofs.Onward.{onward_as, onward_same, within, onward_then}
+use Rattle.wy_work.specs.Frames.{Standing, Turned, after, around, goes, pushed, then_all}
+use Rattle.wy_work.specs.Calls.{IsSameStack, Enters, begun}
 use Rattle.wy_work.proofs.Runs.{world_program}
 use Rattle.wy_state.specs.declared.parts.Halt.{Halt}
 use Rattle.wy_state.specs.declared.parts.Halt.TheVariants.{Left, Stopped, Recorder, Memory}
@@ -26,6 +26,15 @@ use Rattle.wy_work.specs.Expressions.{leaving}
 use Rattle.wy_work.specs.Statements.{emptied, forgotten}
 use Rattle.wy_operands.specs.Values.{Values}
 use Rattle.wy_work.proofs.Begins.{forgotten_emptied}
+use Rattle.std.specs.Borrow.{Bor}
+use Rattle.wy_kernel.specs.Program.{Body as Code}
+use Rattle.wy_kernel.specs.View.{statement}
+use Rattle.wy_kernel.specs.declared.form.Stmt.{Stmt as Written}
+use Rattle.wy_meaning.specs.Statement.{exec}
+use Rattle.wy_work.specs.declared.frame.Frame.TheVariants as frame
+use Rattle.wy_work.specs.declared.frame.Step.TheVariants as step
+use Rattle.wy_work.specs.declared.frame.StmtStep.TheVariants as doing
+use Rattle.wy_work.proofs.Calls.{enters_class}
 
 pub init_noted : (p : Program) (site c : ℕ) (s : State nothing) → note_new p (about kind.Init site c val.None) (constant val.None) s ≡ note_new p (about kind.Init site c val.None) (given val.None []) s
 unfolding constant
@@ -186,3 +195,79 @@ module _ (p : Program) (site c depth : ℕ) where
   class_refused m l (Stopped why) after_it next is a = onward_as (λ s. ap (λ z. after p (around m) m.work (go_on z (λ u. return m.values))) (class_is m.depth is s)) a
   class_refused m l (Recorder e) after_it next is a = tt
   class_refused m l Memory after_it next is a = tt
+
+-- ---- the frames of an initialization
+
+module _ (vs : Values) where
+  block_after : (block : Run nothing (Unit {0})) (o : Outcome nothing (Unit {0})) → IsCalm o →
+      go_on o (λ u. catching block at_failure) ≡ go_on_left (forgotten (go_on (go_on o (λ u. return vs)) (λ us. emptied block))) at_failure
+  unfolding catching go_on go_on_left return at_failure leave
+  block_after block (run.Done u s) calm = ap (λ z. go_on_left z at_failure) (forgotten_emptied (block s))
+  block_after block (run.Left (run.Jumped target e) s) calm = refl
+  block_after block (run.Left (run.Returned e v) s) calm = refl
+  block_after block (run.Left (run.Threw e v) s) calm = absurd calm
+  block_after block (run.Stopped why s) calm = refl
+
+  none_after : (o : Outcome nothing (Unit {0})) → IsCalm o →
+      go_on o (λ u. catching (return tt) at_failure) ≡ go_on_left (forgotten (go_on o (λ u. return vs))) at_failure
+  unfolding catching go_on go_on_left return at_failure leave
+  none_after (run.Done u s) calm = refl
+  none_after (run.Left (run.Jumped target e) s) calm = refl
+  none_after (run.Left (run.Returned e v) s) calm = refl
+  none_after (run.Left (run.Threw e v) s) calm = absurd calm
+  none_after (run.Stopped why s) calm = refl
+
+module _ (p : Program) (n q : Standing) (site : ℕ) where
+  abbrev pub of_class : Option ℕ → Option Code → Run nothing (Unit {0})
+  of_class above code = initialize_above (world p n.depth) site above >> catching (init_block (world p n.depth) code) at_failure
+
+  abbrev ends : Outcome nothing (Unit {0}) → Outcome nothing Values
+  ends o = after p (around n) n.work (go_on o (λ u. return []))
+
+  pub above_and_block : (c : ℕ) (x : Bor Written) (b : Code) → statement x.now ≡ b.block → q ≡ pushed (frame.Plain (step.Initialize c site)) (pushed (frame.Stmt x doing.Do) (pushed (frame.Plain step.Initialized) n)) → (s : State nothing) →
+      then_all p n (emptied (of_class (Some c) (Some b))) s ≡ goes p q s
+  unfolding initialize_above init_block ◌>>◌ ◌>>=◌ return go_on
+  above_and_block c x b is pushes s =
+      let w = world p n.depth in
+      ap (λ z. ends (go_on (initialize w site c s) (λ u. catching (exec w z) at_failure))) (sym is)
+      ∙ ap ends (block_after n.values (exec w (statement x.now)) (initialize w site c s) (calm_initialize w site c s (calm_world p n.depth)))
+      ∙ ap (λ z. goes p z s) (sym pushes)
+
+  pub above_alone : (c : ℕ) → q ≡ pushed (frame.Plain (step.Initialize c site)) (pushed (frame.Plain step.Initialized) n) → (s : State nothing) →
+      then_all p n (emptied (of_class (Some c) Absent)) s ≡ goes p q s
+  unfolding initialize_above init_block ◌>>◌ ◌>>=◌ return go_on
+  above_alone c pushes s =
+      let w = world p n.depth in
+      ap ends (none_after n.values (initialize w site c s) (calm_initialize w site c s (calm_world p n.depth))) ∙ ap (λ z. goes p z s) (sym pushes)
+
+  pub block_alone : (x : Bor Written) (b : Code) → statement x.now ≡ b.block → q ≡ pushed (frame.Stmt x doing.Do) (pushed (frame.Plain step.Initialized) n) → (s : State nothing) →
+      then_all p n (emptied (of_class Absent (Some b))) s ≡ goes p q s
+  unfolding initialize_above init_block ◌>>◌ ◌>>=◌ return go_on
+  block_alone x b is pushes s =
+      let w = world p n.depth in
+      ap (λ z. ends (catching (exec w z) at_failure s)) (sym is)
+      ∙ ap ends (block_after n.values (exec w (statement x.now)) (return tt s) tt)
+      ∙ ap (λ z. goes p z s) (sym pushes)
+
+  pub none_at_all : q ≡ pushed (frame.Plain step.Initialized) n → (s : State nothing) →
+      then_all p n (emptied (of_class Absent Absent)) s ≡ goes p q s
+  unfolding initialize_above init_block ◌>>◌ ◌>>=◌ return go_on
+  none_at_all pushes s = ap ends (none_after n.values (return tt s) tt) ∙ ap (λ z. goes p z s) (sym pushes)
+
+pub is_absent : {X : Type 0} (o : Option X) → ((x : X) → o ≡ Some x → ⊥) → o ≡ Absent
+is_absent Absent other = refl
+is_absent (Some x) other = absurd (other x refl)
+
+-- the Init is recorded, its frame stands, and then all that is left of it
+module _ (p : Program) (site c event : ℕ) (m l n q : Standing) where
+  pub class_entered : IsSameStack m l → Enters p event step.LeaveClass l n →
+      Onward p m.state (then_all p m (leaving m.values (begun (note_new p (about kind.Init site c val.None) (constant val.None)) (in_class p site c n.depth)))) l.state (then_all p l (leaving m.values (in_class p site c n.depth event))) →
+      (at : ℕ) (above : Option ℕ) (code : Option Code) → (class p c).site ≡ at → (class p c).above ≡ above → init_body p c ≡ code → n.state ≡ q.state →
+      ((s : State nothing) → then_all p n (emptied (of_class p n q at above code)) s ≡ goes p q s) →
+      Onward p m.state (then_all p m (leaving m.values ((world p m.depth).enter site c))) q.state (goes p q)
+  class_entered same e begins at above code at_is above_is code_is state frames =
+      let f = λ (k : ℕ) (a : Option ℕ) (b : Option Code). of_class p n q k a b in
+      let enters = subst (λ vs. Onward p l.state (then_all p l (leaving vs (in_frame event (f (class p c).site (class p c).above (init_body p c))))) n.state (then_all p n (emptied (f (class p c).site (class p c).above (init_body p c))))) same.values (enters_class p l n event e (f (class p c).site (class p c).above (init_body p c))) in
+      let known = λ (s : State nothing). ap (λ k. then_all p n (emptied (f k (class p c).above (init_body p c))) s) at_is ∙ ap (λ a. then_all p n (emptied (f at a (init_body p c))) s) above_is ∙ ap (λ b. then_all p n (emptied (f at above b)) s) code_is ∙ frames s in
+      let ready = subst (λ z. Onward p n.state (then_all p n (emptied (f (class p c).site (class p c).above (init_body p c)))) z (goes p q)) state (onward_as known (onward_same p n.state (goes p q))) in
+      onward_then (onward_as (λ s. ap (λ z. after p (around m) m.work (go_on z (λ u. return m.values))) (class_is p site c n.depth m.depth (sym same.depth ∙ sym e.depth) s)) begins) (onward_then enters ready)

@@ -1,30 +1,24 @@
 -- What a statement does once the value of its expression is there, where it ends with that; and statements one after another.
-use Rattle.std.proofs.Common.{◌≡◌, ◌∙◌, ℕ, Bool, List, [], ◌∷◌, map, refl, ap, sym, subst, Bor, Option, Some, Result, Ok, Err}
-use Rattle.std.specs.Prelude.{None as Absent}
-use Rattle.std.specs.declared.alloc.Global.{Global}
-use Rattle.std.specs.declared.boxed.Box.{Box}
+use Rattle.std.proofs.Common.{◌≡◌, ◌∙◌, ℕ, Bool, List, [], ◌∷◌, map, refl, ap, sym, Bor, Option, Result, Err}
 use Rattle.wy_kernel.specs.declared.types.Ty.{Ty}
 use Rattle.wy_kernel.specs.declared.form.Expr.{Expr}
 use Rattle.wy_kernel.specs.declared.form.Stmt.{Stmt as Memory}
-use Rattle.wy_kernel.specs.declared.form.StmtForm.{StmtForm}
 use Rattle.wy_kernel.specs.declared.form.StmtForm.TheVariants as form
 use Rattle.wy_kernel.specs.Program.{Program}
-use Rattle.wy_kernel.specs.View.{act, statement, statements_of}
+use Rattle.wy_kernel.specs.View.{statement, statements_of}
 use Rattle.wy_kernel.proofs.Views.{view_statement, view_eval, view_return, view_throw, view_print}
 use Rattle.wy_value.specs.declared.value.Value.{Value}
 use Rattle.wy_event.specs.declared.record.Use.{Use}
 use Rattle.wy_steps.specs.Sets.{nothing}
 use Rattle.wy_steps.specs.State.{State, Run, go_on, ◌>>=◌, ◌>>◌, return}
-use Rattle.wy_meaning.specs.World.{World}
 use Rattle.wy_meaning.specs.Run.{world}
-use Rattle.wy_meaning.specs.Text.{shown, print_value}
+use Rattle.wy_meaning.specs.Text.{shown}
 use Rattle.wy_meaning.specs.Statement.{return_form, throw_form, exec, exec_all}
 use Rattle.wy_state.specs.declared.parts.Halt.{Halt}
 use Rattle.wy_state.specs.Seen.{given}
 use Rattle.wy_state.specs.Agrees.{Shape, Onward, Answers, itself}
 use Rattle.wy_state.proofs.Onward.{onward_as, onward_same}
 use Rattle.wy_operation.specs.Around.{IsSameAround, KeepsAt, Leaves}
-use Rattle.wy_operation.proofs.Runs.{answers_as}
 use Rattle.wy_operands.specs.Values.{Values, at, top}
 use Rattle.wy_texts.specs.Words.{printed}
 use Rattle.wy_texts.proofs.Texts.{print_value_is}
@@ -32,7 +26,7 @@ use Rattle.wy_work.specs.declared.frame.Frame.TheVariants as frame
 use Rattle.wy_work.specs.declared.frame.StmtStep.TheVariants as step
 use Rattle.wy_work.specs.Expressions.{put_on}
 use Rattle.wy_work.specs.Statements.{emptied, stmt_step}
-use Rattle.wy_work.specs.Frames.{Standing, around, after, pushed, goes, then_all, followed, Resumed}
+use Rattle.wy_work.specs.Frames.{Standing, around, after, pushed, goes, then_all, Resumed}
 use Rattle.wy_work.proofs.Runs.{failed_at, go_on-go_on, kept_after, turned_after, turned_as, went}
 
 module _ (p : Program) (m : Standing) (x : Memory) where

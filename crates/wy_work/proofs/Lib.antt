@@ -24,4 +24,5 @@ pub mod Shows
 pub mod Classes
 pub mod Leaving
 pub mod Choices
+pub mod CallForms
 pub mod Operands

@@ -56,7 +56,8 @@ const STRINGS: Ty = Ty::Of {
 impl<'a, R: Recorder> Machine<'a, R> {
     /// A call whose receiver, if it has one, and arguments are there.
     pub fn call_form(&mut self, on: &Dispatcher<'a>, expr: &'a Expr) -> Result<(), Halt>
-        ensures goes { Does (program_of on.now.program.now) (λ w. expr_step w (expression expr.now) step.Operate)
+        ensures goes { Does (program_of on.now.program.now)
+            (λ w. expr_step w (expression expr.now) step.Operate)
             (standing R.keeps R.kept self.old) result (standing R.keeps R.kept self.new) }
     {
         let Expr::Call {
@@ -85,45 +86,76 @@ impl<'a, R: Recorder> Machine<'a, R> {
     }
 
     /// A call of a method that is known, on a receiver that may be null.
-    fn call_direct(&mut self, on: &Dispatcher<'a>, method: u32, count: usize, site: u32) -> Result<(), Halt>
+    fn call_direct(
+        &mut self,
+        on: &Dispatcher<'a>,
+        method: u32,
+        count: usize,
+        site: u32,
+    ) -> Result<(), Halt>
         ensures goes { Does (program_of on.now.program.now)
             (λ w vs. put_on (under_many (suc count) vs)
-                (call_on w form.Direct method (return (at count vs)) (evaluated (last_many count vs)) site))
+            (call_on w form.Direct method (return (at count vs))
+            (evaluated (last_many count vs)) site))
             (standing R.keeps R.kept self.old) result (standing R.keeps R.kept self.new) }
     {
         if is_null(self.stack.value_at(count)) {
-            return Err(fail(&mut self.state, NULL_POINTER, site, self.stack.uses_at(count)));
+            return Err(fail(
+                &mut self.state,
+                NULL_POINTER,
+                site,
+                self.stack.uses_at(count),
+            ));
         }
         self.call_on(on, method, count, site)
     }
 
     /// A call of the method that the class of the receiver gives.
-    fn call_by_class(&mut self, on: &Dispatcher<'a>, method: u32, count: usize, site: u32) -> Result<(), Halt>
+    fn call_by_class(
+        &mut self,
+        on: &Dispatcher<'a>,
+        method: u32,
+        count: usize,
+        site: u32,
+    ) -> Result<(), Halt>
         ensures goes { Does (program_of on.now.program.now)
             (λ w vs. put_on (under_many (suc count) vs)
-                (call_on w form.Chosen method (return (at count vs)) (evaluated (last_many count vs)) site))
+            (call_on w form.Chosen method (return (at count vs))
+            (evaluated (last_many count vs)) site))
             (standing R.keeps R.kept self.old) result (standing R.keeps R.kept self.new) }
     {
         match self.stack.value_at(count) {
             Value::Null => {
-                Err(fail(&mut self.state, NULL_POINTER, site, self.stack.uses_at(count)))
+                Err(fail(
+                    &mut self.state,
+                    NULL_POINTER,
+                    site,
+                    self.stack.uses_at(count),
+                ))
             }
             Value::Text(_) | Value::Fixed(_) => self.call_on_text(on, method, count),
             _ => self.call_chosen(on, method, count, site),
         }
     }
 
-    /// `equals` of a text has the uses of the receiver and of its argument; `toString` is the receiver.
+    /// `equals` of a text has the uses of the receiver and of its argument; `toString` is the
+    /// receiver.
     fn call_on_text(&mut self, on: &Dispatcher<'a>, method: u32, count: usize) -> Result<(), Halt>
         ensures goes { Does (program_of on.now.program.now)
             (λ w vs. put_on (under_many (suc count) vs)
-                (call_on_text w (method == equals) (at count vs) (last_many count vs)))
+            (call_on_text w (method == equals) (at count vs) (last_many count vs)))
             (standing R.keeps R.kept self.old) result (standing R.keeps R.kept self.new) }
     {
         match (method, count) {
             (EQUALS, 1) => {
-                let left = Part { value: self.stack.value_at(1), uses: self.stack.uses_at(1) };
-                let right = Part { value: self.stack.top(), uses: self.stack.uses_at(0) };
+                let left = Part {
+                    value: self.stack.value_at(1),
+                    uses: self.stack.uses_at(1),
+                };
+                let right = Part {
+                    value: self.stack.top(),
+                    uses: self.stack.uses_at(0),
+                };
                 let same = text_equals(&self.state, on.program, left, right)?;
                 self.stack.join(2, Value::Bool(same))?;
                 Ok(())
@@ -139,10 +171,16 @@ impl<'a, R: Recorder> Machine<'a, R> {
     }
 
     /// A call that the class of the receiver decides, where it is no text.
-    pub fn call_chosen(&mut self, on: &Dispatcher<'a>, method: u32, count: usize, site: u32) -> Result<(), Halt>
+    pub fn call_chosen(
+        &mut self,
+        on: &Dispatcher<'a>,
+        method: u32,
+        count: usize,
+        site: u32,
+    ) -> Result<(), Halt>
         ensures goes { Does (program_of on.now.program.now)
             (λ w vs. put_on (under_many (suc count) vs)
-                (call_chosen w site method (at count vs) (last_many count vs)))
+            (call_chosen w site method (at count vs) (last_many count vs)))
             (standing R.keeps R.kept self.old) result (standing R.keeps R.kept self.new) }
     {
         let class = class_of_type(self.state.type_of(self.stack.value_at(count))?);
@@ -151,10 +189,16 @@ impl<'a, R: Recorder> Machine<'a, R> {
     }
 
     /// A call on a receiver, which lies under so many arguments.
-    pub fn call_on(&mut self, on: &Dispatcher<'a>, method: u32, count: usize, site: u32) -> Result<(), Halt>
+    pub fn call_on(
+        &mut self,
+        on: &Dispatcher<'a>,
+        method: u32,
+        count: usize,
+        site: u32,
+    ) -> Result<(), Halt>
         ensures goes { Does (program_of on.now.program.now)
             (λ w vs. put_on (under_many (suc count) vs)
-                (w.call site method (Some (at count vs)) (last_many count vs)))
+            (w.call site method (Some (at count vs)) (last_many count vs)))
             (standing R.keeps R.kept self.old) result (standing R.keeps R.kept self.new) }
     {
         if method as usize >= on.program.methods.len() || count == usize::MAX {
@@ -167,17 +211,23 @@ impl<'a, R: Recorder> Machine<'a, R> {
     }
 
     /// A call without a receiver.
-    pub fn call_static(&mut self, on: &Dispatcher<'a>, method: u32, count: usize, site: u32) -> Result<(), Halt>
+    pub fn call_static(
+        &mut self,
+        on: &Dispatcher<'a>,
+        method: u32,
+        count: usize,
+        site: u32,
+    ) -> Result<(), Halt>
         ensures goes { Does (program_of on.now.program.now)
             (λ w vs. put_on (under_many count vs)
-                (w.call site method Absent (last_many count vs)))
+            (w.call site method Absent (last_many count vs)))
             (standing R.keeps R.kept self.old) result (standing R.keeps R.kept self.new) }
     {
         self.call(on, method, count, None, site)
     }
 
-    /// A call of a method that is known: its record, its frame, a Bind for each of the last values, its block, its end. The Call uses what
-    /// the value with so many above it does.
+    /// A call of a method that is known: its record, its frame, a Bind for each of the last values,
+    /// its block, its end. The Call uses what the value with so many above it does.
     fn call(
         &mut self,
         on: &Dispatcher<'a>,
@@ -189,11 +239,14 @@ impl<'a, R: Recorder> Machine<'a, R> {
         ensures goes { (r : Option (Carried nothing)) (args : Values)
             → bound r args ≡ last_many count (standing R.keeps R.kept self.old).values
             → (call_uses (kernel.method (program_of on.now.program.now) method).form r).uses
-                ≡ used_by receiver (standing R.keeps R.kept self.old).values
-            → Does (program_of on.now.program.now) (λ w vs. put_on (under_many count vs) (w.call site method r args))
+            ≡ used_by receiver (standing R.keeps R.kept self.old).values
+            → Does (program_of on.now.program.now)
+            (λ w vs. put_on (under_many count vs) (w.call site method r args))
             (standing R.keeps R.kept self.old) result (standing R.keeps R.kept self.new) }
     {
-        if method as usize >= on.program.methods.len() || method as usize >= on.program.bodies.len() {
+        if method as usize >= on.program.methods.len()
+            || method as usize >= on.program.bodies.len()
+        {
             return Err(Halt::Memory);
         }
         if self.depth == 0 {
@@ -214,11 +267,13 @@ impl<'a, R: Recorder> Machine<'a, R> {
 
     /// Records the Call, which is active until the scope that is opened here is closed.
     fn begin_call(&mut self, method: u32, receiver: Option<usize>, site: u32) -> Result<u32, Halt>
-        ensures goes { (p : kernel.Program) (c : Carried nothing) (next : ℕ → Given) (under : Values)
+        ensures goes { (p : kernel.Program) (c : Carried nothing)
+            (next : ℕ → Given) (under : Values)
             → c.uses ≡ used_by receiver (standing R.keeps R.kept self.old).values
             → Turned p (then_all p (standing R.keeps R.kept self.old)
-                (put_on under (begun (note (about kind.Call site method val.None) c) next)))
-            (standing R.keeps R.kept self.old).state result (standing R.keeps R.kept self.new) (λ e. put_on under (next e)) }
+            (put_on under (begun (note (about kind.Call site method val.None) c) next)))
+            (standing R.keeps R.kept self.old).state result (standing R.keeps R.kept self.new)
+            (λ e. put_on under (next e)) }
         ensures same { OnOk result (IsSameStack (standing R.keeps R.kept self.old)
             (standing R.keeps R.kept self.new)) }
     {
@@ -258,9 +313,10 @@ impl<'a, R: Recorder> Machine<'a, R> {
     fn bind(&mut self, body: &'a Body, event: u32, count: usize) -> Result<(), Halt>
         ensures goes { (p : kernel.Program) (next : Run nothing Values)
             → Turned p (then_all p (standing R.keeps R.kept self.old)
-                (followed (bind_all (body_of body.now) event 0
-                    (last_many count (first_of (standing R.keeps R.kept self.old).saved))) (λ u. next)))
-            (standing R.keeps R.kept self.old).state result (standing R.keeps R.kept self.new) (λ u. next) }
+            (followed (bind_all (body_of body.now) event 0
+            (last_many count (first_of (standing R.keeps R.kept self.old).saved))) (λ u. next)))
+            (standing R.keeps R.kept self.old).state result (standing R.keeps R.kept self.new)
+            (λ u. next) }
         ensures same { OnOk result (IsSameStack (standing R.keeps R.kept self.old)
             (standing R.keeps R.kept self.new)) }
     {

@@ -29,7 +29,8 @@ const FIRST_SOURCE_CLASS: u32 = 18;
 impl<'a, R: Recorder> Machine<'a, R> {
     /// Initializes a source class, unless that is going on or done.
     pub fn initialize(&mut self, on: &Dispatcher<'a>, class: u32, site: u32) -> Result<(), Halt>
-        ensures goes { Does (program_of on.now.program.now) (λ w vs. leaving vs (initialize w site class))
+        ensures goes { Does (program_of on.now.program.now)
+            (λ w vs. leaving vs (initialize w site class))
             (standing R.keeps R.kept self.old) result (standing R.keeps R.kept self.new) }
     {
         if class < FIRST_SOURCE_CLASS || self.state.is_begun(class) {
@@ -40,10 +41,13 @@ impl<'a, R: Recorder> Machine<'a, R> {
 
     /// The superclass comes first, within it, and then the initializers in text order.
     fn enter_class(&mut self, on: &Dispatcher<'a>, class: u32, site: u32) -> Result<(), Halt>
-        ensures goes { Does (program_of on.now.program.now) (λ w vs. leaving vs (w.enter site class))
+        ensures goes { Does (program_of on.now.program.now)
+            (λ w vs. leaving vs (w.enter site class))
             (standing R.keeps R.kept self.old) result (standing R.keeps R.kept self.new) }
     {
-        if class as usize >= on.program.classes.len() || class as usize >= on.program.init_bodies.len() {
+        if class as usize >= on.program.classes.len()
+            || class as usize >= on.program.init_bodies.len()
+        {
             return Err(Halt::Memory);
         }
         if self.depth == 0 {
@@ -74,9 +78,10 @@ impl<'a, R: Recorder> Machine<'a, R> {
     fn begin_class(&mut self, class: u32, site: u32) -> Result<u32, Halt>
         ensures goes { (p : kernel.Program) (next : ℕ → Run nothing (Unit {0})) (under : Values)
             → Turned p (then_all p (standing R.keeps R.kept self.old)
-                (leaving under (begun (note_new p (about kind.Init site class val.None)
-                    (constant val.None)) next)))
-            (standing R.keeps R.kept self.old).state result (standing R.keeps R.kept self.new) (λ e. leaving under (next e)) }
+            (leaving under (begun (note_new p (about kind.Init site class val.None)
+            (constant val.None)) next)))
+            (standing R.keeps R.kept self.old).state result (standing R.keeps R.kept self.new)
+            (λ e. leaving under (next e)) }
         ensures same { OnOk result (IsSameStack (standing R.keeps R.kept self.old)
             (standing R.keeps R.kept self.new)) }
     {

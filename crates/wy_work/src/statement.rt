@@ -122,7 +122,8 @@ impl<'a, R: Recorder> Machine<'a, R> {
         ends_line: bool,
         site: u32,
     ) -> Result<(), Halt>
-        ensures goes { (p : kernel.Program) (ty : Ty) → stmt.now.form ≡ forms.Print operand.now ty ends_line site
+        ensures goes { (p : kernel.Program) (ty : Ty)
+            → stmt.now.form ≡ forms.Print operand.now ty ends_line site
             → Does p (λ w vs. emptied (exec_act w stmt.now.site stmt.now.reach (act stmt.now.form)))
             (standing R.keeps R.kept self.old) result (standing R.keeps R.kept self.new) }
     {
@@ -164,7 +165,8 @@ impl<'a, R: Recorder> Machine<'a, R> {
     /// An expression of a statement comes first.
     pub fn within(&mut self, stmt: &'a Stmt, part: &'a Expr) -> Result<(), AllocError>
         ensures { OnOk result (standing R.keeps R.kept self.new
-            ≡ pushed (frames.Expr part.entry expr_steps.Find) (pushed (frames.Stmt stmt.entry step.Operate)
+            ≡ pushed (frames.Expr part.entry expr_steps.Find)
+            (pushed (frames.Stmt stmt.entry step.Operate)
             (standing R.keeps R.kept self.old))) }
     {
         self.push_stmt(stmt, StmtStep::Operate)?;
@@ -173,7 +175,8 @@ impl<'a, R: Recorder> Machine<'a, R> {
 
     /// The value of the statement's expression is there.
     pub fn act_on(&mut self, on: &Dispatcher<'a>, stmt: &'a Stmt) -> Result<(), Halt>
-        ensures goes { Does (program_of on.now.program.now) (λ w. stmt_step w (statement stmt.now) step.Operate)
+        ensures goes { Does (program_of on.now.program.now)
+            (λ w. stmt_step w (statement stmt.now) step.Operate)
             (standing R.keeps R.kept self.old) result (standing R.keeps R.kept self.new) }
     {
         match &stmt.form {
@@ -224,10 +227,16 @@ impl<'a, R: Recorder> Machine<'a, R> {
 
     /// The text of what is printed is there.
     pub fn print(&mut self, on: &Dispatcher<'a>, stmt: &'a Stmt) -> Result<(), Halt>
-        ensures goes { Does (program_of on.now.program.now) (λ w. stmt_step w (statement stmt.now) step.Print)
+        ensures goes { Does (program_of on.now.program.now)
+            (λ w. stmt_step w (statement stmt.now) step.Print)
             (standing R.keeps R.kept self.old) result (standing R.keeps R.kept self.new) }
     {
-        let StmtForm::Print { ends_line, site, .. } = &stmt.form else {
+        let StmtForm::Print {
+            ends_line,
+            site,
+            ..
+        } = &stmt.form
+        else {
             return Err(Halt::Memory);
         };
         let value = self.stack.top();
@@ -247,9 +256,10 @@ impl<'a, R: Recorder> Machine<'a, R> {
     pub fn test(&mut self, stmt: &'a Stmt) -> Result<bool, Halt>
         ensures goes { (p : kernel.Program) (next : Bool → Run nothing Values)
             → Turned p (then_all p (standing R.keeps R.kept self.old)
-                (followed (tested stmt.now.site stmt.now.reach
-                    (return (top (standing R.keeps R.kept self.old).values))) next))
-            (standing R.keeps R.kept self.old).state result (standing R.keeps R.kept self.new) next }
+            (followed (tested stmt.now.site stmt.now.reach
+            (return (top (standing R.keeps R.kept self.old).values))) next))
+            (standing R.keeps R.kept self.old).state result
+            (standing R.keeps R.kept self.new) next }
         ensures cleared { OnOk result ((standing R.keeps R.kept self.new).values ≡ []) }
         ensures depth { self.new.depth ≡ self.old.depth }
     {

@@ -1,4 +1,3 @@
-
 use Rattle.std.proofs.Common.{ap, arith, ◌∙◌, map, refl, reverse, ◌∷◌, []}
 use Rattle.std.proofs.lemmas.List.{reverse-append, map-append}
 use Rattle.wy_calls.specs.Calls.{Frame as Body, Standing as Calls}
