@@ -73,9 +73,9 @@ module _ (p : Program) (m : Shape) (vs : Values) (x : Signal) (o : Outcome nothi
   pub kept_of : (steps : ℕ) (e : Ended) → length m.covers ≡ p.statements → e.output.items ≡ m.output → e.tail.coverage.statements ≡ m.covers → e.tail.stop ≡ stop_at x → present e.tail.last ≡ last_at x →
       e.tail.steps ≡ steps - m.left → e.tail.events ≡ m.events → e.tail.uses ≡ m.uses → e.tail.output ≡ length m.output → thrown_of e.thrown ≡ last_thrown c.state (last_at x) → IsEndFor p steps o e
   unfolding meaning.tail_of
-  kept_of steps e many output coverage stop last taken events uses printed thrown = record {
+  kept_of steps e many output coverage stopping last taken events uses printed thrown = record {
     output = output ∙ sym c.agrees.output ∙ ap (λ (s : State nothing). s.output) (sym at_end);
-    tail = rw (coverage, stop, last, taken, events, uses, printed, at_end, stopped, last_one, c.agrees.left, c.agrees.events, c.agrees.uses, c.agrees.output, ← many, covered) refl;
+    tail = rw (coverage, stopping, last, taken, events, uses, printed, at_end, stopped, last_one, c.agrees.left, c.agrees.events, c.agrees.uses, c.agrees.output, ← many, covered) refl;
     thrown = thrown ∙ ap₂ last_thrown (sym at_end) (sym last_one);
   }
     where
@@ -86,4 +86,4 @@ module _ (p : Program) (m : Shape) (vs : Values) (x : Signal) (o : Outcome nothi
       last_one = ap meaning.last_of (sym c.is) ∙ last_is c.state vs x
 
       covered : meaning.covers c.state.coverage 0 (length m.covers) ≡ map covered_of m.covers
-      covered = covers_from c.state.coverage 0 m.covers c.agrees.covers
+      covered = covers_from c.state.coverage 0 m.covers (λ n below. ap c.state.coverage (omega arith) ∙ c.agrees.covers n below)
