@@ -24,3 +24,4 @@ pub mod Classes
 pub mod Leaving
 pub mod Choices
 pub mod Operands
+pub mod Seen
