@@ -25,3 +25,4 @@ pub mod Leaving
 pub mod Choices
 pub mod Operands
 pub mod Seen
+pub mod Created
