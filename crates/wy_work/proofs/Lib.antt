@@ -26,3 +26,4 @@ pub mod Choices
 pub mod Operands
 pub mod Seen
 pub mod Created
+pub mod Filled
