@@ -27,3 +27,4 @@ pub mod Operands
 pub mod Seen
 pub mod Created
 pub mod Filled
+pub mod Texts
