@@ -1,5 +1,5 @@
 -- A new object: its class is initialized, it is made, the arguments are evaluated, the constructor is called.
-use Rattle.std.proofs.Common.{◌≡◌, ◌≢◌, inl, inr, ◌∙◌, ℕ, zero, suc, List, [], ◌∷◌, length, map, refl, ap, ap₂, sym, subst, Bor, Option, Some, Result, Ok, Err}
+use Rattle.std.proofs.Common.{◌≡◌, ◌≢◌, inl, inr, ◌∙◌, ℕ, zero, suc, List, [], ◌∷◌, length, refl, ap, ap₂, sym, subst, Bor, Option, Some, Result, Ok, Err}
 use Rattle.std.specs.Prelude.{None as Absent, if◌then◌else◌}
 use Rattle.std.proofs.lemmas.Bool.Decides.{eqb_tells}
 use Rattle.wy_kernel.specs.Program.{Program}
@@ -26,13 +26,13 @@ use Rattle.wy_work.specs.declared.frame.Frame.TheVariants as frames
 use Rattle.wy_work.specs.declared.frame.ExprStep.TheVariants as step
 use Rattle.wy_work.specs.declared.frame.Step.TheVariants as steps
 use Rattle.wy_work.specs.Expressions.{constructed, created, expr_step, leaving, put_all, put_on}
-use Rattle.wy_work.specs.Frames.{Standing, around, after, followed, goes, pushed, then_all, Does, Resumed}
+use Rattle.wy_work.specs.Frames.{Standing, around, after, followed, goes, pushed, then_all, Does}
 use Rattle.wy_work.specs.Listed.{IsNew, rows}
 use Rattle.wy_work.specs.Operands.{Given, list_of}
 use Rattle.wy_work.proofs.Finds.{row_found}
 use Rattle.wy_work.proofs.Forms.{new_of}
 use Rattle.wy_work.proofs.Places.{Operating, once_initialized, resumed_as}
-use Rattle.wy_work.proofs.Runs.{failed_at, go_on-go_on, keeps_calls, settled_calls, turned_after, went, world_program}
+use Rattle.wy_work.proofs.Runs.{failed_at, go_on-go_on, keeps_calls, settled_calls, went, world_program}
 use Rattle.wy_work.proofs.Seen.{operating_by}
 use Rattle.wy_work.proofs.Updates.{go_on_same}
 use Rattle.wy_work.proofs.Views.{listed_row}
@@ -95,10 +95,10 @@ module _ (p : Program) (m : Standing) (e : Bor Expr) (c : ℕ) (constructor_of :
       let x = plain.New c constructor_of (row_of (rows args)) site in
       let ready = λ (y : Expression). then_all p m (expr_step w y step.Ready m.values) in
       let begun = onward_as (λ s. ap (after p (around m) m.work) (made_is w constructor_of (row_of (rows args)) site c p m.values (world_program p m.depth) s))
-          (went p m q (noting p site c) (λ e. put_on m.values (finished w constructor_of (row_of (rows args)) site (value_of e (val.Object e.number)))) (made_of event) a (settled_calls m l calls)) in
+      (went p m q (noting p site c) (λ e. put_on m.values (finished w constructor_of (row_of (rows args)) site (value_of e (val.Object e.number)))) (made_of event) a (settled_calls m l calls)) in
       let same = λ (s : State nothing). ap (after p (around q) m.work) (finished_is w constructor_of (row_of (rows args)) site c object m.values s
-          ∙ ap (λ es. go_on (put_all w es (object ∷ object ∷ m.values) s) (constructed w x)) (listed_row (rows args) ∙ ap rows (sym row_is))
-          ∙ ap₂ (λ vs y. go_on (put_all w (rows row.now) vs s) (expr_step w y step.Construct)) (sym values) (sym seen)) in
+      ∙ ap (λ es. go_on (put_all w es (object ∷ object ∷ m.values) s) (constructed w x)) (listed_row (rows args) ∙ ap rows (sym row_is))
+      ∙ ap₂ (λ vs y. go_on (put_all w (rows row.now) vs s) (expr_step w y step.Construct)) (sym values) (sym seen)) in
       subst (λ (z : Standing). Onward p m.state (ready (expression e.now)) z.state (goes p z)) (sym is)
       (subst (λ y. Onward p m.state (ready y) l (goes p (pushed (frames.Row row) (pushed (frames.Expr e step.Construct) (record m { state = l; values = us }))))) (sym seen)
       (onward_then begun (onward_as same (onward_same p l _))))

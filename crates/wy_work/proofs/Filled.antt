@@ -11,14 +11,12 @@ use Rattle.wy_kernel.specs.declared.form.Expr.{Expr}
 use Rattle.wy_kernel.specs.declared.types.Ty.{Ty}
 use Rattle.wy_value.specs.declared.value.Value.{Value}
 use Rattle.wy_value.specs.declared.value.Value.TheVariants as val
-use Rattle.wy_event.specs.declared.record.Kind.TheVariants as kind
-use Rattle.wy_event.specs.declared.record.Slot.TheVariants as slot
 use Rattle.wy_event.specs.declared.record.Use.{Use}
 use Rattle.wy_event.specs.declared.record.Use.TheVariants as uses
 use Rattle.wy_steps.specs.Sets.{nothing}
 use Rattle.wy_steps.specs.State.{State, Carried, Run, go_on, ◌>>=◌, ◌>>◌, return}
-use Rattle.wy_steps.specs.Steps.{Made, constant, joined, note_write, value_of}
-use Rattle.wy_meaning.specs.World.{World, into}
+use Rattle.wy_steps.specs.Steps.{Made, constant, value_of}
+use Rattle.wy_meaning.specs.World.{World}
 use Rattle.wy_meaning.specs.Run.{world}
 use Rattle.wy_meaning.specs.Array.{create_array, create_filled, first_site, make_array, rest_sites, set_elements}
 use Rattle.wy_meaning.specs.Expression.{eval, eval_row}
@@ -32,11 +30,11 @@ use Rattle.wy_operands.specs.Values.{Values, at, top, under, under_many, last_ma
 use Rattle.wy_work.specs.declared.frame.Frame.TheVariants as frames
 use Rattle.wy_work.specs.declared.frame.ExprStep.TheVariants as step
 use Rattle.wy_work.specs.Expressions.{elements_from, expr_step, filled_at, filled_from, leaving, put_on}
-use Rattle.wy_work.specs.Frames.{Standing, around, after, followed, goes, pushed, then_all, Does, Resumed}
+use Rattle.wy_work.specs.Frames.{Standing, around, after, followed, pushed, then_all, Does}
 use Rattle.wy_work.specs.Listed.{rows}
 use Rattle.wy_work.specs.Operands.{Given, array_with, evaluated, list_of}
 use Rattle.wy_work.proofs.Places.{Operating, resumed_as}
-use Rattle.wy_work.proofs.Runs.{failed_at, go_on-go_on, settled_state, turned_after, went, world_program}
+use Rattle.wy_work.proofs.Runs.{failed_at, go_on-go_on, settled_state, went, world_program}
 use Rattle.wy_work.proofs.Seen.{operating_by}
 use Rattle.wy_work.proofs.Updates.{go_on_same}
 
@@ -109,8 +107,8 @@ module _ (w : World nothing) where
         ap (λ ms. go_on (set_elements (made_of array) i (drop i sites) ms s) (λ u. return vs)) is
         ∙ go_on-go_on (m s) _ _
         ∙ go_on_same (m s) _ _ (λ v s. go_on-go_on (element_set (first_site (drop i sites)) (made_of array) i v s) _ _
-            ∙ ap (λ z. go_on (element_set (first_site (drop i sites)) (made_of array) i v s) (λ e s. go_on (set_elements (made_of array) (suc i) z (drop (suc i) (eval_row w elements)) s) (λ u. return vs))) (rest_at sites i)
-            ∙ sym (at_is ty dims elements sites site array i (v ∷ vs) s))
+        ∙ ap (λ z. go_on (element_set (first_site (drop i sites)) (made_of array) i v s) (λ e s. go_on (set_elements (made_of array) (suc i) z (drop (suc i) (eval_row w elements)) s) (λ u. return vs))) (rest_at sites i)
+        ∙ sym (at_is ty dims elements sites site array i (v ∷ vs) s))
         ∙ sym (go_on-go_on (m s) _ _)
 
 -- ---- an array initializer
@@ -132,8 +130,8 @@ module _ (p : Program) (m : Standing) (e : Bor Expr) (ty : Ty) (dims : Row) (ele
       let first = put_on m.values (eval w (expression next.now)) in
       subst (λ (z : Standing). Does p (λ w. expr_step w (expression e.now) (step.Elements array i)) m (Ok tt) z) (sym pushes)
       (onward_as (λ s. ap (after p (around m) m.work) (ap (λ y. expr_step w y (step.Elements array i) m.values s) seen
-          ∙ one_left w ty dims (row_of (rows elements)) sites site array i m.values (eval w (expression next.now)) (next_element w elements all i next.now same less is) s
-          ∙ ap (λ y. go_on (first s) (expr_step w y (step.Element array i))) (sym seen))) (onward_same p m.state _))
+      ∙ one_left w ty dims (row_of (rows elements)) sites site array i m.values (eval w (expression next.now)) (next_element w elements all i next.now same less is) s
+      ∙ ap (λ y. go_on (first s) (expr_step w y (step.Element array i))) (sym seen))) (onward_same p m.state _))
 
   -- the value of an element is there
   module _ (l : Shape) (value : Value) (used us_of_array : List Use) (is_value : value ≡ (top m.values).value) (is_used : used ≡ uses_of_last 2 m.values) (of_array : us_of_array ≡ (at 1 m.values).uses) (is_array : us_of_array ≡ uses.Value array ∷ []) (set_site : ℕ) (at_site : set_site ≡ get_or sites i 0) where
@@ -184,7 +182,7 @@ module _ (p : Program) (m : Standing) (e : Bor Expr) (ty : Ty) (dims elements : 
         operating_by p m n r (expression e.now) (plain.NewArray ty (row_of (rows dims)) (row_of (rows elements)) sites site) seen
         (resumed_as p m _ (then_all p m (put_on (under_many count m.values) (create_array w ty (evaluated (last_many count m.values)) site))) r n
         (λ s. ap (λ k. then_all p m (put_on (under_many k m.values) (array_with w (row_of (rows dims)) (elements_of w elements) (λ ds. create_array w ty ds site) (create_filled w ty (elements_of w elements) sites site) (last_many k m.values))) s) many
-            ∙ ap (λ g. then_all p m (put_on (under_many count m.values) g) s) (by_dims w dims first (λ ds. create_array w ty ds site) (create_filled w ty (elements_of w elements) sites site) (last_many count m.values))) a)
+        ∙ ap (λ g. then_all p m (put_on (under_many count m.values) g) s) (by_dims w dims first (λ ds. create_array w ty ds site) (create_filled w ty (elements_of w elements) sites site) (last_many count m.values))) a)
 
   -- with elements
   module _ (none : dims ≡ []) (l : Shape) (n k : ℕ) (is_length : n ≡ k) (length_is : k ≡ length elements) where

@@ -1,12 +1,10 @@
 -- An expression in memory whose operands are there, by its form.
-use Rattle.std.proofs.Common.{◌≡◌, ◌∙◌, ℕ, List, [], ◌∷◌, length, map, refl, ap, sym, subst, Bool, Option, Result}
+use Rattle.std.proofs.Common.{◌≡◌, ◌∙◌, ℕ, List, length, refl, ap, sym, subst, Bool, Option, Result}
 use Rattle.wy_kernel.specs.Program.{Program}
 use Rattle.wy_kernel.specs.Form.{Expression}
 use Rattle.wy_kernel.specs.Form as plain
 use Rattle.wy_kernel.specs.View.{expression, row_of}
 use Rattle.wy_kernel.specs.declared.types.Ty.{Ty}
-use Rattle.std.specs.declared.alloc.Global.{Global}
-use Rattle.std.specs.declared.vec.Vec.{Vec}
 use Rattle.std.proofs.lemmas.List.{length-map}
 use Rattle.wy_kernel.specs.declared.form.CondForm.{CondForm}
 use Rattle.wy_kernel.specs.declared.form.Expr.{Expr}

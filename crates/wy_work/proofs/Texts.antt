@@ -23,7 +23,6 @@ use Rattle.wy_work.specs.Frames.{Standing, around, after, goes, pushed, then_all
 use Rattle.wy_work.proofs.Operates.{last_pair}
 use Rattle.wy_work.proofs.Places.{put_as, resumed_as}
 use Rattle.wy_work.proofs.Runs.{failed_at, gave_at, go_on-go_on, world_program}
-use Rattle.wy_work.proofs.Updates.{go_on_same}
 
 -- ---- two texts are joined
 

@@ -29,7 +29,13 @@ use wy_value::Value;
 
 impl<'a, R: Recorder> Machine<'a, R> {
     /// The class is initialized before the object is made.
-    pub fn create(&mut self, on: &Dispatcher<'a>, expr: &'a Expr, class: u32, site: u32) -> Result<(), Halt>
+    pub fn create(
+        &mut self,
+        on: &Dispatcher<'a>,
+        expr: &'a Expr,
+        class: u32,
+        site: u32,
+    ) -> Result<(), Halt>
         ensures goes { IsNew (expression expr.now) class site
             → Does (program_of on.now.program.now) (λ w. expr_step w (expression expr.now) step.Operate)
             (standing R.keeps R.kept self.old) result (standing R.keeps R.kept self.new) }
@@ -45,7 +51,10 @@ impl<'a, R: Recorder> Machine<'a, R> {
             (standing R.keeps R.kept self.old) result (standing R.keeps R.kept self.new) }
     {
         let Expr::New {
-            class, args, site, ..
+            class,
+            args,
+            site,
+            ..
         } = expr
         else {
             return Err(Halt::Memory);
@@ -115,7 +124,7 @@ impl<'a, R: Recorder> Machine<'a, R> {
     fn create_arrays(&mut self, ty: Ty, count: usize, site: u32) -> Result<(), Halt>
         ensures goes { (p : kernel.Program)
             → Does p (λ w vs. put_on (under_many count vs)
-                (create_array w ty (evaluated (last_many count vs)) site))
+            (create_array w ty (evaluated (last_many count vs)) site))
             (standing R.keeps R.kept self.old) result (standing R.keeps R.kept self.new) }
     {
         let dims = parts(self.state.alloc, &self.stack, count)?;

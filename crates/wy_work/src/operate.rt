@@ -17,9 +17,9 @@ ghost use Rattle.wy_work.specs.declared.frame.ExprStep.TheVariants as step;
 
 use crate::machine::Machine;
 use crate::parts::parts;
+use wy_calls::Dispatcher;
 use wy_kernel::form::{Expr, LibOp};
 use wy_kernel::operator::{BinOp, Primitive, UnOp};
-use wy_calls::Dispatcher;
 use wy_kernel::types::Ty;
 use wy_operation::operator::{binary, converted, unary_of};
 use wy_operation::types::{cast, instance_of};
@@ -101,7 +101,14 @@ impl<'a, R: Recorder> Machine<'a, R> {
     {
         let left = self.stack.value_at(1);
         let right = self.stack.top();
-        let value = binary(&mut self.state, op, left, right, self.stack.last_uses(2), site)?;
+        let value = binary(
+            &mut self.state,
+            op,
+            left,
+            right,
+            self.stack.last_uses(2),
+            site,
+        )?;
         self.stack.join(2, value)?;
         Ok(())
     }
@@ -124,7 +131,14 @@ impl<'a, R: Recorder> Machine<'a, R> {
             (standing R.keeps R.kept self.old) result (standing R.keeps R.kept self.new) }
     {
         let value = self.stack.top();
-        cast(&mut self.state, on.program, ty, value, self.stack.last_uses(1), site)?;
+        cast(
+            &mut self.state,
+            on.program,
+            ty,
+            value,
+            self.stack.last_uses(1),
+            site,
+        )?;
         self.stack.join(1, value)?;
         Ok(())
     }
@@ -139,7 +153,13 @@ impl<'a, R: Recorder> Machine<'a, R> {
         Ok(())
     }
 
-    fn library(&mut self, on: &Dispatcher<'a>, op: LibOp, count: usize, site: u32) -> Result<(), Halt>
+    fn library(
+        &mut self,
+        on: &Dispatcher<'a>,
+        op: LibOp,
+        count: usize,
+        site: u32,
+    ) -> Result<(), Halt>
         ensures goes { Does (program_of on.now.program.now)
             (λ w vs. put_on (under_many count vs) (library w op site (last_many count vs)))
             (standing R.keeps R.kept self.old) result (standing R.keeps R.kept self.new) }

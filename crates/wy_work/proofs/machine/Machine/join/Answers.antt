@@ -5,7 +5,7 @@ use Rattle.wy_work.proofs.machine.Machine.join.Goals as goal
 
 pub returns-in_err-event : goal.returns-in_err-event
 returns-in_err-event g c = record {
-  goes = 
+  goes =
       let h = err_from_is_err_and c.from_residual.result c.from_residual.ensures.1 in
       rw (h.1, h.2) (texts_refused _ (standing g.R.Recorder.keeps g.R.Recorder.kept c.args.self.now) _ (standing g.R.Recorder.keeps g.R.Recorder.kept c.args.self.now).values _ _ _ c.args.site c.value_at-left.ensures c.top-right.ensures c.last_uses-uses.ensures.last _ c.in_err-event.ensures.step c.in_err-event.ensures.around);
 }
