@@ -27,4 +27,3 @@ pub mod Operands
 pub mod Seen
 pub mod Created
 pub mod Filled
-pub mod Texts

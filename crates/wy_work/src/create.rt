@@ -37,7 +37,8 @@ impl<'a, R: Recorder> Machine<'a, R> {
         site: u32,
     ) -> Result<(), Halt>
         ensures goes { IsNew (expression expr.now) class site
-            → Does (program_of on.now.program.now) (λ w. expr_step w (expression expr.now) step.Operate)
+            → Does (program_of on.now.program.now)
+            (λ w. expr_step w (expression expr.now) step.Operate)
             (standing R.keeps R.kept self.old) result (standing R.keeps R.kept self.new) }
     {
         self.push_expr(expr, ExprStep::Ready)?;
@@ -47,7 +48,8 @@ impl<'a, R: Recorder> Machine<'a, R> {
     /// The object is made, and the arguments are evaluated. The object stands twice on the stack: as what the form gives, and as
     /// the receiver of the constructor.
     pub fn make_object(&mut self, expr: &'a Expr) -> Result<(), Halt>
-        ensures goes { (p : kernel.Program) → Does p (λ w. expr_step w (expression expr.now) step.Ready)
+        ensures goes { (p : kernel.Program)
+            → Does p (λ w. expr_step w (expression expr.now) step.Ready)
             (standing R.keeps R.kept self.old) result (standing R.keeps R.kept self.new) }
     {
         let Expr::New {
@@ -73,7 +75,8 @@ impl<'a, R: Recorder> Machine<'a, R> {
 
     /// The constructor is called, where there is one.
     pub fn construct(&mut self, on: &Dispatcher<'a>, expr: &'a Expr) -> Result<(), Halt>
-        ensures goes { Does (program_of on.now.program.now) (λ w. expr_step w (expression expr.now) step.Construct)
+        ensures goes { Does (program_of on.now.program.now)
+            (λ w. expr_step w (expression expr.now) step.Construct)
             (standing R.keeps R.kept self.old) result (standing R.keeps R.kept self.new) }
     {
         let Expr::New {
@@ -95,7 +98,8 @@ impl<'a, R: Recorder> Machine<'a, R> {
 
     /// An array with its subarrays by the dimensions that are there, or one with elements that are to be evaluated.
     pub fn new_array(&mut self, expr: &'a Expr) -> Result<(), Halt>
-        ensures goes { (p : kernel.Program) → Does p (λ w. expr_step w (expression expr.now) step.Operate)
+        ensures goes { (p : kernel.Program)
+            → Does p (λ w. expr_step w (expression expr.now) step.Operate)
             (standing R.keeps R.kept self.old) result (standing R.keeps R.kept self.new) }
     {
         let Expr::NewArray {

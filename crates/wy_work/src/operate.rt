@@ -31,7 +31,8 @@ use wy_value::Value;
 impl<'a, R: Recorder> Machine<'a, R> {
     /// The operands of an expression are there.
     pub fn operate(&mut self, on: &Dispatcher<'a>, expr: &'a Expr) -> Result<(), Halt>
-        ensures goes { Does (program_of on.now.program.now) (λ w. expr_step w (expression expr.now) step.Operate)
+        ensures goes { Does (program_of on.now.program.now)
+            (λ w. expr_step w (expression expr.now) step.Operate)
             (standing R.keeps R.kept self.old) result (standing R.keeps R.kept self.new) }
     {
         match expr {
@@ -47,7 +48,8 @@ impl<'a, R: Recorder> Machine<'a, R> {
     }
 
     fn operate_on(&mut self, on: &Dispatcher<'a>, expr: &'a Expr) -> Result<(), Halt>
-        ensures goes { Does (program_of on.now.program.now) (λ w. expr_step w (expression expr.now) step.Operate)
+        ensures goes { Does (program_of on.now.program.now)
+            (λ w. expr_step w (expression expr.now) step.Operate)
             (standing R.keeps R.kept self.old) result (standing R.keeps R.kept self.new) }
     {
         match expr {
@@ -63,7 +65,8 @@ impl<'a, R: Recorder> Machine<'a, R> {
     }
 
     fn operate_texts(&mut self, on: &Dispatcher<'a>, expr: &'a Expr) -> Result<(), Halt>
-        ensures goes { Does (program_of on.now.program.now) (λ w. expr_step w (expression expr.now) step.Operate)
+        ensures goes { Does (program_of on.now.program.now)
+            (λ w. expr_step w (expression expr.now) step.Operate)
             (standing R.keeps R.kept self.old) result (standing R.keeps R.kept self.new) }
     {
         match expr {
@@ -96,7 +99,8 @@ impl<'a, R: Recorder> Machine<'a, R> {
 
     fn binary(&mut self, op: BinOp, site: u32) -> Result<(), Halt>
         ensures goes { (p : kernel.Program) → Does p
-            (λ w vs. put_on (under_many 2 vs) (binary w op (return (at 1 vs)) (return (top vs)) site))
+            (λ w vs. put_on (under_many 2 vs)
+            (binary w op (return (at 1 vs)) (return (top vs)) site))
             (standing R.keeps R.kept self.old) result (standing R.keeps R.kept self.new) }
     {
         let left = self.stack.value_at(1);
