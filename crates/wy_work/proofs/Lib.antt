@@ -26,3 +26,6 @@ pub mod Leaving
 pub mod Choices
 pub mod CallForms
 pub mod Operands
+pub mod Seen
+pub mod Created
+pub mod Filled
