@@ -87,3 +87,36 @@ module _ (p : Program) (m : Shape) (vs : Values) (x : Signal) (o : Outcome nothi
 
       covered : meaning.covers c.state.coverage 0 (length m.covers) ≡ map covered_of m.covers
       covered = covers_from c.state.coverage 0 m.covers (λ n below. ap c.state.coverage (omega arith) ∙ c.agrees.covers n below)
+
+-- ---- the whole run: what ends it leaves what the run of the program leaves
+
+module _ (p : Program) (input : List ℕ) (steps : ℕ) where
+  same_end : (x : Outcome nothing (Carried nothing)) → meaning.end (go_on x (λ v. return (v ∷ []))) ≡ meaning.end x
+  unfolding meaning.end go_on return
+  same_end (Done v s) = refl
+  same_end (Left why s) = refl
+  same_end (Stopped why s) = refl
+
+  same_last : (x : Outcome nothing (Carried nothing)) → meaning.last_of (go_on x (λ v. return (v ∷ []))) ≡ meaning.last_of x
+  unfolding meaning.last_of go_on return
+  same_last (Done v s) = refl
+  same_last (Left why s) = refl
+  same_last (Stopped why s) = refl
+
+  same_tail : (x : Outcome nothing (Carried nothing)) → meaning.tail_of p steps (go_on x (λ v. return (v ∷ []))) ≡ meaning.tail_of p steps x
+  unfolding meaning.tail_of meaning.end meaning.stop_of meaning.last_of go_on return
+  same_tail (Done v s) = refl
+  same_tail (Left why s) = refl
+  same_tail (Stopped why s) = refl
+
+  pub all_events : events_of (whole p input steps) ≡ meaning.events nothing p input steps
+  unfolding meaning.events meaning.history
+  all_events = ap (λ (s : State nothing). map (λ e. e.event) (reverse s.noted)) (same_end (meaning.outcome p input steps))
+
+  pub run_left : (e : Ended) → IsEndFor p steps (whole p input steps) e → IsEndOf p input steps e
+  unfolding meaning.output meaning.tail meaning.thrown meaning.events meaning.history meaning.tail_of
+  run_left e is = record {
+    output = is.output ∙ ap (λ (s : State nothing). s.output) (same_end (meaning.outcome p input steps));
+    tail = is.tail ∙ same_tail (meaning.outcome p input steps);
+    thrown = is.thrown ∙ ap₂ last_thrown (same_end (meaning.outcome p input steps)) (same_last (meaning.outcome p input steps));
+  }
