@@ -24,3 +24,6 @@ pub mod Classes
 pub mod Leaving
 pub mod Choices
 pub mod Operands
+pub mod Finishes
+pub mod Returns
+pub mod Handlers
