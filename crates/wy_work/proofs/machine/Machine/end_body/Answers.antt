@@ -1,4 +1,7 @@
+use Rattle.std.proofs.Common.{◌∙◌, ◌∷◌, ap}
 use Rattle.std.proofs.lemmas.Result.{err_from_is_err_and}
+use Rattle.wy_value.specs.declared.value.Value.TheVariants as val
+use Rattle.wy_state.specs.Seen.{valued}
 use Rattle.wy_work.specs.Machines.{standing}
 use Rattle.wy_work.proofs.Returns.{body_ended, body_refused}
 use Rattle.wy_work.proofs.machine.Machine.end_body.Goals as goal
@@ -11,4 +14,4 @@ returns-in_err-event g c = record {
 }
 
 pub returns : goal.returns
-returns g c = record { goes = λ p. body_ended p (standing g.R.Recorder.keeps g.R.Recorder.kept c.args.self.now) c.args.returns_none c.args.site _ _ _ (c.in_ok-event.ensures.step p) c.in_ok-event.ensures.around c.in_ok-push_with.ensures }
+returns g c = record { goes = λ p. body_ended p (standing g.R.Recorder.keeps g.R.Recorder.kept c.args.self.now) c.args.returns_none c.args.site _ _ _ (c.in_ok-event.ensures.step p) c.in_ok-event.ensures.around (c.in_ok-push_with.ensures ∙ ap (λ vs. valued c.in_ok-event.event val.None ∷ vs) c.clear.ensures) }
