@@ -25,7 +25,7 @@ use Rattle.wy_meaning.specs.Run.{world}
 use Rattle.wy_meaning.specs.Statement.{Clause, at_throw, caught, exec, exec_catches, exec_other, handle, number_of, other_or}
 use Rattle.wy_calls.specs.Calls.{Frame as Body, Standing as Calls, activated}
 use Rattle.wy_state.specs.declared.parts.Halt.{Halt}
-use Rattle.wy_state.specs.declared.parts.Halt.TheVariants.{Left, Stopped, Recorder, Memory}
+use Rattle.wy_state.specs.declared.parts.Halt.TheVariants as halt
 use Rattle.wy_state.specs.declared.parts.Reason.{Reason as Cause}
 use Rattle.wy_state.specs.declared.parts.Reason.TheVariants as cause
 use Rattle.wy_state.specs.Seen.{made_of, reason_of, valued}
@@ -77,14 +77,14 @@ module _ (w : World nothing) (c : Catch) (event : ℕ) (v : Value) where
   abbrev catching : Run nothing (Unit {0})
   catching = do_nothing >>= (λ u. local_slot c.local >>= (λ x. writes x >>= then_block))
 
+  abbrev writes_in : State nothing → Run nothing (Made nothing)
+  writes_in s = writing (into kind.Catch c.site (Local (code_of s.frame) c.local) v) (valued event v)
+
   caught_is : (s : State nothing) → caught (clause_as w c) (valued event v) s ≡ catching s
-  unfolding caught frame activating go_in entered note_write room_for writing choose stop with_event made ◌>>=◌ ◌>>◌ go_on return
+  unfolding caught frame activating go_in entered note_write room_for writing choose stop with_event made next_event with_stored ◌>>=◌ ◌>>◌ go_on return
   caught_is s = cases (nat_lt (length s.noted) event_limit) (nat_le (s.uses + 1) use_limit)
     where
-      abbrev write : Run nothing (Made nothing)
-      write = writing (into kind.Catch c.site (Local (code_of s.frame) c.local) v) (valued event v)
-
-      cases : (few fits : Bool) → go_on (go_in (Through s.frame c.block.number) (choose few (choose fits write (stop run.UseLimit)) (stop run.EventLimit) s)) (λ e. block) ≡ go_on (choose few (choose fits write (stop run.UseLimit)) (stop run.EventLimit) s) then_block
+      cases : (few fits : Bool) → go_on (go_in (Through s.frame c.block.number) (choose few (choose fits (writes_in s) (stop run.UseLimit)) (stop run.EventLimit) s)) (λ e. block) ≡ go_on (choose few (choose fits (writes_in s) (stop run.UseLimit)) (stop run.EventLimit) s) then_block
       cases true true = refl
       cases true false = refl
       cases false fits = refl
@@ -121,10 +121,10 @@ module _ (p : Program) (m : Standing) (k : Shape) (c : Catch) (event : ℕ) (v :
 
 -- where a record was refused, what stands around is the same
 pub refused_around : (e : Halt) (old k new : Calls) → k ≡ old → KeepsFrames {X = ℕ} (Err e) k new → KeepsAt e old new
-refused_around (Left why) old k new same a = record { frames = a.frames ∙ ap (λ (z : Calls). map (λ (f : Body). f.event) z.frames) same; scopes = a.scopes ∙ ap (λ (z : Calls). z.scopes) same }
-refused_around (Stopped why) old k new same a = record { frames = a.frames ∙ ap (λ (z : Calls). map (λ (f : Body). f.event) z.frames) same; scopes = a.scopes ∙ ap (λ (z : Calls). z.scopes) same }
-refused_around (Recorder e) old k new same a = tt
-refused_around Memory old k new same a = tt
+refused_around (halt.Left why) old k new same a = record { frames = a.frames ∙ ap (λ (z : Calls). map (λ (f : Body). f.event) z.frames) same; scopes = a.scopes ∙ ap (λ (z : Calls). z.scopes) same }
+refused_around (halt.Stopped why) old k new same a = record { frames = a.frames ∙ ap (λ (z : Calls). map (λ (f : Body). f.event) z.frames) same; scopes = a.scopes ∙ ap (λ (z : Calls). z.scopes) same }
+refused_around (halt.Recorder e) old k new same a = tt
+refused_around halt.Memory old k new same a = tt
 
 -- ---- what is thrown
 
@@ -145,14 +145,14 @@ module _ (p : Program) (m : Standing) (x : Bor Memory) (main : Box Memory Global
   return_passes e v = onward_as (handles (run.Returned e (valued e v))) (onward_same p m.state _)
 
   module _ (e : ℕ) (v : Value) (ty : Ty) (class : ℕ) (found : Option Catch) (typed : Onward p m.state (type_of v) m.state (return ty)) (classed : class ≡ class_of_type ty) (taker : found ≡ taking p catches.items class) where
-    handled_is : (s : State nothing) → emptied (handle (world p m.depth).program clauses (class_of_type ty) e (valued e v)) s ≡ emptied (taken (world p m.depth) found e (valued e v)) s
+    handled_is : (s : State nothing) → emptied (handle (world {A = nothing} p m.depth).program clauses (class_of_type ty) e (valued e v)) s ≡ emptied (taken (world p m.depth) found e (valued e v)) s
     handled_is s = ap (λ o. go_on o (λ u. return []))
         (ap (λ z. handle z clauses (class_of_type ty) e (valued e v) s) (world_program p m.depth) ∙ ap (λ z. handle p clauses z e (valued e v) s) (sym classed)
         ∙ handle_is (world p m.depth) p catches.items class e (valued e v) s ∙ ap (λ z. taken (world p m.depth) z e (valued e v) s) (sym taker))
 
     thrown : Onward p m.state (then_all p (pushed (frames.Stmt x step.Catch) m) (leave (run.Threw e (valued e v)))) m.state (then_all p m (emptied (taken (world p m.depth) found e (valued e v))))
     unfolding at_throw ◌>>=◌ go_on return
-    thrown = onward_then (onward_as (handles (run.Threw e (valued e v))) (within (λ o. after p (around m) m.work (go_on (go_on o (λ t. handle (world p m.depth).program clauses (class_of_type t) e (valued e v))) (λ u. return []))) typed))
+    thrown = onward_then (onward_as (handles (run.Threw e (valued e v))) (within (λ o. after p (around m) m.work (go_on (go_on o (λ t. handle (world {A = nothing} p m.depth).program clauses (class_of_type t) e (valued e v))) (λ u. return []))) typed))
         (onward_as (λ s. ap (after p (around m) m.work) (handled_is s)) (onward_same p m.state _))
 
     pub thrown_on : found ≡ Absent → Onward p m.state (then_all p (pushed (frames.Stmt x step.Catch) m) (leave (run.Threw e (valued e v)))) m.state (then_all p m (leave (run.Threw e (valued e v))))
