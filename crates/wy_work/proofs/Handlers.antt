@@ -114,9 +114,9 @@ module _ (p : Program) (m : Standing) (k : Shape) (c : Catch) (event : ℕ) (v :
     caught_then : Onward p m.state (caught_by w c event v) s (block w c event v)
     caught_then = onward_then prepared (onward_then (done_first (writes w c event v x) (then_block w c event v) (made_of n) wrote) (done_first (activate_through n c.block.number) (λ u. block w c event v) tt active))
 
-    pub caught_goes : (b : Bor Memory) (u q : Standing) → b.now ≡ c.block → u ≡ record m { state = s; values = [] } → q ≡ pushed (frames.Stmt b step.Do) u → Onward p m.state (then_all p m (emptied (caught_by w c event v))) q.state (goes p q)
+    pub caught_goes : (b : Bor Memory) (us : Values) (q : Standing) → b.now ≡ c.block → us ≡ [] → q ≡ pushed (frames.Stmt b step.Do) (record m { state = s; values = us }) → Onward p m.state (then_all p m (emptied (caught_by w c event v))) q.state (goes p q)
     unfolding go_on return
-    caught_goes b u q is stands pushes = rw (pushes, stands, is) (subst (λ g. Onward p m.state (then_all p m (emptied (caught_by w c event v))) s g) (then_settled p (emptied (block w c event v)) (kept_after p m s [] caught_around))
+    caught_goes b us q is none pushes = rw (pushes, none, is) (subst (λ g. Onward p m.state (then_all p m (emptied (caught_by w c event v))) s g) (then_settled p (emptied (block w c event v)) (kept_after p m s [] caught_around))
         (within (λ o. after p (around m) m.work (go_on o (λ u. return []))) caught_then))
 
 -- where a record was refused, what stands around is the same

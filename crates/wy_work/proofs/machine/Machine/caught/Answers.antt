@@ -1,4 +1,4 @@
-use Rattle.std.proofs.Common.{refl, ap}
+use Rattle.std.proofs.Common.{refl}
 use Rattle.std.proofs.lemmas.Result.{err_from_is_err_and}
 use Rattle.wy_operation.proofs.Runs.{note_write_as, note_write_as_done}
 use Rattle.wy_work.specs.Machines.{standing}
@@ -21,5 +21,5 @@ returns g c = record {
       let m = standing g.R.Recorder.keeps g.R.Recorder.kept c.args.self.now in
       caught_goes p m _ c.args.clause.now c.args.event c.args.value c.local-slot.result (c.in_ok-begin_early.ensures.step p) (c.local-slot.ensures.step p) _ _ c.in_ok-number.number c.in_ok-begin_early.ensures.calls
           (note_write_as_done p _ _ _ _ _ _ _ c.into_slot-draft.ensures.draft c.into_slot-draft.ensures.value (c.in_ok-number.ensures.step p)) c.in_ok-number.ensures.frames (c.in_ok-activate_through.ensures.step p) _ c.in_ok-activate_through.ensures.calls
-          _ _ (standing g.R.Recorder.keeps g.R.Recorder.kept c.push_stmt.new.self) refl (ap (λ vs. record m { state = _; values = vs }) c.clear.ensures) c.in_ok-push_stmt.ensures;
+          _ _ (standing g.R.Recorder.keeps g.R.Recorder.kept c.push_stmt.new.self) refl c.clear.ensures c.in_ok-push_stmt.ensures;
 }
