@@ -144,7 +144,12 @@ module _ (p : Program) (m : Standing) (x : Bor Memory) (main : Box Memory Global
   unfolding at_throw go_on leave
   return_passes e v = onward_as (handles (run.Returned e (valued e v))) (onward_same p m.state _)
 
-  module _ (e : ℕ) (v : Value) (ty : Ty) (class : ℕ) (found : Option Catch) (typed : Onward p m.state (type_of v) m.state (return ty)) (classed : class ≡ class_of_type ty) (taker : found ≡ taking p catches.items class) where
+  pub passes : (why : Cause) → ((e : ℕ) (v : Value) → why ≡ cause.Threw e v → ⊥) → Onward p m.state (then_all p (pushed (frames.Stmt x step.Catch) m) (leave (reason_of why))) m.state (then_all p m (leave (reason_of why)))
+  passes (cause.Jumped target e) other = jump_passes target e
+  passes (cause.Returned e v) other = return_passes e v
+  passes (cause.Threw e v) other = absurd (other e v refl)
+
+  module _ (why : Cause) (e : ℕ) (v : Value) (threw : why ≡ cause.Threw e v) (ty : Ty) (class : ℕ) (found : Option Catch) (typed : Onward p m.state (type_of v) m.state (return ty)) (classed : class ≡ class_of_type ty) (taker : found ≡ taking p catches.items class) where
     handled_is : (s : State nothing) → emptied (handle (world {A = nothing} p m.depth).program clauses (class_of_type ty) e (valued e v)) s ≡ emptied (taken (world p m.depth) found e (valued e v)) s
     handled_is s = ap (λ o. go_on o (λ u. return []))
         (ap (λ z. handle z clauses (class_of_type ty) e (valued e v) s) (world_program p m.depth) ∙ ap (λ z. handle p clauses z e (valued e v) s) (sym classed)
@@ -155,13 +160,13 @@ module _ (p : Program) (m : Standing) (x : Bor Memory) (main : Box Memory Global
     thrown = onward_then (onward_as (handles (run.Threw e (valued e v))) (within (λ o. after p (around m) m.work (go_on (go_on o (λ t. handle (world {A = nothing} p m.depth).program clauses (class_of_type t) e (valued e v))) (λ u. return []))) typed))
         (onward_as (λ s. ap (after p (around m) m.work) (handled_is s)) (onward_same p m.state _))
 
-    pub thrown_on : found ≡ Absent → Onward p m.state (then_all p (pushed (frames.Stmt x step.Catch) m) (leave (run.Threw e (valued e v)))) m.state (then_all p m (leave (run.Threw e (valued e v))))
+    pub thrown_on : found ≡ Absent → Onward p m.state (then_all p (pushed (frames.Stmt x step.Catch) m) (leave (reason_of why))) m.state (then_all p m (leave (run.Threw e (valued e v))))
     unfolding go_on leave
-    thrown_on none = onward_then thrown (onward_as (λ s. ap (λ z. after p (around m) m.work (emptied (taken (world p m.depth) z e (valued e v)) s)) none) (onward_same p m.state _))
+    thrown_on none = rw threw (onward_then thrown (onward_as (λ s. ap (λ z. after p (around m) m.work (emptied (taken (world p m.depth) z e (valued e v)) s)) none) (onward_same p m.state _)))
 
     taken_by : (c : Catch) → found ≡ Some c → (s : State nothing) → emptied (taken (world p m.depth) found e (valued e v)) s ≡ emptied (caught_by (world p m.depth) c e v) s
     taken_by c some s = ap (λ z. emptied (taken (world p m.depth) z e (valued e v)) s) some
         ∙ ap (λ n. emptied (caught (record { class = c.class; local = c.local; site = c.site; number = n; block = exec (world p m.depth) (statement c.block) }) (valued e v)) s) (sym (ap number_of (view_statement c.block)))
 
-    pub thrown_caught : (c : Catch) (q : Standing) (r : Result (Unit {0}) Halt) → found ≡ Some c → Resumed p (then_all p m (emptied (caught_by (world p m.depth) c e v))) m.state r q → Resumed p (then_all p (pushed (frames.Stmt x step.Catch) m) (leave (run.Threw e (valued e v)))) m.state r q
-    thrown_caught c q r some a = turned_after p m.state m q _ _ r (λ u. return q.values) (onward_then thrown (onward_as (λ s. ap (after p (around m) m.work) (taken_by c some s)) (onward_same p m.state _))) a
+    pub thrown_caught : (c : Catch) (q : Standing) (r : Result (Unit {0}) Halt) → found ≡ Some c → Resumed p (then_all p m (emptied (caught_by (world p m.depth) c e v))) m.state r q → Resumed p (then_all p (pushed (frames.Stmt x step.Catch) m) (leave (reason_of why))) m.state r q
+    thrown_caught c q r some a = rw threw (turned_after p m.state m q _ _ r (λ u. return q.values) (onward_then thrown (onward_as (λ s. ap (after p (around m) m.work) (taken_by c some s)) (onward_same p m.state _))) a)
