@@ -27,3 +27,4 @@ pub mod Operands
 pub mod Finishes
 pub mod Returns
 pub mod Handlers
+pub mod Passing
