@@ -28,3 +28,4 @@ pub mod Finishes
 pub mod Returns
 pub mod Handlers
 pub mod Passing
+pub mod Resuming

@@ -19,7 +19,7 @@ use Rattle.wy_calls.specs.declared.calls.Scope.{Scope}
 use Rattle.wy_state.specs.declared.parts.Halt.{Halt}
 use Rattle.wy_state.specs.declared.parts.Reason.{Reason as Cause}
 use Rattle.wy_state.specs.declared.parts.Reason.TheVariants as cause
-use Rattle.wy_state.specs.Seen.{reason_of}
+use Rattle.wy_state.specs.Seen.{reason_of, valued}
 use Rattle.wy_state.specs.Agrees.{Shape, Onward}
 use Rattle.wy_state.specs.Steps.{active_be, leave_by}
 use Rattle.wy_state.proofs.Onward.{onward_as, onward_same}
@@ -37,6 +37,7 @@ use Rattle.wy_work.specs.Frames.{Standing, after, around, pushed, then_all, Does
 use Rattle.wy_work.specs.Listed.{rows}
 use Rattle.wy_work.specs.Statements.{after_all, after_first, emptied, without_values}
 use Rattle.wy_work.proofs.Finishes.{scope_ends, scope_left, scope_stopped, stopped_in}
+use Rattle.wy_work.proofs.Returns.{body_returned}
 use Rattle.wy_work.proofs.Leaving.{halts_call, halts_class, passes_call, passes_class}
 
 -- ---- a body is left
@@ -223,3 +224,7 @@ module _ (p : Program) (m : Standing) (s : Shape) (f : Frame) (scope : Scope) (i
 pub end_stopped : (p : Program) (m : Standing) (n : ℕ) (s : Shape) (x : Step) → x ≡ step.End n → s.calls ≡ ended n m.state.calls → (why : Stop) (e : ℕ) → e ≡ stop_cause why → Onward p m.state (leave_by n e) s (return tt) →
     Onward p m.state (then_all p (pushed (frame.Plain x) m) (stop why)) s (then_all p (record m { state = s }) (stop why))
 end_stopped p m n s x is same why e by a = rw is (stopped_in p m n s same why e by a)
+
+pub body_gives : (p : Program) (m : Standing) (b : Bool) (site : ℕ) (us : Values) (e : ℕ) (v : Value) (why : Cause) → why ≡ cause.Returned e v → us ≡ valued e v ∷ [] →
+    Onward p m.state (then_all p (pushed (frame.Plain (step.BodyEnd b site)) m) (leave (reason_of why))) m.state (then_all p (record m { values = us }) (return us))
+body_gives p m b site us e v why is values = rw is (body_returned p m b site us e v values)
