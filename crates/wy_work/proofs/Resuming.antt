@@ -31,6 +31,7 @@ use Rattle.wy_work.specs.Frames.{Standing, after, around, main_called, pushed, t
 use Rattle.wy_work.specs.Listed.{rows}
 use Rattle.wy_work.specs.Statements.{emptied, stmt_step}
 use Rattle.wy_work.proofs.Leaving.{leaves_class}
+use Rattle.wy_work.proofs.Passing.{first_ends}
 
 -- a statement goes on with what is on the stack
 abbrev IsGoing : StmtStep → Type 0
@@ -123,3 +124,7 @@ module _ (p : Program) (m : Standing) (x : Step) where
   pub top_forgotten : (us : Values) → x ≡ step.Forget → us ≡ under_many 1 m.values → Onward p m.state (then_all p (pushed (frame.Plain x) m) (return m.values)) m.state (then_all p (record m { values = us }) (return us))
   unfolding go_on return
   top_forgotten us is values = rw (is, values) (onward_same p m.state _)
+
+-- the first block of a `try` ended normally
+pub first_goes_on : (p : Program) (m : Standing) (s : Bor Memory) (x : StmtStep) → x ≡ doing.Catch → (us : Values) → us ≡ [] → Onward p m.state (then_all p (pushed (frame.Stmt s x) m) (return m.values)) m.state (then_all p (record m { values = us }) (return us))
+first_goes_on p m s x is us none = rw is (first_ends p m s us none)
