@@ -29,3 +29,8 @@ pub mod Operands
 pub mod Seen
 pub mod Created
 pub mod Filled
+pub mod Finishes
+pub mod Returns
+pub mod Handlers
+pub mod Passing
+pub mod Resuming

@@ -31,7 +31,10 @@ impl<'a, R: Recorder> Machine<'a, R> {
             (standing R.keeps R.kept self.old) result (standing R.keeps R.kept self.new) }
     {
         self.stack.clear();
-        let StmtForm::Try { last: Some(last), .. } = &stmt.form else {
+        let StmtForm::Try { last, .. } = &stmt.form else {
+            return Err(Halt::Memory);
+        };
+        let Some(last) = last else {
             return Err(Halt::Memory);
         };
         self.push_stmt(&**last, StmtStep::Do)?;
@@ -61,7 +64,10 @@ impl<'a, R: Recorder> Machine<'a, R> {
         ensures goes { (p : kernel.Program) → Ends p (frames.Stmt stmt.entry step.Finally) (leave (reason_of why))
             (standing R.keeps R.kept self.old) result (standing R.keeps R.kept self.new) }
     {
-        let StmtForm::Try { last: Some(last), .. } = &stmt.form else {
+        let StmtForm::Try { last, .. } = &stmt.form else {
+            return Err(Halt::Memory);
+        };
+        let Some(last) = last else {
             return Err(Halt::Memory);
         };
         self.stack.clear();
