@@ -9,6 +9,8 @@ use Rattle.wy_event.specs.Record.{present}
 use Rattle.wy_steps.specs.Sets.{nothing}
 use Rattle.wy_steps.specs.State.{Carried, State, Covered, Outcome, Done, Left, Stopped, go_on, return, leave, stop}
 use Rattle.wy_meaning.specs.Run as meaning
+use Rattle.wy_meaning.specs.Kept as kept
+use Rattle.wy_meaning.specs.Kept.{kept_tail, kept_thrown}
 use Rattle.wy_operands.specs.Values.{Values}
 use Rattle.wy_state.specs.declared.parts.Limit.TheVariants as limit
 use Rattle.wy_state.specs.declared.parts.Reason.TheVariants as reason
@@ -17,7 +19,7 @@ use Rattle.wy_state.specs.Seen.{blank, covered_of}
 use Rattle.wy_work.specs.declared.turn.Signal.{Signal}
 use Rattle.wy_work.specs.declared.turn.Signal.TheVariants as signal
 use Rattle.wy_work.specs.Frames.{outcome_at}
-use Rattle.wy_machine.specs.Ended.{IsEndFor, IsEndOf, events_of, last_thrown, tail_of, thrown_of, whole}
+use Rattle.wy_machine.specs.Ended.{IsEndFor, IsEndOf, events_of, last_thrown, whole}
 use Rattle.wy_machine.specs.Going.{last_at, stop_at}
 use Rattle.wy_machine.specs.declared.ended.Ended.{Ended}
 
@@ -71,8 +73,8 @@ module _ (p : Program) (m : Shape) (vs : Values) (x : Signal) (o : Outcome nothi
   events_kept keeps = c.agrees.kept keeps ∙ ap (λ (s : State nothing). map (λ e. e.event) (reverse s.noted)) (sym at_end)
 
   pub kept_of : (steps : ℕ) (e : Ended) → length m.covers ≡ p.statements → e.output.items ≡ m.output → e.tail.coverage.statements ≡ m.covers → e.tail.stop ≡ stop_at x → present e.tail.last ≡ last_at x →
-      e.tail.steps ≡ steps - m.left → e.tail.events ≡ m.events → e.tail.uses ≡ m.uses → e.tail.output ≡ length m.output → thrown_of e.thrown ≡ last_thrown c.state (last_at x) → IsEndFor p steps o e
-  unfolding meaning.tail_of
+      e.tail.steps ≡ steps - m.left → e.tail.events ≡ m.events → e.tail.uses ≡ m.uses → e.tail.output ≡ length m.output → kept_thrown e.thrown ≡ last_thrown c.state (last_at x) → IsEndFor p steps o e
+  unfolding meaning.tail_of kept_tail kept.covered_of
   kept_of steps e many output coverage stopping last taken events uses printed thrown = record {
     output = output ∙ sym c.agrees.output ∙ ap (λ (s : State nothing). s.output) (sym at_end);
     tail = rw (coverage, stopping, last, taken, events, uses, printed, at_end, stopped, last_one, c.agrees.left, c.agrees.events, c.agrees.uses, c.agrees.output, ← many, covered) refl;

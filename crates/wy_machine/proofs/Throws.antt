@@ -18,11 +18,12 @@ use Rattle.wy_steps.specs.Sets.{nothing}
 use Rattle.wy_steps.specs.State.{Noted, State}
 use Rattle.wy_steps.specs.Steps.{event_in}
 use Rattle.wy_meaning.specs.World.{object_in, type_in}
+use Rattle.wy_meaning.specs.Kept.{kept_thrown}
 use Rattle.wy_meaning.specs.Run.{thrown_in}
 use Rattle.wy_state.specs.declared.parts.Throw.{Throw}
 use Rattle.wy_state.specs.Agrees.{Agrees, Shape, throw_at, throws_in}
 use Rattle.wy_state.proofs.Records.{newest_event, older_event}
-use Rattle.wy_machine.specs.Ended.{events_in, last_thrown, thrown_of}
+use Rattle.wy_machine.specs.Ended.{events_in, last_thrown}
 
 -- ---- an event by its number, from the oldest and from the newest
 
@@ -118,8 +119,8 @@ present_some n some = elim (eqb_tells n 4294967295) as (λ _. present n ≡ Some
 
 -- by its record
 by_record : (records : List Recorded) (found : Option Recorded) (e : Recorded) (n c class site : ℕ) → found ≡ Some e → e.site ≡ site → e.value ≡ Object n → type_in (slice_get records n) ≡ type_of_code c →
-    class ≡ class_of_type (type_of_code c) → class ≢ 4294967295 → site ≢ 4294967295 → thrown_of (record { class = class; site = site }) ≡ thrown_in records found
-unfolding thrown_in object_in
+    class ≡ class_of_type (type_of_code c) → class ≢ 4294967295 → site ≢ 4294967295 → kept_thrown (record { class = class; site = site }) ≡ thrown_in records found
+unfolding thrown_in object_in kept_thrown
 by_record records found e n c class site is sited value typed same some known = rw (present_some class some, present_some site known, is, value, typed, same, sited) refl
 
 module _ (p : Program) (m : Shape) (s : State nothing) (a : Agrees p m s) (ts : List Throw) (all : m.throws ≡ reverse ts) (i : ℕ) (t : Throw) (at : slice_get ts i ≡ Some t) where
@@ -127,12 +128,12 @@ module _ (p : Program) (m : Shape) (s : State nothing) (a : Agrees p m s) (ts : 
   has = one_of (IsOf s.noted) ts i t at (subst (Each (IsOf s.noted)) (sym a.throws ∙ all) (all_of s.noted))
 
   pub thrown_is : (n c class : ℕ) → t.value ≡ Object n → code m.heap n ≡ Some c → class ≡ class_of_type (type_of_code c) → class ≢ 4294967295 → t.site ≢ 4294967295 →
-      thrown_of (record { class = class; site = t.site }) ≡ last_thrown s (Some t.event)
+      kept_thrown (record { class = class; site = t.site }) ≡ last_thrown s (Some t.event)
   thrown_is n c class value coded same some sited =
       let typed : type_in (slice_get (events_in s) n) ≡ type_of_code c = ap type_in (event_at_is s.noted n) ∙ a.codes n c coded in
       by_record (events_in s) (slice_get (events_in s) t.event) has.event n c class t.site (event_at_is s.noted t.event ∙ has.is) has.site (has.value ∙ value) typed same some sited
 
 -- where there is none, neither its class nor its site is
-pub none_thrown : (s : State nothing) (last : Option ℕ) → last ≡ Absent → thrown_of (record { class = 4294967295; site = 4294967295 }) ≡ last_thrown s last
-unfolding thrown_in present
+pub none_thrown : (s : State nothing) (last : Option ℕ) → last ≡ Absent → kept_thrown (record { class = 4294967295; site = 4294967295 }) ≡ last_thrown s last
+unfolding thrown_in kept_thrown present
 none_thrown s last none = rw none refl
