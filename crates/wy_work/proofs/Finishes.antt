@@ -1,5 +1,5 @@
 -- How a statement or a scope ends, whatever came before: normally, left or stopped.
-use Rattle.std.proofs.Common.{◌≡◌, ◌∙◌, ℕ, Bool, true, false, List, [], ◌∷◌, map, refl, ap, sym, subst, Result, Ok, Err}
+use Rattle.std.proofs.Common.{◌≡◌, ◌∙◌, ℕ, true, false, [], map, ap, sym, subst, Result}
 use Rattle.wy_kernel.specs.Program.{Program}
 use Rattle.wy_steps.specs.Sets.{nothing}
 use Rattle.wy_steps.specs.State as run
@@ -9,7 +9,7 @@ use Rattle.wy_steps.specs.Steps as steps
 use Rattle.wy_calls.specs.Calls.{Frame as Body, Standing as Calls, closed, ended, first_of, rest_of}
 use Rattle.wy_calls.specs.declared.calls.Scope.{Scope}
 use Rattle.wy_state.specs.declared.parts.Halt.{Halt}
-use Rattle.wy_state.specs.Agrees.{Agrees, Shape, Onward}
+use Rattle.wy_state.specs.Agrees.{Shape, Onward}
 use Rattle.wy_state.specs.Steps.{active_be, finish, leave_by}
 use Rattle.wy_state.proofs.Onward.{within, onward_as, onward_then, onward_same}
 use Rattle.wy_operation.specs.Around.{IsSameAround}
@@ -33,9 +33,15 @@ module _ (p : Program) (m : Standing) (n : ℕ) where
 
   leaving : (why : Reason nothing) → arrives n why ≡ false → Onward p m.state (then_all p (pushed (frame.Plain (step.End n)) m) (leave why)) m.state (then_all p m (followed (leave_by n (event_of why)) (λ u. leave why)))
   unfolding cover_end be_left end_reaches choose go_on leave
-  leaving why over = record { from = λ s a. record { state = s; agrees = a; is =
-      ap (λ z. after p (around m) m.work (run.Left why (without z n (covering n (left_by (event_of why)) s)))) (a.frame ∙ newest_is m.state.calls.frames)
-      ∙ ap (λ b. after p (around m) m.work (without_values (end_reaches (newest (around m).bodies) n (choose b (end_normally n) (be_left n why) s)))) (sym over) } }
+  leaving why over = record {
+    from = λ s a. record {
+      state = s;
+      agrees = a;
+      is =
+          ap (λ z. after p (around m) m.work (run.Left why (without z n (covering n (left_by (event_of why)) s)))) (a.frame ∙ newest_is m.state.calls.frames)
+          ∙ ap (λ b. after p (around m) m.work (without_values (end_reaches (newest (around m).bodies) n (choose b (end_normally n) (be_left n why) s)))) (sym over);
+    };
+  }
 
   stopping : (why : Stop) → Onward p m.state (then_all p (pushed (frame.Plain (step.End n)) m) (stop why)) m.state (then_all p m (followed (leave_by n (stop_cause why)) (λ u. stop why)))
   unfolding cover_end end_reaches go_on stop

@@ -1,5 +1,5 @@
 -- `try`: what is thrown goes to a clause, and the last block runs however the rest ended.
-use Rattle.std.proofs.Common.{◌≡◌, ◌∙◌, ℕ, Bool, true, false, nat_lt, nat_le, List, [], ◌∷◌, length, map, refl, ap, ap₂, sym, subst, Bor, Option, Some, Result, Ok, Err, option_map}
+use Rattle.std.proofs.Common.{◌≡◌, ◌∙◌, ℕ, Bool, true, false, nat_lt, nat_le, List, [], length, map, refl, ap, sym, subst, Bor, Option, Some, Result, Err}
 use Rattle.std.specs.Prelude.{◌+◌}
 use Rattle.std.specs.Prelude.{None as Absent}
 use Rattle.std.specs.declared.alloc.Global.{Global}
@@ -19,7 +19,7 @@ use Rattle.wy_event.specs.declared.record.Slot.TheVariants.{Local}
 use Rattle.wy_steps.specs.Sets.{nothing}
 use Rattle.wy_steps.specs.State as run
 use Rattle.wy_steps.specs.State.{State, Carried, Reach, Reason, Run, Outcome, Through, choose, go_on, go_on_left, ◌>>=◌, ◌>>◌, return, leave, stop}
-use Rattle.wy_steps.specs.Steps.{Draft, Made, activating, code_of, entered, event_limit, frame, go_in, held_by, made, next_event, note_write, room_for, use_limit, with_event, with_stored, writing}
+use Rattle.wy_steps.specs.Steps.{Made, activating, code_of, entered, event_limit, frame, go_in, made, next_event, note_write, room_for, use_limit, with_event, with_stored, writing}
 use Rattle.wy_meaning.specs.World.{World, into, type_of}
 use Rattle.wy_meaning.specs.Run.{world}
 use Rattle.wy_meaning.specs.Statement.{Clause, at_throw, caught, exec, exec_catches, exec_other, handle, number_of, other_or}
@@ -29,7 +29,7 @@ use Rattle.wy_state.specs.declared.parts.Halt.TheVariants as halt
 use Rattle.wy_state.specs.declared.parts.Reason.{Reason as Cause}
 use Rattle.wy_state.specs.declared.parts.Reason.TheVariants as cause
 use Rattle.wy_state.specs.Seen.{made_of, reason_of, valued}
-use Rattle.wy_state.specs.Steps.{activate, activate_through, do_nothing, local_slot}
+use Rattle.wy_state.specs.Steps.{activate_through, do_nothing, local_slot}
 use Rattle.wy_state.specs.Agrees.{Shape, Onward, Answers, IsSameButLocals, KeepsFrames, itself}
 use Rattle.wy_state.proofs.Onward.{answers_after, answers_then, onward_as, onward_same, onward_then, within}
 use Rattle.wy_operation.specs.Around.{IsSameAround, KeepsAt}
@@ -40,10 +40,10 @@ use Rattle.wy_operands.specs.Values.{Values}
 use Rattle.wy_work.specs.declared.frame.Frame.TheVariants as frames
 use Rattle.wy_work.specs.declared.frame.Step.TheVariants as plain_step
 use Rattle.wy_work.specs.declared.frame.StmtStep.TheVariants as step
-use Rattle.wy_work.specs.Frames.{Standing, after, around, goes, pushed, then_all, followed, Resumed}
-use Rattle.wy_work.specs.Handlers.{caught_by, clause_of}
-use Rattle.wy_work.specs.Statements.{after_all, emptied, stmt_frame, without_values}
-use Rattle.wy_work.proofs.Runs.{failed_at, go_on-go_on, kept_after, then_settled, turned_after, world_program}
+use Rattle.wy_work.specs.Frames.{Standing, after, around, goes, pushed, then_all, Resumed}
+use Rattle.wy_work.specs.Handlers.{caught_by}
+use Rattle.wy_work.specs.Statements.{emptied, without_values}
+use Rattle.wy_work.proofs.Runs.{failed_at, kept_after, then_settled, turned_after, world_program}
 
 -- ---- the last block
 

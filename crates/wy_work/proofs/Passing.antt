@@ -1,10 +1,9 @@
 -- Frames by what they are: each goes on, is passed by or is found by a stop.
-use Rattle.std.proofs.Common.{◌≡◌, ℕ, Bool, List, [], ◌∷◌, map, refl, ap, Bor, Result, Ok, Err}
-use Rattle.wy_kernel.specs.declared.form.Expr.{Expr}
+use Rattle.std.proofs.Common.{◌≡◌, ℕ, Bool, [], ◌∷◌, refl, ap, Bor}
 use Rattle.wy_kernel.specs.declared.form.Stmt.{Stmt as Memory}
 use Rattle.wy_kernel.specs.Form.{Statement, Stmt, Block, Eval, Declare, If, While, Do, For, Labelled, Jump, Return, Throw, Try, Print}
 use Rattle.wy_kernel.specs.Program.{Program}
-use Rattle.wy_kernel.specs.View.{expression, statement, statements_of}
+use Rattle.wy_kernel.specs.View.{statement}
 use Rattle.wy_value.specs.declared.value.Value.{Value}
 use Rattle.wy_steps.specs.Sets.{nothing}
 use Rattle.wy_steps.specs.State as run
@@ -12,11 +11,9 @@ use Rattle.wy_steps.specs.State.{State, Reason, Stop, Run, Outcome, go_on, go_on
 use Rattle.wy_meaning.specs.World.{World}
 use Rattle.wy_meaning.specs.Call.{at_failure, at_return}
 use Rattle.wy_meaning.specs.Run.{world}
-use Rattle.wy_meaning.specs.Statement.{exec, exec_all}
 use Rattle.wy_steps.specs.Steps.{stop_cause}
 use Rattle.wy_calls.specs.Calls.{closed, ended, first_of}
 use Rattle.wy_calls.specs.declared.calls.Scope.{Scope}
-use Rattle.wy_state.specs.declared.parts.Halt.{Halt}
 use Rattle.wy_state.specs.declared.parts.Reason.{Reason as Cause}
 use Rattle.wy_state.specs.declared.parts.Reason.TheVariants as cause
 use Rattle.wy_state.specs.Seen.{reason_of, valued}
@@ -24,7 +21,6 @@ use Rattle.wy_state.specs.Agrees.{Shape, Onward}
 use Rattle.wy_state.specs.Steps.{active_be, leave_by}
 use Rattle.wy_state.proofs.Onward.{onward_as, onward_same}
 use Rattle.wy_operands.specs.Values.{Values}
-use Rattle.wy_work.specs.declared.frame.ExprStep.{ExprStep}
 use Rattle.wy_work.specs.declared.frame.Frame.{Frame}
 use Rattle.wy_work.specs.declared.frame.Frame.TheVariants as frame
 use Rattle.wy_work.specs.declared.frame.Step.{Step}
@@ -32,10 +28,8 @@ use Rattle.wy_work.specs.declared.frame.Step.TheVariants as step
 use Rattle.wy_work.specs.declared.frame.StmtStep.{StmtStep}
 use Rattle.wy_work.specs.declared.frame.StmtStep.TheVariants as doing
 use Rattle.wy_work.specs.Calls.{Leaves}
-use Rattle.wy_work.specs.Expressions.{expr_step, put_all}
-use Rattle.wy_work.specs.Frames.{Standing, after, around, pushed, then_all, Does, Ends, Resumed}
-use Rattle.wy_work.specs.Listed.{rows}
-use Rattle.wy_work.specs.Statements.{after_all, after_first, emptied, without_values}
+use Rattle.wy_work.specs.Frames.{Standing, after, around, pushed, then_all}
+use Rattle.wy_work.specs.Statements.{after_all, after_first, without_values}
 use Rattle.wy_work.proofs.Finishes.{scope_ends, scope_left, scope_stopped, stopped_in}
 use Rattle.wy_work.proofs.Returns.{body_returned}
 use Rattle.wy_work.proofs.Leaving.{halts_call, halts_class, passes_call, passes_class}

@@ -1,14 +1,11 @@
 -- What each frame does where all before it went through.
-use Rattle.std.proofs.Common.{◌≡◌, ℕ, List, [], ◌∷◌, map, refl, ap, Bor, Result, Ok, Err, OnOk, IfErr}
+use Rattle.std.proofs.Common.{◌≡◌, ℕ, List, [], map, Bor, Result, Ok, Err, OnOk, IfErr}
 use Rattle.wy_kernel.specs.declared.form.Expr.{Expr}
 use Rattle.wy_kernel.specs.declared.form.Stmt.{Stmt as Memory}
 use Rattle.wy_kernel.specs.Program.{Program}
 use Rattle.wy_kernel.specs.View.{expression, statement, statements_of}
-use Rattle.wy_steps.specs.Sets.{nothing}
-use Rattle.wy_steps.specs.State.{Run, go_on, go_on_left, return, leave, stop}
-use Rattle.wy_meaning.specs.Call.{at_failure}
+use Rattle.wy_steps.specs.State.{go_on, go_on_left, return, leave}
 use Rattle.wy_meaning.specs.Place.{initialize}
-use Rattle.wy_meaning.specs.Run.{world}
 use Rattle.wy_meaning.specs.Statement.{exec_all}
 use Rattle.wy_state.specs.declared.parts.Halt.{Halt}
 use Rattle.wy_state.specs.declared.parts.Halt.TheVariants as halt
@@ -16,7 +13,7 @@ use Rattle.wy_state.specs.declared.parts.Reason.{Reason as Cause}
 use Rattle.wy_state.specs.Seen.{reason_of}
 use Rattle.wy_state.specs.Agrees.{Onward}
 use Rattle.wy_state.proofs.Onward.{onward_same}
-use Rattle.wy_operands.specs.Values.{Values, at, top, under, under_many}
+use Rattle.wy_operands.specs.Values.{Values, at, top, under_many}
 use Rattle.wy_texts.specs.Words.{joined_texts}
 use Rattle.wy_work.specs.declared.frame.ExprStep.{ExprStep}
 use Rattle.wy_work.specs.declared.frame.Frame.{Frame}
@@ -27,7 +24,7 @@ use Rattle.wy_work.specs.declared.frame.StmtStep.{StmtStep}
 use Rattle.wy_work.specs.declared.frame.StmtStep.TheVariants as doing
 use Rattle.wy_work.specs.Calls.{Leaves}
 use Rattle.wy_work.specs.Expressions.{expr_step, leaving, put_all, put_on, showing_right}
-use Rattle.wy_work.specs.Frames.{Standing, after, around, main_called, pushed, then_all, Does, Ends, Resumed}
+use Rattle.wy_work.specs.Frames.{Standing, main_called, pushed, then_all, Does, Ends}
 use Rattle.wy_work.specs.Listed.{rows}
 use Rattle.wy_work.specs.Statements.{emptied, stmt_step}
 use Rattle.wy_work.proofs.Leaving.{leaves_class}

@@ -1,5 +1,5 @@
 -- The end of a body, and what leaves a frame that does nothing with it.
-use Rattle.std.proofs.Common.{◌≡◌, ◌∙◌, ℕ, Bool, true, false, nat_lt, nat_le, List, [], ◌∷◌, length, refl, ap, sym, Result, Ok, Err}
+use Rattle.std.proofs.Common.{◌≡◌, ℕ, Bool, true, false, nat_lt, nat_le, [], ◌∷◌, length, refl, ap, Err}
 use Rattle.std.specs.Prelude.{◌+◌}
 use Rattle.wy_kernel.specs.Program.{Program}
 use Rattle.wy_value.specs.declared.value.Value.{Value}

@@ -38,8 +38,14 @@ pub enum Signal {
 
 impl<'a, R: Recorder> Machine<'a, R> {
     /// A frame at how what was before it ended.
-    pub fn turn(&mut self, on: &Dispatcher<'a>, frame: Frame<'a>, signal: Signal) -> Result<(), Halt>
-        ensures goes { Ends (program_of on.now.program.now) frame.entry (outcome_at signal (standing R.keeps R.kept self.old).values)
+    pub fn turn(
+        &mut self,
+        on: &Dispatcher<'a>,
+        frame: Frame<'a>,
+        signal: Signal,
+    ) -> Result<(), Halt>
+        ensures goes { Ends (program_of on.now.program.now) frame.entry
+            (outcome_at signal (standing R.keeps R.kept self.old).values)
             (standing R.keeps R.kept self.old) result (standing R.keeps R.kept self.new) }
     {
         match signal {
@@ -51,7 +57,8 @@ impl<'a, R: Recorder> Machine<'a, R> {
 
     /// A frame where all before it went through.
     fn resume(&mut self, on: &Dispatcher<'a>, frame: Frame<'a>) -> Result<(), Halt>
-        ensures goes { Ends (program_of on.now.program.now) frame.entry (return (standing R.keeps R.kept self.old).values)
+        ensures goes { Ends (program_of on.now.program.now) frame.entry
+            (return (standing R.keeps R.kept self.old).values)
             (standing R.keeps R.kept self.old) result (standing R.keeps R.kept self.new) }
     {
         match frame {
@@ -67,8 +74,14 @@ impl<'a, R: Recorder> Machine<'a, R> {
         }
     }
 
-    fn resume_expr(&mut self, on: &Dispatcher<'a>, expr: &'a Expr, step: ExprStep) -> Result<(), Halt>
-        ensures goes { Does (program_of on.now.program.now) (λ w. expr_step w (expression expr.now) step)
+    fn resume_expr(
+        &mut self,
+        on: &Dispatcher<'a>,
+        expr: &'a Expr,
+        step: ExprStep,
+    ) -> Result<(), Halt>
+        ensures goes { Does (program_of on.now.program.now)
+            (λ w. expr_step w (expression expr.now) step)
             (standing R.keeps R.kept self.old) result (standing R.keeps R.kept self.new) }
     {
         match step {
@@ -82,8 +95,14 @@ impl<'a, R: Recorder> Machine<'a, R> {
         }
     }
 
-    fn resume_made(&mut self, on: &Dispatcher<'a>, expr: &'a Expr, step: ExprStep) -> Result<(), Halt>
-        ensures goes { Does (program_of on.now.program.now) (λ w. expr_step w (expression expr.now) step)
+    fn resume_made(
+        &mut self,
+        on: &Dispatcher<'a>,
+        expr: &'a Expr,
+        step: ExprStep,
+    ) -> Result<(), Halt>
+        ensures goes { Does (program_of on.now.program.now)
+            (λ w. expr_step w (expression expr.now) step)
             (standing R.keeps R.kept self.old) result (standing R.keeps R.kept self.new) }
     {
         match step {
@@ -95,8 +114,14 @@ impl<'a, R: Recorder> Machine<'a, R> {
         }
     }
 
-    fn resume_stmt(&mut self, on: &Dispatcher<'a>, stmt: &'a Stmt, step: StmtStep) -> Result<(), Halt>
-        ensures goes { Ends (program_of on.now.program.now) (frames.Stmt stmt.entry step) (return (standing R.keeps R.kept self.old).values)
+    fn resume_stmt(
+        &mut self,
+        on: &Dispatcher<'a>,
+        stmt: &'a Stmt,
+        step: StmtStep,
+    ) -> Result<(), Halt>
+        ensures goes { Ends (program_of on.now.program.now) (frames.Stmt stmt.entry step)
+            (return (standing R.keeps R.kept self.old).values)
             (standing R.keeps R.kept self.old) result (standing R.keeps R.kept self.new) }
     {
         match step {
@@ -115,7 +140,8 @@ impl<'a, R: Recorder> Machine<'a, R> {
     }
 
     fn resume_step(&mut self, on: &Dispatcher<'a>, step: Step) -> Result<(), Halt>
-        ensures goes { Ends (program_of on.now.program.now) (frames.Plain step) (return (standing R.keeps R.kept self.old).values)
+        ensures goes { Ends (program_of on.now.program.now) (frames.Plain step)
+            (return (standing R.keeps R.kept self.old).values)
             (standing R.keeps R.kept self.old) result (standing R.keeps R.kept self.new) }
     {
         match step {
@@ -131,7 +157,8 @@ impl<'a, R: Recorder> Machine<'a, R> {
     }
 
     fn resume_end(&mut self, step: Step) -> Result<(), Halt>
-        ensures goes { (p : kernel.Program) → Ends p (frames.Plain step) (return (standing R.keeps R.kept self.old).values)
+        ensures goes { (p : kernel.Program) → Ends p (frames.Plain step)
+            (return (standing R.keeps R.kept self.old).values)
             (standing R.keeps R.kept self.old) result (standing R.keeps R.kept self.new) }
     {
         match step {
@@ -151,7 +178,8 @@ impl<'a, R: Recorder> Machine<'a, R> {
 
     /// The Return at the end of a body whose block ended normally.
     fn end_body(&mut self, returns_none: bool, site: u32) -> Result<(), Halt>
-        ensures goes { (p : kernel.Program) → Ends p (frames.Plain (steps.BodyEnd returns_none site))
+        ensures goes { (p : kernel.Program)
+            → Ends p (frames.Plain (steps.BodyEnd returns_none site))
             (return (standing R.keeps R.kept self.old).values)
             (standing R.keeps R.kept self.old) result (standing R.keeps R.kept self.new) }
     {
@@ -230,7 +258,8 @@ impl<'a, R: Recorder> Machine<'a, R> {
         step: StmtStep,
         why: Reason,
     ) -> Result<(), Halt>
-        ensures goes { Ends (program_of on.now.program.now) (frames.Stmt stmt.entry step) (leave (reason_of why))
+        ensures goes { Ends (program_of on.now.program.now) (frames.Stmt stmt.entry step)
+            (leave (reason_of why))
             (standing R.keeps R.kept self.old) result (standing R.keeps R.kept self.new) }
     {
         match step {
@@ -262,7 +291,8 @@ impl<'a, R: Recorder> Machine<'a, R> {
 
     /// A Return ends its body, which has its value.
     fn pass_body(&mut self, returns_none: bool, site: u32, why: Reason) -> Result<(), Halt>
-        ensures goes { (p : kernel.Program) → Ends p (frames.Plain (steps.BodyEnd returns_none site))
+        ensures goes { (p : kernel.Program)
+            → Ends p (frames.Plain (steps.BodyEnd returns_none site))
             (leave (reason_of why))
             (standing R.keeps R.kept self.old) result (standing R.keeps R.kept self.new) }
     {
@@ -276,7 +306,8 @@ impl<'a, R: Recorder> Machine<'a, R> {
 
     /// An initializer that ends by a throw stops the run.
     fn pass_failure(&mut self, why: Reason) -> Result<(), Halt>
-        ensures goes { (p : kernel.Program) → Ends p (frames.Plain steps.Initialized) (leave (reason_of why))
+        ensures goes { (p : kernel.Program) → Ends p (frames.Plain steps.Initialized)
+            (leave (reason_of why))
             (standing R.keeps R.kept self.old) result (standing R.keeps R.kept self.new) }
     {
         match why {

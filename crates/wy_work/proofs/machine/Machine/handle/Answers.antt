@@ -16,7 +16,7 @@ returns-in-Some g c = record {
       let p = program_of c.args.on.now.program.now in
       let m = standing g.R.Recorder.keeps g.R.Recorder.kept c.args.self.now in
       thrown_caught p m c.args.stmt _ _ _ c.in-Try.is c.args.why _ _ c.in-Threw.is _ c.class_of_type-class.result _ (c.in_ok-type_of.ensures p) c.class_of_type-class.ensures
-          (c.in_ok-clause.ensures ∙ ap (λ xs. taking p xs c.class_of_type-class.result) c.as_slice.ensures.value) c.in-Some.clause.now (standing g.R.Recorder.keeps g.R.Recorder.kept c.caught.new.self) c.caught.result (ap (option_map (λ (x : Bor Catch). x.now)) c.in-Some.is) (c.caught.ensures.goes p);
+      (c.in_ok-clause.ensures ∙ ap (λ xs. taking p xs c.class_of_type-class.result) c.as_slice.ensures.value) c.in-Some.clause.now (standing g.R.Recorder.keeps g.R.Recorder.kept c.caught.new.self) c.caught.result (ap (option_map (λ (x : Bor Catch). x.now)) c.in-Some.is) (c.caught.ensures.goes p);
 }
 
 pub returns-in-None : goal.returns-in-None
@@ -25,5 +25,5 @@ returns-in-None g c = record {
       let p = program_of c.args.on.now.program.now in
       let m = standing g.R.Recorder.keeps g.R.Recorder.kept c.args.self.now in
       thrown_on p m c.args.stmt _ _ _ c.in-Try.is c.args.why _ _ c.in-Threw.is _ c.class_of_type-class.result _ (c.in_ok-type_of.ensures p) c.class_of_type-class.ensures
-          (c.in_ok-clause.ensures ∙ ap (λ xs. taking p xs c.class_of_type-class.result) c.as_slice.ensures.value) (ap (option_map (λ (x : Bor Catch). x.now)) c.in-None.is);
+      (c.in_ok-clause.ensures ∙ ap (λ xs. taking p xs c.class_of_type-class.result) c.as_slice.ensures.value) (ap (option_map (λ (x : Bor Catch). x.now)) c.in-None.is);
 }
