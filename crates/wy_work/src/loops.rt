@@ -106,7 +106,12 @@ impl<'a, R: Recorder> Machine<'a, R> {
     }
 
     /// The condition comes first, and then what it decides.
-    fn push_condition(&mut self, stmt: &'a Stmt, test: &'a Expr, turns: u32) -> Result<(), AllocError>
+    fn push_condition(
+        &mut self,
+        stmt: &'a Stmt,
+        test: &'a Expr,
+        turns: u32,
+    ) -> Result<(), AllocError>
         ensures { OnOk result (standing R.keeps R.kept self.new
             ≡ pushed (frames.Expr test.entry expr_steps.Find)
             (pushed (frames.Stmt stmt.entry (step.Decide turns)) (standing R.keeps R.kept self.old))) }

@@ -46,9 +46,12 @@ fn operands_of_other<'a>(expr: &'a Expr) -> Option<Listed<'a>>
         Expr::NewArray { dims, .. } => Some(Listed::Row(dims.as_slice())),
         Expr::Cat { left, right, .. } => Some(Listed::Two(&**left, &**right)),
         Expr::Lib { args, .. } => Some(Listed::Row(args.as_slice())),
-        Expr::Call { form, receiver, args, .. } => {
-            Some(of_call(*form, receiver, args.as_slice()))
-        }
+        Expr::Call {
+            form,
+            receiver,
+            args,
+            ..
+        } => { Some(of_call(*form, receiver, args.as_slice())) }
         _ => None,
     }
 }
