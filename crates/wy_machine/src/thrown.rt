@@ -22,7 +22,8 @@ pub fn thrown<'a, R: Recorder + Drop>(
     state: &State<'a, R>,
     last: Option<u32>,
 ) -> Result<Thrown, AllocError>
-    ensures { (p : kernel.Program) (s : run.State nothing) → Agrees p (shape R.keeps R.kept state.now) s
+    ensures { (p : kernel.Program) (s : run.State nothing)
+        → Agrees p (shape R.keeps R.kept state.now) s
         → IfOk result (λ t. kept_thrown t ≡ last_thrown s last) }
 {
     let Some(last) = last else {
@@ -52,7 +53,8 @@ pub fn thrown<'a, R: Recorder + Drop>(
 
 /// The Throw that is this event.
 fn find(throws: &[Throw], event: u32) -> Option<Throw>
-    ensures { IfSome result (λ t. (t.event ≡ event) × ((i : ℕ) × (slice_get throws.now i ≡ Some t))) }
+    ensures { IfSome result
+        (λ t. (t.event ≡ event) × ((i : ℕ) × (slice_get throws.now i ≡ Some t))) }
 {
     for throw in throws {
         if throw.event == event {

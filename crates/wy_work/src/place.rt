@@ -28,7 +28,8 @@ impl<'a, R: Recorder> Machine<'a, R> {
     /// Reads the place of an expression.
     pub fn read(&mut self, on: &Dispatcher<'a>, expr: &'a Expr, at: &'a Place) -> Result<(), Halt>
         ensures goes { expression expr.now ≡ form.Read (place at.now)
-            → Does (program_of on.now.program.now) (λ w. expr_step w (expression expr.now) step.Operate)
+            → Does (program_of on.now.program.now)
+            (λ w. expr_step w (expression expr.now) step.Operate)
             (standing R.keeps R.kept self.old) result (standing R.keeps R.kept self.new) }
     {
         match at {
@@ -76,7 +77,8 @@ impl<'a, R: Recorder> Machine<'a, R> {
     ) -> Result<(), Halt>
         ensures goes { (o : Stored slot (top (standing R.keeps R.kept self.old).values).value
             (uses_of_last many (standing R.keeps R.kept self.old).values))
-            → Does (program_of on.now.program.now) (λ w vs. put_on (under_many many vs) (store w site o.spot o.right))
+            → Does (program_of on.now.program.now)
+            (λ w vs. put_on (under_many many vs) (store w site o.spot o.right))
             (standing R.keeps R.kept self.old) result (standing R.keeps R.kept self.new) }
     {
         let value = self.stack.top();
@@ -94,8 +96,10 @@ impl<'a, R: Recorder> Machine<'a, R> {
         at: &'a Place,
         site: u32,
     ) -> Result<(), Halt>
-        ensures goes { (value : form.Expression) → expression expr.now ≡ form.Set (place at.now) value site
-            → Does (program_of on.now.program.now) (λ w. expr_step w (expression expr.now) step.Operate)
+        ensures goes { (value : form.Expression) → expression expr.now
+            ≡ form.Set (place at.now) value site
+            → Does (program_of on.now.program.now)
+            (λ w. expr_step w (expression expr.now) step.Operate)
             (standing R.keeps R.kept self.old) result (standing R.keeps R.kept self.new) }
     {
         match at {
