@@ -1,5 +1,5 @@
 -- The names of classes.
-use Rattle.std.proofs.Common.{◌≡◌, ◌≤◌, ◌<◌, ◌∙◌, ℕ, suc, ◌+◌, List, [], ◌++◌, length, map, true, false, refl, sym, ap, arith}
+use Rattle.std.proofs.Common.{◌≡◌, ◌≤◌, ◌<◌, ℕ, suc, [], ◌++◌, length, map, true, false, refl, sym, ap, arith}
 use Rattle.std.specs.Prelude.{codes, nat_lt}
 use Rattle.std.proofs.lemmas.Bool.{le-leb, lt-leb}
 use Rattle.std.proofs.lemmas.List.{get_or_past, length-map}

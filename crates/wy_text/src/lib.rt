@@ -1,6 +1,8 @@
-//! The lines that are written of a run.
+//! The line that tells how a run ended.
 #![tactic(auto)]
 
-mod stop;
+mod class;
+mod line;
+mod place;
 
-pub use stop::stop_line;
+pub use line::stop_line;
