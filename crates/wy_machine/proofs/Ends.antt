@@ -9,6 +9,8 @@ use Rattle.wy_event.specs.Record.{present}
 use Rattle.wy_steps.specs.Sets.{nothing}
 use Rattle.wy_steps.specs.State.{Carried, State, Covered, Outcome, Done, Left, Stopped, go_on, return, leave, stop}
 use Rattle.wy_meaning.specs.Run as meaning
+use Rattle.wy_meaning.specs.Kept as kept
+use Rattle.wy_meaning.specs.Kept.{kept_tail, kept_thrown}
 use Rattle.wy_operands.specs.Values.{Values}
 use Rattle.wy_state.specs.declared.parts.Limit.TheVariants as limit
 use Rattle.wy_state.specs.declared.parts.Reason.TheVariants as reason
@@ -17,7 +19,7 @@ use Rattle.wy_state.specs.Seen.{blank, covered_of}
 use Rattle.wy_work.specs.declared.turn.Signal.{Signal}
 use Rattle.wy_work.specs.declared.turn.Signal.TheVariants as signal
 use Rattle.wy_work.specs.Frames.{outcome_at}
-use Rattle.wy_machine.specs.Ended.{IsEndFor, IsEndOf, events_of, last_thrown, tail_of, thrown_of, whole}
+use Rattle.wy_machine.specs.Ended.{IsEndFor, IsEndOf, events_of, last_thrown, whole}
 use Rattle.wy_machine.specs.Going.{last_at, stop_at}
 use Rattle.wy_machine.specs.declared.ended.Ended.{Ended}
 
@@ -71,11 +73,11 @@ module _ (p : Program) (m : Shape) (vs : Values) (x : Signal) (o : Outcome nothi
   events_kept keeps = c.agrees.kept keeps ∙ ap (λ (s : State nothing). map (λ e. e.event) (reverse s.noted)) (sym at_end)
 
   pub kept_of : (steps : ℕ) (e : Ended) → length m.covers ≡ p.statements → e.output.items ≡ m.output → e.tail.coverage.statements ≡ m.covers → e.tail.stop ≡ stop_at x → present e.tail.last ≡ last_at x →
-      e.tail.steps ≡ steps - m.left → e.tail.events ≡ m.events → e.tail.uses ≡ m.uses → e.tail.output ≡ length m.output → thrown_of e.thrown ≡ last_thrown c.state (last_at x) → IsEndFor p steps o e
-  unfolding meaning.tail_of
-  kept_of steps e many output coverage stop last taken events uses printed thrown = record {
+      e.tail.steps ≡ steps - m.left → e.tail.events ≡ m.events → e.tail.uses ≡ m.uses → e.tail.output ≡ length m.output → kept_thrown e.thrown ≡ last_thrown c.state (last_at x) → IsEndFor p steps o e
+  unfolding meaning.tail_of kept_tail kept.covered_of
+  kept_of steps e many output coverage stopping last taken events uses printed thrown = record {
     output = output ∙ sym c.agrees.output ∙ ap (λ (s : State nothing). s.output) (sym at_end);
-    tail = rw (coverage, stop, last, taken, events, uses, printed, at_end, stopped, last_one, c.agrees.left, c.agrees.events, c.agrees.uses, c.agrees.output, ← many, covered) refl;
+    tail = rw (coverage, stopping, last, taken, events, uses, printed, at_end, stopped, last_one, c.agrees.left, c.agrees.events, c.agrees.uses, c.agrees.output, ← many, covered) refl;
     thrown = thrown ∙ ap₂ last_thrown (sym at_end) (sym last_one);
   }
     where
@@ -86,4 +88,37 @@ module _ (p : Program) (m : Shape) (vs : Values) (x : Signal) (o : Outcome nothi
       last_one = ap meaning.last_of (sym c.is) ∙ last_is c.state vs x
 
       covered : meaning.covers c.state.coverage 0 (length m.covers) ≡ map covered_of m.covers
-      covered = covers_from c.state.coverage 0 m.covers c.agrees.covers
+      covered = covers_from c.state.coverage 0 m.covers (λ n below. ap c.state.coverage (omega arith) ∙ c.agrees.covers n below)
+
+-- ---- the whole run: what ends it leaves what the run of the program leaves
+
+module _ (p : Program) (input : List ℕ) (steps : ℕ) where
+  same_end : (x : Outcome nothing (Carried nothing)) → meaning.end (go_on x (λ v. return (v ∷ []))) ≡ meaning.end x
+  unfolding meaning.end go_on return
+  same_end (Done v s) = refl
+  same_end (Left why s) = refl
+  same_end (Stopped why s) = refl
+
+  same_last : (x : Outcome nothing (Carried nothing)) → meaning.last_of (go_on x (λ v. return (v ∷ []))) ≡ meaning.last_of x
+  unfolding meaning.last_of go_on return
+  same_last (Done v s) = refl
+  same_last (Left why s) = refl
+  same_last (Stopped why s) = refl
+
+  same_tail : (x : Outcome nothing (Carried nothing)) → meaning.tail_of p steps (go_on x (λ v. return (v ∷ []))) ≡ meaning.tail_of p steps x
+  unfolding meaning.tail_of meaning.end meaning.stop_of meaning.last_of go_on return
+  same_tail (Done v s) = refl
+  same_tail (Left why s) = refl
+  same_tail (Stopped why s) = refl
+
+  pub all_events : events_of (whole p input steps) ≡ meaning.events nothing p input steps
+  unfolding meaning.events meaning.history
+  all_events = ap (λ (s : State nothing). map (λ e. e.event) (reverse s.noted)) (same_end (meaning.outcome p input steps))
+
+  pub run_left : (e : Ended) → IsEndFor p steps (whole p input steps) e → IsEndOf p input steps e
+  unfolding meaning.output meaning.tail meaning.thrown meaning.events meaning.history meaning.tail_of
+  run_left e is = record {
+    output = is.output ∙ ap (λ (s : State nothing). s.output) (same_end (meaning.outcome p input steps));
+    tail = is.tail ∙ same_tail (meaning.outcome p input steps);
+    thrown = is.thrown ∙ ap₂ last_thrown (same_end (meaning.outcome p input steps)) (same_last (meaning.outcome p input steps));
+  }

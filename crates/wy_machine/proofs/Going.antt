@@ -14,8 +14,8 @@ use Rattle.wy_state.specs.Agrees.{Shape, Comes, Onward}
 use Rattle.wy_work.specs.declared.frame.Frame.{Frame}
 use Rattle.wy_work.specs.declared.turn.Signal.{Signal}
 use Rattle.wy_work.specs.declared.turn.Signal.TheVariants as signal
-use Rattle.wy_work.specs.Frames.{Standing, Ends, after, around, outcome_at, pushed, then_all}
-use Rattle.wy_machine.specs.Going.{Reaches}
+use Rattle.wy_work.specs.Frames.{Standing, Ends, after, around, goes, outcome_at, pushed, then_all}
+use Rattle.wy_machine.specs.Going.{GoesOn, Reaches}
 
 -- the run that was before a machine is the one that ended so
 abbrev pub Before : Program → Standing → Signal → Outcome nothing Values → Type 0
@@ -52,3 +52,14 @@ nothing_popped {X = X} r (x ∷ xs) none some = absurd (never (subst IsSome none
   where
     never : IsSome {T = X} Absent → ⊥
     never is = cc
+
+-- the whole run was gone through
+pub came : (p q : Program) (m n : Standing) (r : Result Signal AllocError) (x : Signal) (o : Outcome nothing Values) → q ≡ p → r ≡ Ok x → GoesOn q m r n → Comes p m.state (goes p m) o → Comes p n.state (outcome_at x n.values) o
+came p q m n r x o same is gone start =
+    let gone_here : GoesOn p m r n = subst (λ z. GoesOn z m r n) same gone in
+    subst (λ z. IfOk z (λ x. Comes p n.state (outcome_at x n.values) o)) is (gone_here o start)
+
+-- what holds of all that is there
+pub also : {X E : Type 0} (P Q : X → Type 0) (r : Result X E) → ((x : X) → P x → Q x) → IfOk r P → IfOk r Q
+also P Q (Ok x) f h = f x h
+also P Q (Err e) f h = tt

@@ -1,36 +1,19 @@
 -- What a run leaves, as the definition of a run has it.
 use Rattle.std.specs.Prelude.{◌≡◌, ℕ, List, [], ◌∷◌, map, reverse, Option, option_and_then, slice_get}
 use Rattle.wy_kernel.specs.Program.{Program}
-use Rattle.wy_event.specs.declared.record.Thrown.{Thrown}
-use Rattle.wy_event.specs.declared.record.Tail.{Tail}
-use Rattle.wy_event.specs.Record.{Recorded, present}
+use Rattle.wy_event.specs.Record.{Recorded}
 use Rattle.wy_steps.specs.Sets.{nothing}
 use Rattle.wy_steps.specs.State.{Carried, State, Outcome, go_on, return}
 use Rattle.wy_meaning.specs.Run as meaning
+use Rattle.wy_meaning.specs.Kept.{kept_tail, kept_thrown}
 use Rattle.wy_operands.specs.Values.{Values}
-use Rattle.wy_state.specs.Seen.{covered_of}
 use Rattle.wy_machine.specs.declared.ended.Ended.{Ended}
-
--- what is thrown, and what is kept of a whole run, with what is NONE in memory as absent
-abbrev pub thrown_of : Thrown → meaning.Thrown
-thrown_of t = record { class = present t.class; site = present t.site }
-
-abbrev pub tail_of : Tail → meaning.Tail
-tail_of t = record {
-  coverage = map covered_of t.coverage.statements;
-  stop = t.stop;
-  last = present t.last;
-  steps = t.steps;
-  events = t.events;
-  uses = t.uses;
-  output = t.output;
-}
 
 -- it is what the run of the program leaves
 pub record IsEndOf (p : Program) (input : List ℕ) (steps : ℕ) (e : Ended) : Type 0 where
   pub output : e.output.items ≡ meaning.output nothing p input steps
-  pub tail : tail_of e.tail ≡ meaning.tail nothing p input steps
-  pub thrown : thrown_of e.thrown ≡ meaning.thrown nothing p input steps
+  pub tail : kept_tail e.tail ≡ meaning.tail nothing p input steps
+  pub thrown : kept_thrown e.thrown ≡ meaning.thrown nothing p input steps
 
 -- ---- the same by how the run ended
 
@@ -51,5 +34,5 @@ last_thrown s last = meaning.thrown_in (events_in s) (option_and_then (slice_get
 
 pub record IsEndFor (p : Program) (steps : ℕ) (o : Outcome nothing Values) (e : Ended) : Type 0 where
   pub output : e.output.items ≡ (meaning.end o).output
-  pub tail : tail_of e.tail ≡ meaning.tail_of p steps o
-  pub thrown : thrown_of e.thrown ≡ last_thrown (meaning.end o) (meaning.last_of o)
+  pub tail : kept_tail e.tail ≡ meaning.tail_of p steps o
+  pub thrown : kept_thrown e.thrown ≡ last_thrown (meaning.end o) (meaning.last_of o)

@@ -66,7 +66,8 @@ fn state<'a, R: Recorder + Drop>(
     recorder: R,
 ) -> Result<State<'a, R>, AllocError>
     requires { R.keeps ≡ true → R.kept recorder ≡ [] }
-    ensures { IfOk result (λ s. Agrees (program_of program.now) (shape R.keeps R.kept s) (start input.now steps)) }
+    ensures { IfOk result
+        (λ s. Agrees (program_of program.now) (shape R.keeps R.kept s) (start input.now steps)) }
 {
     Ok(State {
         calls: Calls::new(alloc),

@@ -2,7 +2,8 @@
 
 ghost use Rattle.std.specs.Prelude.{◌≡◌, ℕ, IfOk, IfSome, slice_get, Some};
 ghost use Rattle.wy_kernel.specs.Program as kernel;
-ghost use Rattle.wy_machine.specs.Ended.{last_thrown, thrown_of};
+ghost use Rattle.wy_meaning.specs.Kept.{kept_thrown};
+ghost use Rattle.wy_machine.specs.Ended.{last_thrown};
 ghost use Rattle.wy_state.specs.Agrees.{Agrees, shape};
 ghost use Rattle.wy_steps.specs.Sets.{nothing};
 ghost use Rattle.wy_steps.specs.State as run;
@@ -21,8 +22,9 @@ pub fn thrown<'a, R: Recorder + Drop>(
     state: &State<'a, R>,
     last: Option<u32>,
 ) -> Result<Thrown, AllocError>
-    ensures { (p : kernel.Program) (s : run.State nothing) → Agrees p (shape R.keeps R.kept state.now) s
-        → IfOk result (λ t. thrown_of t ≡ last_thrown s last) }
+    ensures { (p : kernel.Program) (s : run.State nothing)
+        → Agrees p (shape R.keeps R.kept state.now) s
+        → IfOk result (λ t. kept_thrown t ≡ last_thrown s last) }
 {
     let Some(last) = last else {
         return Ok(Thrown {
@@ -51,7 +53,8 @@ pub fn thrown<'a, R: Recorder + Drop>(
 
 /// The Throw that is this event.
 fn find(throws: &[Throw], event: u32) -> Option<Throw>
-    ensures { IfSome result (λ t. (t.event ≡ event) × ((i : ℕ) × (slice_get throws.now i ≡ Some t))) }
+    ensures { IfSome result
+        (λ t. (t.event ≡ event) × ((i : ℕ) × (slice_get throws.now i ≡ Some t))) }
 {
     for throw in throws {
         if throw.event == event {

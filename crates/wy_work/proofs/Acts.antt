@@ -30,7 +30,7 @@ use Rattle.wy_state.specs.Seen.{given}
 use Rattle.wy_state.specs.Agrees.{Shape, Onward, Answers, itself}
 use Rattle.wy_operation.proofs.Runs.{answers_as}
 use Rattle.wy_operation.specs.Around.{IsSameAround, KeepsAt, Leaves}
-use Rattle.wy_state.proofs.Onward.{within, onward_as, onward_same}
+use Rattle.wy_state.proofs.Onward.{onward_as, onward_same}
 use Rattle.wy_operands.specs.Values.{Values}
 use Rattle.wy_work.specs.declared.frame.Frame.TheVariants as frame
 use Rattle.wy_work.specs.declared.frame.ExprStep.TheVariants as expr_step

@@ -1,8 +1,7 @@
 -- How a statement begins, and what comes of it within its end.
-use Rattle.std.proofs.Common.{◌≡◌, ◌∙◌, ℕ, List, [], ◌∷◌, map, refl, ap, ap₂, sym, subst, Option, Some, Result, Ok, Err}
-use Rattle.std.specs.Prelude.{None as Absent}
+use Rattle.std.proofs.Common.{◌≡◌, ◌∙◌, ℕ, List, [], ◌∷◌, map, refl, ap, ap₂, sym, Err}
 use Rattle.wy_kernel.specs.Program.{Program}
-use Rattle.wy_kernel.specs.Form.{Statement, Stmt, Act}
+use Rattle.wy_kernel.specs.Form.{Stmt, Act}
 use Rattle.wy_kernel.specs.declared.form.Stmt.{Stmt as Memory}
 use Rattle.wy_kernel.specs.View.{act, statement as seen}
 use Rattle.wy_kernel.proofs.Views.{view_statement}
@@ -13,17 +12,16 @@ use Rattle.wy_steps.specs.Steps.{tick, reaching, end_reaches, covered, cover_end
 use Rattle.wy_meaning.specs.World.{World}
 use Rattle.wy_meaning.specs.Run.{world}
 use Rattle.wy_meaning.specs.Statement.{statement, exec, exec_act}
-use Rattle.wy_calls.specs.Calls.{Frame as Body, Standing as Calls, frame_of, event_of}
+use Rattle.wy_calls.specs.Calls.{Frame as Body, frame_of, event_of}
 use Rattle.wy_state.specs.declared.parts.Halt.{Halt}
-use Rattle.wy_state.specs.Agrees.{Agrees, Shape, Onward, Answers, itself}
+use Rattle.wy_state.specs.Agrees.{Shape, Onward, Answers, itself}
 use Rattle.wy_state.specs.Steps.{begin}
 use Rattle.wy_state.proofs.Onward.{within, onward_as, onward_bind, onward_then, onward_same, answers_after}
-use Rattle.wy_operation.specs.Around.{KeepsAt}
 use Rattle.wy_work.specs.declared.frame.Frame.TheVariants as frame
 use Rattle.wy_work.specs.declared.frame.Step.TheVariants as step
 use Rattle.wy_work.specs.Statements.{emptied, forgotten, without_values}
-use Rattle.wy_work.specs.Frames.{Standing, around, after, newest, pushed, then_all, followed, Resumed}
-use Rattle.wy_work.proofs.Runs.{go_on-go_on, IsSettled, settled_calls, then_settled, failed_at, keeps_calls}
+use Rattle.wy_work.specs.Frames.{Standing, around, after, newest, pushed, then_all, Resumed}
+use Rattle.wy_work.proofs.Runs.{settled_calls, then_settled, failed_at, keeps_calls}
 
 -- the frame that stands is the newest body's
 pub newest_is : (fs : List Body) → event_of fs ≡ newest (map (λ (f : Body). f.event) fs)

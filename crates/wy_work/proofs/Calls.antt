@@ -29,7 +29,7 @@ use Rattle.wy_work.specs.declared.frame.Step.TheVariants as step
 use Rattle.wy_work.specs.Calls.{IsSameStack, Enters, begun, used_by}
 use Rattle.wy_work.specs.Expressions.{put_on, leaving}
 use Rattle.wy_work.specs.Statements.{emptied}
-use Rattle.wy_work.specs.Frames.{Around, Standing, around, after, pushed, then_all, goes, followed, Turned}
+use Rattle.wy_work.specs.Frames.{Around, Standing, around, after, pushed, then_all, followed, Turned}
 use Rattle.wy_work.proofs.Begins.{newest_is}
 
 -- what comes after a body that begins, where the values are known

@@ -1,6 +1,6 @@
 -- Which method a call takes, once its operands are there.
 use Rattle.std.specs.Prelude.{◌==◌}
-use Rattle.std.proofs.Common.{◌≡◌, ◌∙◌, ℕ, [], ◌∷◌, map, refl, ap, sym, subst, Bool, true, false, Some, Result, Ok, Err}
+use Rattle.std.proofs.Common.{◌≡◌, ◌∙◌, ℕ, [], ◌∷◌, map, refl, ap, sym, subst, true, false, Some, Result, Ok, Err}
 use Rattle.wy_kernel.specs.Program.{Program, dispatch, class_of_type}
 use Rattle.wy_kernel.specs.declared.types.Ty.{Ty}
 use Rattle.wy_kernel.specs.declared.form.CallForm.TheVariants as form

@@ -1,5 +1,5 @@
 -- How a body ends: its frame is left, and what waited goes on.
-use Rattle.std.proofs.Common.{◌≡◌, ◌∙◌, ℕ, suc, List, [], ◌∷◌, map, refl, ap, ap₂, sym, length, get_or, arith, ◌≤◌, ◌<◌}
+use Rattle.std.proofs.Common.{◌≡◌, ◌∙◌, ℕ, suc, List, [], ◌∷◌, refl, ap, ap₂, sym, length, get_or, arith, ◌≤◌, ◌<◌}
 use Rattle.wy_event.specs.declared.record.Use.{Use}
 use Rattle.wy_kernel.specs.Program.{Program}
 use Rattle.wy_steps.specs.Sets.{nothing}
@@ -7,7 +7,7 @@ use Rattle.wy_steps.specs.State as run
 use Rattle.wy_steps.specs.State.{State, Reason, Stop, Run, Outcome, go_on, ◌>>=◌, return, leave, stop}
 use Rattle.wy_steps.specs.Steps.{frame_again}
 use Rattle.wy_calls.specs.Calls.{first_of, rest_of}
-use Rattle.wy_state.specs.Agrees.{Shape, Onward}
+use Rattle.wy_state.specs.Agrees.{Onward}
 use Rattle.wy_state.specs.Steps.{back_to}
 use Rattle.wy_state.proofs.Onward.{onward_as, onward_then, onward_same}
 use Rattle.wy_operands.specs.Values.{Values, top, under_many}

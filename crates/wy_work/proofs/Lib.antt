@@ -26,3 +26,11 @@ pub mod Leaving
 pub mod Choices
 pub mod CallForms
 pub mod Operands
+pub mod Seen
+pub mod Created
+pub mod Filled
+pub mod Finishes
+pub mod Returns
+pub mod Handlers
+pub mod Passing
+pub mod Resuming

@@ -1,5 +1,5 @@
 -- What is made of a row of operands: operations of the library, and arrays by their dimensions.
-use Rattle.std.proofs.Common.{◌≡◌, ◌∙◌, ℕ, List, ◌∷◌, map, refl, ap, sym, subst, Result, Ok, Err}
+use Rattle.std.proofs.Common.{◌≡◌, ◌∙◌, ℕ, List, ◌∷◌, map, ap, sym, subst, Err}
 use Rattle.wy_kernel.specs.Program.{Program}
 use Rattle.wy_kernel.specs.declared.form.LibOp.{LibOp}
 use Rattle.wy_kernel.specs.declared.types.Ty.{Ty}

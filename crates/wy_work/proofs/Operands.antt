@@ -1,26 +1,23 @@
 -- How the operands of an expression are found, by the frames that the code pushes.
-use Rattle.std.proofs.Common.{◌≡◌, ◌∙◌, ℕ, List, [], ◌∷◌, ◌++◌, map, refl, ap, sym, subst, Bor, Result, Ok, Err}
+use Rattle.std.proofs.Common.{◌≡◌, ◌∙◌, [], refl, ap, sym, subst, Bor, Result, Ok, Err}
 use Rattle.wy_kernel.specs.Program.{Program}
 use Rattle.wy_kernel.specs.Form.{Expression}
 use Rattle.wy_kernel.specs.View.{expression}
 use Rattle.wy_kernel.specs.declared.form.Expr.{Expr}
 use Rattle.wy_steps.specs.Sets.{nothing}
-use Rattle.wy_steps.specs.State.{State, Run, go_on, return}
+use Rattle.wy_steps.specs.State.{State, go_on, return}
 use Rattle.wy_steps.specs.Steps.{tick}
-use Rattle.wy_meaning.specs.World.{World}
 use Rattle.wy_meaning.specs.Run.{world}
 use Rattle.wy_meaning.specs.Expression.{eval}
 use Rattle.wy_state.specs.declared.parts.Halt.{Halt}
 use Rattle.wy_state.specs.Agrees.{Shape, Onward, Answers, itself}
 use Rattle.wy_state.proofs.Onward.{onward_as, onward_same, onward_then}
-use Rattle.wy_calls.specs.Calls.{Standing as Calls}
-use Rattle.wy_operands.specs.Values.{Values}
 use Rattle.wy_work.specs.declared.frame.Frame.TheVariants as frames
 use Rattle.wy_work.specs.declared.frame.ExprStep.TheVariants as step
 use Rattle.wy_work.specs.declared.operand.Listed.{Listed}
 use Rattle.wy_work.specs.declared.operand.Listed.TheVariants as listing
 use Rattle.wy_work.specs.Expressions.{expr_step, put_all, put_on}
-use Rattle.wy_work.specs.Frames.{Standing, around, after, followed, goes, pushed, pushed_all, then_all, Does, Resumed}
+use Rattle.wy_work.specs.Frames.{Standing, around, after, followed, goes, pushed, pushed_all, then_all, Does}
 use Rattle.wy_work.specs.Listed.{finding, listed}
 use Rattle.wy_work.specs.Operands.{operands_of}
 use Rattle.wy_work.proofs.Runs.{failed_at, go_on-go_on, keeps_calls, settled_calls, turned_after, went}

@@ -1,5 +1,5 @@
 -- What operators give, once their operands are there.
-use Rattle.std.proofs.Common.{◌≡◌, ◌∙◌, ℕ, List, ◌∷◌, ◌++◌, refl, ap, sym, Result, Ok, Err}
+use Rattle.std.proofs.Common.{◌≡◌, ◌∙◌, ℕ, List, ◌∷◌, refl, ap, sym, Err}
 use Rattle.wy_kernel.specs.Program.{Program}
 use Rattle.wy_meaning.specs.Run.{world}
 use Rattle.wy_state.specs.declared.parts.Halt.{Halt}

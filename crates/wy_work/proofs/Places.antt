@@ -1,5 +1,5 @@
 -- Places that are found, and what comes after: reads and assignments.
-use Rattle.std.proofs.Common.{◌≡◌, ◌∙◌, ℕ, List, [], ◌∷◌, ◌++◌, refl, ap, sym, subst, Bor, Result, Ok, Err}
+use Rattle.std.proofs.Common.{◌≡◌, ◌∙◌, ℕ, List, [], ◌∷◌, ◌++◌, refl, ap, sym, subst, Bor, Result, Err}
 use Rattle.wy_kernel.specs.Program.{Program}
 use Rattle.wy_kernel.specs.Program as kernel
 use Rattle.wy_kernel.specs.Form.{Expression}
@@ -18,11 +18,11 @@ use Rattle.wy_event.specs.declared.record.Slot.{Slot}
 use Rattle.wy_event.specs.declared.record.Slot.TheVariants as slots
 use Rattle.wy_event.specs.declared.record.Use.{Use}
 use Rattle.wy_steps.specs.Sets.{nothing}
-use Rattle.wy_steps.specs.State.{State, Carried, Run, Outcome, go_on, ◌>>=◌, ◌>>◌, return}
-use Rattle.wy_steps.specs.Steps.{constant, frame, joined}
+use Rattle.wy_steps.specs.State.{State, Carried, Run, go_on, ◌>>=◌, ◌>>◌, return}
+use Rattle.wy_steps.specs.Steps.{constant, frame}
 use Rattle.wy_meaning.specs.World.{World}
 use Rattle.wy_meaning.specs.Run.{world}
-use Rattle.wy_meaning.specs.Place.{Spot, Located, AtLocal, AtStatic, AtField, AtElem, element_spot, fetch, field_spot, find, initialize, local_spot, read_place, set_place, static_spot, store}
+use Rattle.wy_meaning.specs.Place.{AtLocal, AtStatic, AtField, AtElem, element_spot, fetch, field_spot, find, initialize, local_spot, read_place, set_place, static_spot, store}
 use Rattle.wy_state.specs.declared.parts.Halt.{Halt}
 use Rattle.wy_state.specs.Agrees.{Shape, Onward, Answers}
 use Rattle.wy_state.specs.Seen.{given}
@@ -31,16 +31,15 @@ use Rattle.wy_state.proofs.Onward.{onward_as, onward_same}
 use Rattle.wy_operation.specs.Around.{IsSameAround, KeepsAt}
 use Rattle.wy_operation.specs.Operands.{Pair}
 use Rattle.wy_operation.specs.Spots.{Stored, spot_of}
-use Rattle.wy_operation.proofs.Runs.{answers_as, done_first}
+use Rattle.wy_operation.proofs.Runs.{done_first}
 use Rattle.wy_operands.specs.Values.{Values, at, top, under, under_many, uses_of_last}
 use Rattle.wy_work.specs.declared.frame.Frame.TheVariants as frames
 use Rattle.wy_work.specs.declared.frame.ExprStep.TheVariants as step
 use Rattle.wy_work.specs.Expressions.{put_on, leaving, expr_step}
-use Rattle.wy_work.specs.Frames.{Standing, around, after, pushed, then_all, goes, followed, Does, Resumed, Turned}
+use Rattle.wy_work.specs.Frames.{Standing, around, after, pushed, then_all, followed, Does, Resumed}
 use Rattle.wy_work.specs.Operands.{Given}
 use Rattle.wy_work.proofs.Runs.{failed_at, go_on-go_on, settled_state, turned_after, went, world_program}
 use Rattle.wy_work.proofs.Operates.{last_pair}
-use Rattle.wy_work.proofs.Single.{carried_is}
 
 -- ---- what is done first, and a value that comes after it
 

@@ -1,5 +1,5 @@
 -- How the machine goes on is put together: what was done, then what is left to do.
-use Rattle.std.proofs.Common.{◌≡◌, ◌∙◌, ℕ, List, [], ◌∷◌, ◌++◌, map, refl, ap, ap₂, sym, subst, Result, Ok, Err}
+use Rattle.std.proofs.Common.{◌≡◌, ◌∙◌, ℕ, ◌∷◌, map, refl, ap, ap₂, sym, subst, Result, Ok, Err}
 use Rattle.wy_kernel.specs.Program.{Program}
 use Rattle.wy_steps.specs.Sets.{nothing}
 use Rattle.wy_steps.specs.State as run
@@ -7,17 +7,15 @@ use Rattle.wy_steps.specs.State.{State, Carried, Run, Outcome, go_on, ◌>>=◌,
 use Rattle.wy_calls.specs.Calls.{Frame as Body, Standing as Calls}
 use Rattle.wy_state.specs.declared.parts.Halt.{Halt}
 use Rattle.wy_state.specs.declared.parts.Halt.TheVariants.{Left, Stopped, Recorder, Memory}
-use Rattle.wy_state.specs.Agrees.{Shape, Onward, Answers, Meets}
+use Rattle.wy_state.specs.Agrees.{Shape, Onward, Answers}
 use Rattle.wy_state.specs.Seen.{reason_of, stop_of}
-use Rattle.wy_state.proofs.Onward.{within, onward_as, onward_bind, onward_then, onward_same}
+use Rattle.wy_state.proofs.Onward.{within, onward_as, onward_then, onward_same}
 use Rattle.wy_meaning.specs.Run.{world}
-use Rattle.wy_operation.specs.Around.{IsSameAround, Keeps, KeepsAt}
+use Rattle.wy_operation.specs.Around.{IsSameAround, KeepsAt}
 use Rattle.wy_operands.specs.Values.{Values}
-use Rattle.wy_work.specs.declared.frame.Frame.{Frame}
-use Rattle.wy_work.specs.Expressions.{put_on, leaving}
+use Rattle.wy_work.specs.Expressions.{put_on}
 use Rattle.wy_work.specs.Operands.{Given}
-use Rattle.wy_work.specs.Statements.{emptied}
-use Rattle.wy_work.specs.Frames.{Around, Standing, around, after, pushed, then_all, goes, followed, Turned, Resumed}
+use Rattle.wy_work.specs.Frames.{Standing, around, after, then_all, goes, followed, Turned}
 
 -- outcomes one after the other
 pub go_on-go_on : {X Y Z : Type 0} (o : Outcome nothing X) (f : X → Run nothing Y) (g : Y → Run nothing Z) → go_on (go_on o f) g ≡ go_on o (λ x s. go_on (f x s) g)

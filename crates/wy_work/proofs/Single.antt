@@ -1,5 +1,5 @@
 -- What forms with at most one operand give, and reads of slots and assignments to them.
-use Rattle.std.proofs.Common.{◌≡◌, ◌∙◌, ℕ, List, [], ◌∷◌, ◌++◌, refl, ap, sym, Result, Ok, Err}
+use Rattle.std.proofs.Common.{◌≡◌, ◌∙◌, ℕ, List, [], ◌∷◌, ◌++◌, refl, ap, sym, Err}
 use Rattle.wy_kernel.specs.Program.{Program}
 use Rattle.wy_kernel.specs.declared.operator.Primitive.{Primitive}
 use Rattle.wy_kernel.specs.declared.operator.UnOp.{UnOp}

@@ -1,17 +1,15 @@
 -- The turns of loops, by the frames that they push.
-use Rattle.std.proofs.Common.{◌≡◌, ◌∙◌, ℕ, suc, zero, ◌+◌, add-one, Bool, true, false, List, [], ◌∷◌, map, refl, ap, sym, subst, Bor, Option, Some, Result, Ok, Err}
+use Rattle.std.proofs.Common.{◌≡◌, ◌∙◌, ℕ, suc, ◌+◌, add-one, Bool, true, false, List, [], ◌∷◌, map, refl, ap, sym, subst, Bor, Option, Some, Result, Err}
 use Rattle.std.specs.Prelude.{None as Absent}
 use Rattle.std.specs.declared.alloc.Global.{Global}
 use Rattle.std.specs.declared.boxed.Box.{Box}
 use Rattle.std.specs.declared.vec.Vec.{Vec}
 use Rattle.wy_kernel.specs.Program.{Program}
-use Rattle.wy_kernel.specs.Form as plain
-use Rattle.wy_kernel.specs.Form.{Expression, Statement, Act}
 use Rattle.wy_kernel.specs.declared.form.Expr.{Expr}
 use Rattle.wy_kernel.specs.declared.form.Stmt.{Stmt as Memory}
 use Rattle.wy_kernel.specs.declared.form.StmtForm.{StmtForm}
 use Rattle.wy_kernel.specs.declared.form.StmtForm.TheVariants as form
-use Rattle.wy_kernel.specs.View.{act, expression, statement, statements_of, test_of}
+use Rattle.wy_kernel.specs.View.{act, expression, statement, statements_of}
 use Rattle.wy_kernel.proofs.Views.{view_statement, view_while, view_do, view_for}
 use Rattle.wy_steps.specs.Sets.{nothing}
 use Rattle.wy_steps.specs.State as run
@@ -25,7 +23,6 @@ use Rattle.wy_state.specs.declared.parts.Halt.{Halt}
 use Rattle.wy_state.specs.Agrees.{Shape, Onward}
 use Rattle.wy_state.proofs.Onward.{within, onward_as, onward_then, onward_same}
 use Rattle.wy_operands.specs.Values.{Values, top}
-use Rattle.wy_work.specs.declared.frame.Frame.{Frame}
 use Rattle.wy_work.specs.declared.frame.Frame.TheVariants as frame
 use Rattle.wy_work.specs.declared.frame.ExprStep.TheVariants as expr_step
 use Rattle.wy_work.specs.declared.frame.StmtStep.TheVariants as step

@@ -4,15 +4,15 @@ use Rattle.std.specs.Prelude.{None as Absent}
 use Rattle.wy_kernel.specs.Program.{Program}
 use Rattle.wy_event.specs.declared.record.Use.{Use}
 use Rattle.wy_steps.specs.Sets.{nothing}
-use Rattle.wy_steps.specs.State.{Run, Around as Within, ◌>>=◌, go_on}
-use Rattle.wy_steps.specs.Steps.{Made, activating, frame_again, scoped}
+use Rattle.wy_steps.specs.State.{Run, Around as Within, ◌>>=◌}
+use Rattle.wy_steps.specs.Steps.{Made, activating, scoped}
 use Rattle.wy_state.specs.Agrees.{Onward}
 use Rattle.wy_calls.specs.Calls.{first_of, rest_of}
 use Rattle.wy_state.specs.Steps.{back_to, enter_frame}
 use Rattle.wy_operands.specs.Values.{Values, at}
 use Rattle.wy_work.specs.declared.frame.Frame.TheVariants as frame
 use Rattle.wy_work.specs.declared.frame.Step.{Step}
-use Rattle.wy_work.specs.Frames.{Standing, around, newest, pushed, then_all}
+use Rattle.wy_work.specs.Frames.{Standing, around, newest}
 
 -- the uses of a receiver by its place on the stack, or none
 abbrev pub used_by : Option ℕ → Values → List Use

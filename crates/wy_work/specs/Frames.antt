@@ -1,13 +1,11 @@
 -- What the frames of work stand for, as what is done with the outcome of all before them; and how the machine goes on with it.
-use Rattle.std.specs.Prelude.{◌≡◌, ℕ, suc, pos, Bool, List, [], ◌∷◌, ◌++◌, map, reverse, Option, Some, Result, Ok, Err}
+use Rattle.std.specs.Prelude.{ℕ, suc, pos, Bool, List, [], ◌∷◌, ◌++◌, map, Option, Some, Result, Ok, Err}
 use Rattle.std.specs.Prelude.{None as Absent}
 use Rattle.wy_kernel.specs.Program.{Program, method}
 use Rattle.wy_kernel.specs.View.{expression, statement, statements_of}
 use Rattle.wy_value.specs.declared.value.Value.TheVariants as val
-use Rattle.wy_event.specs.Record.{Recorded}
 use Rattle.wy_steps.specs.Sets.{nothing}
-use Rattle.wy_steps.specs.State as run
-use Rattle.wy_steps.specs.State.{Carried, Active, Reason, Stop, State, Run, Outcome, go_on, go_on_left, ◌>>=◌, ◌>>◌, return, leave, stop}
+use Rattle.wy_steps.specs.State.{Carried, Active, Run, Outcome, go_on, go_on_left, ◌>>=◌, return, leave, stop}
 use Rattle.wy_steps.specs.Steps.{constant, value_of, active_again, frame_again, end_reaches, cover_end}
 use Rattle.wy_meaning.specs.World.{World}
 use Rattle.wy_meaning.specs.Place.{initialize}
@@ -15,7 +13,7 @@ use Rattle.wy_meaning.specs.Array.{make_array}
 use Rattle.wy_meaning.specs.Call.{at_return, at_failure, end_body}
 use Rattle.wy_meaning.specs.Statement.{exec_all}
 use Rattle.wy_meaning.specs.Run.{strings, world}
-use Rattle.wy_calls.specs.Calls.{Frame as Body, Standing as Calls, rest_of, first_of}
+use Rattle.wy_calls.specs.Calls.{Frame as Body, rest_of, first_of}
 use Rattle.wy_state.specs.declared.parts.Halt.{Halt}
 use Rattle.wy_state.specs.declared.parts.Halt.TheVariants.{Left, Stopped, Recorder, Memory}
 use Rattle.wy_state.specs.Seen.{reason_of, stop_of}

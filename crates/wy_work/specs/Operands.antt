@@ -1,6 +1,5 @@
 -- What an expression does once the values of its operands are there: its form again, by operands that are evaluated.
-use Rattle.std.specs.Prelude.{ℕ, pos, List, [], ◌∷◌, ◌++◌, length, map, Option, Some}
-use Rattle.std.specs.Prelude.{None as Absent}
+use Rattle.std.specs.Prelude.{ℕ, pos, List, [], ◌∷◌, ◌++◌, map}
 use Rattle.wy_kernel.specs.declared.form.CallForm.{CallForm}
 use Rattle.wy_kernel.specs.declared.form.CallForm.TheVariants as form
 use Rattle.wy_kernel.specs.Form.{Expression, Const, Str, Read, Set, Upd, Un, Bin, Conv, Cast, InstanceOf, Cond, New, NewArray, Call, Cat, Lib, Place, Local, Static, Field, Elem, Part, absent, the, Row, none, more}

@@ -6,17 +6,17 @@ use Rattle.wy_kernel.specs.declared.form.Catch.{Catch}
 use Rattle.wy_kernel.specs.declared.form.Stmt.{Stmt as Memory}
 use Rattle.wy_kernel.specs.declared.form.StmtForm.{StmtForm}
 use Rattle.wy_kernel.specs.declared.form.StmtForm.TheVariants as form
-use Rattle.std.specs.Prelude.{◌≡◌, Option, suc, ℕ, Bool, true, List, [], ◌∷◌}
-use Rattle.wy_kernel.specs.Form.{Statement, Stmt, Act, Block, Eval, Declare, If, While, Do, For, Labelled, Jump, Return, Throw, Try, Print}
+use Rattle.std.specs.Prelude.{◌≡◌, Option, suc, ℕ, Bool, true, []}
+use Rattle.wy_kernel.specs.Form.{Statement, Stmt, Act, Eval, If, While, Do, For, Return, Throw, Try, Print}
 use Rattle.wy_steps.specs.Sets.{nothing}
-use Rattle.wy_steps.specs.State.{Carried, Reason, Run, Outcome, go_on, go_on_left, ◌>>=◌, ◌>>◌, return, leave, choose}
+use Rattle.wy_steps.specs.State.{Carried, Run, Outcome, go_on, go_on_left, ◌>>=◌, ◌>>◌, return, leave, choose}
 use Rattle.wy_kernel.specs.declared.form.Expr.{Expr}
 use Rattle.wy_steps.specs.Steps.{steps_left}
 use Rattle.wy_meaning.specs.World.{World}
 use Rattle.wy_meaning.specs.Text.{print_value}
 use Rattle.wy_texts.specs.Words.{printed}
 use Rattle.wy_meaning.specs.Expression.{eval, eval_part}
-use Rattle.wy_meaning.specs.Statement.{tested, for_test, if_form, while_form, turns, return_form, throw_form, at_throw, other_or, exec, exec_act, exec_all, exec_catches, exec_other}
+use Rattle.wy_meaning.specs.Statement.{tested, for_test, if_form, while_form, turns, return_form, throw_form, at_throw, other_or, exec, exec_all, exec_catches, exec_other}
 use Rattle.wy_operands.specs.Values.{Values, top}
 use Rattle.wy_work.specs.declared.frame.StmtStep.{StmtStep}
 use Rattle.wy_work.specs.declared.frame.StmtStep.TheVariants as step

@@ -29,9 +29,16 @@ use wy_value::Value;
 
 impl<'a, R: Recorder> Machine<'a, R> {
     /// The class is initialized before the object is made.
-    pub fn create(&mut self, on: &Dispatcher<'a>, expr: &'a Expr, class: u32, site: u32) -> Result<(), Halt>
+    pub fn create(
+        &mut self,
+        on: &Dispatcher<'a>,
+        expr: &'a Expr,
+        class: u32,
+        site: u32,
+    ) -> Result<(), Halt>
         ensures goes { IsNew (expression expr.now) class site
-            → Does (program_of on.now.program.now) (λ w. expr_step w (expression expr.now) step.Operate)
+            → Does (program_of on.now.program.now)
+            (λ w. expr_step w (expression expr.now) step.Operate)
             (standing R.keeps R.kept self.old) result (standing R.keeps R.kept self.new) }
     {
         self.push_expr(expr, ExprStep::Ready)?;
@@ -41,11 +48,15 @@ impl<'a, R: Recorder> Machine<'a, R> {
     /// The object is made, and the arguments are evaluated. The object stands twice on the stack: as what the form gives, and as
     /// the receiver of the constructor.
     pub fn make_object(&mut self, expr: &'a Expr) -> Result<(), Halt>
-        ensures goes { (p : kernel.Program) → Does p (λ w. expr_step w (expression expr.now) step.Ready)
+        ensures goes { (p : kernel.Program)
+            → Does p (λ w. expr_step w (expression expr.now) step.Ready)
             (standing R.keeps R.kept self.old) result (standing R.keeps R.kept self.new) }
     {
         let Expr::New {
-            class, args, site, ..
+            class,
+            args,
+            site,
+            ..
         } = expr
         else {
             return Err(Halt::Memory);
@@ -64,7 +75,8 @@ impl<'a, R: Recorder> Machine<'a, R> {
 
     /// The constructor is called, where there is one.
     pub fn construct(&mut self, on: &Dispatcher<'a>, expr: &'a Expr) -> Result<(), Halt>
-        ensures goes { Does (program_of on.now.program.now) (λ w. expr_step w (expression expr.now) step.Construct)
+        ensures goes { Does (program_of on.now.program.now)
+            (λ w. expr_step w (expression expr.now) step.Construct)
             (standing R.keeps R.kept self.old) result (standing R.keeps R.kept self.new) }
     {
         let Expr::New {
@@ -86,7 +98,8 @@ impl<'a, R: Recorder> Machine<'a, R> {
 
     /// An array with its subarrays by the dimensions that are there, or one with elements that are to be evaluated.
     pub fn new_array(&mut self, expr: &'a Expr) -> Result<(), Halt>
-        ensures goes { (p : kernel.Program) → Does p (λ w. expr_step w (expression expr.now) step.Operate)
+        ensures goes { (p : kernel.Program)
+            → Does p (λ w. expr_step w (expression expr.now) step.Operate)
             (standing R.keeps R.kept self.old) result (standing R.keeps R.kept self.new) }
     {
         let Expr::NewArray {
@@ -115,7 +128,7 @@ impl<'a, R: Recorder> Machine<'a, R> {
     fn create_arrays(&mut self, ty: Ty, count: usize, site: u32) -> Result<(), Halt>
         ensures goes { (p : kernel.Program)
             → Does p (λ w vs. put_on (under_many count vs)
-                (create_array w ty (evaluated (last_many count vs)) site))
+            (create_array w ty (evaluated (last_many count vs)) site))
             (standing R.keeps R.kept self.old) result (standing R.keeps R.kept self.new) }
     {
         let dims = parts(self.state.alloc, &self.stack, count)?;

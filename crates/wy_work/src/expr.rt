@@ -26,7 +26,8 @@ use wy_value::Value;
 impl<'a, R: Recorder> Machine<'a, R> {
     /// Begins an expression, which takes a step.
     pub fn find(&mut self, on: &Dispatcher<'a>, expr: &'a Expr) -> Result<(), Halt>
-        ensures goes { Does (program_of on.now.program.now) (λ w vs. put_on vs (eval w (expression expr.now)))
+        ensures goes { Does (program_of on.now.program.now)
+            (λ w vs. put_on vs (eval w (expression expr.now)))
             (standing R.keeps R.kept self.old) result (standing R.keeps R.kept self.new) }
     {
         self.state.tick()?;

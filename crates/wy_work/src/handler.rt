@@ -31,7 +31,10 @@ impl<'a, R: Recorder> Machine<'a, R> {
             (standing R.keeps R.kept self.old) result (standing R.keeps R.kept self.new) }
     {
         self.stack.clear();
-        let StmtForm::Try { last: Some(last), .. } = &stmt.form else {
+        let StmtForm::Try { last, .. } = &stmt.form else {
+            return Err(Halt::Memory);
+        };
+        let Some(last) = last else {
             return Err(Halt::Memory);
         };
         self.push_stmt(&**last, StmtStep::Do)?;
@@ -40,7 +43,8 @@ impl<'a, R: Recorder> Machine<'a, R> {
 
     /// The first block was left: a clause takes what was thrown.
     pub fn handle(&mut self, on: &Dispatcher<'a>, stmt: &'a Stmt, why: Reason) -> Result<(), Halt>
-        ensures goes { Ends (program_of on.now.program.now) (frames.Stmt stmt.entry step.Catch) (leave (reason_of why))
+        ensures goes { Ends (program_of on.now.program.now) (frames.Stmt stmt.entry step.Catch)
+            (leave (reason_of why))
             (standing R.keeps R.kept self.old) result (standing R.keeps R.kept self.new) }
     {
         let StmtForm::Try { catches, .. } = &stmt.form else {
@@ -58,10 +62,14 @@ impl<'a, R: Recorder> Machine<'a, R> {
 
     /// What was left goes on being left once the last block is done.
     pub fn handle_last(&mut self, stmt: &'a Stmt, why: Reason) -> Result<(), Halt>
-        ensures goes { (p : kernel.Program) → Ends p (frames.Stmt stmt.entry step.Finally) (leave (reason_of why))
+        ensures goes { (p : kernel.Program) → Ends p (frames.Stmt stmt.entry step.Finally)
+            (leave (reason_of why))
             (standing R.keeps R.kept self.old) result (standing R.keeps R.kept self.new) }
     {
-        let StmtForm::Try { last: Some(last), .. } = &stmt.form else {
+        let StmtForm::Try { last, .. } = &stmt.form else {
+            return Err(Halt::Memory);
+        };
+        let Some(last) = last else {
             return Err(Halt::Memory);
         };
         self.stack.clear();
@@ -72,7 +80,8 @@ impl<'a, R: Recorder> Machine<'a, R> {
 
     /// The Catch binds the object, and is active until the block ends.
     fn caught(&mut self, clause: &'a Catch, event: u32, value: Value) -> Result<(), Halt>
-        ensures goes { (p : kernel.Program) → Does p (λ w vs. emptied (caught_by w clause.now event value))
+        ensures goes { (p : kernel.Program) → Does p
+            (λ w vs. emptied (caught_by w clause.now event value))
             (standing R.keeps R.kept self.old) result (standing R.keeps R.kept self.new) }
     {
         self.stack.clear();

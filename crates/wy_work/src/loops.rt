@@ -69,7 +69,8 @@ impl<'a, R: Recorder> Machine<'a, R> {
 
     /// The turns of a loop begin.
     pub fn begin_turns(&mut self, stmt: &'a Stmt) -> Result<(), Halt>
-        ensures goes { (p : kernel.Program) → Does p (λ w. stmt_step w (statement stmt.now) step.Loop)
+        ensures goes { (p : kernel.Program) → Does p
+            (λ w. stmt_step w (statement stmt.now) step.Loop)
             (standing R.keeps R.kept self.old) result (standing R.keeps R.kept self.new) }
     {
         let turns = self.turns()?;
@@ -79,7 +80,8 @@ impl<'a, R: Recorder> Machine<'a, R> {
 
     /// A turn begins with its condition.
     pub fn turn_loop(&mut self, stmt: &'a Stmt, turns: u32) -> Result<(), Halt>
-        ensures goes { (p : kernel.Program) → Does p (λ w. stmt_step w (statement stmt.now) (step.Turn turns))
+        ensures goes { (p : kernel.Program) → Does p
+            (λ w. stmt_step w (statement stmt.now) (step.Turn turns))
             (standing R.keeps R.kept self.old) result (standing R.keeps R.kept self.new) }
     {
         if turns == 0 {
@@ -106,10 +108,16 @@ impl<'a, R: Recorder> Machine<'a, R> {
     }
 
     /// The condition comes first, and then what it decides.
-    fn push_condition(&mut self, stmt: &'a Stmt, test: &'a Expr, turns: u32) -> Result<(), AllocError>
+    fn push_condition(
+        &mut self,
+        stmt: &'a Stmt,
+        test: &'a Expr,
+        turns: u32,
+    ) -> Result<(), AllocError>
         ensures { OnOk result (standing R.keeps R.kept self.new
             ≡ pushed (frames.Expr test.entry expr_steps.Find)
-            (pushed (frames.Stmt stmt.entry (step.Decide turns)) (standing R.keeps R.kept self.old))) }
+            (pushed (frames.Stmt stmt.entry (step.Decide turns))
+            (standing R.keeps R.kept self.old))) }
     {
         self.push_stmt(stmt, StmtStep::Decide { turns })?;
         self.push_expr(test, ExprStep::Find)
@@ -117,7 +125,8 @@ impl<'a, R: Recorder> Machine<'a, R> {
 
     /// The condition of a turn is there.
     pub fn decide_turn(&mut self, stmt: &'a Stmt, turns: u32) -> Result<(), Halt>
-        ensures goes { (p : kernel.Program) → Does p (λ w. stmt_step w (statement stmt.now) (step.Decide turns))
+        ensures goes { (p : kernel.Program) → Does p
+            (λ w. stmt_step w (statement stmt.now) (step.Decide turns))
             (standing R.keeps R.kept self.old) result (standing R.keeps R.kept self.new) }
     {
         if self.test(stmt)? {
@@ -128,7 +137,8 @@ impl<'a, R: Recorder> Machine<'a, R> {
 
     /// The body of a loop, and the turns after it.
     fn loop_on(&mut self, stmt: &'a Stmt, turns: u32) -> Result<(), Halt>
-        ensures goes { (p : kernel.Program) → Does p (λ w vs. emptied (looping w (statement stmt.now) turns))
+        ensures goes { (p : kernel.Program) → Does p
+            (λ w vs. emptied (looping w (statement stmt.now) turns))
             (standing R.keeps R.kept self.old) result (standing R.keeps R.kept self.new) }
     {
         self.push_stmt(stmt, StmtStep::Turn { turns })?;

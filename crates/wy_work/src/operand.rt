@@ -46,9 +46,12 @@ fn operands_of_other<'a>(expr: &'a Expr) -> Option<Listed<'a>>
         Expr::NewArray { dims, .. } => Some(Listed::Row(dims.as_slice())),
         Expr::Cat { left, right, .. } => Some(Listed::Two(&**left, &**right)),
         Expr::Lib { args, .. } => Some(Listed::Row(args.as_slice())),
-        Expr::Call { form, receiver, args, .. } => {
-            Some(of_call(*form, receiver, args.as_slice()))
-        }
+        Expr::Call {
+            form,
+            receiver,
+            args,
+            ..
+        } => { Some(of_call(*form, receiver, args.as_slice())) }
         _ => None,
     }
 }
@@ -77,7 +80,8 @@ fn of_assignment<'a>(at: &'a Place, value: &'a Expr) -> Listed<'a>
 
 /// The receiver of a call, where it has one, and the arguments.
 fn of_call<'a>(form: CallForm, receiver: &'a Option<Box<Expr>>, args: &'a [Expr]) -> Listed<'a>
-    ensures { listed result ≡ receiver_operands form (part_seen receiver.now) ++ map expression args.now }
+    ensures { listed result ≡ receiver_operands form (part_seen receiver.now)
+        ++ map expression args.now }
 {
     match (form, receiver) {
         (CallForm::Static, _) => Listed::Row(args),

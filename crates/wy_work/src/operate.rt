@@ -17,9 +17,9 @@ ghost use Rattle.wy_work.specs.declared.frame.ExprStep.TheVariants as step;
 
 use crate::machine::Machine;
 use crate::parts::parts;
+use wy_calls::Dispatcher;
 use wy_kernel::form::{Expr, LibOp};
 use wy_kernel::operator::{BinOp, Primitive, UnOp};
-use wy_calls::Dispatcher;
 use wy_kernel::types::Ty;
 use wy_operation::operator::{binary, converted, unary_of};
 use wy_operation::types::{cast, instance_of};
@@ -31,7 +31,8 @@ use wy_value::Value;
 impl<'a, R: Recorder> Machine<'a, R> {
     /// The operands of an expression are there.
     pub fn operate(&mut self, on: &Dispatcher<'a>, expr: &'a Expr) -> Result<(), Halt>
-        ensures goes { Does (program_of on.now.program.now) (λ w. expr_step w (expression expr.now) step.Operate)
+        ensures goes { Does (program_of on.now.program.now)
+            (λ w. expr_step w (expression expr.now) step.Operate)
             (standing R.keeps R.kept self.old) result (standing R.keeps R.kept self.new) }
     {
         match expr {
@@ -47,7 +48,8 @@ impl<'a, R: Recorder> Machine<'a, R> {
     }
 
     fn operate_on(&mut self, on: &Dispatcher<'a>, expr: &'a Expr) -> Result<(), Halt>
-        ensures goes { Does (program_of on.now.program.now) (λ w. expr_step w (expression expr.now) step.Operate)
+        ensures goes { Does (program_of on.now.program.now)
+            (λ w. expr_step w (expression expr.now) step.Operate)
             (standing R.keeps R.kept self.old) result (standing R.keeps R.kept self.new) }
     {
         match expr {
@@ -63,7 +65,8 @@ impl<'a, R: Recorder> Machine<'a, R> {
     }
 
     fn operate_texts(&mut self, on: &Dispatcher<'a>, expr: &'a Expr) -> Result<(), Halt>
-        ensures goes { Does (program_of on.now.program.now) (λ w. expr_step w (expression expr.now) step.Operate)
+        ensures goes { Does (program_of on.now.program.now)
+            (λ w. expr_step w (expression expr.now) step.Operate)
             (standing R.keeps R.kept self.old) result (standing R.keeps R.kept self.new) }
     {
         match expr {
@@ -96,12 +99,20 @@ impl<'a, R: Recorder> Machine<'a, R> {
 
     fn binary(&mut self, op: BinOp, site: u32) -> Result<(), Halt>
         ensures goes { (p : kernel.Program) → Does p
-            (λ w vs. put_on (under_many 2 vs) (binary w op (return (at 1 vs)) (return (top vs)) site))
+            (λ w vs. put_on (under_many 2 vs)
+            (binary w op (return (at 1 vs)) (return (top vs)) site))
             (standing R.keeps R.kept self.old) result (standing R.keeps R.kept self.new) }
     {
         let left = self.stack.value_at(1);
         let right = self.stack.top();
-        let value = binary(&mut self.state, op, left, right, self.stack.last_uses(2), site)?;
+        let value = binary(
+            &mut self.state,
+            op,
+            left,
+            right,
+            self.stack.last_uses(2),
+            site,
+        )?;
         self.stack.join(2, value)?;
         Ok(())
     }
@@ -124,7 +135,14 @@ impl<'a, R: Recorder> Machine<'a, R> {
             (standing R.keeps R.kept self.old) result (standing R.keeps R.kept self.new) }
     {
         let value = self.stack.top();
-        cast(&mut self.state, on.program, ty, value, self.stack.last_uses(1), site)?;
+        cast(
+            &mut self.state,
+            on.program,
+            ty,
+            value,
+            self.stack.last_uses(1),
+            site,
+        )?;
         self.stack.join(1, value)?;
         Ok(())
     }
@@ -139,7 +157,13 @@ impl<'a, R: Recorder> Machine<'a, R> {
         Ok(())
     }
 
-    fn library(&mut self, on: &Dispatcher<'a>, op: LibOp, count: usize, site: u32) -> Result<(), Halt>
+    fn library(
+        &mut self,
+        on: &Dispatcher<'a>,
+        op: LibOp,
+        count: usize,
+        site: u32,
+    ) -> Result<(), Halt>
         ensures goes { Does (program_of on.now.program.now)
             (λ w vs. put_on (under_many count vs) (library w op site (last_many count vs)))
             (standing R.keeps R.kept self.old) result (standing R.keeps R.kept self.new) }

@@ -10,7 +10,11 @@ use wy_operands::Operands;
 use wy_operation::operand::Part;
 
 /// So many of the last values.
-pub fn parts<'b>(alloc: Global, stack: &'b Operands, count: usize) -> Result<Vec<Part<'b>>, AllocError>
+pub fn parts<'b>(
+    alloc: Global,
+    stack: &'b Operands,
+    count: usize,
+) -> Result<Vec<Part<'b>>, AllocError>
     ensures { IfOk result (λ row. map carried row.items ≡ last_many count (values_of stack.now)) }
 {
     let mut row = Vec::new(alloc);

@@ -28,7 +28,8 @@ impl<'a, R: Recorder> Machine<'a, R> {
     /// Reads the place of an expression.
     pub fn read(&mut self, on: &Dispatcher<'a>, expr: &'a Expr, at: &'a Place) -> Result<(), Halt>
         ensures goes { expression expr.now ≡ form.Read (place at.now)
-            → Does (program_of on.now.program.now) (λ w. expr_step w (expression expr.now) step.Operate)
+            → Does (program_of on.now.program.now)
+            (λ w. expr_step w (expression expr.now) step.Operate)
             (standing R.keeps R.kept self.old) result (standing R.keeps R.kept self.new) }
     {
         match at {
@@ -67,10 +68,17 @@ impl<'a, R: Recorder> Machine<'a, R> {
     }
 
     /// Assigns the right side, which is the last of so many values; those under it are the parts of the place.
-    pub fn store(&mut self, on: &Dispatcher<'a>, slot: Slot, many: usize, site: u32) -> Result<(), Halt>
+    pub fn store(
+        &mut self,
+        on: &Dispatcher<'a>,
+        slot: Slot,
+        many: usize,
+        site: u32,
+    ) -> Result<(), Halt>
         ensures goes { (o : Stored slot (top (standing R.keeps R.kept self.old).values).value
-                (uses_of_last many (standing R.keeps R.kept self.old).values))
-            → Does (program_of on.now.program.now) (λ w vs. put_on (under_many many vs) (store w site o.spot o.right))
+            (uses_of_last many (standing R.keeps R.kept self.old).values))
+            → Does (program_of on.now.program.now)
+            (λ w vs. put_on (under_many many vs) (store w site o.spot o.right))
             (standing R.keeps R.kept self.old) result (standing R.keeps R.kept self.new) }
     {
         let value = self.stack.top();
@@ -88,8 +96,10 @@ impl<'a, R: Recorder> Machine<'a, R> {
         at: &'a Place,
         site: u32,
     ) -> Result<(), Halt>
-        ensures goes { (value : form.Expression) → expression expr.now ≡ form.Set (place at.now) value site
-            → Does (program_of on.now.program.now) (λ w. expr_step w (expression expr.now) step.Operate)
+        ensures goes { (value : form.Expression) → expression expr.now
+            ≡ form.Set (place at.now) value site
+            → Does (program_of on.now.program.now)
+            (λ w. expr_step w (expression expr.now) step.Operate)
             (standing R.keeps R.kept self.old) result (standing R.keeps R.kept self.new) }
     {
         match at {
@@ -101,7 +111,11 @@ impl<'a, R: Recorder> Machine<'a, R> {
                 self.push_expr(expr, ExprStep::Ready)?;
                 self.initialize_owner(on, *field, *at)
             }
-            Place::Field { field, site: at, .. } => {
+            Place::Field {
+                field,
+                site: at,
+                ..
+            } => {
                 let object = self.stack.value_at(1);
                 let uses = self.stack.uses_at(1);
                 let slot = field_slot(&mut self.state, *field, object, uses, *at)?;
@@ -117,7 +131,12 @@ impl<'a, R: Recorder> Machine<'a, R> {
     }
 
     /// The class that declares a static field is initialized.
-    pub fn initialize_owner(&mut self, on: &Dispatcher<'a>, field: u32, site: u32) -> Result<(), Halt>
+    pub fn initialize_owner(
+        &mut self,
+        on: &Dispatcher<'a>,
+        field: u32,
+        site: u32,
+    ) -> Result<(), Halt>
         ensures goes { Does (program_of on.now.program.now)
             (λ w vs. leaving vs (initialize w site (kernel.field w.program field).class))
             (standing R.keeps R.kept self.old) result (standing R.keeps R.kept self.new) }

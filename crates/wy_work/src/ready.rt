@@ -22,7 +22,8 @@ use wy_state::parts::Halt;
 impl<'a, R: Recorder> Machine<'a, R> {
     /// The class that the expression needs is initialized.
     pub fn ready(&mut self, on: &Dispatcher<'a>, expr: &'a Expr) -> Result<(), Halt>
-        ensures goes { Does (program_of on.now.program.now) (λ w. expr_step w (expression expr.now) step.Ready)
+        ensures goes { Does (program_of on.now.program.now)
+            (λ w. expr_step w (expression expr.now) step.Ready)
             (standing R.keeps R.kept self.old) result (standing R.keeps R.kept self.new) }
     {
         match expr {

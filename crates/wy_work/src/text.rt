@@ -42,7 +42,8 @@ impl<'a, R: Recorder> Machine<'a, R> {
 
     /// Puts what stands for a value on: an object stands for what its `toString` returns, each other value for itself.
     pub fn show(&mut self, on: &Dispatcher<'a>, above: usize, site: u32) -> Result<(), Halt>
-        ensures goes { Does (program_of on.now.program.now) (λ w vs. put_on vs (shown w site (at above vs)))
+        ensures goes { Does (program_of on.now.program.now)
+            (λ w vs. put_on vs (shown w site (at above vs)))
             (standing R.keeps R.kept self.old) result (standing R.keeps R.kept self.new) }
     {
         self.stack.push_copy(above)?;

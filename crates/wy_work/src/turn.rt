@@ -38,8 +38,14 @@ pub enum Signal {
 
 impl<'a, R: Recorder> Machine<'a, R> {
     /// A frame at how what was before it ended.
-    pub fn turn(&mut self, on: &Dispatcher<'a>, frame: Frame<'a>, signal: Signal) -> Result<(), Halt>
-        ensures goes { Ends (program_of on.now.program.now) frame.entry (outcome_at signal (standing R.keeps R.kept self.old).values)
+    pub fn turn(
+        &mut self,
+        on: &Dispatcher<'a>,
+        frame: Frame<'a>,
+        signal: Signal,
+    ) -> Result<(), Halt>
+        ensures goes { Ends (program_of on.now.program.now) frame.entry
+            (outcome_at signal (standing R.keeps R.kept self.old).values)
             (standing R.keeps R.kept self.old) result (standing R.keeps R.kept self.new) }
     {
         match signal {
@@ -51,7 +57,8 @@ impl<'a, R: Recorder> Machine<'a, R> {
 
     /// A frame where all before it went through.
     fn resume(&mut self, on: &Dispatcher<'a>, frame: Frame<'a>) -> Result<(), Halt>
-        ensures goes { Ends (program_of on.now.program.now) frame.entry (return (standing R.keeps R.kept self.old).values)
+        ensures goes { Ends (program_of on.now.program.now) frame.entry
+            (return (standing R.keeps R.kept self.old).values)
             (standing R.keeps R.kept self.old) result (standing R.keeps R.kept self.new) }
     {
         match frame {
@@ -67,8 +74,14 @@ impl<'a, R: Recorder> Machine<'a, R> {
         }
     }
 
-    fn resume_expr(&mut self, on: &Dispatcher<'a>, expr: &'a Expr, step: ExprStep) -> Result<(), Halt>
-        ensures goes { Does (program_of on.now.program.now) (λ w. expr_step w (expression expr.now) step)
+    fn resume_expr(
+        &mut self,
+        on: &Dispatcher<'a>,
+        expr: &'a Expr,
+        step: ExprStep,
+    ) -> Result<(), Halt>
+        ensures goes { Does (program_of on.now.program.now)
+            (λ w. expr_step w (expression expr.now) step)
             (standing R.keeps R.kept self.old) result (standing R.keeps R.kept self.new) }
     {
         match step {
@@ -82,8 +95,14 @@ impl<'a, R: Recorder> Machine<'a, R> {
         }
     }
 
-    fn resume_made(&mut self, on: &Dispatcher<'a>, expr: &'a Expr, step: ExprStep) -> Result<(), Halt>
-        ensures goes { Does (program_of on.now.program.now) (λ w. expr_step w (expression expr.now) step)
+    fn resume_made(
+        &mut self,
+        on: &Dispatcher<'a>,
+        expr: &'a Expr,
+        step: ExprStep,
+    ) -> Result<(), Halt>
+        ensures goes { Does (program_of on.now.program.now)
+            (λ w. expr_step w (expression expr.now) step)
             (standing R.keeps R.kept self.old) result (standing R.keeps R.kept self.new) }
     {
         match step {
@@ -95,8 +114,14 @@ impl<'a, R: Recorder> Machine<'a, R> {
         }
     }
 
-    fn resume_stmt(&mut self, on: &Dispatcher<'a>, stmt: &'a Stmt, step: StmtStep) -> Result<(), Halt>
-        ensures goes { Ends (program_of on.now.program.now) (frames.Stmt stmt.entry step) (return (standing R.keeps R.kept self.old).values)
+    fn resume_stmt(
+        &mut self,
+        on: &Dispatcher<'a>,
+        stmt: &'a Stmt,
+        step: StmtStep,
+    ) -> Result<(), Halt>
+        ensures goes { Ends (program_of on.now.program.now) (frames.Stmt stmt.entry step)
+            (return (standing R.keeps R.kept self.old).values)
             (standing R.keeps R.kept self.old) result (standing R.keeps R.kept self.new) }
     {
         match step {
@@ -115,7 +140,8 @@ impl<'a, R: Recorder> Machine<'a, R> {
     }
 
     fn resume_step(&mut self, on: &Dispatcher<'a>, step: Step) -> Result<(), Halt>
-        ensures goes { Ends (program_of on.now.program.now) (frames.Plain step) (return (standing R.keeps R.kept self.old).values)
+        ensures goes { Ends (program_of on.now.program.now) (frames.Plain step)
+            (return (standing R.keeps R.kept self.old).values)
             (standing R.keeps R.kept self.old) result (standing R.keeps R.kept self.new) }
     {
         match step {
@@ -131,7 +157,8 @@ impl<'a, R: Recorder> Machine<'a, R> {
     }
 
     fn resume_end(&mut self, step: Step) -> Result<(), Halt>
-        ensures goes { (p : kernel.Program) → Ends p (frames.Plain step) (return (standing R.keeps R.kept self.old).values)
+        ensures goes { (p : kernel.Program) → Ends p (frames.Plain step)
+            (return (standing R.keeps R.kept self.old).values)
             (standing R.keeps R.kept self.old) result (standing R.keeps R.kept self.new) }
     {
         match step {
@@ -151,7 +178,8 @@ impl<'a, R: Recorder> Machine<'a, R> {
 
     /// The Return at the end of a body whose block ended normally.
     fn end_body(&mut self, returns_none: bool, site: u32) -> Result<(), Halt>
-        ensures goes { (p : kernel.Program) → Ends p (frames.Plain (steps.BodyEnd returns_none site))
+        ensures goes { (p : kernel.Program)
+            → Ends p (frames.Plain (steps.BodyEnd returns_none site))
             (return (standing R.keeps R.kept self.old).values)
             (standing R.keeps R.kept self.old) result (standing R.keeps R.kept self.new) }
     {
@@ -213,8 +241,7 @@ impl<'a, R: Recorder> Machine<'a, R> {
             (standing R.keeps R.kept self.old) result (standing R.keeps R.kept self.new) }
     {
         match frame {
-            Frame::Stmt { stmt, step: StmtStep::Catch } => self.handle(on, stmt, why),
-            Frame::Stmt { stmt, step: StmtStep::Finally } => self.handle_last(stmt, why),
+            Frame::Stmt { stmt, step } => self.pass_stmt(on, stmt, step, why),
             Frame::Plain { step } => self.pass_step(step, why),
             Frame::Close { scope } => {
                 self.state.close_scope(scope)?;
@@ -224,24 +251,69 @@ impl<'a, R: Recorder> Machine<'a, R> {
         }
     }
 
+    fn pass_stmt(
+        &mut self,
+        on: &Dispatcher<'a>,
+        stmt: &'a Stmt,
+        step: StmtStep,
+        why: Reason,
+    ) -> Result<(), Halt>
+        ensures goes { Ends (program_of on.now.program.now) (frames.Stmt stmt.entry step)
+            (leave (reason_of why))
+            (standing R.keeps R.kept self.old) result (standing R.keeps R.kept self.new) }
+    {
+        match step {
+            StmtStep::Catch => self.handle(on, stmt, why),
+            StmtStep::Finally => self.handle_last(stmt, why),
+            _ => Err(Halt::Left(why)),
+        }
+    }
+
     fn pass_step(&mut self, step: Step, why: Reason) -> Result<(), Halt>
         ensures goes { (p : kernel.Program) → Ends p (frames.Plain step) (leave (reason_of why))
             (standing R.keeps R.kept self.old) result (standing R.keeps R.kept self.new) }
     {
-        match (step, why) {
-            (Step::BodyEnd { .. }, Reason::Returned { event, value }) => {
-                self.stack.clear();
-                self.stack.push_with(value, Use::Value { event })?;
-                Ok(())
-            }
-            (Step::Initialized, Reason::Threw { event, .. }) => {
-                Err(Halt::Stopped(Limit::InitFailed { last: event }))
-            }
-            (Step::LeaveCall { .. } | Step::LeaveClass, _) => {
+        match step {
+            Step::BodyEnd { returns_none, site } => self.pass_body(returns_none, site, why),
+            Step::Initialized => self.pass_failure(why),
+            Step::LeaveCall { .. } => {
                 self.leave_body()?;
                 Err(Halt::Left(why))
             }
-            (Step::End { statement }, _) => self.end_left(statement, why),
+            Step::LeaveClass => {
+                self.leave_body()?;
+                Err(Halt::Left(why))
+            }
+            Step::End { statement } => self.end_left(statement, why),
+            _ => Err(Halt::Left(why)),
+        }
+    }
+
+    /// A Return ends its body, which has its value.
+    fn pass_body(&mut self, returns_none: bool, site: u32, why: Reason) -> Result<(), Halt>
+        ensures goes { (p : kernel.Program)
+            → Ends p (frames.Plain (steps.BodyEnd returns_none site))
+            (leave (reason_of why))
+            (standing R.keeps R.kept self.old) result (standing R.keeps R.kept self.new) }
+    {
+        let Reason::Returned { event, value } = why else {
+            return Err(Halt::Left(why));
+        };
+        self.stack.clear();
+        self.stack.push_with(value, Use::Value { event })?;
+        Ok(())
+    }
+
+    /// An initializer that ends by a throw stops the run.
+    fn pass_failure(&mut self, why: Reason) -> Result<(), Halt>
+        ensures goes { (p : kernel.Program) → Ends p (frames.Plain steps.Initialized)
+            (leave (reason_of why))
+            (standing R.keeps R.kept self.old) result (standing R.keeps R.kept self.new) }
+    {
+        match why {
+            Reason::Threw { event, value: _ } => {
+                Err(Halt::Stopped(Limit::InitFailed { last: event }))
+            }
             _ => Err(Halt::Left(why)),
         }
     }
@@ -265,14 +337,34 @@ impl<'a, R: Recorder> Machine<'a, R> {
             (standing R.keeps R.kept self.old) result (standing R.keeps R.kept self.new) }
     {
         match frame {
-            Frame::Plain { step: Step::LeaveCall { .. } | Step::LeaveClass } => self.leave_body()?,
-            Frame::Plain { step: Step::End { statement } } => {
-                self.state.leave_by(statement, cause_of(why))?;
+            Frame::Plain { step } => self.halt_step(step, why),
+            Frame::Close { scope } => {
+                self.state.close_scope(scope)?;
+                Err(Halt::Stopped(why))
             }
-            Frame::Close { scope } => self.state.close_scope(scope)?,
-            _ => {}
+            _ => Err(Halt::Stopped(why)),
         }
-        Err(Halt::Stopped(why))
+    }
+
+    fn halt_step(&mut self, step: Step, why: Limit) -> Result<(), Halt>
+        ensures goes { (p : kernel.Program) → Ends p (frames.Plain step) (stop (stop_of why))
+            (standing R.keeps R.kept self.old) result (standing R.keeps R.kept self.new) }
+    {
+        match step {
+            Step::LeaveCall { .. } => {
+                self.leave_body()?;
+                Err(Halt::Stopped(why))
+            }
+            Step::LeaveClass => {
+                self.leave_body()?;
+                Err(Halt::Stopped(why))
+            }
+            Step::End { statement } => {
+                self.state.leave_by(statement, cause_of(why))?;
+                Err(Halt::Stopped(why))
+            }
+            _ => Err(Halt::Stopped(why)),
+        }
     }
 }
 

@@ -32,7 +32,8 @@ impl<'a, R: Recorder> Machine<'a, R> {
     /// Finds the place of an update.
     pub fn update(&mut self, on: &Dispatcher<'a>, expr: &'a Expr, at: &'a Place) -> Result<(), Halt>
         ensures goes { IsUpdate (expression expr.now) (place at.now)
-            → Does (program_of on.now.program.now) (λ w. expr_step w (expression expr.now) step.Operate)
+            → Does (program_of on.now.program.now)
+            (λ w. expr_step w (expression expr.now) step.Operate)
             (standing R.keeps R.kept self.old) result (standing R.keeps R.kept self.new) }
     {
         match at {
@@ -62,7 +63,8 @@ impl<'a, R: Recorder> Machine<'a, R> {
     pub fn located(&mut self, expr: &'a Expr, slot: Slot, many: usize) -> Result<(), Halt>
         ensures goes { (p : kernel.Program) (c : Carried nothing)
             → c.uses ≡ uses_of_last many (standing R.keeps R.kept self.old).values
-            → Does p (λ w vs. updating_of w (expression expr.now) (spot_of slot c) (under_many many vs))
+            → Does p
+            (λ w vs. updating_of w (expression expr.now) (spot_of slot c) (under_many many vs))
             (standing R.keeps R.kept self.old) result (standing R.keeps R.kept self.new) }
     {
         let Expr::Upd { value, .. } = expr else {
@@ -81,7 +83,8 @@ impl<'a, R: Recorder> Machine<'a, R> {
 
     /// The parts of the place, its old value and the right side are there.
     pub fn assign(&mut self, on: &Dispatcher<'a>, expr: &'a Expr, slot: Slot) -> Result<(), Halt>
-        ensures goes { Does (program_of on.now.program.now) (λ w. expr_step w (expression expr.now) (step.Assign slot))
+        ensures goes { Does (program_of on.now.program.now)
+            (λ w. expr_step w (expression expr.now) (step.Assign slot))
             (standing R.keeps R.kept self.old) result (standing R.keeps R.kept self.new) }
     {
         let Expr::Upd {
@@ -123,7 +126,8 @@ impl<'a, R: Recorder> Machine<'a, R> {
         expr: &'a Expr,
         slot: Slot,
     ) -> Result<(), Halt>
-        ensures goes { Does (program_of on.now.program.now) (λ w. expr_step w (expression expr.now) (step.Store slot))
+        ensures goes { Does (program_of on.now.program.now)
+            (λ w. expr_step w (expression expr.now) (step.Store slot))
             (standing R.keeps R.kept self.old) result (standing R.keeps R.kept self.new) }
     {
         let Expr::Upd { site, .. } = expr else {

@@ -1,4 +1,3 @@
-use Rattle.std.proofs.Common.{refl}
 use Rattle.wy_work.specs.Machines.{standing}
 use Rattle.wy_work.proofs.Acts.{jumped}
 use Rattle.wy_work.proofs.machine.Machine.act_more.Goals as goal

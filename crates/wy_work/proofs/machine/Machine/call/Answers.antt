@@ -1,4 +1,4 @@
-use Rattle.std.proofs.Common.{ap, refl, sym, ◌∙◌, ◌-◌, [], ◌∷◌, arith}
+use Rattle.std.proofs.Common.{ap, refl, sym, ◌∙◌, ◌-◌, [], arith}
 use Rattle.std.proofs.lemmas.Result.{err_from_is_err_and}
 use Rattle.wy_kernel.specs.Parts.{program_of}
 use Rattle.wy_kernel.specs.Program as kernel
@@ -6,12 +6,7 @@ use Rattle.wy_kernel.specs.View.{body_of}
 use Rattle.wy_meaning.specs.Call.{call_uses, is_void}
 use Rattle.wy_operands.specs.Values.{under_many}
 use Rattle.wy_steps.specs.State.{return}
-use Rattle.wy_work.specs.Expressions.{put_on}
-use Rattle.wy_work.specs.Frames.{pushed}
 use Rattle.wy_work.specs.Machines.{standing}
-use Rattle.wy_work.specs.declared.frame.Frame.TheVariants as frame
-use Rattle.wy_work.specs.declared.frame.Step.TheVariants as step
-use Rattle.wy_work.specs.declared.frame.StmtStep.TheVariants as doing
 use Rattle.wy_work.proofs.Runs.{turned_after}
 use Rattle.wy_work.proofs.Calls.{settles}
 use Rattle.wy_work.proofs.Bodies.{call_refused, called, fell_off, in_call, pushes_body, too_deep}

@@ -1,5 +1,4 @@
 use Rattle.std.proofs.Common.{add-one, ap, sym, ◌∙◌, Some}
-use Rattle.std.specs.Prelude.{None as Absent}
 use Rattle.wy_kernel.specs.Parts.{program_of}
 use Rattle.wy_kernel.specs.Program as kernel
 use Rattle.wy_operands.specs.Values.{at, last_many}

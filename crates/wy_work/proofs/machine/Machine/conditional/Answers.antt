@@ -1,5 +1,4 @@
 use Rattle.std.proofs.Common.{◌∙◌, ap}
-use Rattle.wy_kernel.specs.View.{expression}
 use Rattle.wy_work.specs.Machines.{standing}
 use Rattle.wy_work.specs.Frames.{pushed}
 use Rattle.wy_work.proofs.Conds.{conditional_goes}

@@ -1,7 +1,6 @@
-use Rattle.std.proofs.Common.{◌∙◌, ap}
 use Rattle.std.proofs.lemmas.Result.{err_from_is_err_and}
 use Rattle.wy_work.specs.Machines.{standing}
-use Rattle.wy_kernel.specs.View.{expression, place}
+use Rattle.wy_kernel.specs.View.{expression}
 use Rattle.wy_work.proofs.Places.{element_read, element_read_failed, element_seen, field_read, field_read_failed, field_seen, local_read, local_seen, read_of, static_read, static_seen}
 use Rattle.wy_work.proofs.machine.Machine.read.Goals as goal
 

@@ -1,6 +1,6 @@
 use Rattle.std.proofs.Common.{◌∙◌, ap, map}
 use Rattle.wy_kernel.specs.Form as plain
-use Rattle.wy_kernel.specs.View.{expression, place, row_of}
+use Rattle.wy_kernel.specs.View.{expression, row_of}
 use Rattle.wy_work.specs.Machines.{standing}
 use Rattle.wy_work.specs.Listed.{part_seen}
 use Rattle.wy_work.proofs.Views.{view_call, view_read, view_set}

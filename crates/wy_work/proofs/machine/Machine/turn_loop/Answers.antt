@@ -1,4 +1,4 @@
-use Rattle.std.proofs.Common.{◌≡◌, ◌∙◌, ℕ, suc, ◌-◌, ap, refl, arith}
+use Rattle.std.proofs.Common.{◌≡◌, suc, ◌-◌, refl, arith}
 use Rattle.wy_work.specs.Machines.{standing}
 use Rattle.wy_work.proofs.Turns.{do_condition, no_turns, turn_goes, while_condition}
 use Rattle.wy_work.proofs.machine.Machine.turn_loop.Goals as goal
