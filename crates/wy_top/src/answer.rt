@@ -1,5 +1,5 @@
 //! What a call answers: its status and its text, before any byte of it is written.
-ghost use Rattle.std.specs.Prelude.{◌≡◌, ◌≤◌, ℕ, List, IfOk, IfErr, map, string_bytes, length};
+ghost use Rattle.std.specs.Prelude.{◌≡◌, ◌≤◌, ℕ, List, IfOk, map, string_bytes, length};
 ghost use Rattle.wy_kernel.specs.Parts.{program_of};
 ghost use Rattle.wy_outside.specs.Counts.{Rose};
 ghost use Rattle.wy_top.specs.Due.{DueFor};
@@ -25,7 +25,7 @@ use wy_kernel::program::Program;
 use wy_machine::run;
 use wy_outside::shelf::Shelf;
 use wy_record::{QuietRecorder, Recorder};
-use wy_words::asked;
+use wy_words::{Asked, command};
 
 /// A status and the text that is written with it.
 #[derive(Drop)]
@@ -128,7 +128,7 @@ fn answer_to_source(
 
 /// The answer where a file was not read.
 fn answer_to_lack(alloc: Global, error: FileError<'_>) -> Result<Answer, AllocError>
-    ensures { IfOk result (λ answer. Tells error answer) }
+    ensures { IfOk result (λ answer. Tells error.entry answer) }
 {
     match error {
         FileError::Absent { name } => {
@@ -165,12 +165,17 @@ pub fn answer_to<S: Shelf>(
     ensures reads_nothing { IsNoCommand (map string_bytes words.now)
         → S.gets shelf.new ≡ S.gets shelf.old }
 {
-    let Some(asked) = asked(words) else {
+    let Some(Asked {
+        source,
+        input,
+        steps,
+    }) = command(words)
+    else {
         return Answer::refused(alloc, Status::Usage, Refusal::Usage);
     };
-    match read_both(alloc, shelf, asked.source, asked.input) {
+    match read_both(alloc, shelf, source, input) {
         Ok(Contents { source, input }) => {
-            answer_to_source(alloc, source.as_slice(), input.as_slice(), asked.steps)
+            answer_to_source(alloc, source.as_slice(), input.as_slice(), steps)
         }
         Err(error) => answer_to_lack(alloc, error),
     }

@@ -1,5 +1,5 @@
 //! Reads the files that the words name.
-ghost use Rattle.std.specs.Prelude.{◌≡◌, ◌≤◌, ◌<◌, ◌^◌, IfOk, length, option_copied};
+ghost use Rattle.std.specs.Prelude.{◌≡◌, ◌≤◌, ◌<◌, ◌^◌, IfOk, length, option_map};
 ghost use Rattle.wy_outside.specs.Counts.{RoseAt};
 ghost use Rattle.wy_top.specs.Held.{source_limit};
 ghost use Rattle.wy_top.specs.Reads.{GivesBoth, GivesFile, is_absent, is_fault, is_too_long};
@@ -65,7 +65,7 @@ pub fn read_both<'a, S: Shelf>(
     source: &'a str,
     input: Option<&'a str>,
 ) -> Result<Contents, FileError<'a>>
-    ensures content { GivesBoth (S.held shelf.old) source.now (option_copied input) result }
+    ensures content { GivesBoth (S.held shelf.old) source.now (option_map (λ s. s.now) input.entry) result }
     ensures bound { IfOk result (λ contents. length contents.source.items ≤ source_limit) }
     ensures fault { RoseAt is_fault result (S.faults shelf.old) (S.faults shelf.new) }
     ensures absent { RoseAt is_absent result (S.misses shelf.old) (S.misses shelf.new) }
