@@ -1,5 +1,5 @@
 -- What an answer is, from what the reading of the files gave.
-use Rattle.std.proofs.Common.{◌≡◌, ◌∙◌, ◌⊎◌, sym, subst, refl, inl, inr, ℕ, List, Option, Some, None, Result, Ok, Err, IfOk, Bor, option_copied}
+use Rattle.std.proofs.Common.{◌≡◌, ◌∙◌, sym, refl, inl, inr, ℕ, List, Option, Some, None, Result, Ok, Err, IfOk, Bor}
 use Rattle.std.specs.declared.alloc.AllocError.{AllocError}
 use Rattle.wy_outside.specs.Counts.{Rose, RoseAt}
 use Rattle.wy_outside.specs.Shelf.{Files}
@@ -12,7 +12,6 @@ use Rattle.wy_top.specs.declared.status.Status.{Status}
 use Rattle.wy_top.specs.declared.status.Status.TheVariants.{Usage, Absent, TooLong, Fault}
 use Rattle.wy_top.specs.Lines.{usage_line, shelf_fault_line}
 use Rattle.wy_top.specs.Due.{Due, DueFor, usage, no_source, no_input, read}
-use Rattle.wy_top.specs.Held.{Asks}
 use Rattle.wy_top.specs.Statuses.{code_of}
 use Rattle.wy_top.specs.Answers.{IsAnswer, Knows}
 use Rattle.wy_top.specs.Reads.{GivesBoth, LacksEither, Tells, is_absent, is_too_long, is_fault}

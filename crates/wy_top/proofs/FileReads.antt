@@ -1,11 +1,11 @@
 -- What a read of the shelf gives of a file that the words name.
-use Rattle.std.proofs.Common.{◌≡◌, ◌∙◌, sym, ap, refl, ℕ, ◌+◌, ◌<◌, List, length, take, Option, Some, None, Result, Ok, Err, Vec, Global, arith, vec_len, min, Bor}
+use Rattle.std.proofs.Common.{◌≡◌, ◌∙◌, sym, ap, refl, ℕ, ◌+◌, ◌<◌, List, length, take, Option, Some, None, Ok, Err, Vec, Global, arith, vec_len, min, Bor}
 use Rattle.std.specs.Prelude.{option_map}
 use Rattle.std.proofs.lemmas.List.{length-take}
 use Rattle.wy_outside.specs.Shelf.{Files, ReadsFile}
 use Rattle.wy_outside.specs.declared.shelf.ShelfError.TheVariants.{Absent as Missing}
 use Rattle.wy_top.specs.declared.files.FileError.TheVariants as error
-use Rattle.wy_top.specs.Held.{Lacks, absent, too_long}
+use Rattle.wy_top.specs.Held.{absent, too_long}
 use Rattle.wy_top.specs.Reads.{GivesFile}
 
 -- the file that a read of at most so many bytes found

@@ -5,7 +5,7 @@ use Rattle.wy_kernel.specs.declared.program.Program as memory
 use Rattle.wy_kernel.specs.Parts.{program_of}
 use Rattle.wy_constant.specs.declared.rule.Rule.{Rule}
 use Rattle.wy_constant.specs.Refusal.{refused}
-use Rattle.wy_tree.specs.Ast.{Ast, tokens, view}
+use Rattle.wy_tree.specs.Ast.{Ast, view}
 use Rattle.wy_tree.specs.Lines.{line_of}
 use Rattle.wy_tree.specs.Tokens.{Placed, placed, Tokens}
 use Rattle.wy_tree.specs.TokenLaws.{InOrder, TokensInOrder}

@@ -1,5 +1,5 @@
 -- The files that the words name, as a shelf holds them.
-use Rattle.std.specs.Prelude.{◌≡◌, ◌<◌, ◌≤◌, ◌⊎◌, ℕ, List, [], length, Option, Some, None}
+use Rattle.std.specs.Prelude.{◌≡◌, ◌<◌, ◌≤◌, ℕ, List, [], length, Option, Some, None}
 use Rattle.wy_outside.specs.Shelf.{Files}
 use Rattle.wy_words.specs.Words.{Asked, AsksToRun}
 use Rattle.wy_top.specs.Lines.{absent_line, too_long_line}

@@ -165,11 +165,13 @@ pub fn answer_to<S: Shelf>(
     ensures reads_nothing { IsNoCommand (map string_bytes words.now)
         → S.gets shelf.new ≡ S.gets shelf.old }
 {
-    let Some(Asked {
-        source,
-        input,
-        steps,
-    }) = command(words)
+    let Some(
+        Asked {
+            source,
+            input,
+            steps,
+        },
+    ) = command(words)
     else {
         return Answer::refused(alloc, Status::Usage, Refusal::Usage);
     };

@@ -16,12 +16,8 @@ const INPUT_LIMIT: u32 = 16_777_216;
 /// Why a file was not read.
 #[derive(Clone, Copy)]
 pub enum FileError<'a> {
-    Absent {
-        name: &'a str,
-    },
-    TooLong {
-        name: &'a str,
-    },
+    Absent { name: &'a str },
+    TooLong { name: &'a str },
     /// The shelf failed.
     Fault,
     NoMemory,

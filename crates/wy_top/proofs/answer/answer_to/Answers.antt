@@ -8,7 +8,7 @@ returns-in_default-clause-due g c = usage_due _ _ _ _ (c.command.ensures.refused
 pub returns-in-Ok-clause-due : goal.returns-in-Ok-clause-due
 returns-in-Ok-clause-due g c =
     read_due _ _ (asked_of c.in-Some.field-0) c.in-Ok.field-0 _ _ _ _ _ c.in-Some.ensures.asked c.in-Ok.ensures.content c.in-Ok.ensures.fault
-      c.as_slice.ensures.value c.as_slice-in-Ok.ensures.value c.answer_to_source.ensures
+    c.as_slice.ensures.value c.as_slice-in-Ok.ensures.value c.answer_to_source.ensures
 
 pub returns-in-Err-clause-due : goal.returns-in-Err-clause-due
 returns-in-Err-clause-due g c =

@@ -1,4 +1,4 @@
-use Rattle.std.proofs.Common.{◌≡◌, ◌∙◌, sym, ap, subst, refl, inl, inr, ◌⊎◌, ℕ, ◌<◌, ◌≤◌, List, length, map, Option, Some, None, Result, Ok, Err, arith}
+use Rattle.std.proofs.Common.{◌≡◌, ◌∙◌, sym, ap, subst, refl, inl, inr, ◌⊎◌, ℕ, List, length, map, Option, Some, None, Result, Ok, Err, arith}
 use Rattle.wy_kernel.specs.Program.{Program}
 use Rattle.wy_constant.specs.Refusal as typing
 use Rattle.wy_outside.specs.Shelf.{Files}
@@ -9,7 +9,7 @@ use Rattle.wy_tree.specs.TokenLaws.{OneTokenList, TokensOrRefusal, OneRefusal, N
 use Rattle.wy_tree.specs.Trees.{OneTree}
 use Rattle.wy_syntax.specs.Declarations.{unit}
 use Rattle.wy_elab_stmt.specs.Elaborates.{Elaborates, OneElaboration}
-use Rattle.wy_words.specs.Words.{Asked, AsksToRun, IsNoCommand}
+use Rattle.wy_words.specs.Words.{Asked, IsNoCommand}
 use Rattle.wy_top.specs.Lines.{usage_line, not_utf8_line, fault_line, rule_line}
 use Rattle.wy_top.specs.Report.{report}
 use Rattle.wy_top.specs.Held.{Asks, Holds, Lacks, absent, too_long, IsInput, source_limit, input_limit}
