@@ -44,7 +44,8 @@ head -c 16777217 /dev/zero | tr '\0' 'x' >"$scratch/over"
 usage='usage: whyline run SRC [-i IN] [--steps N]'
 
 expect_line "the step limit" 0 '-- step limit' run "$scratch/endless.java"
-expect_line "a step too few" 0 '-- step limit' run --steps 12 examples/first.java
+expect_line "a step too few" 0 '-- step limit' run --steps 19 examples/first.java
+expect_line "as many steps as it takes" 0 $'5\n-- finished' run --steps 20 examples/first.java
 expect_line "the steps before the file" 0 '-- step limit' run --steps=3 "$scratch/endless.java"
 expect_line "an input, and what is uncaught" 0 $'x\n-- uncaught java.lang.ArithmeticException, line 1' run "$scratch/reads.java" -i "$scratch/letters"
 expect_line "an input before the file" 0 $'x\n-- uncaught java.lang.ArithmeticException, line 1' run -i "$scratch/letters" --steps 100 "$scratch/reads.java"
