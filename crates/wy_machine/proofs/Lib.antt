@@ -1,1 +1,4 @@
-pub mod StackLaws
+pub mod Starts
+pub mod Going
+mod Throws
+pub mod Ends

@@ -1,2 +1,3 @@
 pub mod Ended
-pub mod Stack
+pub mod Going
+pub mod Start

@@ -1,3 +1,4 @@
+pub mod FileReads
 pub mod AnswerLemmas
 pub mod Sources
 pub mod ErrorDues

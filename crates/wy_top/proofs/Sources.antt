@@ -5,7 +5,7 @@ use Rattle.wy_kernel.specs.declared.program.Program as memory
 use Rattle.wy_kernel.specs.Parts.{program_of}
 use Rattle.wy_constant.specs.declared.rule.Rule.{Rule}
 use Rattle.wy_constant.specs.Refusal.{refused}
-use Rattle.wy_tree.specs.Ast.{Ast, tokens, view}
+use Rattle.wy_tree.specs.Ast.{Ast, view}
 use Rattle.wy_tree.specs.Lines.{line_of}
 use Rattle.wy_tree.specs.Tokens.{Placed, placed, Tokens}
 use Rattle.wy_tree.specs.TokenLaws.{InOrder, TokensInOrder}
@@ -19,7 +19,8 @@ use Rattle.wy_program.specs.declared.typed.TypedProgram.{TypedProgram}
 use Rattle.wy_program.specs.Texts.{Reads}
 use Rattle.wy_top.specs.declared.reading.FrontError.{FrontError}
 use Rattle.wy_top.specs.declared.reading.FrontError.TheVariants.{Lex, Parse, Typing, NoMemory}
-use Rattle.wy_top.specs.Due.{HasTree, unplaced, source_limit}
+use Rattle.wy_top.specs.Due.{HasTree, unplaced}
+use Rattle.wy_top.specs.Held.{source_limit}
 use Rattle.wy_top.specs.Fronts.{IsCauseOf, IsProgramOf, IsTypedAs, LacksTree, LacksTypes}
 
 -- tokens in order are at most as many as the bytes

@@ -2,7 +2,7 @@
 use Rattle.std.specs.Prelude.{◌≡◌, ℕ, List, ◌⊎◌, Option, Some}
 use Rattle.wy_outside.specs.Counts.{Rose}
 use Rattle.wy_outside.specs.Shelf.{Files}
-use Rattle.wy_top.specs.Words.{IsNoCommand}
+use Rattle.wy_words.specs.Words.{IsNoCommand}
 use Rattle.wy_top.specs.declared.answer.Answer.{Answer}
 use Rattle.wy_top.specs.declared.status.Status.TheVariants.{Fault}
 use Rattle.wy_top.specs.Statuses.{code_of}

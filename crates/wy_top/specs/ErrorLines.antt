@@ -8,5 +8,5 @@ use Rattle.wy_top.specs.Refusals.{refusal_text}
 
 -- the line of this refusal is due for each source that the error has its cause in
 abbrev pub IsRefusalOf : FrontError → Option Refusal → Type 0
-IsRefusalOf error (Some r) = (source : List ℕ) → IsCauseOf source error → DueFor source 4 (refusal_text r)
+IsRefusalOf error (Some r) = (source input : List ℕ) (steps : ℕ) → IsCauseOf source error → DueFor source input steps 4 (refusal_text r)
 IsRefusalOf error None = Unit {0}

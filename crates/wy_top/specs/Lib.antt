@@ -1,10 +1,12 @@
 pub mod Statuses
-pub mod Words
 pub mod Lines
+pub mod Report
 pub mod Refusals
+pub mod Held
 pub mod Due
 pub mod Fronts
 pub mod ErrorLines
 pub mod Answers
+pub mod Reads
 pub mod Call
 pub mod Deliveries

@@ -1,7 +1,6 @@
 -- The lines that a command writes. Each ends with a line feed.
 use Rattle.std.specs.Prelude.{ℕ, List, [], ◌∷◌, ◌++◌, ◌==◌, Bool, true, codes, if◌then◌else◌}
 use Rattle.std.specs.Fmt.{decimal}
-use Rattle.wy_smallforms.specs.Meaning.{Ending}
 use Rattle.wy_tree.specs.Tokens.{Refusal, BadToken, BadLiteral}
 use Rattle.wy_constant.specs.declared.rule.Rule.{Rule}
 use Rattle.wy_constant.specs.declared.rule.Rule.TheVariants as rule
@@ -10,7 +9,7 @@ abbrev pub line_of : List ℕ → List ℕ
 line_of text = text ++ 10 ∷ []
 
 abbrev pub usage_line : List ℕ
-usage_line = line_of (codes "usage: whyline run SRC")
+usage_line = line_of (codes "usage: whyline run SRC [-i IN] [--steps N]")
 
 abbrev pub absent_line : List ℕ → List ℕ
 absent_line name = line_of (codes "absent: " ++ name)
@@ -54,18 +53,11 @@ name_of rule.NoMain = codes "NoMain"
 abbrev pub rule_line : Rule → ℕ → ℕ → List ℕ
 rule_line r line token = at_token (name_of r) line token
 
-abbrev pub not_yet_line : List ℕ
-not_yet_line = line_of (codes "program: NotYet")
-
 abbrev pub shelf_fault_line : List ℕ
 shelf_fault_line = line_of (codes "fault: shelf")
 
 abbrev pub too_long_line : List ℕ → List ℕ
 too_long_line name = line_of (codes "too long: " ++ name)
-
--- how a run ended, by the number of its stop: 2 is the step limit
-abbrev pub stop_line : ℕ → List ℕ
-stop_line stop = if stop == 2 then line_of (codes "-- step limit") else line_of (codes "-- finished")
 
 -- nothing, or a text whose last byte is a line feed
 abbrev pub ends_its_line : List ℕ → Bool
@@ -76,7 +68,3 @@ ends_its_line (b ∷ c ∷ rest) = ends_its_line (c ∷ rest)
 -- what was printed, with a line feed where its last line has none
 abbrev pub whole_lines : List ℕ → List ℕ
 whole_lines output = if ends_its_line output then output else line_of output
-
--- what is written of a run
-abbrev pub report : Ending → List ℕ
-report ending = whole_lines ending.output ++ stop_line ending.stop

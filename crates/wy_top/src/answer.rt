@@ -2,30 +2,30 @@
 ghost use Rattle.std.specs.Prelude.{◌≡◌, ◌≤◌, ℕ, List, IfOk, map, string_bytes, length};
 ghost use Rattle.wy_kernel.specs.Parts.{program_of};
 ghost use Rattle.wy_outside.specs.Counts.{Rose};
-ghost use Rattle.wy_top.specs.Due.{DueFor, DueForProgram, source_limit};
+ghost use Rattle.wy_top.specs.Due.{DueFor};
 ghost use Rattle.wy_top.specs.ErrorLines.{IsRefusalOf};
 ghost use Rattle.wy_top.specs.Fronts.{IsCauseOf};
-ghost use Rattle.wy_top.specs.declared.status.Status.TheVariants.{Absent, TooLong, Usage, Fault};
+ghost use Rattle.wy_top.specs.declared.status.Status.TheVariants.{Absent, Done, TooLong, Usage, Fault};
+ghost use Rattle.wy_top.specs.Held.{source_limit};
 ghost use Rattle.wy_top.specs.Lines.{shelf_fault_line};
+ghost use Rattle.wy_top.specs.Reads.{Tells};
+ghost use Rattle.wy_top.specs.Report.{report};
 ghost use Rattle.wy_top.specs.Statuses.{code_of};
-ghost use Rattle.wy_top.specs.Words.{IsNoCommand};
 ghost use Rattle.wy_top.specs.Answers.{IsAnswer};
+ghost use Rattle.wy_words.specs.Words.{IsNoCommand};
 
+use crate::files::{Contents, FileError, read_both};
 use crate::lines::{Refusal, lex_refusal, refusal_line, report, rule_name};
 use crate::reading::{FrontError, front};
 use crate::status::Status;
-use crate::words::source_of;
 use std::alloc::{AllocError, Global};
+use wy_event::record::Head;
+use wy_event::sequence::Sequence;
 use wy_kernel::program::Program;
 use wy_machine::run;
-use wy_outside::shelf::{Shelf, ShelfError};
-use wy_small::{small, small_program};
-
-/// The bytes that a source may have.
-const SOURCE_LIMIT: u32 = 1_048_576;
-
-/// The steps that a run may take.
-const STEP_BUDGET: u32 = 1_000_000;
+use wy_outside::shelf::Shelf;
+use wy_record::{QuietRecorder, Recorder};
+use wy_words::{Asked, command};
 
 /// A status and the text that is written with it.
 #[derive(Drop)]
@@ -46,16 +46,32 @@ impl Answer {
     }
 }
 
-/// What a program gives: the report of its run, or that it can't be run yet.
-fn answer_to_program(alloc: Global, program: &Program) -> Result<Answer, AllocError>
-    ensures { IfOk result (λ answer. DueForProgram (program_of program.now) (code_of answer.status) answer.text.items) }
-{
-    if !small(program) {
-        return Answer::refused(alloc, Status::Program, Refusal::NotYet);
+/// A recorder that keeps nothing, ready for the events of a run.
+fn recorder(alloc: Global) -> Result<QuietRecorder, AllocError> {
+    let head = Head {
+        steps: 0,
+        input: Sequence::new(Vec::new(alloc)),
+        source: Sequence::new(Vec::new(alloc)),
+    };
+    let mut recorder = QuietRecorder::new(alloc);
+    match recorder.start("", &head, Vec::new(alloc)) {
+        Ok(()) => Ok(recorder),
+        Err(_) => Err(AllocError),
     }
-    let program = small_program(alloc, program)?;
-    let ended = run(alloc, &program, &[], STEP_BUDGET)?;
-    let text = report(ended)?;
+}
+
+/// What a program gives: the report of its run.
+fn answer_to_program(
+    alloc: Global,
+    program: &Program,
+    input: &[u8],
+    steps: u32,
+) -> Result<Answer, AllocError>
+    ensures { IfOk result (λ answer. (answer.status ≡ Done) × (answer.text.items
+        ≡ report (program_of program.now) program.now.lines.items input.now steps)) }
+{
+    let (ended, _) = run(alloc, program, input, steps, recorder(alloc)?)?;
+    let text = report(alloc, program, ended)?;
     Ok(Answer {
         status: Status::Done,
         text,
@@ -84,7 +100,8 @@ fn front_refusal(error: FrontError) -> Option<Refusal<'static>>
 
 /// The answer to a source that is no program.
 fn answer_to_error(alloc: Global, error: FrontError) -> Result<Answer, AllocError>
-    ensures { IfOk result (λ answer. (source : List ℕ) → IsCauseOf source error → DueFor source (code_of answer.status) answer.text.items) }
+    ensures { IfOk result (λ answer. (source input : List ℕ) (steps : ℕ) → IsCauseOf source error
+        → DueFor source input steps (code_of answer.status) answer.text.items) }
 {
     match front_refusal(error) {
         Some(refusal) => Answer::refused(alloc, Status::Program, refusal),
@@ -92,18 +109,40 @@ fn answer_to_error(alloc: Global, error: FrontError) -> Result<Answer, AllocErro
     }
 }
 
-/// What the source gives: what its program does, or why it is none.
-fn answer_to_source(alloc: Global, source: &[u8]) -> Result<Answer, AllocError>
+/// What a source gives: what its program does with the input in so many steps, or why it is none.
+fn answer_to_source(
+    alloc: Global,
+    source: &[u8],
+    input: &[u8],
+    steps: u32,
+) -> Result<Answer, AllocError>
     requires { length source.now ≤ source_limit }
-    ensures { IfOk result (λ answer. DueFor source.now (code_of answer.status) answer.text.items) }
+    ensures { IfOk result (λ answer.
+        DueFor source.now input.now steps (code_of answer.status) answer.text.items) }
 {
     match front(alloc, source) {
-        Ok(typed) => answer_to_program(alloc, &typed.program),
+        Ok(typed) => answer_to_program(alloc, &typed.program, input, steps),
         Err(error) => answer_to_error(alloc, error),
     }
 }
 
-/// What the words and the files give. The shelf is read at most once, and not at all where the
+/// The answer where a file was not read.
+fn answer_to_lack(alloc: Global, error: FileError<'_>) -> Result<Answer, AllocError>
+    ensures { IfOk result (λ answer. Tells error.entry answer) }
+{
+    match error {
+        FileError::Absent { name } => {
+            Answer::refused(alloc, Status::Absent, Refusal::Absent { name })
+        }
+        FileError::TooLong { name } => {
+            Answer::refused(alloc, Status::TooLong, Refusal::LongFile { name })
+        }
+        FileError::Fault => Answer::refused(alloc, Status::Fault, Refusal::FaultShelf),
+        FileError::NoMemory => Err(AllocError),
+    }
+}
+
+/// What the words and the files give. The shelf is read at most twice, and not at all where the
 /// words are no command.
 pub fn answer_to<S: Shelf>(
     alloc: Global,
@@ -126,17 +165,20 @@ pub fn answer_to<S: Shelf>(
     ensures reads_nothing { IsNoCommand (map string_bytes words.now)
         → S.gets shelf.new ≡ S.gets shelf.old }
 {
-    let name = match source_of(words) {
-        Some(name) => name,
-        None => return Answer::refused(alloc, Status::Usage, Refusal::Usage),
+    let Some(
+        Asked {
+            source,
+            input,
+            steps,
+        },
+    ) = command(words)
+    else {
+        return Answer::refused(alloc, Status::Usage, Refusal::Usage);
     };
-    match shelf.read(alloc, name, SOURCE_LIMIT + 1) {
-        Ok(source) if source.len() > SOURCE_LIMIT as usize => {
-            Answer::refused(alloc, Status::TooLong, Refusal::LongFile { name })
+    match read_both(alloc, shelf, source, input) {
+        Ok(Contents { source, input }) => {
+            answer_to_source(alloc, source.as_slice(), input.as_slice(), steps)
         }
-        Ok(source) => answer_to_source(alloc, source.as_slice()),
-        Err(ShelfError::Failed) => Answer::refused(alloc, Status::Fault, Refusal::FaultShelf),
-        Err(ShelfError::Absent) => Answer::refused(alloc, Status::Absent, Refusal::Absent { name }),
-        Err(ShelfError::NoMemory) => Err(AllocError),
+        Err(error) => answer_to_lack(alloc, error),
     }
 }

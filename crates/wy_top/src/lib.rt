@@ -3,12 +3,12 @@
 #![tactic(auto)]
 
 mod answer;
+mod files;
 pub mod laws;
 mod lines;
 pub mod reading;
 pub mod status;
 pub mod top;
-mod words;
 
 pub use reading::front;
 pub use top::whyline;

@@ -1,13 +1,16 @@
 //! The texts that a command writes: refusals, and what is written of a run.
 ghost use Rattle.std.specs.Prelude.{◌≡◌, ◌++◌, IfOk};
-ghost use Rattle.wy_machine.specs.Ended.{ending_of};
-ghost use Rattle.wy_top.specs.Lines.{line_of, at_byte, at_token, name_of, stop_line, ends_its_line as ends_line, report as report_of};
+ghost use Rattle.wy_kernel.specs.Parts.{program_of};
+ghost use Rattle.wy_top.specs.Lines.{line_of, at_byte, at_token, name_of, ends_its_line as ends_line};
 ghost use Rattle.wy_top.specs.Refusals.{lex_line, refusal_text};
+ghost use Rattle.wy_top.specs.Report.{report_of_end};
 
 use crate::reading::LexFault;
 use std::alloc::{AllocError, Global};
+use wy_kernel::program::Program;
 use wy_machine::Ended;
 use wy_members::Rule;
+use wy_text::stop_line;
 
 /// Why a command did not do what it says.
 #[derive(Clone, Copy)]
@@ -27,8 +30,6 @@ pub enum Refusal<'a> {
         line: u32,
         token: u32,
     },
-    /// The source is a program that can't be run yet.
-    NotYet,
     FaultShelf,
     LongFile {
         name: &'a str,
@@ -40,11 +41,10 @@ pub fn refusal_line(alloc: Global, refusal: Refusal<'_>) -> Result<Vec<u8>, Allo
     ensures { IfOk result (λ line. line.items ≡ refusal_text refusal.entry) }
 {
     match refusal {
-        Refusal::Usage => line(alloc, "usage: whyline run SRC", ""),
+        Refusal::Usage => line(alloc, "usage: whyline run SRC [-i IN] [--steps N]", ""),
         Refusal::Absent { name } => line(alloc, "absent: ", name),
         Refusal::ProgramByte { rule, byte } => at_byte(alloc, rule, byte),
         Refusal::ProgramToken { rule, line, token } => at_token(alloc, rule, line, token),
-        Refusal::NotYet => line(alloc, "program: NotYet", ""),
         Refusal::FaultShelf => line(alloc, "fault: shelf", ""),
         Refusal::LongFile { name } => line(alloc, "too long: ", name),
     }
@@ -120,19 +120,21 @@ fn line(alloc: Global, first: &str, second: &str) -> Result<Vec<u8>, AllocError>
 }
 
 /// What is written of a run: its output in whole lines, and how it ended.
-pub fn report(ended: Ended) -> Result<Vec<u8>, AllocError>
-    ensures { IfOk result (λ text. text.items ≡ report_of (ending_of ended)) }
+pub fn report(alloc: Global, program: &Program, ended: Ended) -> Result<Vec<u8>, AllocError>
+    ensures { IfOk result (λ text. text.items
+        ≡ report_of_end (program_of program.now) program.now.lines.items ended) }
 {
     let Ended {
-        mut output,
-        stop,
-        steps: _,
+        output: mut text,
+        tail,
+        thrown,
     } = ended;
-    if !ends_its_line(output.as_slice()) {
-        output.push(b'\n')?;
+    if !ends_its_line(text.as_slice()) {
+        text.push(b'\n')?;
     }
-    output.extend_from_slice(stop_text(stop).as_bytes())?;
-    Ok(output)
+    let last = stop_line(alloc, program, tail.stop, &thrown)?;
+    text.extend_from_slice(last.as_slice())?;
+    Ok(text)
 }
 
 fn ends_its_line(output: &[u8]) -> bool
@@ -141,15 +143,5 @@ fn ends_its_line(output: &[u8]) -> bool
     match output {
         [] => true,
         [.., last] => *last == b'\n',
-    }
-}
-
-fn stop_text(stop: u8) -> &'static str
-    ensures { result.now ≡ stop_line stop }
-{
-    if stop == 2 {
-        "-- step limit\n"
-    } else {
-        "-- finished\n"
     }
 }

@@ -10,7 +10,7 @@ pub enum Status {
     Usage,
     /// There is no file of the name.
     Absent,
-    /// The source has no tokens or no tree, breaks a rule, or is a program that can't be run yet.
+    /// The source has no tokens or no tree, or breaks a rule.
     Program,
     /// A file could not be read, or the output not be written.
     Fault,

@@ -2,7 +2,7 @@
 ghost use Rattle.std.specs.Prelude.{◌≡◌, ◌≢◌, ◌<◌, ◌⊎◌, map, string_bytes};
 ghost use Rattle.wy_outside.specs.Counts.{Rose};
 ghost use Rattle.wy_outside.specs.Sink.{appended};
-ghost use Rattle.wy_top.specs.Words.{IsNoCommand};
+ghost use Rattle.wy_words.specs.Words.{IsNoCommand};
 ghost use Rattle.wy_top.specs.Lines.{shelf_fault_line};
 ghost use Rattle.wy_top.specs.Answers.{Knows};
 ghost use Rattle.wy_top.specs.Deliveries.{Delivers};
@@ -21,12 +21,12 @@ use wy_outside::source::Source;
 ///
 /// | Status | Comes |
 /// |---|---|
-/// | 0 | the program ran to its end or to the step limit |
+/// | 0 | the program ran; how it ended is the last line |
 /// | 2 | the words are no command |
 /// | 3 | there is no such file |
-/// | 4 | the source has no tokens or no tree, breaks a rule of classes and types, or can't be run yet |
+/// | 4 | the source has no tokens or no tree, or breaks a rule of classes and types |
 /// | 7 | a read or a write failed |
-/// | 8 | the file has more than 1,048,576 bytes |
+/// | 8 | the source has more than 1,048,576 bytes, or the input more than 16,777,216 |
 /// | 9 | memory ran out |
 pub fn whyline<S: Shelf, K: Source, O: Sink>(
     alloc: Global,

@@ -1,4 +1,4 @@
-use Rattle.std.proofs.Common.{◌≡◌, ◌∙◌, sym, ap, subst, refl, inl, inr, ◌⊎◌, ℕ, ◌<◌, ◌≤◌, true, false, List, length, Option, Some, None, Result, Ok, Err, arith}
+use Rattle.std.proofs.Common.{◌≡◌, ◌∙◌, sym, ap, subst, refl, inl, inr, ◌⊎◌, ℕ, List, length, map, Option, Some, None, Result, Ok, Err, arith}
 use Rattle.wy_kernel.specs.Program.{Program}
 use Rattle.wy_constant.specs.Refusal as typing
 use Rattle.wy_outside.specs.Shelf.{Files}
@@ -9,35 +9,44 @@ use Rattle.wy_tree.specs.TokenLaws.{OneTokenList, TokensOrRefusal, OneRefusal, N
 use Rattle.wy_tree.specs.Trees.{OneTree}
 use Rattle.wy_syntax.specs.Declarations.{unit}
 use Rattle.wy_elab_stmt.specs.Elaborates.{Elaborates, OneElaboration}
-use Rattle.wy_top.specs.Words.{AsksToRun}
-use Rattle.wy_top.specs.Lines.{absent_line, too_long_line, not_utf8_line, fault_line, rule_line}
-use Rattle.wy_top.specs.Due.{Due, DueFor, DueForProgram, not_yet, ran, usage, absent, too_long, read, not_utf8, refused, syntax, broken, program, Becomes, Finds, HasTree, IsSyntaxLine, AreSyntaxLines, unplaced, source_limit}
+use Rattle.wy_words.specs.Words.{Asked, IsNoCommand}
+use Rattle.wy_top.specs.Lines.{usage_line, not_utf8_line, fault_line, rule_line}
+use Rattle.wy_top.specs.Report.{report}
+use Rattle.wy_top.specs.Held.{Asks, Holds, Lacks, absent, too_long, IsInput, source_limit, input_limit}
+use Rattle.wy_top.specs.Due.{Due, DueFor, usage, no_source, no_input, read, not_utf8, refused, syntax, broken, program, Becomes, HasTree, IsSyntaxLine, AreSyntaxLines, unplaced}
 use Rattle.wy_top.proofs.laws.one_answer_is_due.Goals as goal
 
-same_name : (words : List (List ℕ)) (n m : List ℕ) → AsksToRun words n → AsksToRun words m → n ≡ m
-same_name words n m a b = let p = a.0 in let q = b.0 in cc
+-- ---- the words and the files
 
-same_text : (words : List (List ℕ)) (held : Option Files) (n m t u : List ℕ) → Finds words held n t → Finds words held m u → t ≡ u
-same_text words held n m t u a b =
-    let name : n ≡ m = same_name words n m a.asked b.asked in
-    let files : a.files ≡ b.files = let p = a.told in let q = b.told in cc in
-    let at : a.files n ≡ b.files m = rw (files, name) refl in
-    let both : Some t ≡ Some u = sym a.found ∙ at ∙ b.found in
-    cc
+one_asked : (words : List (List ℕ)) (held : Option Files) (a b : Asked) (f g : Files) → Asks words held a f → Asks words held b g → b ≡ a
+one_asked words held a b f g x y = let e : Some b ≡ Some a = sym y.asked ∙ x.asked in cc
 
--- a file that is held isn't absent
-not_absent : (words : List (List ℕ)) (held : Option Files) (n m t : List ℕ) (files : Files) → AsksToRun words n → held ≡ Some files → files n ≡ None → Finds words held m t → ⊥
-not_absent words held n m t files asked told lacks b =
-    let name : n ≡ m = same_name words n m asked b.asked in
-    let same : files ≡ b.files = let q = b.told in cc in
-    let at : files n ≡ b.files m = rw (same, name) refl in
-    let both : None ≡ Some t = sym lacks ∙ at ∙ b.found in
-    cc
+one_shelf : (words : List (List ℕ)) (held : Option Files) (a b : Asked) (f g : Files) → Asks words held a f → Asks words held b g → g ≡ f
+one_shelf words held a b f g x y = let e : Some g ≡ Some f = sym y.told ∙ x.told in cc
 
-not_both : (words : List (List ℕ)) (held : Option Files) (n m t u : List ℕ) → Finds words held n t → Finds words held m u → source_limit < length t → length u ≤ source_limit → ⊥
-not_both words held n m t u a b more within =
-    let e : length t ≡ length u = ap length (same_text words held n m t u a b) in
+no_command : (words : List (List ℕ)) (held : Option Files) (a : Asked) (f : Files) → IsNoCommand words → Asks words held a f → ⊥
+no_command words held a f none x = let e : Some a ≡ None = sym x.asked ∙ none in cc
+
+one_text : (f : Files) (name : List ℕ) (t u : List ℕ) → f name ≡ Some t → f name ≡ Some u → u ≡ t
+one_text f name t u x y = let e : Some u ≡ Some t = sym y ∙ x in cc
+
+-- a file that is held within the limit is not lacking
+not_lacking : (f : Files) (name : List ℕ) (limit : ℕ) (t : List ℕ) (s : ℕ) (x : List ℕ) → Holds f name limit t → Lacks f name limit s x → ⊥
+not_lacking f name limit t _ _ h (absent none) = let e : Some t ≡ None = sym h.found ∙ none in cc
+not_lacking f name limit t _ _ h (too_long u found more) =
+    let e : length u ≡ length t = ap length (one_text f name t u h.found found) in
+    let within = h.within in
     omega arith
+
+one_lack : (f : Files) (name : List ℕ) (limit : ℕ) (s t : ℕ) (x y : List ℕ) → Lacks f name limit s x → Lacks f name limit t y → (s ≡ t) × (x ≡ y)
+one_lack f name limit _ _ _ _ (absent none) (absent also) = (refl, refl)
+one_lack f name limit _ _ _ _ (absent none) (too_long u found more) = absurd (let e : Some u ≡ None = sym found ∙ none in cc)
+one_lack f name limit _ _ _ _ (too_long u found more) (absent none) = absurd (let e : Some u ≡ None = sym found ∙ none in cc)
+one_lack f name limit _ _ _ _ (too_long u found more) (too_long v also greater) = (refl, refl)
+
+one_input : (f : Files) (name : Option (List ℕ)) (i j : List ℕ) → IsInput f name i → IsInput f name j → j ≡ i
+one_input f None i j x y = y ∙ sym x
+one_input f (Some name) i j x y = one_text f name i j x.found y.found
 
 -- what is known of texts, tokens and programs
 record Known : Type 0 where
@@ -75,76 +84,102 @@ one_line known source p q e f us ts x y =
     let spans : p ≡ q = known.lists source p q us ts in
     λ i. rule_line (same i).rule (line_of (spans i) (same i).token) (same i).token
 
-one_due : (p : Program) (s t : ℕ) (x y : List ℕ) → DueForProgram p s x → DueForProgram p t y → (s ≡ t) × (x ≡ y)
-one_due p _ _ _ _ (not_yet a) (not_yet b) = (refl, refl)
-one_due p _ _ _ _ (not_yet a) (ran b) = (let no : true ≡ false = sym b ∙ a in absurd (cc))
-one_due p _ _ _ _ (ran a) (not_yet b) = (let no : true ≡ false = sym a ∙ b in absurd (cc))
-one_due p _ _ _ _ (ran a) (ran b) = (refl, refl)
-
-one_program : Known → (source : List ℕ) (p q : List Placed) (v w : Program) (s t : ℕ) (x y : List ℕ) → Tokens source p → Tokens source q → Becomes p (Ok v) → Becomes q (Ok w) →
-    DueForProgram v s x → DueForProgram w t y → SameFor source s t x y
-one_program known source p q v w s t x y us ts a b due other =
+one_program : Known → (source input : List ℕ) (steps : ℕ) (p q : List Placed) (v w : Program) → Tokens source p → Tokens source q → Becomes p (Ok v) → Becomes q (Ok w) →
+    report v (map (λ t. t.line) p) input steps ≡ report w (map (λ t. t.line) q) input steps
+one_program known source input steps p q v w us ts a b =
     let both : Ok v ≡ Ok w = one_outcome known source p q (Ok v) (Ok w) us ts a b in
-    let same : w ≡ v = cc in
-    let one = one_due v s t x y due (subst (λ (z : Program). DueForProgram z t y) same other) in (one.0, inl one.1)
+    let same : v ≡ w = cc in
+    let spans : p ≡ q = known.lists source p q us ts in
+    λ i. report (same i) (map (λ t. t.line) (spans i)) input steps
 
 not_both_ways : Known → (source : List ℕ) (p q : List Placed) (v : Program) (e : typing.Refusal) → Tokens source p → Tokens source q → Becomes p (Ok v) → Becomes q (Err e) → ⊥
 not_both_ways known source p q v e us ts a b = let both : Ok v ≡ Err e = one_outcome known source p q (Ok v) (Err e) us ts a b in cc
 
-one_for : Known → (source : List ℕ) (s t : ℕ) (x y : List ℕ) → DueFor source s x → DueFor source t y → SameFor source s t x y
-one_for known source _ _ _ _ (not_utf8 b at) (not_utf8 c also) = (refl, inl (ap not_utf8_line ((known.utf8 source b at).2 c also)))
-one_for known source _ _ _ _ (not_utf8 b at) (refused g also) = absurd ((known.utf8 source b at).1 g also)
-one_for known source _ _ _ _ (not_utf8 b at) (syntax q l ts none is) = absurd ((known.utf8 source b at).0 q ts)
-one_for known source _ _ _ _ (not_utf8 b at) (broken q f ts y) = absurd ((known.utf8 source b at).0 q ts)
-one_for known source _ _ _ _ (not_utf8 b at) (program q w t y ts becomes due) = absurd ((known.utf8 source b at).0 q ts)
-one_for known source _ _ _ _ (refused f at) (not_utf8 c also) = absurd ((known.utf8 source c also).1 f at)
-one_for known source _ _ _ _ (refused f at) (refused g also) = (refl, inl (ap fault_line (known.one source f g at also)))
-one_for known source _ _ _ _ (refused f at) (syntax q l ts none is) = absurd (known.tokens source q f ts at)
-one_for known source _ _ _ _ (refused f at) (broken q g ts y) = absurd (known.tokens source q f ts at)
-one_for known source _ _ _ _ (refused f at) (program q w t y ts becomes due) = absurd (known.tokens source q f ts at)
-one_for known source _ _ _ _ (syntax p k us lacks at) (not_utf8 c also) = absurd ((known.utf8 source c also).0 p us)
-one_for known source _ _ _ _ (syntax p k us lacks at) (refused g also) = absurd (known.tokens source p g us also)
-one_for known source _ _ _ _ (syntax p k us lacks at) (syntax q l ts none is) =
+one_for : Known → (source input : List ℕ) (steps s t : ℕ) (x y : List ℕ) → DueFor source input steps s x → DueFor source input steps t y → SameFor source s t x y
+one_for known source input steps _ _ _ _ (not_utf8 b at) (not_utf8 c also) = (refl, inl (ap not_utf8_line ((known.utf8 source b at).2 c also)))
+one_for known source input steps _ _ _ _ (not_utf8 b at) (refused g also) = absurd ((known.utf8 source b at).1 g also)
+one_for known source input steps _ _ _ _ (not_utf8 b at) (syntax q l ts none is) = absurd ((known.utf8 source b at).0 q ts)
+one_for known source input steps _ _ _ _ (not_utf8 b at) (broken q f ts y) = absurd ((known.utf8 source b at).0 q ts)
+one_for known source input steps _ _ _ _ (not_utf8 b at) (program q w ts becomes) = absurd ((known.utf8 source b at).0 q ts)
+one_for known source input steps _ _ _ _ (refused f at) (not_utf8 c also) = absurd ((known.utf8 source c also).1 f at)
+one_for known source input steps _ _ _ _ (refused f at) (refused g also) = (refl, inl (ap fault_line (known.one source f g at also)))
+one_for known source input steps _ _ _ _ (refused f at) (syntax q l ts none is) = absurd (known.tokens source q f ts at)
+one_for known source input steps _ _ _ _ (refused f at) (broken q g ts y) = absurd (known.tokens source q f ts at)
+one_for known source input steps _ _ _ _ (refused f at) (program q w ts becomes) = absurd (known.tokens source q f ts at)
+one_for known source input steps _ _ _ _ (syntax p k us lacks at) (not_utf8 c also) = absurd ((known.utf8 source c also).0 p us)
+one_for known source input steps _ _ _ _ (syntax p k us lacks at) (refused g also) = absurd (known.tokens source p g us also)
+one_for known source input steps _ _ _ _ (syntax p k us lacks at) (syntax q l ts none is) =
     let e : q ≡ p = known.lists source q p ts us in
     (refl, inr (p, us, at, subst (λ (z : List Placed). IsSyntaxLine z l) e is))
-one_for known source _ _ _ _ (syntax p k us lacks at) (broken q f ts y) = absurd (treeless known source p q (Err f) us ts lacks y)
-one_for known source _ _ _ _ (syntax p k us lacks at) (program q w t y ts becomes due) = absurd (treeless known source p q (Ok w) us ts lacks becomes)
-one_for known source _ _ _ _ (broken p e us x) (not_utf8 c also) = absurd ((known.utf8 source c also).0 p us)
-one_for known source _ _ _ _ (broken p e us x) (refused g also) = absurd (known.tokens source p g us also)
-one_for known source _ _ _ _ (broken p e us x) (syntax q l ts none is) = absurd (treeless known source q p (Err e) ts us none x)
-one_for known source _ _ _ _ (broken p e us x) (broken q f ts y) = (refl, inl (one_line known source p q e f us ts x y))
-one_for known source _ _ _ _ (broken p e us x) (program q w t y ts becomes due) = absurd (not_both_ways known source q p w e ts us becomes x)
-one_for known source _ _ _ _ (program p v s x us became due) (not_utf8 c also) = absurd ((known.utf8 source c also).0 p us)
-one_for known source _ _ _ _ (program p v s x us became due) (refused g also) = absurd (known.tokens source p g us also)
-one_for known source _ _ _ _ (program p v s x us became due) (syntax q l ts none is) = absurd (treeless known source q p (Ok v) ts us none became)
-one_for known source _ _ _ _ (program p v s x us became due) (broken q f ts y) = absurd (not_both_ways known source p q v f us ts became y)
-one_for known source _ _ _ _ (program p v s x us became due) (program q w t y ts becomes other) = one_program known source p q v w s t x y us ts became becomes due other
+one_for known source input steps _ _ _ _ (syntax p k us lacks at) (broken q f ts y) = absurd (treeless known source p q (Err f) us ts lacks y)
+one_for known source input steps _ _ _ _ (syntax p k us lacks at) (program q w ts becomes) = absurd (treeless known source p q (Ok w) us ts lacks becomes)
+one_for known source input steps _ _ _ _ (broken p e us x) (not_utf8 c also) = absurd ((known.utf8 source c also).0 p us)
+one_for known source input steps _ _ _ _ (broken p e us x) (refused g also) = absurd (known.tokens source p g us also)
+one_for known source input steps _ _ _ _ (broken p e us x) (syntax q l ts none is) = absurd (treeless known source q p (Err e) ts us none x)
+one_for known source input steps _ _ _ _ (broken p e us x) (broken q f ts y) = (refl, inl (one_line known source p q e f us ts x y))
+one_for known source input steps _ _ _ _ (broken p e us x) (program q w ts becomes) = absurd (not_both_ways known source q p w e ts us becomes x)
+one_for known source input steps _ _ _ _ (program p v us became) (not_utf8 c also) = absurd ((known.utf8 source c also).0 p us)
+one_for known source input steps _ _ _ _ (program p v us became) (refused g also) = absurd (known.tokens source p g us also)
+one_for known source input steps _ _ _ _ (program p v us became) (syntax q l ts none is) = absurd (treeless known source q p (Ok v) ts us none became)
+one_for known source input steps _ _ _ _ (program p v us became) (broken q f ts y) = absurd (not_both_ways known source p q v f us ts became y)
+one_for known source input steps _ _ _ _ (program p v us became) (program q w ts becomes) = (refl, inl (one_program known source input steps p q v w us ts became becomes))
 
 abbrev Same : List (List ℕ) → Option Files → ℕ → ℕ → List ℕ → List ℕ → Type 0
 Same words held s t x y = (s ≡ t) × ((x ≡ y) ⊎ AreSyntaxLines words held x y)
 
-same_for : (words : List (List ℕ)) (held : Option Files) (name source : List ℕ) (s t : ℕ) (x y : List ℕ) → Finds words held name source → SameFor source s t x y → Same words held s t x y
-same_for words held name source s t x y finds (e, inl same) = (e, inl same)
-same_for words held name source s t x y finds (e, inr (spans, ts, a, b)) = (e, inr (record { name = name; source = source; finds = finds; spans = spans; read = ts; first = a; second = b }))
+-- what is due for a run of one shelf: the source is lacking, or the input, or both are read
+data Held (a : Asked) (f : Files) (s : ℕ) (x : List ℕ) : Type 0 where
+  source_lacks : Lacks f a.source source_limit s x → Held a f s x
+  input_lacks : (source name : List ℕ) → Holds f a.source source_limit source → a.input ≡ Some name → Lacks f name input_limit s x → Held a f s x
+  both : (source input : List ℕ) → Holds f a.source source_limit source → IsInput f a.input input → DueFor source input a.steps s x → Held a f s x
+
+same_for : (words : List (List ℕ)) (held : Option Files) (a : Asked) (f : Files) (source : List ℕ) (s t : ℕ) (x y : List ℕ) → Asks words held a f → Holds f a.source source_limit source →
+    SameFor source s t x y → Same words held s t x y
+same_for words held a f source s t x y asks holds (e, inl same) = (e, inl same)
+same_for words held a f source s t x y asks holds (e, inr (spans, ts, first, second)) =
+    (e, inr (record { asked = a; files = f; asks = asks; source = source; holds = holds; spans = spans; read = ts; first = first; second = second }))
+
+-- two that are due for one run of one shelf
+one_run : Known → (words : List (List ℕ)) (held : Option Files) (a : Asked) (f : Files) (s t : ℕ) (x y : List ℕ) → Asks words held a f → Held a f s x → Held a f t y → Same words held s t x y
+one_run known words held a f s t x y asks (source_lacks l) (source_lacks m) = let e = one_lack f a.source source_limit s t x y l m in (e.0, inl e.1)
+one_run known words held a f s t x y asks (source_lacks l) (input_lacks u n h is m) = absurd (not_lacking f a.source source_limit u s x h l)
+one_run known words held a f s t x y asks (source_lacks l) (both u j h is due) = absurd (not_lacking f a.source source_limit u s x h l)
+one_run known words held a f s t x y asks (input_lacks u n h is m) (source_lacks l) = absurd (not_lacking f a.source source_limit u t y h l)
+one_run known words held a f s t x y asks (input_lacks u n h is l) (input_lacks v k g also m) =
+    let names : Some k ≡ Some n = sym also ∙ is in
+    let name : k ≡ n = cc in
+    let e = one_lack f n input_limit s t x y l (subst (λ (z : List ℕ). Lacks f z input_limit t y) name m) in (e.0, inl e.1)
+one_run known words held a f s t x y asks (input_lacks u n h is l) (both v j g also due) = absurd (not_lacking f n input_limit j s x (subst (λ (z : Option (List ℕ)). IsInput f z j) is also) l)
+one_run known words held a f s t x y asks (both u i h is due) (source_lacks l) = absurd (not_lacking f a.source source_limit u t y h l)
+one_run known words held a f s t x y asks (both u i h is due) (input_lacks v n g also l) = absurd (not_lacking f n input_limit i t y (subst (λ (z : Option (List ℕ)). IsInput f z i) also is) l)
+one_run known words held a f s t x y asks (both u i h is due) (both v j g also other) =
+    let source : v ≡ u = one_text f a.source u v h.found g.found in
+    let input : j ≡ i = one_input f a.input i j is also in
+    same_for words held a f u s t x y asks h (one_for known u i a.steps s t x y due (subst (λ (z : List ℕ). DueFor u z a.steps t y) input (subst (λ (z : List ℕ). DueFor z j a.steps t y) source other)))
+
+with_other : Known → (words : List (List ℕ)) (held : Option Files) (a b : Asked) (f g : Files) (s t : ℕ) (x y : List ℕ) → Asks words held a f → Asks words held b g → Held a f s x → Held b g t y → Same words held s t x y
+with_other known words held a b f g s t x y asks others first second =
+    one_run known words held a f s t x y asks first (subst (λ (z : Asked). Held z f t y) (one_asked words held a b f g asks others) (subst (λ (z : Files). Held b z t y) (one_shelf words held a b f g asks others) second))
+
+-- what is due is the usage, or due for a run that is asked
+data Cases (words : List (List ℕ)) (held : Option Files) (s : ℕ) (x : List ℕ) : Type 0 where
+  for_usage : IsNoCommand words → s ≡ 2 → x ≡ usage_line → Cases words held s x
+  for_run : (a : Asked) (f : Files) → Asks words held a f → Held a f s x → Cases words held s x
+
+cases_of : (words : List (List ℕ)) (held : Option Files) (s : ℕ) (x : List ℕ) → Due words held s x → Cases words held s x
+cases_of words held _ _ (usage none) = for_usage none refl refl
+cases_of words held _ _ (no_source a f s x asks l) = for_run a f asks (source_lacks l)
+cases_of words held _ _ (no_input a f u n s x asks h is l) = for_run a f asks (input_lacks u n h is l)
+cases_of words held _ _ (read a f u i s x asks h is due) = for_run a f asks (both u i h is due)
+
+one_case : Known → (words : List (List ℕ)) (held : Option Files) (s t : ℕ) (x y : List ℕ) → Cases words held s x → Cases words held t y → Same words held s t x y
+one_case known words held s t x y (for_usage none a b) (for_usage also c d) = (a ∙ sym c, inl (b ∙ sym d))
+one_case known words held s t x y (for_usage none a b) (for_run c g asks second) = absurd (no_command words held c g none asks)
+one_case known words held s t x y (for_run a f asks first) (for_usage none c d) = absurd (no_command words held a f none asks)
+one_case known words held s t x y (for_run a f asks first) (for_run b g others second) = with_other known words held a b f g s t x y asks others first second
 
 one : Known → (words : List (List ℕ)) (held : Option Files) (s t : ℕ) (x y : List ℕ) → Due words held s x → Due words held t y → Same words held s t x y
-one known words held _ _ _ _ (usage no_command) (usage none) = (refl, inl refl)
-one known words held _ _ _ _ (usage no_command) (absent m files b told lacks) = absurd (no_command m b)
-one known words held _ _ _ _ (usage no_command) (too_long m u b more) = absurd (no_command m b.asked)
-one known words held _ _ _ _ (usage no_command) (read m u t y b within due) = absurd (no_command m b.asked)
-one known words held _ _ _ _ (absent n files a told lacks) (usage no_command) = absurd (no_command n a)
-one known words held _ _ _ _ (absent n files a told lacks) (absent m others b told' lacks') = (refl, inl (ap absent_line (same_name words n m a b)))
-one known words held _ _ _ _ (absent n files a told lacks) (too_long m u b more) = absurd (not_absent words held n m u files a told lacks b)
-one known words held _ _ _ _ (absent n files a told lacks) (read m u t y b within due) = absurd (not_absent words held n m u files a told lacks b)
-one known words held _ _ _ _ (too_long n t a more) (usage no_command) = absurd (no_command n a.asked)
-one known words held _ _ _ _ (too_long n t a more) (absent m files b told lacks) = absurd (not_absent words held m n t files b told lacks a)
-one known words held _ _ _ _ (too_long n t a more) (too_long m u b more') = (refl, inl (ap too_long_line (same_name words n m a.asked b.asked)))
-one known words held _ _ _ _ (too_long n t a more) (read m u r y b within due) = absurd (not_both words held n m t u a b more within)
-one known words held _ _ _ _ (read n t s x a within due) (usage no_command) = absurd (no_command n a.asked)
-one known words held _ _ _ _ (read n t s x a within due) (absent m files b told lacks) = absurd (not_absent words held m n t files b told lacks a)
-one known words held _ _ _ _ (read n t s x a within due) (too_long m u b more) = absurd (not_both words held m n u t b a more within)
-one known words held _ _ _ _ (read n t s x a within due) (read m u r y b within' due') =
-    same_for words held n t s r x y a (one_for known t s r x y due (subst (λ (z : List ℕ). DueFor z r y) (same_text words held m n u t b a) due'))
+one known words held s t x y a b = one_case known words held s t x y (cases_of words held s x a) (cases_of words held t y b)
 
 pub returns : goal.returns
 returns c =

@@ -1,6 +1,0 @@
-pub mod Views
-pub mod Layers
-pub mod Arms
-pub mod Rows
-pub mod Made
-pub mod Lawful

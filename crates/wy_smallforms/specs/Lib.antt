@@ -1,4 +1,0 @@
-pub mod Kernel
-pub mod Operations
-pub mod Meaning
-pub mod Laws

@@ -1,0 +1,32 @@
+-- The files that the words name, as a shelf holds them.
+use Rattle.std.specs.Prelude.{◌≡◌, ◌<◌, ◌≤◌, ℕ, List, [], length, Option, Some, None}
+use Rattle.wy_outside.specs.Shelf.{Files}
+use Rattle.wy_words.specs.Words.{Asked, AsksToRun}
+use Rattle.wy_top.specs.Lines.{absent_line, too_long_line}
+
+-- the bytes that a source may have, and those that an input may have
+abbrev pub source_limit : ℕ
+source_limit = 1048576
+
+abbrev pub input_limit : ℕ
+input_limit = 16777216
+
+-- the words ask for this run, and the shelf tells that it holds these files
+pub record Asks (words : List (List ℕ)) (held : Option Files) (a : Asked) (files : Files) : Type 0 where
+  pub asked : AsksToRun words a
+  pub told : held ≡ Some files
+
+-- the file of this name is this text, and has at most so many bytes
+pub record Holds (files : Files) (name : List ℕ) (limit : ℕ) (text : List ℕ) : Type 0 where
+  pub found : files name ≡ Some text
+  pub within : length text ≤ limit
+
+-- what is due where there is no file of this name, or one of more bytes
+pub data Lacks (files : Files) (name : List ℕ) (limit : ℕ) : ℕ → List ℕ → Type 0 where
+  absent : files name ≡ None → Lacks files name limit 3 (absent_line name)
+  too_long : (text : List ℕ) → files name ≡ Some text → limit < length text → Lacks files name limit 8 (too_long_line name)
+
+-- the input of a run: that file, and nothing where none is named
+abbrev pub IsInput : Files → Option (List ℕ) → List ℕ → Type 0
+IsInput files None input = input ≡ []
+IsInput files (Some name) input = Holds files name input_limit input

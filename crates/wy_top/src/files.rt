@@ -1,0 +1,77 @@
+//! Reads the files that the words name.
+ghost use Rattle.std.specs.Prelude.{◌≡◌, ◌≤◌, ◌<◌, ◌^◌, IfOk, length, option_map};
+ghost use Rattle.wy_outside.specs.Counts.{RoseAt};
+ghost use Rattle.wy_top.specs.Held.{source_limit};
+ghost use Rattle.wy_top.specs.Reads.{GivesBoth, GivesFile, is_absent, is_fault, is_too_long};
+
+use std::alloc::Global;
+use wy_outside::shelf::{Shelf, ShelfError};
+
+/// The bytes that a source may have.
+const SOURCE_LIMIT: u32 = 1_048_576;
+
+/// The bytes that an input may have.
+const INPUT_LIMIT: u32 = 16_777_216;
+
+/// Why a file was not read.
+#[derive(Clone, Copy)]
+pub enum FileError<'a> {
+    Absent { name: &'a str },
+    TooLong { name: &'a str },
+    /// The shelf failed.
+    Fault,
+    NoMemory,
+}
+
+/// The text of a source, and the input of its run.
+#[derive(Drop)]
+pub struct Contents {
+    pub source: Vec<u8>,
+    pub input: Vec<u8>,
+}
+
+/// The file of a name, if it has at most so many bytes.
+fn read_file<'a, S: Shelf>(
+    alloc: Global,
+    shelf: &mut S,
+    name: &'a str,
+    limit: u32,
+) -> Result<Vec<u8>, FileError<'a>>
+    requires { limit < 2 ^ 31 }
+    ensures content { GivesFile (S.held shelf.old) name.now limit result }
+    ensures bound { IfOk result (λ bytes. length bytes.items ≤ limit) }
+    ensures fault { RoseAt is_fault result (S.faults shelf.old) (S.faults shelf.new) }
+    ensures absent { RoseAt is_absent result (S.misses shelf.old) (S.misses shelf.new) }
+    ensures too_long { RoseAt is_too_long result (S.fulls shelf.old) (S.fulls shelf.new) }
+    ensures files_stay { S.held shelf.new ≡ S.held shelf.old }
+{
+    match shelf.read(alloc, name, limit + 1) {
+        Ok(bytes) if bytes.len() > limit as usize => Err(FileError::TooLong { name }),
+        Ok(bytes) => Ok(bytes),
+        Err(ShelfError::Failed) => Err(FileError::Fault),
+        Err(ShelfError::Absent) => Err(FileError::Absent { name }),
+        Err(ShelfError::NoMemory) => Err(FileError::NoMemory),
+    }
+}
+
+/// The source of a name, and then the input of another, which is empty where none is named.
+pub fn read_both<'a, S: Shelf>(
+    alloc: Global,
+    shelf: &mut S,
+    source: &'a str,
+    input: Option<&'a str>,
+) -> Result<Contents, FileError<'a>>
+    ensures content { GivesBoth (S.held shelf.old) source.now (option_map (λ s. s.now) input.entry) result }
+    ensures bound { IfOk result (λ contents. length contents.source.items ≤ source_limit) }
+    ensures fault { RoseAt is_fault result (S.faults shelf.old) (S.faults shelf.new) }
+    ensures absent { RoseAt is_absent result (S.misses shelf.old) (S.misses shelf.new) }
+    ensures too_long { RoseAt is_too_long result (S.fulls shelf.old) (S.fulls shelf.new) }
+    ensures files_stay { S.held shelf.new ≡ S.held shelf.old }
+{
+    let source = read_file(alloc, shelf, source, SOURCE_LIMIT)?;
+    let input = match input {
+        Some(name) => read_file(alloc, shelf, name, INPUT_LIMIT)?,
+        None => Vec::new(alloc),
+    };
+    Ok(Contents { source, input })
+}
