@@ -1,0 +1,14 @@
+-- the events so far are in the mirrors
+use Rattle.std.proofs.Common.{◌≡◌, map, take}
+use Rattle.std.specs.List.{concat}
+use Rattle.wy_event.specs.Record.{recorded}
+use Rattle.wy_record.specs.Answers.{with_more}
+use Rattle.wy_record.specs.declared.recorder.Phase.TheVariants.{Recording}
+use Rattle.wy_recording.proofs.recording.note_all.Given as goal
+
+abbrev pub invariant-loop-event : goal.invariant-loop-event
+invariant-loop-event g l = record {
+  phase : g.R.Recorder.phase l.recorder ≡ Recording;
+  mirrors : g.R.Recorder.mirrors l.recorder ≡ with_more (concat (map g.R.Recorder.frame (map recorded (take l.event-index l.events)))) (g.R.Recorder.mirrors l.initial.recorder);
+  faults : g.R.Recorder.faults l.recorder ≡ g.R.Recorder.faults l.initial.recorder;
+}

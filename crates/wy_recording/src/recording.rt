@@ -1,0 +1,76 @@
+//! A run, and its trace.
+
+ghost use Rattle.std.specs.Prelude.{◌≡◌, ◌++◌, IfOk, OnOk, map};
+ghost use Rattle.std.specs.List.{concat};
+ghost use Rattle.wy_event.specs.Record.{recorded};
+ghost use Rattle.wy_kernel.specs.Parts.{program_of};
+ghost use Rattle.wy_machine.specs.Ended.{IsEndOf};
+ghost use Rattle.wy_meaning.specs.Run as meaning;
+ghost use Rattle.wy_record.specs.Answers.{FaultsAs, with_more};
+ghost use Rattle.wy_record.specs.declared.recorder.Phase.TheVariants.{Ready, Recording};
+ghost use Rattle.wy_recording.specs.Traces.{closed};
+ghost use Rattle.wy_steps.specs.Sets.{nothing};
+
+use std::alloc::{AllocError, Global};
+use wy_event::record::{Event, Head};
+use wy_kernel::program::Program;
+use wy_machine::{Ended, run};
+use wy_record::{MemoryRecorder, RecordError, Recorder};
+
+/// Runs a program with the input and the steps of a head, and hands the head, each event in order and the end to a recorder. The
+/// events are kept until the run has ended. Where the recorder refuses, or memory is wanting, its mirrors hold a front of the trace.
+pub fn record<R: Recorder>(
+    alloc: Global,
+    program: &Program,
+    name: &str,
+    head: &Head,
+    recorder: &mut R,
+) -> Result<Ended, RecordError>
+    requires { R.phase recorder.old ≡ Ready }
+    ensures ended { IfOk result (λ e.
+        IsEndOf (program_of program.now) head.now.input head.now.steps e) }
+    ensures mirrors { IfOk result (λ e. R.mirrors recorder.new ≡ closed (R.closing e.tail)
+        (R.opening head.now ++ concat (map R.frame
+        (meaning.events nothing (program_of program.now) head.now.input head.now.steps)))
+        (R.mirrors recorder.old)) }
+    ensures faults { FaultsAs result (R.faults recorder.old) (R.faults recorder.new) }
+{
+    recorder.start(name, head, Vec::new(alloc))?;
+    let (ended, events) = match kept(alloc, program, head) {
+        Ok(pair) => pair,
+        Err(_) => return Err(RecordError::NoMemory),
+    };
+    note_all(recorder, events.as_slice())?;
+    recorder.finish(&ended.tail)?;
+    Ok(ended)
+}
+
+/// A run, and its events.
+fn kept(alloc: Global, program: &Program, head: &Head) -> Result<(Ended, Vec<Event>), AllocError>
+    ensures ended { IfOk result (λ r.
+        IsEndOf (program_of program.now) head.now.input head.now.steps r.0) }
+    ensures events { IfOk result (λ r. map recorded r.1.items
+        ≡ meaning.events nothing (program_of program.now) head.now.input head.now.steps) }
+{
+    let mut memory = MemoryRecorder::new(alloc);
+    match memory.start("", head, Vec::new(alloc)) {
+        Ok(()) => {}
+        Err(_) => return Err(AllocError),
+    }
+    let (ended, mut memory) = run(alloc, program, head.input.as_slice(), head.steps, memory)?;
+    Ok((ended, memory.take()))
+}
+
+/// Hands events to a recorder, in order.
+fn note_all<R: Recorder>(recorder: &mut R, events: &[Event]) -> Result<(), RecordError>
+    requires { R.phase recorder.old ≡ Recording }
+    ensures phase { OnOk result (R.phase recorder.new ≡ Recording) }
+    ensures mirrors { OnOk result (R.mirrors recorder.new
+        ≡ with_more (concat (map R.frame (map recorded events.now))) (R.mirrors recorder.old)) }
+    ensures faults { FaultsAs result (R.faults recorder.old) (R.faults recorder.new) }
+{
+    for event in events {
+        recorder.note(event)?;
+    }
+    Ok(())
+}
