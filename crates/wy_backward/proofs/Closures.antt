@@ -168,6 +168,15 @@ module _ (owner : Owners) (records : List Recorded) where
       ∙ ap (λ ws. union (only n) (union_of (closure_of owner true records) ws)) (all_events_are e)
       ∙ ap (union (only n)) (union_of-append (closure_of owner true records) (used_events owner true records e.uses) (option_to_list e.control))
 
+  -- the same by the sources of the event
+  pub closure_by_sources : (n : ℕ) (e : Recorded) → slice_get records n ≡ Some e → ArePast n e.uses → AllBelow n (option_to_list e.control) → closure owner records n ≡ union (only n) (union_of (closure owner records) (source_events true (event_sources owner records e)))
+  unfolding closure
+  closure_by_sources n e is past under = at_event true n e is (rw (all_events_are e) (AllBelow-append n _ _ (used_below true n e.uses past) under))
+
+  pub data_closure_by_sources : (n : ℕ) (e : Recorded) → slice_get records n ≡ Some e → ArePast n e.uses → data_closure owner records n ≡ union (only n) (union_of (data_closure owner records) (source_events false (event_sources owner records e)))
+  unfolding data_closure
+  data_closure_by_sources n e is past = at_event false n e is (rw (data_events_are e) (used_below false n e.uses past))
+
   -- ---- the last write by the newest event
 
   or_else_assoc : (a b c : Option ℕ) → or_else a (or_else b c) ≡ or_else (or_else a b) c

@@ -4,6 +4,7 @@
 ghost use Rattle.std.specs.Prelude.{List, ℕ};
 ghost use Rattle.wy_kernel.specs.Program.{Program};
 ghost use Rattle.wy_backward.specs.Backward.{BackwardIsForward, StoredIsLastWrite, UsesDetermineSets};
+ghost use Rattle.wy_backward.specs.Closing.{ClosuresAreOfSources, DataClosuresAreOfSources};
 ghost use Rattle.wy_backward.specs.Agreement.{ArgumentsLead, EndsAgree, EqualUsesEqualSets, ExpressionsLead, InitializationsLead, PlacesLead, StartsAgree, StatementsLead, ValuesAreByUses};
 
 /// In every run the closure of an event over the records is what its values carried: by data, and in all. What the
@@ -31,4 +32,11 @@ pub fn uses_determine_sets()
     ensures events { (p : Program) (input : List ℕ) (budget : ℕ) → UsesDetermineSets p input budget }
     ensures values { (p : Program) → ValuesAreByUses p }
     ensures equal_uses { (p : Program) → EqualUsesEqualSets p }
+{}
+
+/// In every list of records the closure of an event whose uses and control parent are past is the event with the closures of its
+/// sources: in all, and by data.
+pub fn closures_are_of_sources()
+    ensures all { ClosuresAreOfSources }
+    ensures data { DataClosuresAreOfSources }
 {}
