@@ -32,32 +32,50 @@ printf 'class A { int x = 0x; }' >"$scratch/literal.java"
 printf 'class A { } /*' >"$scratch/comment.java"
 printf 'class A { } // \377' >"$scratch/bytes.java"
 printf 'class Main { int x = ; }' >"$scratch/syntax.java"
-printf 'class Main { public static void main(String[] a) { int x = 7 / 2 * a.length; } }' >"$scratch/later.java"
+printf 'class Main { public static void main(String[] a) throws Exception { System.out.print((char) System.in.read()); int x = 1 / a.length; } }' >"$scratch/reads.java"
+printf 'xyz' >"$scratch/letters"
 printf 'interface I { void f(); }\nclass A implements I { }\n' >"$scratch/missing.java"
 printf 'class A {\n  void f() {\n    int i = 0;\n    while (i < 3) { break out; }\n  }\n}\n' >"$scratch/jump.java"
 : >"$scratch/empty.java"
 head -c 1048577 /dev/zero | tr '\0' ' ' >"$scratch/long.java"
+head -c 16777216 /dev/zero | tr '\0' 'x' >"$scratch/full"
+head -c 16777217 /dev/zero | tr '\0' 'x' >"$scratch/over"
+
+usage='usage: whyline run SRC [-i IN] [--steps N]'
 
 expect_line "the step limit" 0 '-- step limit' run "$scratch/endless.java"
-expect_line "no words" 2 'usage: whyline run SRC'
-expect_line "a word too many" 2 'usage: whyline run SRC' run examples/first.java more
-expect_line "a name without letters" 2 'usage: whyline run SRC' run ''
-expect_line "no name" 2 'usage: whyline run SRC' run
-expect_line "a word in capitals" 2 'usage: whyline run SRC' Run examples/first.java
-expect_line "words in another order" 2 'usage: whyline run SRC' examples/first.java run
-expect_line "another word" 2 'usage: whyline run SRC' record examples/first.java
-expect_line "a name that begins with a minus sign" 2 'usage: whyline run SRC' run -x
-expect_line "a word that isn't UTF-8" 2 'usage: whyline run SRC' run "$(printf '\377')"
+expect_line "a step too few" 0 '-- step limit' run --steps 19 examples/first.java
+expect_line "as many steps as it takes" 0 $'5\n-- finished' run --steps 20 examples/first.java
+expect_line "the steps before the file" 0 '-- step limit' run --steps=3 "$scratch/endless.java"
+expect_line "an input, and what is uncaught" 0 $'x\n-- uncaught java.lang.ArithmeticException, line 1' run "$scratch/reads.java" -i "$scratch/letters"
+expect_line "an input before the file" 0 $'x\n-- uncaught java.lang.ArithmeticException, line 1' run -i "$scratch/letters" --steps 100 "$scratch/reads.java"
+expect_line "as many bytes as an input may have" 0 $'x\n-- uncaught java.lang.ArithmeticException, line 1' run "$scratch/reads.java" -i "$scratch/full"
+expect_line "no words" 2 "$usage"
+expect_line "a word too many" 2 "$usage" run examples/first.java more
+expect_line "a name without letters" 2 "$usage" run ''
+expect_line "no name" 2 "$usage" run
+expect_line "a word in capitals" 2 "$usage" Run examples/first.java
+expect_line "words in another order" 2 "$usage" examples/first.java run
+expect_line "another word" 2 "$usage" record examples/first.java
+expect_line "a name that begins with a minus sign" 2 "$usage" run -x
+expect_line "an option without its word" 2 "$usage" run examples/first.java -i
+expect_line "no steps" 2 "$usage" run examples/first.java --steps 0
+expect_line "too many steps" 2 "$usage" run examples/first.java --steps 50000001
+expect_line "steps twice" 2 "$usage" run --steps 5 examples/first.java --steps=5
+expect_line "a word that isn't UTF-8" 2 "$usage" run "$(printf '\377')"
 expect_line "no such file" 3 "absent: $scratch/none.java" run "$scratch/none.java"
+expect_line "no such input" 3 "absent: $scratch/none" run "$scratch/unknown.java" -i "$scratch/none"
+expect_line "neither file" 3 "absent: $scratch/none.java" run "$scratch/none.java" -i "$scratch/none"
 expect_line "a name without a declaration" 4 'program: UnknownName at line 1 token 17' run "$scratch/unknown.java"
 expect_line "a method that is missing" 4 'program: NotImplemented at line 2 token 10' run "$scratch/missing.java"
 expect_line "a jump without a target" 4 'program: BadJump at line 4 token 20' run "$scratch/jump.java"
 expect_line "an empty file" 4 'program: NoMain at line 1 token 0' run "$scratch/empty.java"
-expect_line "a program that can't be run yet" 4 'program: NotYet' run "$scratch/later.java"
 expect_line "a literal with a fault" 4 'program: BadLiteral at byte 18' run "$scratch/literal.java"
 expect_line "a comment that isn't closed" 4 'program: BadToken at byte 12' run "$scratch/comment.java"
 expect_line "a text that isn't UTF-8" 4 'program: NotUtf8 at byte 15' run "$scratch/bytes.java"
 expect_line "a folder in place of a file" 7 'fault: shelf' run examples
+expect_line "a folder in place of an input" 7 'fault: shelf' run examples/first.java -i examples
+expect_line "an input of a byte too many" 8 "too long: $scratch/over" run "$scratch/unknown.java" -i "$scratch/over"
 expect_line "a file of a byte too many" 8 "too long: $scratch/long.java" run "$scratch/long.java"
 
 ./whyline run "$scratch/syntax.java" >"$scratch/out" 2>/dev/null

@@ -12,7 +12,7 @@ use Rattle.wy_meaning.specs.Run.{tail, thrown}
 use Rattle.wy_meaning.specs.Kept.{kept_tail, kept_thrown}
 use Rattle.wy_machine.specs.declared.ended.Ended.{Ended}
 use Rattle.wy_machine.specs.Ended.{IsEndOf}
-use Rattle.wy_text.specs.Stops.{stop_line}
+use Rattle.wy_text.specs.Lines.{stop_line}
 use Rattle.wy_tree.specs.Lines.{line_of}
 use Rattle.wy_tree.specs.Tokens as fault
 use Rattle.wy_top.specs.declared.answer.Answer.{Answer}

@@ -5,7 +5,7 @@ use Rattle.wy_event.specs.Record.{present}
 use Rattle.wy_steps.specs.Sets.{nothing}
 use Rattle.wy_meaning.specs.Run.{output, tail, thrown}
 use Rattle.wy_machine.specs.declared.ended.Ended.{Ended}
-use Rattle.wy_text.specs.Stops.{stop_line}
+use Rattle.wy_text.specs.Lines.{stop_line}
 use Rattle.wy_top.specs.Lines.{whole_lines}
 
 -- its output in whole lines, and how it ended; the lines are those of the source's tokens
