@@ -1,7 +1,8 @@
 //! What the words read so far have named, and what the next one has to be.
 ghost use Rattle.std.specs.Prelude.{◌≡◌, option_map};
 ghost use Rattle.wy_words.specs.Views.{asking_of};
-ghost use Rattle.wy_words.specs.Words.{is_name as names, nothing as nothing_asked, with_input as input_added, with_source as source_added, with_steps as steps_added, with_word as word_added, with_next as next_added};
+ghost use Rattle.wy_words.specs.Words.{is_name as names, nothing as nothing_asked, with_next as next_added};
+ghost use Rattle.wy_words.specs.Words.{with_input as input_added, with_source as source_added, with_steps as steps_added, with_word as word_added};
 
 use crate::budget::budget;
 
@@ -16,6 +17,7 @@ pub enum Awaited {
     Steps,
 }
 
+/// Each is named once at most.
 #[derive(Clone, Copy)]
 pub struct Asking<'a> {
     pub awaited: Awaited,

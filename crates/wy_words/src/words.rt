@@ -1,7 +1,8 @@
 //! What a command line asks.
 ghost use Rattle.std.specs.Prelude.{◌≡◌, map, string_bytes, IfSome, None, option_map, option_and_then};
 ghost use Rattle.wy_words.specs.Views.{asked_of, asking_of};
-ghost use Rattle.wy_words.specs.Words.{AsksToRun, IsNoCommand, asked_behind as behind_command, asked_by as by_asking, with_next as next_added};
+ghost use Rattle.wy_words.specs.Words.{AsksToRun, IsNoCommand};
+ghost use Rattle.wy_words.specs.Words.{asked_behind as behind_command, asked_by as by_asking, with_next as next_added};
 
 use crate::asking::{Asking, Awaited};
 
@@ -33,16 +34,18 @@ fn asked_behind<'a>(words: &'a [String]) -> Option<Asked<'a>>
 {
     let mut asking = Some(Asking::nothing());
     for word in words {
-        asking = with_next(asking, word);
+        asking = named_with(asking, word.as_str());
     }
     asked_by(asking?)
 }
 
-fn with_next<'a>(asking: Option<Asking<'a>>, word: &'a String) -> Option<Asking<'a>>
-    ensures { option_map asking_of result ≡ option_and_then (λ a. next_added a.awaited a (string_bytes word.now)) (option_map asking_of asking.entry) }
+/// What is named once a word is read too, and None from where the words are no command.
+fn named_with<'a>(asking: Option<Asking<'a>>, word: &'a str) -> Option<Asking<'a>>
+    ensures { option_map asking_of result
+        ≡ option_and_then (λ a. next_added a.awaited a word.now) (option_map asking_of asking.entry) }
 {
     match asking {
-        Some(asking) => asking.with_next(word.as_str()),
+        Some(asking) => asking.with_next(word),
         None => None,
     }
 }
