@@ -1,33 +1,58 @@
 #!/usr/bin/env bash
-# Times `./whyline run` on a loop of about 900,000 steps, and real Java's interpreter on the same file
-# where it is installed. Prints the times, the steps a second and the ratio. Nothing rests on them.
+# Times `./whyline run` on each program of tools/bench, and `javac` and `java -Xint` together on the same file where they are
+# installed; then the loop of 3,900,000 events at a quarter, a half and all of its steps. Prints times, the greatest memory and
+# ratios. Nothing rests on them.
 set -u
 cd "$(dirname "$0")/../.." || exit 1
-source=tools/bench/Loop.java
-steps=899998
 scratch=$(mktemp -d) || exit 1
 trap 'rm -rf "$scratch"' EXIT
+steps=50000000
 
-seconds_of() { # WORD..: the least wall time of five runs
+seconds_of() { # WORD..: the least wall time of three runs, with the input from $scratch/in
   local best='' begin end took
-  for _ in 1 2 3 4 5; do
+  for _ in 1 2 3; do
     begin=$(date +%s%N)
-    "$@" >"$scratch/out" 2>&1 || { cat "$scratch/out" >&2; return 1; }
+    "$@" <"$scratch/in" >"$scratch/out" 2>&1 || { cat "$scratch/out" >&2; return 1; }
     end=$(date +%s%N)
     took=$((end - begin))
     if [ -z "$best" ] || [ "$took" -lt "$best" ]; then best=$took; fi
   done
-  awk -v n="$best" 'BEGIN { printf "%.4f", n / 1e9 }'
+  awk -v n="$best" 'BEGIN { printf "%.3f", n / 1e9 }'
 }
 
-./whyline run "$source" >"$scratch/ours" || exit 1
-ours=$(seconds_of ./whyline run "$source") || exit 1
-awk -v t="$ours" -v s="$steps" 'BEGIN { printf "whyline run: %s s, %.1f million steps a second\n", t, s / t / 1e6 }'
+memory_of() { # WORD..: the most memory of a run, in MB
+  if [ -x /usr/bin/time ]; then
+    /usr/bin/time -f '%M' -o "$scratch/memory" "$@" >/dev/null 2>&1
+    awk '{ printf ", %d MB", $1 / 1024 }' "$scratch/memory"
+  fi
+}
 
-if command -v javac >/dev/null 2>&1 && command -v java >/dev/null 2>&1; then
-  javac -d "$scratch" "$source" || exit 1
-  java -Xint -cp "$scratch" Loop >"$scratch/theirs" || exit 1
-  head -n -1 "$scratch/ours" | cmp -s - "$scratch/theirs" || { echo "the outputs differ" >&2; exit 1; }
-  theirs=$(seconds_of java -Xint -cp "$scratch" Loop) || exit 1
-  awk -v a="$ours" -v b="$theirs" 'BEGIN { printf "java -Xint: %s s, its start included; ours takes %.2f times as long\n", b, a / b }'
-fi
+compiled_and_run() { # SOURCE CLASS
+  javac -d "$scratch" "$1" && java -Xint -cp "$scratch" "$2"
+}
+
+for i in $(seq 1 12000); do echo "$i $((i * 7 % 1000)) $((i % 13))"; done >"$scratch/numbers"
+
+for source in tools/bench/*.java; do
+  name=$(basename "$source" .java)
+  words=(run "$source" --steps "$steps")
+  : >"$scratch/in"
+  if [ "$name" = Parse ]; then
+    cp "$scratch/numbers" "$scratch/in"
+    words+=(-i "$scratch/numbers")
+  fi
+  ours=$(seconds_of ./whyline "${words[@]}") || exit 1
+  cp "$scratch/out" "$scratch/ours"
+  printf '%-8s whyline %s s%s' "$name" "$ours" "$(memory_of ./whyline "${words[@]}")"
+  if command -v javac >/dev/null 2>&1 && command -v java >/dev/null 2>&1; then
+    theirs=$(seconds_of compiled_and_run "$source" "$name") || exit 1
+    head -n -1 "$scratch/ours" | cmp -s - "$scratch/out" || { echo "; the outputs differ" >&2; exit 1; }
+    awk -v a="$ours" -v b="$theirs" 'BEGIN { printf "; javac and java -Xint %s s; %.2f times as long", b, a / b }'
+  fi
+  printf '; %s\n' "$(tail -n 1 "$scratch/ours")"
+done
+
+for part in 4 2 1; do
+  taken=$(seconds_of ./whyline run tools/bench/Events.java --steps $((16000000 / part))) || exit 1
+  printf 'Events, %d steps: %s s\n' $((16000000 / part)) "$taken"
+done
