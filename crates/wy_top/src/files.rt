@@ -61,7 +61,8 @@ pub fn read_both<'a, S: Shelf>(
     source: &'a str,
     input: Option<&'a str>,
 ) -> Result<Contents, FileError<'a>>
-    ensures content { GivesBoth (S.held shelf.old) source.now (option_map (λ s. s.now) input.entry) result }
+    ensures content { GivesBoth (S.held shelf.old) source.now
+        (option_map (λ s. s.now) input.entry) result }
     ensures bound { IfOk result (λ contents. length contents.source.items ≤ source_limit) }
     ensures fault { RoseAt is_fault result (S.faults shelf.old) (S.faults shelf.new) }
     ensures absent { RoseAt is_absent result (S.misses shelf.old) (S.misses shelf.new) }
