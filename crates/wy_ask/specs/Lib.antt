@@ -1,3 +1,4 @@
 pub mod Words
 pub mod Questions
 pub mod Reading
+pub mod Asked

@@ -125,11 +125,14 @@ fn are_digits(bytes: &[u8]) -> bool
     bytes.iter().all(|byte| is_digit(*byte))
 }
 
+/// A number has no more digits than this.
+const MOST_DIGITS: usize = 10;
+
 /// The number that a word of 1 to 10 digits is, if 32 bits hold it.
 pub fn number(word: &str) -> Option<u32>
     ensures { result ≡ number_of word.now }
 {
-    if word.len() <= 10 && are_digits(word.as_bytes()) {
+    if word.len() <= MOST_DIGITS && are_digits(word.as_bytes()) {
         word.parse::<u32>().ok()
     } else {
         None

@@ -22,7 +22,7 @@ pub fn cut(text: &str, sign: char) -> Option<(&str, &str)>
 }
 
 /// The package of the library's classes, with the sign behind it.
-const LIBRARY: &str = "java.lang.";
+pub const LIBRARY: &str = "java.lang.";
 
 /// A field by the words of its class and its name; a class of the library without its package.
 #[derive(Clone, Copy, Drop)]
