@@ -1,6 +1,6 @@
 //! The event that a question asks about.
 
-ghost use Rattle.std.specs.Prelude.{◌≡◌, ◌+◌, ◌<◌, ◌≤◌, ◌^◌, ℕ, List, IfSome, Some, None, if◌then◌else◌, length, nat_lt, slice_get};
+ghost use Rattle.std.specs.Prelude.{◌≡◌, ◌+◌, ◌<◌, ◌≤◌, ◌^◌, ℕ, List, IfOk, IfSome, Some, None, if◌then◌else◌, length, nat_lt, slice_get};
 ghost use Rattle.wy_kernel.specs.Parts.{program_of};
 ghost use Rattle.wy_event.specs.Record.{Recorded};
 ghost use Rattle.wy_index.specs.Found.{prints_in};
@@ -76,14 +76,17 @@ pub fn resolve<L: Ledger>(
 }
 
 fn print(index: &Index, piece: u32) -> Option<u32>
-    ensures { (rs : List Recorded) → IsIndexOf index.now rs
+    ensures print { (rs : List Recorded) → IsIndexOf index.now rs
         → result ≡ slice_get (prints_in rs) piece }
+    ensures below { (rs : List Recorded) → IsIndexOf index.now rs
+        → IfSome result (λ event. event < length rs) }
 {
     index.prints().get(piece as usize).copied()
 }
 
 fn event(number: u32, count: u32) -> Option<u32>
-    ensures { result ≡ (if nat_lt number count then Some number else None) }
+    ensures event { result ≡ (if nat_lt number count then Some number else None) }
+    ensures below { IfSome result (λ event. event < count) }
 {
     if number < count { Some(number) } else { None }
 }
@@ -98,6 +101,7 @@ fn stored<L: Ledger>(
 ) -> Option<u32>
     ensures write { (rs : List Recorded) → IsIndexOf index.now rs → length rs ≡ count
         → result ≡ stored (owners_of index.now) rs place moment }
+    ensures below { IfSome result (λ event. event < count) }
     ensures forward { steps.old ≤ steps.new }
     ensures steps { (l : ℕ) → IsHalvings (length index.now.postings) l
         → steps.new ≤ steps.old + (l + 1) }
