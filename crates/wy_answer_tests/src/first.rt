@@ -60,7 +60,7 @@ fn place(slot: Slot, moment: u32) -> Use {
     Use::Place { slot, moment }
 }
 
-fn events(alloc: Global) -> Result<Vec<Event>, AllocError> {
+pub fn events(alloc: Global) -> Result<Vec<Event>, AllocError> {
     let mut events = Vec::new(alloc);
     events.push(event(alloc, Kind::Init, NONE, Slot::None, Value::None, &[])?)?;
     events.push(event(alloc, Kind::New, NONE, Slot::None, Value::Int(0), &[])?)?;

@@ -1,0 +1,5 @@
+pub mod Fronts
+pub mod Numerals
+pub mod Spellings
+pub mod Fields
+pub mod Stores

@@ -1,0 +1,8 @@
+use Rattle.std.proofs.Common.{◌≡◌, drop}
+use Rattle.std.specs.List.{position_from}
+use Rattle.wy_kernel.specs.Parts.{program_of}
+use Rattle.wy_ask.specs.Asked.{field_number, is_meant}
+use Rattle.wy_ask.proofs.field.field_number.Given as goal
+
+abbrev pub invariant-loop-n : goal.invariant-loop-n
+invariant-loop-n l = field_number (program_of l.program) l.is_static l.class l.name ≡ position_from (is_meant (program_of l.program) l.is_static l.class l.name) l.n (drop l.n (program_of l.program).fields)

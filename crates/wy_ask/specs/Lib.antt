@@ -1,0 +1,4 @@
+pub mod Words
+pub mod Questions
+pub mod Reading
+pub mod Asked

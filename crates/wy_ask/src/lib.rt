@@ -1,0 +1,12 @@
+//! The words of questions about a trace, and the event that each asks about.
+//! Nothing here works out an answer.
+#![tactic(auto)]
+
+mod field;
+mod names;
+mod parts;
+pub mod question;
+pub mod resolving;
+
+pub use question::{AskError, Question, read_question};
+pub use resolving::resolve;
