@@ -24,7 +24,7 @@ const BLOCK: usize = 65536;
 /// closed was handed to the system and from there to the disk. A file that failed takes nothing
 /// more until it is opened again.
 #[derive(Drop)]
-pub struct FileTraceSink<R: Files> {
+pub struct FileTraceSink<R: Files + Drop> {
     rt: R,
     alloc: Global,
     file: Option<R::File>,
@@ -32,7 +32,7 @@ pub struct FileTraceSink<R: Files> {
     faults: u64,
 }
 
-impl<R: Files> FileTraceSink<R> {
+impl<R: Files + Drop> FileTraceSink<R> {
     pub fn new(rt: R, alloc: Global) -> Self
         ensures untold { ⟦<FileTraceSink<R> as TraceSink>⟧.bytes result ≡ None }
         ensures faults { ⟦<FileTraceSink<R> as TraceSink>⟧.faults result ≡ 0 }
@@ -108,7 +108,7 @@ fn close_file<W: Write + OpenFile>(file: &mut W, block: &mut Vec<u8>) -> Result<
     }
 }
 
-impl<R: Files> FileTraceSink<R> {
+impl<R: Files + Drop> FileTraceSink<R> {
     fn begin(&mut self, path: &str) -> Result<(), SinkError>
         ensures { self.new.faults ≡ self.old.faults }
     {
@@ -120,7 +120,7 @@ impl<R: Files> FileTraceSink<R> {
     }
 }
 
-impl<R: Files> TraceSink for FileTraceSink<R> {
+impl<R: Files + Drop> TraceSink for FileTraceSink<R> {
     ghost bytes = { λ _. None };
 
     ghost faults = { λ s. s.faults };
