@@ -3,8 +3,8 @@
 //! every byte and fail at the calls that they are told to; the real forms are the trusted edge.
 #![tactic(auto)]
 
-mod count;
-mod failing;
+pub mod count;
+pub mod failing;
 pub mod memory;
 mod piece;
 pub mod real;

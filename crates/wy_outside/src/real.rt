@@ -6,5 +6,5 @@ mod sink;
 mod source;
 
 pub use shelf::{FileShelf, read_front};
-pub use sink::StdoutSink;
+pub use sink::{StdoutSink, write_whole};
 pub use source::{StdinSource, read_some};
