@@ -9,9 +9,10 @@ use std::marker::Brand;
 use std::process::Abort;
 use std::sync::ledger::{Blank, Ledger};
 use std::test::Fail;
-use wy_ask::{AskError, read_question, resolve};
+use wy_ask::{AskError, read_question, resolve, statement};
 use wy_index::Index;
 use wy_kernel::builtin;
+use wy_kernel::form::{Body, Stmt, StmtForm};
 use wy_kernel::operator::Primitive;
 use wy_kernel::program::Program;
 use wy_kernel::types::{Base, Class, Field, Ty};
@@ -134,5 +135,59 @@ fn a_word_asks_about_its_event_or_about_none(rt: HostRuntime) -> Result<(), Fail
     assert!(rt; events.len() < 100);
     let mut view = MemoryView { events };
     ask::<Brand, HostRuntime>(&rt, rt.alloc(), &mut view, Blank::new(1));
+    Ok(())
+}
+
+/// An empty block.
+fn block(alloc: Global, number: u32, site: u32, askable: bool) -> Stmt {
+    Stmt {
+        number,
+        site,
+        askable,
+        reach: 0,
+        form: StmtForm::Block {
+            parts: Vec::new(alloc),
+        },
+    }
+}
+
+/// A body with statements 2 and 1 on line 5, and one on line 6 that isn't askable.
+fn three_statements(alloc: Global) -> Result<Body, AllocError> {
+    Ok(Body {
+        block: Stmt {
+            number: 0,
+            site: 0,
+            askable: false,
+            reach: 0,
+            form: StmtForm::Block {
+                parts: vec![in alloc;
+                    block(alloc, 2, 2, true),
+                    block(alloc, 1, 1, true),
+                    block(alloc, 3, 3, false),
+                ]?,
+            },
+        },
+        locals: Vec::new(alloc),
+        end: 4,
+    })
+}
+
+#[test]
+fn a_statement_is_named_by_its_line_and_place(rt: HostRuntime) -> Result<(), Fail> {
+    let mut program = program(rt.alloc())?;
+    program.bodies.push(Some(three_statements(rt.alloc())?))?;
+    program.lines = vec![in rt.alloc(); 4, 5, 5, 6, 6]?;
+    for (word, number) in [("5", 1), ("5.1", 1), ("05.02", 2)] {
+        let found = statement(rt.alloc(), &program, word);
+        assert_eq!(rt; found.ok(), Some(number), "{word}");
+    }
+    for (word, line) in [("5.3", 5), ("6", 6), ("7.1", 7)] {
+        let found = statement(rt.alloc(), &program, word);
+        assert_eq!(rt; found.err(), Some(AskError::NoSuch(line)), "{word}");
+    }
+    for word in ["", "0", "5.0", "5.", "5.1.1", "x"] {
+        let found = statement(rt.alloc(), &program, word);
+        assert_eq!(rt; found.err(), Some(AskError::BadQuestion), "{word}");
+    }
     Ok(())
 }

@@ -57,7 +57,7 @@ cut_there sign (b ∷ xs) ys h =
     ap (λ v. if v then Some ([], xs ++ (sign ∷ ys)) else with_first b (cut sign (xs ++ (sign ∷ ys)))) (ne_eqb b sign (h zero (omega arith)))
     ∙ ap (with_first b) (cut_there sign xs ys (lacks_rest sign b xs h))
 
-cut_none : (sign : ℕ) (xs : List ℕ) → Lacks sign xs → cut sign xs ≡ None
+pub cut_none : (sign : ℕ) (xs : List ℕ) → Lacks sign xs → cut sign xs ≡ None
 cut_none sign [] h = refl
 cut_none sign (b ∷ xs) h =
     ap (λ v. if v then Some ([], xs) else with_first b (cut sign xs)) (ne_eqb b sign (h zero (omega arith))) ∙ ap (with_first b) (cut_none sign xs (lacks_rest sign b xs h))

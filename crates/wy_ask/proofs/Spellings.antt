@@ -18,7 +18,7 @@ use Rattle.wy_ask.proofs.Numerals.{has_digits}
 
 -- ---- what no word has
 
-number_lacks : (sign : ℕ) → is_digit sign ≡ false → (n : ℕ) (w : List ℕ) → IsNumber n w → Lacks sign w
+pub number_lacks : (sign : ℕ) → is_digit sign ≡ false → (n : ℕ) (w : List ℕ) → IsNumber n w → Lacks sign w
 number_lacks sign out n w e = lacks_all is_digit sign w out (has_digits w (cond_some (is_number w) (value_of w) n e).0)
 
 letters : (w : List ℕ) → is_name w ≡ true → list_all goes_on_word w ≡ true
@@ -111,7 +111,7 @@ front_cases : {X Y P : Type 0} (o : Option X) (f : X → Option Y) (other : Opti
 front_cases None f other y e there absent = absent e
 front_cases (Some x) f other y e there absent = there x refl e
 
-then_some : {X Y P : Type 0} (o : Option X) (f : X → Option Y) (y : Y) → and_then o f ≡ Some y → ((x : X) → o ≡ Some x → f x ≡ Some y → P) → P
+pub then_some : {X Y P : Type 0} (o : Option X) (f : X → Option Y) (y : Y) → and_then o f ≡ Some y → ((x : X) → o ≡ Some x → f x ≡ Some y → P) → P
 then_some None f y e there = absurd (none-some y e)
 then_some (Some x) f y e there = there x refl e
 

@@ -1,5 +1,5 @@
 -- What is answered of a place that is asked about.
-use Rattle.std.proofs.Common.{◌≡◌, ℕ, zero, suc, ◌+◌, ◌<◌, nat_lt, get_or, Bor, Bool, true, false, sym, ap, ◌∙◌, refl, List, [], ◌∷◌, ◌++◌, length, Some, None, Result, Ok, Err, arith}
+use Rattle.std.proofs.Common.{◌≡◌, ℕ, zero, suc, ◌+◌, ◌<◌, nat_lt, get_or, Bor, Bool, true, false, sym, ap, ◌∙◌, refl, List, [], ◌∷◌, ◌++◌, length, Some, None, Result, arith}
 use Rattle.std.proofs.Math.Path.{fun_ext}
 use Rattle.std.proofs.lemmas.Option.{none-some, same_Some, slice_get_read}
 use Rattle.std.proofs.lemmas.Bool.{ltb-true}

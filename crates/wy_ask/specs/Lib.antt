@@ -2,3 +2,5 @@ pub mod Words
 pub mod Questions
 pub mod Reading
 pub mod Asked
+pub mod Lines
+pub mod Statements

@@ -3,10 +3,13 @@
 #![tactic(auto)]
 
 mod field;
+mod listing;
 mod names;
+pub mod naming;
 mod parts;
 pub mod question;
 pub mod resolving;
 
+pub use naming::statement;
 pub use question::{AskError, Question, read_question};
 pub use resolving::resolve;

@@ -3,6 +3,7 @@
 ghost use Rattle.std.specs.Prelude.{◌≡◌, ◌+◌, ◌<◌, ◌≤◌, ◌^◌, ℕ, List, IfOk, IfSome, Some, None, if◌then◌else◌, length, nat_lt, slice_get};
 ghost use Rattle.wy_kernel.specs.Parts.{program_of};
 ghost use Rattle.wy_event.specs.Record.{Recorded};
+ghost use Rattle.wy_event.specs.declared.record.Slot.TheVariants as Slot;
 ghost use Rattle.wy_index.specs.Found.{prints_in};
 ghost use Rattle.wy_index.specs.Halving.{IsHalvings};
 ghost use Rattle.wy_index.specs.Index.{IsIndexOf, owners_of};
@@ -29,6 +30,8 @@ pub fn resolve<L: Ledger>(
     ensures event { (rs : List Recorded) → IsOf (program_of program.now) index.now count rs
         → Resolves result (event_of (program_of program.now) rs (asked question.now))
         (number_in (asked question.now)) }
+    ensures below { (rs : List Recorded) → IsOf (program_of program.now) index.now count rs
+        → IfOk result (λ event. event < count) }
     ensures forward { steps.old ≤ steps.new }
     ensures steps { (l : ℕ) → IsHalvings (length index.now.postings) l
         → steps.new ≤ steps.old + (l + 1) }
@@ -66,10 +69,7 @@ pub fn resolve<L: Ledger>(
             index: local,
             moment,
         } => {
-            let place = Some(Slot::Local {
-                frame: *frame,
-                index: *local,
-            });
+            let place = local_place(*frame, *local);
             stored(index, place, *moment, count, steps).ok_or(AskError::NoSuch(*moment))
         }
     }
@@ -168,4 +168,10 @@ fn element_place(index: &Index, array: u32, element: u32, moment: u32) -> Option
     } else {
         None
     }
+}
+
+fn local_place(frame: u32, index: u32) -> Option<Slot>
+    ensures { result ≡ Some (Slot.Local frame index) }
+{
+    Some(Slot::Local { frame, index })
 }
