@@ -8,6 +8,8 @@ use Rattle.wy_outside.specs.Counts.{Rose, last_count}
 use Rattle.wy_record.specs.Answers.{Mirrors, FaultsAs, HaveFront, HaveClosing, MirrorsTake, MirrorsClose, with_more, opened}
 use Rattle.wy_record.specs.declared.recorder.RecordError.{RecordError}
 use Rattle.wy_record.specs.declared.recorder.RecordError.TheVariants.{SinkFault, Differs, NoMemory}
+use Rattle.wy_record.specs.declared.recorder.Phase.{Phase}
+use Rattle.wy_record.specs.declared.recorder.Phase.TheVariants as phases
 use Rattle.wy_spelling.specs.Spelling.{closing, seal_frame, tail_frames}
 use Rattle.wy_framing.specs.Served.{AreHeld, AreLow, RoseIn, RoseOnlyAt, total}
 use Rattle.wy_framing.proofs.Fronts.{same_has_front}
@@ -112,3 +114,35 @@ sealing tail frames piece seal bytes framed put sealed = put ∙ ap (λ d. frame
 pub sealed_each : (r : Result Unit RecordError) (H G : List ℕ → Type 0) (tail : Tail) (frames piece seal : List ℕ) (olds news : Mirrors) → frames ≡ tail_frames tail → piece ≡ frames ++ seal_frame seal → ((bytes : List ℕ) → H bytes → G (bytes ++ frames)) → ((bytes : List ℕ) → G bytes → seal ≡ sha256 bytes) → ∥ AreHeld H olds ∥₁ → MirrorsTake r piece olds news → MirrorsClose r (closing tail) olds news
 sealed_each r H G tail frames piece seal olds news framed put fed ended held taken =
     closes r piece (closing tail) olds news (all_closed H piece (closing tail) olds (λ bytes h. sealing tail frames piece seal bytes framed put (ended (bytes ++ frames) (fed bytes h))) held) taken
+
+-- ---- what a recorder that goes on knows
+
+abbrev IsAwake : Phase → Type 0
+IsAwake phases.Ready = Unit {0}
+IsAwake phases.Recording = Unit {0}
+IsAwake phases.Done = Unit {0}
+IsAwake phases.Failed = ⊥
+
+awake : (phase now : Phase) → IsAwake now → phase ≡ now → phase ≡ phases.Failed → ⊥
+awake phase now is_awake is failed = subst IsAwake failed (subst IsAwake (sym is) is_awake)
+
+pub ready_awake : (phase : Phase) → phase ≡ phases.Ready → phase ≡ phases.Failed → ⊥
+ready_awake phase is failed = awake phase phases.Ready tt is failed
+
+pub recording_awake : (phase : Phase) → phase ≡ phases.Recording → phase ≡ phases.Failed → ⊥
+recording_awake phase is failed = awake phase phases.Recording tt is failed
+
+pub low_kept : (olds news : List ℕ) → news ≡ olds → AreLow olds → AreLow news
+low_kept olds news kept low = subst AreLow (sym kept) low
+
+-- ---- one list under two names
+
+pub fed_alike : (H G : List ℕ → Type 0) (fed piece : List ℕ) → fed ≡ piece → ((bytes : List ℕ) → H bytes → G (bytes ++ fed)) → (bytes : List ℕ) → H bytes → G (bytes ++ piece)
+fed_alike H G fed piece alike more =
+    let P : List ℕ → Type 0 = λ p. (bytes : List ℕ) → H bytes → G (bytes ++ p) in
+    subst P alike more
+
+pub taken_alike : (r : Result Unit RecordError) (put piece : List ℕ) (olds news : Mirrors) → put ≡ piece → MirrorsTake r put olds news → MirrorsTake r piece olds news
+taken_alike r put piece olds news alike taken =
+    let P : List ℕ → Type 0 = λ p. MirrorsTake r p olds news in
+    subst P alike taken

@@ -7,10 +7,9 @@ ghost use Rattle.wy_spelling.specs.Spelling.{closing, event_frame, opening};
 ghost use Rattle.wy_framing.specs.Served.{AreHeld, AreLow, total};
 
 use crate::piece::{frame_of, opening_of, tail_of, with_seal};
-use crate::serve::{Act, serve_each};
+use crate::serve::{Act, serve_all};
 use sha2::{Digest, Sha256};
 use std::alloc::{AllocError, Global};
-use std::mem;
 use wy_event::record::{Event, Head, Tail};
 use wy_record::{Phase, RecordError, Recorder};
 use wy_sinks::TraceSink;
@@ -82,7 +81,9 @@ impl<S: TraceSink + Drop> Recorder for FrameRecorder<S> {
         let Ok(piece) = opening_of(self.alloc, head) else {
             return Err(RecordError::NoMemory);
         };
-        serve_each(&mut self.sinks, Act::Open, name, piece.as_slice())?;
+        if let Err(error) = serve_all(&mut self.sinks, Act::Open, name, piece.as_slice()) {
+            return Err(error);
+        }
         self.hasher = Sha256::new();
         self.hasher.update(piece.as_slice());
         self.phase = Phase::Recording;
@@ -94,7 +95,9 @@ impl<S: TraceSink + Drop> Recorder for FrameRecorder<S> {
         let Ok(piece) = frame_of(self.alloc, event) else {
             return Err(RecordError::NoMemory);
         };
-        serve_each(&mut self.sinks, Act::Put, "", piece.as_slice())?;
+        if let Err(error) = serve_all(&mut self.sinks, Act::Put, "", piece.as_slice()) {
+            return Err(error);
+        }
         self.hasher.update(piece.as_slice());
         self.phase = Phase::Recording;
         Ok(())
@@ -106,12 +109,13 @@ impl<S: TraceSink + Drop> Recorder for FrameRecorder<S> {
             return Err(RecordError::NoMemory);
         };
         self.hasher.update(frames.as_slice());
-        let hasher = mem::replace(&mut self.hasher, Sha256::new());
-        let seal = hasher.finalize();
+        let seal = self.hasher.finalize_reset();
         let Ok(piece) = with_seal(self.alloc, frames, &seal) else {
             return Err(RecordError::NoMemory);
         };
-        serve_each(&mut self.sinks, Act::Close, "", piece.as_slice())?;
+        if let Err(error) = serve_all(&mut self.sinks, Act::Close, "", piece.as_slice()) {
+            return Err(error);
+        }
         self.phase = Phase::Done;
         Ok(())
     }
