@@ -1,6 +1,8 @@
 -- Which mirror's count of faults a refusal names.
-use Rattle.std.specs.Prelude.{◌≡◌, ℕ, zero, suc, ◌+◌, ◌-◌, ◌^◌, min, List, [], ◌∷◌, Result, Ok, Err}
-use Rattle.wy_outside.specs.Counts.{Rose}
+use Rattle.std.specs.Prelude.{◌≡◌, ℕ, zero, suc, ◌+◌, ◌-◌, ◌^◌, ◌<◌, min, List, [], ◌∷◌, slice_get, Some, Result, Ok, Err}
+use Rattle.std.specs.Prelude.{None as Absent}
+use Rattle.wy_outside.specs.Counts.{Rose, last_count}
+use Rattle.wy_record.specs.Answers.{Mirrors}
 use Rattle.wy_record.specs.declared.recorder.RecordError.{RecordError}
 use Rattle.wy_record.specs.declared.recorder.RecordError.TheVariants.{SinkFault, Differs, NoMemory}
 
@@ -22,3 +24,18 @@ abbrev pub behind : RecordError → RecordError
 behind (SinkFault mirror) = SinkFault (min (mirror + 1) (2 ^ 32 - 1))
 behind (Differs event) = Differs event
 behind NoMemory = NoMemory
+
+-- the sum of the counts
+abbrev pub total : List ℕ → ℕ
+total [] = 0
+total (count ∷ rest) = count + total rest
+
+-- no count stands at its last value
+abbrev pub AreLow : List ℕ → Type 0
+AreLow counts = (n count : ℕ) → slice_get counts n ≡ Some count → count < last_count
+
+-- the bytes of each mirror that tells them are held
+abbrev pub AreHeld : (List ℕ → Type 0) → Mirrors → Type 0
+AreHeld Holds [] = Unit {0}
+AreHeld Holds (Absent ∷ rest) = AreHeld Holds rest
+AreHeld Holds (Some bytes ∷ rest) = Holds bytes × AreHeld Holds rest

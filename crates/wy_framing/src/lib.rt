@@ -7,4 +7,3 @@ mod recorder;
 mod serve;
 
 pub use recorder::FrameRecorder;
-pub use serve::{Act, serve_each};

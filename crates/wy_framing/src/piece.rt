@@ -68,11 +68,7 @@ pub fn tail_of(alloc: Global, tail: &Tail) -> Result<Vec<u8>, AllocError>
 }
 
 /// The bytes, and the frame of the seal behind them.
-pub fn with_seal(
-    alloc: Global,
-    mut bytes: Vec<u8>,
-    seal: &[u8; 32],
-) -> Result<Vec<u8>, AllocError>
+pub fn with_seal(alloc: Global, mut bytes: Vec<u8>, seal: &[u8; 32]) -> Result<Vec<u8>, AllocError>
     ensures { IfOk result (λ all. all.items ≡ bytes.items ++ seal_frame seal.now) }
 {
     let frame = encode_seal(alloc, seal)?;

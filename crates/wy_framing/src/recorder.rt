@@ -1,16 +1,21 @@
 //! The recorder.
-ghost use Rattle.std.specs.Prelude.{◌≡◌, ◌≢◌, ◌<◌, ◌^◌, ℕ, List, Option, Some, map, slice_get, vec_len};
-ghost use Rattle.wy_outside.specs.Counts.{last_count};
+ghost use Rattle.std.specs.Prelude.{◌≡◌, ◌≢◌, ◌<◌, ◌^◌, [], ℕ, List, Option, Some, false, map, vec_len};
+ghost use Rattle.sha2.specs.Hashers.{Holds256};
 ghost use Rattle.wy_record.specs.declared.recorder.Phase.{Phase};
 ghost use Rattle.wy_record.specs.Answers.{opened};
-ghost use Rattle.sha2.specs.Hashers.{Holds256};
+ghost use Rattle.wy_spelling.specs.Spelling.{closing, event_frame, opening};
+ghost use Rattle.wy_framing.specs.Served.{AreHeld, AreLow, total};
 
+use crate::piece::{frame_of, opening_of, tail_of, with_seal};
+use crate::serve::{Act, serve_all};
 use sha2::{Digest, Sha256};
-use std::alloc::Global;
-use wy_record::Phase;
+use std::alloc::{AllocError, Global};
+use wy_event::record::{Event, Head, Tail};
+use wy_record::{Phase, RecordError, Recorder};
 use wy_sinks::TraceSink;
 
-/// Writes the trace of a run to each of its mirrors.
+/// Writes the trace of a run to each of its mirrors. What it wrote is hashed as it is written, and
+/// never read back.
 #[derive(Drop)]
 pub struct FrameRecorder<S: TraceSink + Drop> {
     alloc: Global,
@@ -18,25 +23,111 @@ pub struct FrameRecorder<S: TraceSink + Drop> {
     sinks: Vec<S>,
     hasher: Sha256,
     ghost few: { vec_len sinks < 2 ^ 32 },
-    ghost empty: { phase ≡ Phase.Ready → opened (map S.bytes sinks.items) ≡ map S.bytes sinks.items },
-    ghost low: { phase ≢ Phase.Failed → (n count : ℕ) → slice_get (map S.faults sinks.items) n ≡ Some count → count < last_count },
-    ghost hashed: { phase ≡ Phase.Recording → (n : ℕ) (bytes : List ℕ) → slice_get (map S.bytes sinks.items) n ≡ Some (Some bytes) → ∥ Holds256 hasher bytes ∥₁ },
+    ghost empty: { phase ≡ Phase.Ready
+        → opened (map S.bytes sinks.items) ≡ map S.bytes sinks.items },
+    ghost low: { phase ≢ Phase.Failed → AreLow (map S.faults sinks.items) },
+    ghost held: { phase ≡ Phase.Recording
+        → ∥ AreHeld (Holds256 hasher) (map S.bytes sinks.items) ∥₁ },
 }
 
 impl<S: TraceSink + Drop> FrameRecorder<S> {
-    /// A recorder over these mirrors, of which each that tells its bytes has none.
+    /// A recorder over these mirrors. One that tells its bytes has none yet, and no count of faults
+    /// stands at its last value.
     pub fn new(alloc: Global, sinks: Vec<S>) -> Self
         requires few { vec_len sinks < 2 ^ 32 }
         requires empty { opened (map S.bytes sinks.items) ≡ map S.bytes sinks.items }
-        requires low { (n count : ℕ) → slice_get (map S.faults sinks.items) n ≡ Some count
-            → count < last_count }
-        ensures { result.phase ≡ Phase.Ready }
+        requires low { AreLow (map S.faults sinks.items) }
+        ensures phase { result.phase ≡ Phase.Ready }
+        ensures sinks { result.sinks ≡ sinks }
     {
         FrameRecorder {
             alloc,
             phase: Phase::Ready,
             sinks,
             hasher: Sha256::new(),
+        }
+    }
+}
+
+impl<S: TraceSink + Drop> Recorder for FrameRecorder<S> {
+    ghost keeps = { false };
+
+    ghost kept = { λ r. [] };
+
+    ghost compares = { false };
+
+    ghost expected = { λ r. [] };
+
+    ghost position = { λ r. 0 };
+
+    ghost phase = { λ r. r.phase };
+
+    ghost faults = { λ r. total (map S.faults r.sinks.items) };
+
+    ghost mirrors = { λ r. map S.bytes r.sinks.items };
+
+    ghost opening = { λ head. opening head };
+
+    ghost frame = { λ event. event_frame event };
+
+    ghost closing = { λ tail bytes. closing tail bytes };
+
+    fn phase(&self) -> Phase {
+        self.phase
+    }
+
+    fn start(&mut self, name: &str, head: &Head, _events: Vec<Event>) -> Result<(), RecordError> {
+        self.phase = Phase::Failed;
+        let Ok(piece) = opening_of(self.alloc, head) else {
+            return Err(RecordError::NoMemory);
+        };
+        if let Err(error) = serve_all(&mut self.sinks, Act::Open, name, piece.as_slice()) {
+            return Err(error);
+        }
+        self.hasher = Sha256::new();
+        self.hasher.update(piece.as_slice());
+        self.phase = Phase::Recording;
+        Ok(())
+    }
+
+    fn note(&mut self, event: &Event) -> Result<(), RecordError> {
+        self.phase = Phase::Failed;
+        let Ok(piece) = frame_of(self.alloc, event) else {
+            return Err(RecordError::NoMemory);
+        };
+        if let Err(error) = serve_all(&mut self.sinks, Act::Put, "", piece.as_slice()) {
+            return Err(error);
+        }
+        self.hasher.update(piece.as_slice());
+        self.phase = Phase::Recording;
+        Ok(())
+    }
+
+    fn finish(&mut self, tail: &Tail) -> Result<(), RecordError> {
+        self.phase = Phase::Failed;
+        let Ok(frames) = tail_of(self.alloc, tail) else {
+            return Err(RecordError::NoMemory);
+        };
+        self.hasher.update(frames.as_slice());
+        let seal = self.hasher.finalize_reset();
+        let Ok(piece) = with_seal(self.alloc, frames, &seal) else {
+            return Err(RecordError::NoMemory);
+        };
+        if let Err(error) = serve_all(&mut self.sinks, Act::Close, "", piece.as_slice()) {
+            return Err(error);
+        }
+        self.phase = Phase::Done;
+        Ok(())
+    }
+
+    fn take(&mut self) -> Vec<Event> {
+        Vec::new(self.alloc)
+    }
+
+    fn mirror(&self, n: u32) -> Result<Option<Vec<u8>>, AllocError> {
+        match self.sinks.get(n as usize) {
+            Some(sink) => sink.told(),
+            None => Ok(None),
         }
     }
 }

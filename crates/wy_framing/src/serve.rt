@@ -1,5 +1,5 @@
 //! One call of a recorder, at each of its mirrors.
-ghost use Rattle.std.specs.Prelude.{◌≡◌, ◌<◌, ◌^◌, ℕ, length, map};
+ghost use Rattle.std.specs.Prelude.{◌≡◌, ◌<◌, ◌^◌, ℕ, length, map, vec_len};
 ghost use Rattle.wy_outside.specs.Counts.{RoseAt};
 ghost use Rattle.wy_outside.specs.Sink.{is_failed, Appends};
 ghost use Rattle.wy_record.specs.Answers.{MirrorsTake, opened};
@@ -44,12 +44,7 @@ fn end<S: TraceSink>(sink: &mut S, act: Act) -> Result<(), SinkError>
 }
 
 /// Puts the bytes to one mirror.
-fn serve<S: TraceSink>(
-    sink: &mut S,
-    act: Act,
-    name: &str,
-    piece: &[u8],
-) -> Result<(), SinkError>
+fn serve<S: TraceSink>(sink: &mut S, act: Act, name: &str, piece: &[u8]) -> Result<(), SinkError>
     requires { act ≡ Act.Open → emptied (S.bytes sink.old) ≡ S.bytes sink.old }
     ensures content { Appends (S.bytes sink.old) (S.bytes sink.new) piece.now result }
     ensures failed { RoseAt is_failed result (S.faults sink.old) (S.faults sink.new) }
@@ -60,7 +55,7 @@ fn serve<S: TraceSink>(
 }
 
 /// Puts the bytes to each mirror, in their order, until one refuses them.
-pub fn serve_each<S: TraceSink>(
+fn serve_each<S: TraceSink>(
     sinks: &mut [S],
     act: Act,
     name: &str,
@@ -83,6 +78,25 @@ pub fn serve_each<S: TraceSink>(
             Err(SinkError::NoMemory) => Err(RecordError::NoMemory),
         },
     }
+}
+
+/// The same, at a `Vec`.
+pub fn serve_all<S: TraceSink>(
+    sinks: &mut Vec<S>,
+    act: Act,
+    name: &str,
+    piece: &[u8],
+) -> Result<(), RecordError>
+    requires few { vec_len sinks.old < 2 ^ 32 }
+    requires empty { act ≡ Act.Open
+        → opened (map S.bytes sinks.old.items) ≡ map S.bytes sinks.old.items }
+    ensures mirrors { MirrorsTake result piece.now
+        (map S.bytes sinks.old.items) (map S.bytes sinks.new.items) }
+    ensures faults { RoseIn result
+        (map S.faults sinks.old.items) (map S.faults sinks.new.items) }
+    ensures number { vec_len sinks.new ≡ vec_len sinks.old }
+{
+    serve_each(sinks.as_mut_slice(), act, name, piece)
 }
 
 /// A refusal as it reads once a mirror stands before those that it speaks of.

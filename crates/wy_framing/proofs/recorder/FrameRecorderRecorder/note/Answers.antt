@@ -1,0 +1,20 @@
+-- A frame is put behind what each mirror has and the hasher holds.
+use Rattle.std.proofs.Common.{map, Ok, Err}
+use Rattle.sha2.specs.Hashers.{Holds256}
+use Rattle.wy_event.specs.Record.{recorded}
+use Rattle.wy_spelling.specs.Spelling.{event_frame}
+use Rattle.wy_framing.proofs.Fronts.{same_has_front}
+use Rattle.wy_framing.proofs.Traces.{faults_as, fed_alike, low_kept, recording_awake, still_held, taken_alike}
+use Rattle.wy_framing.proofs.recorder.FrameRecorderRecorder.note.Goals as goal
+
+pub returns-in_default-clause-mirrors : goal.returns-in_default-clause-mirrors
+returns-in_default-clause-mirrors g c = same_has_front (event_frame (recorded c.args.event.now)) (map g.S.TraceSink.bytes c.args.self.now.sinks.items)
+
+pub returns-in-Err-clause-faults : goal.returns-in-Err-clause-faults
+returns-in-Err-clause-faults g c = faults_as (Err c.in-Err.error) (map g.S.TraceSink.faults c.args.self.now.sinks.items) (map g.S.TraceSink.faults c.serve_all.new.sinks.items) c.in-Err.ensures.faults (c.args.self.now.low (recording_awake c.args.self.now.phase c.requires))
+
+pub invariant_of-self-2-clause-low : goal.invariant_of-self-2-clause-low
+invariant_of-self-2-clause-low g c = λ _. low_kept (map g.S.TraceSink.faults c.args.self.now.sinks.items) (map g.S.TraceSink.faults c.serve_all.new.sinks.items) c.in_default-serve_all.ensures.faults (c.args.self.now.low (recording_awake c.args.self.now.phase c.requires))
+
+pub invariant_of-self-2-clause-held : goal.invariant_of-self-2-clause-held
+invariant_of-self-2-clause-held g c = λ _. still_held (Holds256 c.args.self.now.hasher) (Holds256 c.update.new.self) c.in-Ok.piece.items (map g.S.TraceSink.bytes c.args.self.now.sinks.items) (map g.S.TraceSink.bytes c.serve_all.new.sinks.items) (taken_alike (Ok tt) c.as_slice.result.now c.in-Ok.piece.items (map g.S.TraceSink.bytes c.args.self.now.sinks.items) (map g.S.TraceSink.bytes c.serve_all.new.sinks.items) c.as_slice.ensures.value c.in_default-serve_all.ensures.mirrors) (fed_alike (Holds256 c.args.self.now.hasher) (Holds256 c.update.new.self) c.as_slice-2.result.now c.in-Ok.piece.items c.as_slice-2.ensures.value c.update.ensures) (c.args.self.now.held c.requires)
