@@ -1,0 +1,4 @@
+pub mod Names
+pub mod Values
+pub mod Places
+pub mod Lines
