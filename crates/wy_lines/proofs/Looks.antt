@@ -10,7 +10,7 @@ use Rattle.wy_event.specs.declared.record.Slot.{Slot}
 use Rattle.wy_event.specs.declared.record.Slot.TheVariants as slot
 use Rattle.wy_event.specs.Record.{Recorded}
 use Rattle.wy_view.specs.References.{RefersBelow, SlotBelow, ValueBelow}
-use Rattle.wy_lines.specs.Lines.{deed, event_line, given, line_at, line_with}
+use Rattle.wy_lines.specs.Lines.{deed, deed_of, event_line, given, line_at, line_with}
 use Rattle.wy_lines.specs.Places.{begun, frame_body, slot_text}
 use Rattle.wy_lines.specs.Values.{value_text, what_of}
 
@@ -52,5 +52,5 @@ value_within n count e lt refers = given_within n count e.kind e.value lt refers
 -- ---- the line of a record
 
 pub line_read : (p : Program) (lines : List ℕ) (rs : List Recorded) (n : ℕ) (marked : Bool) (e : Recorded) → slice_get rs n ≡ Some e → line_with lines n e.site (deed p e.kind e.what (slot_text p rs e.slot) (value_text p rs (given e.kind n e.value))) marked ≡ event_line p lines rs n marked
-unfolding event_line line_at
+unfolding event_line line_at deed_of
 line_read p lines rs n marked e at = sym (ap (line_at p lines rs n marked) at)

@@ -2,3 +2,4 @@ pub mod Names
 pub mod Values
 pub mod Places
 pub mod Lines
+pub mod Sources

@@ -1,4 +1,5 @@
--- The line of an event: its number, where it is in the text, and what it did. It ends with a line feed.
+-- The line of an event: its number, where it is in the text, and what it did.
+-- It ends with a line feed.
 use Rattle.std.specs.Prelude.{ℕ, Bool, true, false, List, [], ◌∷◌, ◌++◌, Option, Some, slice_get, codes}
 use Rattle.std.specs.Prelude.{None as Absent}
 use Rattle.wy_kernel.specs.Program.{Program}
@@ -39,7 +40,8 @@ equation place value = place ++ (codes " = " ++ value)
 unfoldable pub made_text : Program → Option ℕ → List ℕ → List ℕ
 made_text p what length = made_name p what ++ led (codes " length ") length
 
--- what an event is about, with the texts of its place and its value; the value of a New is the length of an array
+-- what an event is about, with the texts of its place and its value;
+-- the value of a New is the length of an array
 unfoldable pub subject : Program → Kind → Option ℕ → List ℕ → List ℕ → List ℕ
 subject p Init what place value = name_of p what
 subject p New what place value = made_text p what value
@@ -61,12 +63,22 @@ unfoldable pub star : Bool → List ℕ
 star false = []
 star true = codes " *"
 
+unfoldable pub where_at : List ℕ → ℕ → List ℕ
+where_at lines site = place_of lines (present site)
+
 unfoldable pub line_with : List ℕ → ℕ → ℕ → List ℕ → Bool → List ℕ
-line_with lines n site text marked = line_of (numbered n ++ (codes " " ++ (place_of lines (present site) ++ (codes " " ++ (text ++ star marked)))))
+line_with lines n site text marked =
+    line_of (numbered n ++ (codes " " ++ (where_at lines site ++ (codes " " ++ (text ++ star marked)))))
+
+-- what event n did
+unfoldable pub deed_of : Program → List Recorded → ℕ → Recorded → List ℕ
+deed_of p records n e =
+    deed p e.kind e.what (slot_text p records e.slot) (value_text p records (given e.kind n e.value))
 
 unfoldable pub line_at : Program → List ℕ → List Recorded → ℕ → Bool → Option Recorded → List ℕ
 line_at p lines records n marked Absent = []
-line_at p lines records n marked (Some e) = line_with lines n e.site (deed p e.kind e.what (slot_text p records e.slot) (value_text p records (given e.kind n e.value))) marked
+line_at p lines records n marked (Some e) =
+    line_with lines n e.site (deed_of p records n e) marked
 
 -- the line of event n, with a star where it is marked, by the lines of the program's tokens
 unfoldable pub event_line : Program → List ℕ → List Recorded → ℕ → Bool → List ℕ

@@ -34,5 +34,6 @@ unfoldable pub slot_text : Program → List Recorded → Slot → List ℕ
 slot_text p records (Local frame index) = local_name (frame_body p (slice_get records frame)) index
 slot_text p records (Static f) = field_name p f
 slot_text p records (Field object f) = numbered object ++ (codes "." ++ field_name p f)
-slot_text p records (Elem array index) = numbered array ++ (codes "[" ++ (decimal index ++ codes "]"))
+slot_text p records (Elem array index) =
+    numbered array ++ (codes "[" ++ (decimal index ++ codes "]"))
 slot_text p records _ = []

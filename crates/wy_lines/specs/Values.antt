@@ -21,7 +21,8 @@ hex_digit d = if nat_lt d 10 then 48 + d else 87 + d
 
 -- `\u` and four digits
 unfoldable pub escaped : ℕ → List ℕ
-escaped u = 92 ∷ 117 ∷ hex_digit (u / 4096) ∷ hex_digit (u / 256 % 16) ∷ hex_digit (u / 16 % 16) ∷ hex_digit (u % 16) ∷ []
+escaped u =
+    92 ∷ 117 ∷ hex_digit (u / 4096) ∷ hex_digit (u / 256 % 16) ∷ hex_digit (u / 16 % 16) ∷ hex_digit (u % 16) ∷ []
 
 unfoldable pub shown : ℕ → List ℕ
 shown u = if is_plain u then u ∷ [] else escaped u
@@ -60,7 +61,8 @@ own_text p (Char u) = letter u
 own_text p (Fixed n) = quoted (fixed_text p n)
 own_text p v = plain_text v
 
--- a text by the record that made it; an object by its type, which stands in the record of its New, and its number
+-- a text by the record that made it;
+-- an object by its type, which stands in the record of its New, and its number
 unfoldable pub value_text : Program → List Recorded → Value → List ℕ
 value_text p records (Text n) = quoted (units_of (slice_get records n))
 value_text p records (Object n) = made_name p (what_of (slice_get records n)) ++ numbered n

@@ -1,4 +1,5 @@
-//! The lines of events, and of what an event comes from: each looks up in the trace what its record refers to.
+//! The lines of events, and of what an event comes from. Each looks up in the trace what its record
+//! refers to.
 #![tactic(auto)]
 
 mod line;
@@ -6,6 +7,8 @@ mod look;
 mod name;
 mod place;
 mod quote;
+mod source;
 mod value;
 
 pub use line::event_line;
+pub use source::source_line;

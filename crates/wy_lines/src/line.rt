@@ -104,7 +104,8 @@ fn deed_at<V: EventView, L: Ledger>(
     requires slot { SlotBelow (V.tells view.old).count facts.slot }
     requires value { ValueBelow (V.tells view.old).count facts.value }
     ensures deed { (rs : List Recorded) → (V.tells view.old).records ≡ Some rs
-        → IfOk result (λ text. text.items ≡ deed (program_of program.now) facts.kind (present facts.what)
+        → IfOk result (λ text. text.items
+        ≡ deed (program_of program.now) facts.kind (present facts.what)
         (slot_text (program_of program.now) rs facts.slot)
         (value_text (program_of program.now) rs facts.value)) }
     ensures keeps { Keeps (V.tells view.old) (V.tells view.new) }
@@ -166,7 +167,8 @@ fn subject(
     value: Vec<u8>,
 ) -> Result<Vec<u8>, AllocError>
     ensures { IfOk result (λ text. text.items
-        ≡ subject (program_of program.now) facts.kind (present facts.what) place.items value.items) }
+        ≡ subject (program_of program.now) facts.kind (present facts.what)
+        place.items value.items) }
 {
     match facts.kind {
         Kind::Init => class_name(alloc, program, facts.what),
@@ -220,7 +222,7 @@ fn led(alloc: Global, before: &str, text: Vec<u8>) -> Result<Vec<u8>, AllocError
 }
 
 /// The line of an event that did this at a site.
-#[tactic(auto, unfolding(crate::specs::Lines::line_with, crate::specs::Names::numbered))]
+#[tactic(auto, unfolding(crate::specs::Lines::line_with, crate::specs::Lines::where_at, crate::specs::Names::numbered))]
 fn line_with(
     alloc: Global,
     program: &Program,

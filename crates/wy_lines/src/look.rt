@@ -25,8 +25,9 @@ pub(crate) fn begun_at<V: EventView, L: Ledger>(
     steps: &mut Steps<L>,
 ) -> Result<Begun, ViewError>
     requires there { n < (V.tells view.old).count }
-    ensures what { (rs : List Recorded) → (V.tells view.old).records ≡ Some rs → IfOk result (λ begun.
-        (e : Recorded) × (slice_get rs n ≡ Some e) × (begun.kind ≡ e.kind) × (present begun.what ≡ e.what)) }
+    ensures what { (rs : List Recorded) → (V.tells view.old).records ≡ Some rs
+        → IfOk result (λ begun. (e : Recorded) × (slice_get rs n ≡ Some e)
+        × (begun.kind ≡ e.kind) × (present begun.what ≡ e.what)) }
     ensures keeps { Keeps (V.tells view.old) (V.tells view.new) }
     ensures answers { Answers result (V.tells view.old) (V.tells view.new) }
     ensures step { steps.new ≡ steps.old + 1 }

@@ -26,7 +26,8 @@ pub(crate) fn method_name(
     program: &Program,
     number: u32,
 ) -> Result<Vec<u8>, AllocError>
-    ensures { IfOk result (λ name. name.items ≡ method_name (program_of program.now) (present number)) }
+    ensures { IfOk result (λ name. name.items
+        ≡ method_name (program_of program.now) (present number)) }
 {
     if number == NONE {
         return Ok(Vec::new(alloc));
@@ -61,7 +62,8 @@ fn member_name(
     class: u32,
     own: &str,
 ) -> Result<Vec<u8>, AllocError>
-    ensures { IfOk result (λ name. name.items ≡ member_name (program_of program.now) class own.now) }
+    ensures { IfOk result (λ name. name.items
+        ≡ member_name (program_of program.now) class own.now) }
 {
     let mut name = full_name(alloc, program, class)?;
     name.push(b'.')?;

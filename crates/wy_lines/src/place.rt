@@ -77,7 +77,8 @@ fn element_text(alloc: Global, array: u32, index: u32) -> Result<Vec<u8>, AllocE
 
 /// The name of a local of the body that an event began.
 fn local_name(program: &Program, frame: Begun, index: u32) -> &str
-    ensures { result.now ≡ local_name (begun (program_of program.now) frame.kind (present frame.what)) index }
+    ensures { result.now
+        ≡ local_name (begun (program_of program.now) frame.kind (present frame.what)) index }
 {
     name_in(body_begun(program, frame), index)
 }

@@ -1,6 +1,5 @@
 use Rattle.std.proofs.Common.{◌≡◌, ◌∙◌, IfOk, ap, sym, subst, arith}
 use Rattle.wy_kernel.specs.Parts.{program_of}
-use Rattle.wy_event.specs.Record.{present}
 use Rattle.wy_lines.specs.Names.{method_name}
 use Rattle.wy_lines.proofs.Names.{is_present, no_method}
 use Rattle.wy_lines.proofs.name.method_name.Goals as goal
