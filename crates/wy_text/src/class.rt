@@ -23,7 +23,8 @@ pub fn class_name(alloc: Global, program: &Program, number: u32) -> Result<Vec<u
     full_name(alloc, program, number)
 }
 
-fn full_name(alloc: Global, program: &Program, number: u32) -> Result<Vec<u8>, AllocError>
+/// The full name of a class, also of one that the program has not.
+pub fn full_name(alloc: Global, program: &Program, number: u32) -> Result<Vec<u8>, AllocError>
     ensures { IfOk result (λ name. name.items ≡ full_name (program_of program.now) number) }
 {
     let own = own_name(program, number);

@@ -1,0 +1,14 @@
+//! The lines of events, and of what an event comes from. Each looks up in the trace what its record
+//! refers to.
+#![tactic(auto)]
+
+mod line;
+mod look;
+mod name;
+mod place;
+mod quote;
+mod source;
+mod value;
+
+pub use line::event_line;
+pub use source::source_line;

@@ -1,0 +1,59 @@
+//! What is read of one record of a trace.
+
+ghost use Rattle.std.specs.Prelude.{◌≡◌, ◌+◌, ◌<◌, ℕ, List, Some, IfOk, slice_get, string_bytes};
+ghost use Rattle.wy_event.specs.Record.{Recorded, present, recorded};
+ghost use Rattle.wy_lines.specs.Values.{quoted, units_of, what_of};
+ghost use Rattle.wy_view.specs.View.{Answers, IsRecordOf, Keeps};
+
+use crate::quote::quoted;
+use std::alloc::Global;
+use std::sync::ledger::Ledger;
+use wy_event::record::Kind;
+use wy_view::{EventView, Steps, ViewError};
+
+/// What an event is, and the class, method or type that it is about.
+#[derive(Clone, Copy)]
+pub(crate) struct Begun {
+    pub(crate) kind: Kind,
+    pub(crate) what: u32,
+}
+
+/// What event n is about.
+pub(crate) fn begun_at<V: EventView, L: Ledger>(
+    view: &mut V,
+    n: u32,
+    steps: &mut Steps<L>,
+) -> Result<Begun, ViewError>
+    requires there { n < (V.tells view.old).count }
+    ensures what { (rs : List Recorded) → (V.tells view.old).records ≡ Some rs
+        → IfOk result (λ begun. (e : Recorded) × (slice_get rs n ≡ Some e)
+        × (begun.kind ≡ e.kind) × (present begun.what ≡ e.what)) }
+    ensures keeps { Keeps (V.tells view.old) (V.tells view.new) }
+    ensures answers { Answers result (V.tells view.old) (V.tells view.new) }
+    ensures step { steps.new ≡ steps.old + 1 }
+{
+    let event = view.event(n, steps)?;
+    Ok(Begun {
+        kind: event.kind,
+        what: event.what,
+    })
+}
+
+/// The text that event n made, between its quotes.
+pub(crate) fn quoted_at<V: EventView, L: Ledger>(
+    alloc: Global,
+    view: &mut V,
+    n: u32,
+    steps: &mut Steps<L>,
+) -> Result<Vec<u8>, ViewError>
+    requires there { n < (V.tells view.old).count }
+    ensures text { (rs : List Recorded) → (V.tells view.old).records ≡ Some rs
+        → IfOk result (λ text. text.items ≡ quoted (units_of (slice_get rs n))) }
+    ensures keeps { Keeps (V.tells view.old) (V.tells view.new) }
+    ensures answers { Answers result (V.tells view.old) (V.tells view.new) }
+    ensures step { steps.new ≡ steps.old + 1 }
+{
+    let event = view.event(n, steps)?;
+    let text = quoted(alloc, event.units.as_slice())?;
+    Ok(text)
+}
