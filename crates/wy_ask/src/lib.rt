@@ -1,4 +1,4 @@
-//! The words of questions about a trace, and the event that each asks about.
+//! The words of questions about a trace, the event that each asks about, and the words of statements.
 //! Nothing here works out an answer.
 #![tactic(auto)]
 

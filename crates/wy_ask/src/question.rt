@@ -49,7 +49,7 @@ pub enum AskError {
     /// The text asks no question.
     #[error("not read")]
     BadQuestion,
-    /// What is asked about isn't there; the number is that of the piece, the event or the moment.
+    /// What is asked about isn't there; the number is that of the piece or the event, the moment, or a statement's line.
     #[error("no such {0}")]
     NoSuch(u32),
     #[error("out of memory")]
