@@ -1,10 +1,9 @@
 -- What the mirrors of a recorder have after each of its calls, and what their counts sum to.
-use Rattle.std.proofs.Common.{◌≡◌, ℕ, zero, suc, ◌+◌, ◌<◌, List, [], ◌∷◌, ◌++◌, map, take, slice_get, Option, Some, None, option_map, Result, Ok, Err, refl, sym, ◌∙◌, ap, subst, append-nil, arith}
+use Rattle.std.proofs.Common.{◌≡◌, ℕ, zero, suc, ◌<◌, List, [], ◌∷◌, ◌++◌, map, take, Some, None, option_map, Result, Ok, Err, refl, sym, ◌∙◌, ap, subst, append-nil, arith}
 use Rattle.std.proofs.Math.Logic.{∥∥₁_elim, ∥∥₁_map}
 use Rattle.std.proofs.Props.{props}
 use Rattle.sha2.specs.Sha256.{sha256}
 use Rattle.wy_event.specs.declared.record.Tail.{Tail}
-use Rattle.wy_outside.specs.Counts.{Rose, last_count}
 use Rattle.wy_record.specs.Answers.{Mirrors, FaultsAs, HaveFront, HaveClosing, MirrorsTake, MirrorsClose, with_more, opened}
 use Rattle.wy_record.specs.declared.recorder.RecordError.{RecordError}
 use Rattle.wy_record.specs.declared.recorder.RecordError.TheVariants.{SinkFault, Differs, NoMemory}

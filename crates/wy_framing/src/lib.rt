@@ -5,5 +5,7 @@
 mod piece;
 mod recorder;
 mod serve;
+#[cfg(test)]
+mod tests;
 
 pub use recorder::FrameRecorder;
