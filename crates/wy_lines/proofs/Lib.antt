@@ -1,3 +1,4 @@
 mod Names
 mod Looks
 mod Leading
+mod Rows

@@ -1,5 +1,5 @@
 -- What one record of the told ones says.
-use Rattle.std.proofs.Common.{◌≡◌, ◌∙◌, ◌<◌, ◌≤◌, ℕ, Bool, List, Option, Some, refl, sym, ap, subst, arith}
+use Rattle.std.proofs.Common.{◌≡◌, ◌∙◌, ◌++◌, ◌<◌, ◌≤◌, ℕ, Bool, List, Option, Some, sym, ap, subst, arith}
 use Rattle.std.specs.Prelude.{IfSome, slice_get}
 use Rattle.wy_kernel.specs.Program.{Program}
 use Rattle.wy_value.specs.declared.value.Value.{Value}
@@ -11,19 +11,31 @@ use Rattle.wy_event.specs.declared.record.Slot.TheVariants as slot
 use Rattle.wy_event.specs.Record.{Recorded}
 use Rattle.wy_view.specs.References.{RefersBelow, SlotBelow, ValueBelow}
 use Rattle.wy_lines.specs.Lines.{deed, deed_of, event_line, given, line_at, line_with}
-use Rattle.wy_lines.specs.Places.{begun, frame_body, slot_text}
+use Rattle.wy_lines.specs.Names.{made_name, numbered}
+use Rattle.wy_lines.specs.Places.{begun, frame_body, local_name, slot_text}
 use Rattle.wy_lines.specs.Values.{value_text, what_of}
 
 pub told_record : (told : Option (List Recorded)) (rs : List Recorded) (n : ℕ) (e : Recorded) → told ≡ Some rs → IfSome told (λ all. slice_get all n ≡ Some e) → slice_get rs n ≡ Some e
 told_record told rs n e is at = subst (λ o. IfSome o (λ all. slice_get all n ≡ Some e)) is at
 
-pub frame_read : (p : Program) (o : Option Recorded) (e : Recorded) (k : Kind) (what : Option ℕ) → o ≡ Some e → k ≡ e.kind → what ≡ e.what → begun p k what ≡ frame_body p o
+frame_read : (p : Program) (o : Option Recorded) (e : Recorded) (k : Kind) (what : Option ℕ) → o ≡ Some e → k ≡ e.kind → what ≡ e.what → begun p k what ≡ frame_body p o
 unfolding frame_body
 frame_read p o e k what at is about = ap (λ j. begun p j what) is ∙ ap (begun p e.kind) about ∙ sym (ap (frame_body p) at)
 
-pub what_read : (o : Option Recorded) (e : Recorded) (what : Option ℕ) → o ≡ Some e → what ≡ e.what → what ≡ what_of o
+-- a local by what the record of its frame says
+pub local_read : (p : Program) (rs : List Recorded) (frame index : ℕ) (e : Recorded) (k : Kind) (what : Option ℕ) → slice_get rs frame ≡ Some e → k ≡ e.kind → what ≡ e.what
+    → local_name (begun p k what) index ≡ slot_text p rs (slot.Local frame index)
+unfolding slot_text
+local_read p rs frame index e k what at is about = ap (λ b. local_name b index) (frame_read p (slice_get rs frame) e k what at is about)
+
+what_read : (o : Option Recorded) (e : Recorded) (what : Option ℕ) → o ≡ Some e → what ≡ e.what → what ≡ what_of o
 unfolding what_of
 what_read o e what at about = about ∙ sym (ap what_of at)
+
+-- an object by what the record of its New says
+pub object_read : (p : Program) (rs : List Recorded) (n : ℕ) (e : Recorded) (what : Option ℕ) → slice_get rs n ≡ Some e → what ≡ e.what → made_name p what ++ numbered n ≡ value_text p rs (value.Object n)
+unfolding value_text
+object_read p rs n e what at about = ap (λ o. made_name p o ++ numbered n) (what_read (slice_get rs n) e what at about)
 
 -- ---- to what a line refers
 

@@ -1,5 +1,5 @@
 -- The names of members that the program hasn't, and of types with their brackets.
-use Rattle.std.proofs.Common.{◌≡◌, ◌≤◌, ◌∙◌, ℕ, suc, ◌+◌, List, [], ◌++◌, length, map, refl, sym, ap, arith, append_assoc, append-nil, eq-eqb, ne_eqb}
+use Rattle.std.proofs.Common.{◌≡◌, ◌≤◌, ◌∙◌, ℕ, suc, ◌+◌, List, [], ◌++◌, length, map, sym, ap, arith, append_assoc, append-nil, eq-eqb, ne_eqb}
 use Rattle.std.specs.Prelude.{codes, Some, None, option_map, if◌then◌else◌}
 use Rattle.std.proofs.lemmas.List.{get_or_past, length-map}
 use Rattle.wy_kernel.specs.declared.program.Program.{Program}

@@ -23,7 +23,7 @@ pub fn class_name(alloc: Global, program: &Program, number: u32) -> Result<Vec<u
     full_name(alloc, program, number)
 }
 
-/// The full name of a class, also of one that the program has not.
+/// A class's full name. One that the program hasn't has no name of its own.
 pub fn full_name(alloc: Global, program: &Program, number: u32) -> Result<Vec<u8>, AllocError>
     ensures { IfOk result (λ name. name.items ≡ full_name (program_of program.now) number) }
 {

@@ -1,4 +1,4 @@
-use Rattle.std.proofs.Common.{◌≡◌, ap, subst, sym, ◌∙◌, arith}
+use Rattle.std.proofs.Common.{ap, subst, sym, ◌∙◌}
 use Rattle.wy_event.specs.Record.{recorded, present}
 use Rattle.wy_view.specs.References.{ValueBelow}
 use Rattle.wy_lines.specs.Lines.{deed, line_with}
