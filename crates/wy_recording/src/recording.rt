@@ -7,8 +7,8 @@ ghost use Rattle.wy_kernel.specs.Parts.{program_of};
 ghost use Rattle.wy_machine.specs.Ended.{IsEndOf};
 ghost use Rattle.wy_meaning.specs.Run as meaning;
 ghost use Rattle.wy_record.specs.Answers.{FaultsAs, with_more};
-ghost use Rattle.wy_record.specs.declared.recorder.Phase.TheVariants.{Ready, Recording};
-ghost use Rattle.wy_recording.specs.Traces.{closed};
+ghost use Rattle.wy_record.specs.declared.recorder.Phase.TheVariants.{Done, Ready, Recording};
+ghost use Rattle.wy_recording.specs.Traces.{DiffersIf, closed};
 ghost use Rattle.wy_steps.specs.Sets.{nothing};
 
 use std::alloc::{AllocError, Global};
@@ -17,8 +17,9 @@ use wy_kernel::program::Program;
 use wy_machine::{Ended, run};
 use wy_record::{MemoryRecorder, RecordError, Recorder};
 
-/// Runs a program with the input and the steps of a head, and hands the head, each event in order and the end to a recorder. The
-/// events are kept until the run has ended. Where the recorder refuses, or memory is wanting, its mirrors hold a front of the trace.
+/// Runs a program with the input and the steps of a head, and hands the head, each event in order
+/// and the end to a recorder, which is done then. The events are kept until the run has ended. Where
+/// memory is wanting for the run, the recorder has the head alone and goes on recording.
 pub fn record<R: Recorder>(
     alloc: Global,
     program: &Program,
@@ -33,7 +34,9 @@ pub fn record<R: Recorder>(
         (R.opening head.now ++ concat (map R.frame
         (meaning.events nothing (program_of program.now) head.now.input head.now.steps)))
         (R.mirrors recorder.old)) }
+    ensures phase { OnOk result (R.phase recorder.new ≡ Done) }
     ensures faults { FaultsAs result (R.faults recorder.old) (R.faults recorder.new) }
+    ensures differs { DiffersIf R.compares result }
 {
     recorder.start(name, head, Vec::new(alloc))?;
     let (ended, events) = match kept(alloc, program, head) {
@@ -68,6 +71,7 @@ fn note_all<R: Recorder>(recorder: &mut R, events: &[Event]) -> Result<(), Recor
     ensures mirrors { OnOk result (R.mirrors recorder.new
         ≡ with_more (concat (map R.frame (map recorded events.now))) (R.mirrors recorder.old)) }
     ensures faults { FaultsAs result (R.faults recorder.old) (R.faults recorder.new) }
+    ensures differs { DiffersIf R.compares result }
 {
     for event in events {
         recorder.note(event)?;
