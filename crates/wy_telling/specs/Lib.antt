@@ -1,0 +1,4 @@
+pub mod Printed
+pub mod Thrown
+pub mod Output
+pub mod Why

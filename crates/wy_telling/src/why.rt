@@ -1,0 +1,169 @@
+//! All that an event comes from, line by line.
+
+ghost use Rattle.std.specs.Prelude.{◌≡◌, ◌++◌, ◌∷◌, ◌<◌, ◌^◌, ℕ, List, Some, IfOk, OnOk, filter, length, map};
+ghost use Rattle.std.specs.List.{flat_map};
+ghost use Rattle.wy_ask.specs.Asked.{IsOf, owners};
+ghost use Rattle.wy_event.specs.Numbers.{Numbers};
+ghost use Rattle.wy_event.specs.Record.{Recorded, recorded};
+ghost use Rattle.wy_index.specs.Index.{IsIndexOfView, owners_of};
+ghost use Rattle.wy_kernel.specs.Parts.{program_of};
+ghost use Rattle.wy_lines.specs.Lines.{event_line};
+ghost use Rattle.wy_telling.specs.Why.{AsksFor, IsOfProgram, TellsWhy, marked_lines, why_text};
+ghost use Rattle.wy_view.specs.References.{AllRefersBelow};
+ghost use Rattle.wy_view.specs.View.{Answers, Keeps};
+ghost use Rattle.wy_why.specs.Answer.{Rises};
+
+use std::alloc::Global;
+use std::marker::Brand;
+use std::sync::ledger::{Blank, Ledger};
+use wy_ask::{AskError, read_question, resolve};
+use wy_event::record::Event;
+use wy_index::Index;
+use wy_kernel::program::Program;
+use wy_lines::event_line;
+use wy_view::{EventView, MemoryView, Steps, ViewError};
+use wy_why::{Answer, why};
+
+/// The answer to a question about a trace: a line for each event, with a star where it is of the data.
+pub fn why_text(
+    alloc: Global,
+    program: &Program,
+    events: Vec<Event>,
+    question: &str,
+) -> Result<Vec<u8>, AskError>
+    requires fields { length program.now.fields.items < 2 ^ 32 }
+    requires few { length events.items < 2 ^ 32 }
+    requires refer_below { AllRefersBelow events.items }
+    ensures { TellsWhy (program_of program.now) program.now.lines.items
+        (map recorded events.items) question.now result }
+{
+    why_with::<Brand>(alloc, program, events, question, Blank::new(1))
+}
+
+/// The same, with a ledger for the steps, which nobody reads. Events in memory refuse for want of memory alone.
+fn why_with<L: Ledger>(
+    alloc: Global,
+    program: &Program,
+    events: Vec<Event>,
+    question: &str,
+    blank: Blank,
+) -> Result<Vec<u8>, AskError>
+    requires fields { length program.now.fields.items < 2 ^ 32 }
+    requires few { length events.items < 2 ^ 32 }
+    requires refer_below { AllRefersBelow events.items }
+    requires name { blank.name ≡ L.name }
+    requires parts { blank.parts ≡ L.parts }
+    requires some { 0 < blank.parts }
+    ensures { TellsWhy (program_of program.now) program.now.lines.items
+        (map recorded events.items) question.now result }
+{
+    let mut steps = Steps::<L>::new(blank);
+    let mut view = MemoryView { events };
+    let Ok(index) = Index::build(alloc, &mut view, program, &mut steps) else {
+        return Err(AskError::NoMemory);
+    };
+    let event = event_asked(alloc, program, &index, view.count(), question, &mut steps)?;
+    let Ok(text) = event_lines(alloc, program, &mut view, &index, event, &mut steps) else {
+        return Err(AskError::NoMemory);
+    };
+    Ok(text)
+}
+
+/// The event that a text asks about.
+fn event_asked<L: Ledger>(
+    alloc: Global,
+    program: &Program,
+    index: &Index,
+    count: u32,
+    question: &str,
+    steps: &mut Steps<L>,
+) -> Result<u32, AskError>
+    requires { length program.now.fields.items < 2 ^ 32 }
+    ensures event { (rs : List Recorded) → IsOf (program_of program.now) index.now count rs
+        → AsksFor (program_of program.now) rs question.now result }
+    ensures below { (rs : List Recorded) → IsOf (program_of program.now) index.now count rs
+        → IfOk result (λ event. event < count) }
+{
+    let question = read_question(alloc, question)?;
+    resolve(&question, program, index, count, steps)
+}
+
+/// The lines of all that an event comes from.
+fn event_lines<V: EventView, L: Ledger>(
+    alloc: Global,
+    program: &Program,
+    view: &mut V,
+    index: &Index,
+    event: u32,
+    steps: &mut Steps<L>,
+) -> Result<Vec<u8>, ViewError>
+    requires there { event < (V.tells view.old).count }
+    requires index { IsIndexOfView index.now (V.tells view.old) }
+    ensures lines { (rs : List Recorded) → (V.tells view.old).records ≡ Some rs
+        → IsOfProgram (program_of program.now) index.now → IfOk result (λ text. text.items
+        ≡ why_text (program_of program.now) program.now.lines.items rs event) }
+    ensures keeps { Keeps (V.tells view.old) (V.tells view.new) }
+    ensures answers { Answers result (V.tells view.old) (V.tells view.new) }
+{
+    let answer = why(alloc, view, index, event, steps)?;
+    answer_lines(alloc, program, view, &answer, steps)
+}
+
+/// The lines of an answer's events, with a star on those of the data.
+pub fn answer_lines<V: EventView, L: Ledger>(
+    alloc: Global,
+    program: &Program,
+    view: &mut V,
+    answer: &Answer,
+    steps: &mut Steps<L>,
+) -> Result<Vec<u8>, ViewError>
+    requires there { Rises 0 (V.tells view.old).count answer.now.all.items }
+    ensures lines { (rs : List Recorded) → (V.tells view.old).records ≡ Some rs
+        → (data : Numbers) → answer.now.flow.items ≡ filter data answer.now.all.items
+        → IfOk result (λ text. text.items ≡ marked_lines (program_of program.now)
+        program.now.lines.items rs data answer.now.all.items) }
+    ensures keeps { Keeps (V.tells view.old) (V.tells view.new) }
+    ensures answers { Answers result (V.tells view.old) (V.tells view.new) }
+{
+    let mut text = Vec::new(alloc);
+    let mut flow = answer.flow.as_slice();
+    for event in answer.all.as_slice() {
+        let (marked, rest) = taken(flow, *event);
+        flow = rest;
+        put_line(alloc, &mut text, program, view, *event, marked, steps)?;
+    }
+    Ok(text)
+}
+
+/// Whether an event is the next of the data, and what comes behind it there.
+fn taken(flow: &[u32], event: u32) -> (bool, &[u32])
+    ensures { (data : Numbers) (high : ℕ) (rest : List ℕ) → Rises 0 high (event ∷ rest)
+        → flow.now ≡ filter data (event ∷ rest)
+        → (result.0 ≡ data event) × (result.1.now ≡ filter data rest) }
+{
+    match flow {
+        [first, rest @ ..] if *first == event => (true, rest),
+        _ => (false, flow),
+    }
+}
+
+fn put_line<V: EventView, L: Ledger>(
+    alloc: Global,
+    text: &mut Vec<u8>,
+    program: &Program,
+    view: &mut V,
+    event: u32,
+    marked: bool,
+    steps: &mut Steps<L>,
+) -> Result<(), ViewError>
+    requires there { event < (V.tells view.old).count }
+    ensures line { (rs : List Recorded) → (V.tells view.old).records ≡ Some rs
+        → OnOk result (text.new.items ≡ text.old.items
+        ++ event_line (program_of program.now) program.now.lines.items rs event marked) }
+    ensures keeps { Keeps (V.tells view.old) (V.tells view.new) }
+    ensures answers { Answers result (V.tells view.old) (V.tells view.new) }
+{
+    let line = event_line(alloc, program, view, event, marked, steps)?;
+    text.extend_from_slice(line.as_slice())?;
+    Ok(())
+}
