@@ -18,7 +18,7 @@ use Rattle.wy_ask.specs.Questions.{Asked, Asks, Spells}
 
 -- the lines of events, with a star on those of a set
 abbrev pub marked_lines : Program → List ℕ → List Recorded → Numbers → List ℕ → List ℕ
-marked_lines p lines rs data events = flat_map (λ n. event_line p lines rs n (data n)) events
+marked_lines p lines rs by_data events = flat_map (λ n. event_line p lines rs n (by_data n)) events
 
 -- the lines of all that an event comes from, with a star on what it comes from by data
 unfoldable pub why_text : Program → List ℕ → List Recorded → ℕ → List ℕ

@@ -119,9 +119,9 @@ pub fn answer_lines<V: EventView, L: Ledger>(
 ) -> Result<Vec<u8>, ViewError>
     requires there { Rises 0 (V.tells view.old).count answer.now.all.items }
     ensures lines { (rs : List Recorded) → (V.tells view.old).records ≡ Some rs
-        → (data : Numbers) → answer.now.flow.items ≡ filter data answer.now.all.items
+        → (by_data : Numbers) → answer.now.flow.items ≡ filter by_data answer.now.all.items
         → IfOk result (λ text. text.items ≡ marked_lines (program_of program.now)
-        program.now.lines.items rs data answer.now.all.items) }
+        program.now.lines.items rs by_data answer.now.all.items) }
     ensures keeps { Keeps (V.tells view.old) (V.tells view.new) }
     ensures answers { Answers result (V.tells view.old) (V.tells view.new) }
 {
@@ -137,9 +137,9 @@ pub fn answer_lines<V: EventView, L: Ledger>(
 
 /// Whether an event is the next of the data, and what comes behind it there.
 fn taken(flow: &[u32], event: u32) -> (bool, &[u32])
-    ensures { (data : Numbers) (high : ℕ) (rest : List ℕ) → Rises 0 high (event ∷ rest)
-        → flow.now ≡ filter data (event ∷ rest)
-        → (result.0 ≡ data event) × (result.1.now ≡ filter data rest) }
+    ensures { (by_data : Numbers) (high : ℕ) (rest : List ℕ) → Rises 0 high (event ∷ rest)
+        → flow.now ≡ filter by_data (event ∷ rest)
+        → (result.0 ≡ by_data event) × (result.1.now ≡ filter by_data rest) }
 {
     match flow {
         [first, rest @ ..] if *first == event => (true, rest),
