@@ -1,11 +1,18 @@
--- What a call promises of the bytes that it writes.
-use Rattle.std.specs.Prelude.{◌≡◌, ◌<◌, ◌⊎◌, ℕ, List, [], Option}
+-- What a call promises of the bytes that it writes, and of the trace that it records.
+use Rattle.std.specs.Prelude.{◌≡◌, ◌<◌, ◌⊎◌, ℕ, List, [], Option, Some}
+use Rattle.wy_kernel.specs.declared.program.Program.{Program}
+use Rattle.wy_kernel.specs.Parts.{program_of}
 use Rattle.wy_outside.specs.Counts.{Rose}
 use Rattle.wy_outside.specs.Shelf.{Files}
 use Rattle.wy_outside.specs.Sink.{appended}
+use Rattle.wy_record.specs.Answers.{Mirrors}
+use Rattle.wy_words.specs.Words.{Asked, Asks, Record}
+use Rattle.wy_reply.specs.Lines.{shelf_fault_line, recorder_fault_line}
+use Rattle.wy_reply.specs.Recordings.{HoldTrace, Spelling}
 use Rattle.wy_top.specs.Due.{Due, IsFrontOf}
-use Rattle.wy_top.specs.Answers.{Knows}
-use Rattle.wy_top.specs.Lines.{shelf_fault_line}
+use Rattle.wy_top.specs.Answers.{Counts, Knows}
+use Rattle.wy_top.specs.Held.{Holds, IsInput, source_limit}
+use Rattle.wy_top.specs.Programs.{IsProgramOf}
 
 -- all of a text that is due with this status was written
 abbrev pub WritesDue : List (List ℕ) → Option Files → ℕ → Option (List ℕ) → Option (List ℕ) → Type 0
@@ -15,9 +22,36 @@ WritesDue words held status before after = (text : List ℕ) × Due words held s
 abbrev pub BeginsDue : List (List ℕ) → Option Files → List ℕ → Type 0
 BeginsDue words held part = (status : ℕ) × (text : List ℕ) × Due words held status text × IsFrontOf part text
 
--- a first part of a text was written, and nothing after it: of the fault's line where the shelf failed; where it didn't and tells its files, of a text that is due
-abbrev pub WritesFront : List (List ℕ) → Option Files → ℕ → ℕ → Option (List ℕ) → Option (List ℕ) → Type 0
+-- no count of faults rose
+abbrev pub NoneRose : Counts → Counts → Type 0
+NoneRose before after = (¬ Rose before.shelf after.shelf) × (¬ Rose before.recorder after.recorder)
+
+-- a fault of the shelf or of the recorder
+abbrev pub IsFaultLine : Counts → Counts → List ℕ → Type 0
+IsFaultLine before after line = ((line ≡ shelf_fault_line) × Rose before.shelf after.shelf) ⊎ ((line ≡ recorder_fault_line) × Rose before.recorder after.recorder)
+
+-- a first part of a text was written, and nothing after it: of the line of a fault where one came, else of a text that is due, where the shelf tells its files
+abbrev pub WritesFront : List (List ℕ) → Option Files → Counts → Counts → Option (List ℕ) → Option (List ℕ) → Type 0
 WritesFront words held faults_before faults_after before after =
     (part : List ℕ) × (after ≡ appended before part)
-    × (faults_before < faults_after → IsFrontOf part shelf_fault_line)
-    × (¬ Rose faults_before faults_after → Knows words held → (part ≡ []) ⊎ BeginsDue words held part)
+    × ((part ≡ [])
+    ⊎ ((line : List ℕ) × IsFaultLine faults_before faults_after line × IsFrontOf part line)
+    ⊎ ((faults_after ≡ faults_before) × (Knows words held → BeginsDue words held part)))
+
+-- the run that was asked for is traced: each mirror that tells its bytes holds the trace of the source's program
+pub record Traced (s : Spelling) (files : Files) (a : Asked) (old new : Mirrors) : Type 0 where
+  pub source : List ℕ
+  pub holds : Holds files a.source source_limit source
+  pub input : List ℕ
+  pub is_input : IsInput files a.input input
+  pub program : Program
+  pub is_program : IsProgramOf source program
+  pub held : HoldTrace s (program_of program) source input a.steps old new
+
+-- each run that the words ask to record is traced
+abbrev pub Traces : Spelling → List (List ℕ) → Option Files → Mirrors → Mirrors → Type 0
+Traces s words held old new = (a : Asked) (trace : List ℕ) (files : Files) → Asks words (Record a trace) → held ≡ Some files → Traced s files a old new
+
+-- the words ask to record no run
+abbrev pub RecordsNothing : List (List ℕ) → Type 0
+RecordsNothing words = (a : Asked) (trace : List ℕ) → ¬ Asks words (Record a trace)

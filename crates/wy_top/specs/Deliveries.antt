@@ -2,9 +2,9 @@
 use Rattle.std.specs.Prelude.{◌≡◌, ◌≤◌, ◌⊎◌, ℕ, List, length, take, Option}
 use Rattle.wy_outside.specs.Counts.{Rose}
 use Rattle.wy_outside.specs.Sink.{appended}
-use Rattle.wy_top.specs.declared.answer.Answer.{Answer}
-use Rattle.wy_top.specs.declared.status.Status.{Status}
-use Rattle.wy_top.specs.declared.status.Status.TheVariants.{Fault, NoMemory}
+use Rattle.wy_reply.specs.declared.answer.Answer.{Answer}
+use Rattle.wy_reply.specs.declared.status.Status.{Status}
+use Rattle.wy_reply.specs.declared.status.Status.TheVariants.{Fault, NoMemory}
 
 -- some first part of the answer's text was written
 abbrev pub WritesPart : List ℕ → Option (List ℕ) → Option (List ℕ) → Type 0

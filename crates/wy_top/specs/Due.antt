@@ -1,67 +1,55 @@
 -- What a call of the program has to answer: its status and its text, by the words and the files alone.
 use Rattle.std.specs.Prelude.{◌≡◌, ◌≤◌, ℕ, List, ◌++◌, length, map, Option, Some, Result, Ok, Err}
 use Rattle.wy_kernel.specs.Program.{Program}
-use Rattle.wy_constant.specs.Refusal as typing
+use Rattle.wy_kernel.specs.declared.program.Program as memory
+use Rattle.wy_event.specs.declared.record.Head.{Head}
 use Rattle.wy_outside.specs.Shelf.{Files}
-use Rattle.wy_tree.specs.Seen.{Tok}
-use Rattle.wy_tree.specs.Tokens.{Placed, Refusal, Tokens, Refuses, IsNotUtf8}
-use Rattle.wy_tree.specs.Ast.{Ast, tokens}
-use Rattle.wy_tree.specs.Grammar.{WellFormed}
-use Rattle.wy_tree.specs.Lines.{line_of}
-use Rattle.wy_tree.specs.Trees.{IsTreeOf}
-use Rattle.wy_syntax.specs.Declarations.{unit}
-use Rattle.wy_elab_stmt.specs.Elaborates.{Elaborates}
-use Rattle.wy_words.specs.Words.{Asked, IsNoCommand}
-use Rattle.wy_top.specs.Lines.{usage_line, not_utf8_line, fault_line, syntax_line, rule_line}
-use Rattle.wy_top.specs.Report.{report}
-use Rattle.wy_top.specs.Held.{Asks, Holds, Lacks, IsInput, source_limit, input_limit}
+use Rattle.wy_tree.specs.Tokens.{Placed, Tokens}
+use Rattle.wy_frames.specs.Heads.{head_of}
+use Rattle.wy_frames.specs.declared.error.TraceError.{TraceError}
+use Rattle.wy_words.specs.Words.{Asked, Asks, Command, Run, Record, Output, Why, Audit, IsNoCommand}
+use Rattle.wy_reply.specs.Lines.{usage_line, of_trace}
+use Rattle.wy_reply.specs.Report.{report, recorded_report}
+use Rattle.wy_reply.specs.Tellings.{DueUnder, IsTraceLine, Wanted}
+use Rattle.wy_reply.specs.Tellings as wanted
+use Rattle.wy_top.specs.Causes.{IsNoProgram, IsSyntaxLine}
+use Rattle.wy_top.specs.Programs.{Becomes, IsProgramOf}
+use Rattle.wy_top.specs.Held.{Holds, Lacks, IsInput, source_limit, input_limit, trace_limit}
 
--- the tokens without their places
-abbrev pub unplaced : List Placed → List Tok
-unplaced spans = map (λ t. t.token) spans
+-- the status and the text that are due for a source: why it is no program, or this text of its program, whose tokens are on these lines
+pub data DueFor (source : List ℕ) (told : Program → List ℕ → List ℕ) : ℕ → List ℕ → Type 0 where
+  no_program : (line : List ℕ) → IsNoProgram source line → DueFor source told 4 line
+  program : (spans : List Placed) (p : Program) → Tokens source spans → Becomes spans (Ok p) → DueFor source told 0 (told p (map (λ t. t.line) spans))
 
--- some well-formed tree has exactly these tokens
-abbrev pub HasTree : List Tok → Type 0
-HasTree said = (tree : Ast) × WellFormed tree × (tokens tree ≡ said)
+-- the same for a run of the source that a shelf holds
+pub data DueForRun (files : Files) (a : Asked) (told : List ℕ → Program → List ℕ → List ℕ) : ℕ → List ℕ → Type 0 where
+  no_source : (status : ℕ) (text : List ℕ) → Lacks files a.source source_limit status text → DueForRun files a told status text
+  no_input : (source name : List ℕ) (status : ℕ) (text : List ℕ) → Holds files a.source source_limit source → a.input ≡ Some name → Lacks files name input_limit status text → DueForRun files a told status text
+  read : (source input : List ℕ) (status : ℕ) (text : List ℕ) → Holds files a.source source_limit source → IsInput files a.input input → DueFor source (told input) status text → DueForRun files a told status text
 
--- the line of Syntax at one of these tokens, or behind them
-abbrev pub IsSyntaxLine : List Placed → List ℕ → Type 0
-IsSyntaxLine spans line = (token : ℕ) × (token ≤ length spans) × (line ≡ syntax_line (line_of spans token) token)
+-- the same for the bytes of a trace: its head, its program and the rest are read in this order
+pub data DueForBytes (bytes : List ℕ) (w : Wanted) : ℕ → List ℕ → Type 0 where
+  no_head : (e : TraceError) (line : List ℕ) → head_of bytes ≡ Err e → IsTraceLine e line → DueForBytes bytes w 5 line
+  no_program : (head : Head) (end : ℕ) (line : List ℕ) → head_of bytes ≡ Ok (head, end) → IsNoProgram head.source line → DueForBytes bytes w 5 (of_trace line)
+  program : (head : Head) (end : ℕ) (p : memory.Program) (status : ℕ) (text : List ℕ) → head_of bytes ≡ Ok (head, end) → IsProgramOf head.source p → DueUnder p bytes w status text → DueForBytes bytes w status text
 
--- a well-formed tree has these tokens, and what it declares becomes this program, or breaks this rule
-pub record Becomes (spans : List Placed) (outcome : Result Program typing.Refusal) : Type 0 where
-  pub tree : Ast
-  pub reads : IsTreeOf (unplaced spans) tree
-  pub elaborated : Elaborates (unit 0 tree) (length spans) outcome
+-- the same for the trace that a shelf holds
+pub data DueForTrace (files : Files) (name : List ℕ) (w : Wanted) : ℕ → List ℕ → Type 0 where
+  no_trace : (status : ℕ) (text : List ℕ) → Lacks files name trace_limit status text → DueForTrace files name w status text
+  read : (bytes : List ℕ) (status : ℕ) (text : List ℕ) → Holds files name trace_limit bytes → DueForBytes bytes w status text → DueForTrace files name w status text
 
--- the status and the text that are due for a source, with an input and so many steps
-pub data DueFor (source input : List ℕ) (steps : ℕ) : ℕ → List ℕ → Type 0 where
-  not_utf8 : (byte : ℕ) → IsNotUtf8 source byte → DueFor source input steps 4 (not_utf8_line byte)
-  refused : (fault : Refusal) → Refuses source fault → DueFor source input steps 4 (fault_line fault)
-  syntax : (spans : List Placed) (line : List ℕ) → Tokens source spans → ¬ HasTree (unplaced spans) → IsSyntaxLine spans line → DueFor source input steps 4 line
-  broken : (spans : List Placed) (e : typing.Refusal) → Tokens source spans → Becomes spans (Err e) → DueFor source input steps 4 (rule_line e.rule (line_of spans e.token) e.token)
-  program : (spans : List Placed) (p : Program) → Tokens source spans → Becomes spans (Ok p) → DueFor source input steps 0 (report p (map (λ t. t.line) spans) input steps)
+-- what is due for a command over a shelf
+abbrev pub DueTo : Files → Command → ℕ → List ℕ → Type 0
+DueTo files (Run a) status text = DueForRun files a (λ input p lines. report p lines input a.steps) status text
+DueTo files (Record a trace) status text = DueForRun files a (λ input p lines. recorded_report p lines input a.steps) status text
+DueTo files (Output trace) status text = DueForTrace files trace wanted.Output status text
+DueTo files (Why trace question) status text = DueForTrace files trace (wanted.Why question) status text
+DueTo files (Audit trace) status text = DueForTrace files trace wanted.Audit status text
 
 -- the status and the text that are due
 pub data Due (words : List (List ℕ)) (held : Option Files) : ℕ → List ℕ → Type 0 where
   usage : IsNoCommand words → Due words held 2 usage_line
-  no_source : (a : Asked) (files : Files) (status : ℕ) (text : List ℕ) → Asks words held a files → Lacks files a.source source_limit status text → Due words held status text
-  no_input : (a : Asked) (files : Files) (source name : List ℕ) (status : ℕ) (text : List ℕ) → Asks words held a files → Holds files a.source source_limit source →
-      a.input ≡ Some name → Lacks files name input_limit status text → Due words held status text
-  read : (a : Asked) (files : Files) (source input : List ℕ) (status : ℕ) (text : List ℕ) → Asks words held a files → Holds files a.source source_limit source →
-      IsInput files a.input input → DueFor source input a.steps status text → Due words held status text
-
--- both texts are lines of Syntax for the tokens of the source that the words ask for
-pub record AreSyntaxLines (words : List (List ℕ)) (held : Option Files) (x y : List ℕ) : Type 0 where
-  pub asked : Asked
-  pub files : Files
-  pub asks : Asks words held asked files
-  pub source : List ℕ
-  pub holds : Holds files asked.source source_limit source
-  pub spans : List Placed
-  pub read : Tokens source spans
-  pub first : IsSyntaxLine spans x
-  pub second : IsSyntaxLine spans y
+  asked : (c : Command) (files : Files) (status : ℕ) (text : List ℕ) → Asks words c → held ≡ Some files → DueTo files c status text → Due words held status text
 
 -- the second text begins with the first
 abbrev pub IsFrontOf : List ℕ → List ℕ → Type 0

@@ -12,14 +12,7 @@ use Rattle.wy_elab_stmt.specs.Elaborates.{Elaborates}
 use Rattle.wy_top.specs.declared.reading.FrontError.{FrontError}
 use Rattle.wy_top.specs.declared.reading.FrontError.TheVariants.{Lex, Parse, Typing, NoMemory}
 use Rattle.wy_top.specs.declared.reading.LexFault.TheVariants.{NotUtf8, BadToken, BadLiteral}
-use Rattle.wy_top.specs.Due.{Becomes, HasTree, unplaced}
-
--- a text's program, with the line of each of its tokens
-pub record IsProgramOf (source : List ℕ) (p : Program) : Type 0 where
-  pub spans : List Placed
-  pub read : Tokens source spans
-  pub becomes : Becomes spans (Ok (program_of p))
-  pub lines : p.lines.items ≡ map (λ t. t.line) spans
+use Rattle.wy_top.specs.Programs.{Becomes, HasTree, unplaced}
 
 -- a text's tokens have no tree, and a token up to their number is named, with its line
 pub record IsSyntaxAt (source : List ℕ) (line token : ℕ) : Type 0 where

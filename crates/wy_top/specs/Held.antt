@@ -1,20 +1,17 @@
 -- The files that the words name, as a shelf holds them.
 use Rattle.std.specs.Prelude.{◌≡◌, ◌<◌, ◌≤◌, ℕ, List, [], length, Option, Some, None}
 use Rattle.wy_outside.specs.Shelf.{Files}
-use Rattle.wy_words.specs.Words.{Asked, AsksToRun}
-use Rattle.wy_top.specs.Lines.{absent_line, too_long_line}
+use Rattle.wy_reply.specs.Lines.{absent_line, too_long_line}
 
--- the bytes that a source may have, and those that an input may have
+-- the bytes that a source may have, an input, and a trace
 abbrev pub source_limit : ℕ
 source_limit = 1048576
 
 abbrev pub input_limit : ℕ
 input_limit = 16777216
 
--- the words ask for this run, and the shelf tells that it holds these files
-pub record Asks (words : List (List ℕ)) (held : Option Files) (a : Asked) (files : Files) : Type 0 where
-  pub asked : AsksToRun words a
-  pub told : held ≡ Some files
+abbrev pub trace_limit : ℕ
+trace_limit = 1073741824
 
 -- the file of this name is this text, and has at most so many bytes
 pub record Holds (files : Files) (name : List ℕ) (limit : ℕ) (text : List ℕ) : Type 0 where

@@ -1,11 +1,8 @@
-pub mod Statuses
-pub mod Lines
-pub mod Report
-pub mod Refusals
 pub mod Held
-pub mod Due
+pub mod Programs
+pub mod Causes
 pub mod Fronts
-pub mod ErrorLines
+pub mod Due
 pub mod Answers
 pub mod Reads
 pub mod Call

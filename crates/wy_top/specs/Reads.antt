@@ -2,12 +2,12 @@
 use Rattle.std.specs.Prelude.{◌≡◌, ◌⊎◌, ℕ, List, Bool, true, false, Option, Some, None, Result, Ok, Err, Vec, ⊤}
 use Rattle.std.specs.declared.alloc.Global.{Global}
 use Rattle.wy_outside.specs.Shelf.{Files}
-use Rattle.wy_top.specs.declared.answer.Answer.{Answer}
+use Rattle.wy_reply.specs.declared.answer.Answer.{Answer}
 use Rattle.wy_top.specs.declared.files.Contents.{Contents}
 use Rattle.wy_top.specs.declared.files.FileError.{FileError}
 use Rattle.wy_top.specs.declared.files.FileError.TheVariants.{Absent, TooLong, Fault, NoMemory}
-use Rattle.wy_top.specs.declared.status.Status.TheVariants as status
-use Rattle.wy_top.specs.Lines.{absent_line, too_long_line, shelf_fault_line}
+use Rattle.wy_reply.specs.declared.status.Status.TheVariants as status
+use Rattle.wy_reply.specs.Lines.{absent_line, too_long_line, shelf_fault_line}
 use Rattle.wy_top.specs.Held.{Holds, Lacks, IsInput, source_limit, input_limit}
 
 abbrev pub is_absent : FileError → Bool

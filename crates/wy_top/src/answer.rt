@@ -1,130 +1,24 @@
-//! What a call answers: its status and its text, before any byte of it is written.
-ghost use Rattle.std.specs.Prelude.{◌≡◌, ◌≤◌, ℕ, List, IfOk, map, string_bytes, length};
-ghost use Rattle.wy_kernel.specs.Parts.{program_of};
+//! What the words and the files give, before any byte of it is written.
+ghost use Rattle.std.specs.Prelude.{◌≡◌, IfOk, map, string_bytes, option_map};
 ghost use Rattle.wy_outside.specs.Counts.{Rose};
-ghost use Rattle.wy_top.specs.Due.{DueFor};
-ghost use Rattle.wy_top.specs.ErrorLines.{IsRefusalOf};
-ghost use Rattle.wy_top.specs.Fronts.{IsCauseOf};
-ghost use Rattle.wy_top.specs.declared.status.Status.TheVariants.{Absent, Done, TooLong, Usage, Fault};
-ghost use Rattle.wy_top.specs.Held.{source_limit};
-ghost use Rattle.wy_top.specs.Lines.{shelf_fault_line};
+ghost use Rattle.wy_record.specs.declared.recorder.Phase.TheVariants.{Ready};
+ghost use Rattle.wy_reply.specs.declared.status.Status.TheVariants.{Absent, Done, TooLong, Usage, Fault};
+ghost use Rattle.wy_reply.specs.Tellings.{wanted_of};
+ghost use Rattle.wy_top.specs.Answers.{Counts, IsAnswer};
+ghost use Rattle.wy_top.specs.Call.{RecordsNothing, Traces};
 ghost use Rattle.wy_top.specs.Reads.{Tells};
-ghost use Rattle.wy_top.specs.Report.{report};
-ghost use Rattle.wy_top.specs.Statuses.{code_of};
-ghost use Rattle.wy_top.specs.Answers.{IsAnswer};
+ghost use Rattle.wy_top.specs.Sources.{IsAnswerOfTrace, IsRecording, IsRun, spelling};
+ghost use Rattle.wy_words.specs.Views.{asked_of};
 ghost use Rattle.wy_words.specs.Words.{IsNoCommand};
 
-use crate::files::{Contents, FileError, read_both};
-use crate::lines::{Refusal, lex_refusal, refusal_line, report, rule_name};
-use crate::reading::{FrontError, front};
-use crate::status::Status;
+use crate::files::{Contents, FileError, read_both, read_trace};
+use crate::source::{record_source, run_source};
+use crate::trace::answer_to_bytes;
 use std::alloc::{AllocError, Global};
-use wy_event::record::Head;
-use wy_event::sequence::Sequence;
-use wy_kernel::program::Program;
-use wy_machine::run;
 use wy_outside::shelf::Shelf;
-use wy_record::{QuietRecorder, Recorder};
-use wy_words::{Asked, command};
-
-/// A status and the text that is written with it.
-#[derive(Drop)]
-pub struct Answer {
-    pub status: Status,
-    pub text: Vec<u8>,
-}
-
-impl Answer {
-    ghost use Rattle.wy_top.specs.Refusals.{refusal_text};
-
-    fn refused(alloc: Global, status: Status, refusal: Refusal<'_>) -> Result<Answer, AllocError>
-        ensures { IfOk result (λ answer.
-            (answer.status ≡ status) × (answer.text.items ≡ refusal_text refusal.entry)) }
-    {
-        let text = refusal_line(alloc, refusal)?;
-        Ok(Answer { status, text })
-    }
-}
-
-/// A recorder that keeps nothing, ready for the events of a run.
-fn recorder(alloc: Global) -> Result<QuietRecorder, AllocError> {
-    let head = Head {
-        steps: 0,
-        input: Sequence::new(Vec::new(alloc)),
-        source: Sequence::new(Vec::new(alloc)),
-    };
-    let mut recorder = QuietRecorder::new(alloc);
-    match recorder.start("", &head, Vec::new(alloc)) {
-        Ok(()) => Ok(recorder),
-        Err(_) => Err(AllocError),
-    }
-}
-
-/// What a program gives: the report of its run.
-fn answer_to_program(
-    alloc: Global,
-    program: &Program,
-    input: &[u8],
-    steps: u32,
-) -> Result<Answer, AllocError>
-    ensures { IfOk result (λ answer. (answer.status ≡ Done) × (answer.text.items
-        ≡ report (program_of program.now) program.now.lines.items input.now steps)) }
-{
-    let (ended, _) = run(alloc, program, input, steps, recorder(alloc)?)?;
-    let text = report(alloc, program, ended)?;
-    Ok(Answer {
-        status: Status::Done,
-        text,
-    })
-}
-
-/// The refusal of a source that is no program, and none where memory ran out.
-fn front_refusal(error: FrontError) -> Option<Refusal<'static>>
-    ensures { IsRefusalOf error result }
-{
-    match error {
-        FrontError::Lex { fault } => Some(lex_refusal(fault)),
-        FrontError::Parse { line, token } => Some(Refusal::ProgramToken {
-            rule: "Syntax",
-            line,
-            token,
-        }),
-        FrontError::Typing { rule, line, token } => Some(Refusal::ProgramToken {
-            rule: rule_name(rule),
-            line,
-            token,
-        }),
-        FrontError::NoMemory => None,
-    }
-}
-
-/// The answer to a source that is no program.
-fn answer_to_error(alloc: Global, error: FrontError) -> Result<Answer, AllocError>
-    ensures { IfOk result (λ answer. (source input : List ℕ) (steps : ℕ) → IsCauseOf source error
-        → DueFor source input steps (code_of answer.status) answer.text.items) }
-{
-    match front_refusal(error) {
-        Some(refusal) => Answer::refused(alloc, Status::Program, refusal),
-        None => Err(AllocError),
-    }
-}
-
-/// What a source gives: what its program does with the input in so many steps, or why it is none.
-fn answer_to_source(
-    alloc: Global,
-    source: &[u8],
-    input: &[u8],
-    steps: u32,
-) -> Result<Answer, AllocError>
-    requires { length source.now ≤ source_limit }
-    ensures { IfOk result (λ answer.
-        DueFor source.now input.now steps (code_of answer.status) answer.text.items) }
-{
-    match front(alloc, source) {
-        Ok(typed) => answer_to_program(alloc, &typed.program, input, steps),
-        Err(error) => answer_to_error(alloc, error),
-    }
-}
+use wy_record::Recorder;
+use wy_reply::{Answer, Refusal, Status, Wanted};
+use wy_words::{Asked, Command, command};
 
 /// The answer where a file was not read.
 fn answer_to_lack(alloc: Global, error: FileError<'_>) -> Result<Answer, AllocError>
@@ -142,43 +36,69 @@ fn answer_to_lack(alloc: Global, error: FileError<'_>) -> Result<Answer, AllocEr
     }
 }
 
+/// The answer to a run of the files that are named.
+fn answer_to_run<S: Shelf>(
+    alloc: Global,
+    shelf: &mut S,
+    asked: Asked<'_>,
+) -> Result<Answer, AllocError> {
+    match read_both(alloc, shelf, asked.source, asked.input) {
+        Ok(Contents { source, input }) => {
+            run_source(alloc, source.as_slice(), input.as_slice(), asked.steps)
+        }
+        Err(error) => answer_to_lack(alloc, error),
+    }
+}
+
+/// The same, and the recorder has the trace of the run, by this name.
+fn answer_to_record<S: Shelf, R: Recorder>(
+    alloc: Global,
+    shelf: &mut S,
+    asked: Asked<'_>,
+    trace: &str,
+    recorder: &mut R,
+) -> Result<Answer, AllocError>
+    requires { R.phase recorder.old ≡ Ready }
+{
+    match read_both(alloc, shelf, asked.source, asked.input) {
+        Ok(contents) => record_source(alloc, contents, asked.steps, trace, recorder),
+        Err(error) => answer_to_lack(alloc, error),
+    }
+}
+
+/// The answer from the trace of a name.
+fn answer_from<S: Shelf>(
+    alloc: Global,
+    shelf: &mut S,
+    trace: &str,
+    wanted: Wanted<'_>,
+) -> Result<Answer, AllocError> {
+    match read_trace(alloc, shelf, trace) {
+        Ok(bytes) => answer_to_bytes(alloc, bytes.as_slice(), wanted),
+        Err(error) => answer_to_lack(alloc, error),
+    }
+}
+
 /// What the words and the files give. The shelf is read at most twice, and not at all where the
-/// words are no command.
-pub fn answer_to<S: Shelf>(
+/// words are no command; the recorder is used where they ask to record.
+pub fn answer_to<S: Shelf, R: Recorder>(
     alloc: Global,
     words: &[String],
     shelf: &mut S,
+    recorder: &mut R,
 ) -> Result<Answer, AllocError>
-    ensures due { IfOk result (λ answer.
-        IsAnswer (map string_bytes words.now) (S.held shelf.old)
-        (S.faults shelf.old) (S.faults shelf.new) answer) }
-    ensures absent { IfOk result (λ answer.
-        answer.status ≡ Absent → Rose (S.misses shelf.old) (S.misses shelf.new)) }
-    ensures too_long { IfOk result (λ answer.
-        answer.status ≡ TooLong → Rose (S.fulls shelf.old) (S.fulls shelf.new)) }
-    ensures usage { IfOk result (λ answer.
-        answer.status ≡ Usage → IsNoCommand (map string_bytes words.now)) }
-    ensures fault { IfOk result (λ answer. answer.status ≡ Fault
-        → (answer.text.items ≡ shelf_fault_line)
-        × Rose (S.faults shelf.old) (S.faults shelf.new)) }
-    ensures files_stay { S.held shelf.new ≡ S.held shelf.old }
-    ensures reads_nothing { IsNoCommand (map string_bytes words.now)
-        → S.gets shelf.new ≡ S.gets shelf.old }
+    requires { R.phase recorder.old ≡ Ready }
 {
-    let Some(
-        Asked {
-            source,
-            input,
-            steps,
-        },
-    ) = command(words)
-    else {
-        return Answer::refused(alloc, Status::Usage, Refusal::Usage);
-    };
-    match read_both(alloc, shelf, source, input) {
-        Ok(Contents { source, input }) => {
-            answer_to_source(alloc, source.as_slice(), input.as_slice(), steps)
+    match command(words) {
+        None => Answer::refused(alloc, Status::Usage, Refusal::Usage),
+        Some(Command::Run(asked)) => answer_to_run(alloc, shelf, asked),
+        Some(Command::Record { asked, trace }) => {
+            answer_to_record(alloc, shelf, asked, trace, recorder)
         }
-        Err(error) => answer_to_lack(alloc, error),
+        Some(Command::Output { trace }) => answer_from(alloc, shelf, trace, Wanted::Output),
+        Some(Command::Why { trace, question }) => {
+            answer_from(alloc, shelf, trace, Wanted::Why { question })
+        }
+        Some(Command::Audit { trace }) => answer_from(alloc, shelf, trace, Wanted::Audit),
     }
 }

@@ -1,7 +1,7 @@
 //! Reads the files that the words name.
 ghost use Rattle.std.specs.Prelude.{◌≡◌, ◌≤◌, ◌<◌, ◌^◌, IfOk, length, option_map};
 ghost use Rattle.wy_outside.specs.Counts.{RoseAt};
-ghost use Rattle.wy_top.specs.Held.{source_limit};
+ghost use Rattle.wy_top.specs.Held.{source_limit, trace_limit};
 ghost use Rattle.wy_top.specs.Reads.{GivesBoth, GivesFile, is_absent, is_fault, is_too_long};
 
 use std::alloc::Global;
@@ -12,6 +12,9 @@ const SOURCE_LIMIT: u32 = 1_048_576;
 
 /// The bytes that an input may have.
 const INPUT_LIMIT: u32 = 16_777_216;
+
+/// The bytes that a trace may have.
+const TRACE_LIMIT: u32 = 1_073_741_824;
 
 /// Why a file was not read.
 #[derive(Clone, Copy)]
@@ -75,4 +78,20 @@ pub fn read_both<'a, S: Shelf>(
         None => Vec::new(alloc),
     };
     Ok(Contents { source, input })
+}
+
+/// The bytes of the trace of a name.
+pub fn read_trace<'a, S: Shelf>(
+    alloc: Global,
+    shelf: &mut S,
+    name: &'a str,
+) -> Result<Vec<u8>, FileError<'a>>
+    ensures content { GivesFile (S.held shelf.old) name.now trace_limit result }
+    ensures bound { IfOk result (λ bytes. length bytes.items ≤ trace_limit) }
+    ensures fault { RoseAt is_fault result (S.faults shelf.old) (S.faults shelf.new) }
+    ensures absent { RoseAt is_absent result (S.misses shelf.old) (S.misses shelf.new) }
+    ensures too_long { RoseAt is_too_long result (S.fulls shelf.old) (S.fulls shelf.new) }
+    ensures files_stay { S.held shelf.new ≡ S.held shelf.old }
+{
+    read_file(alloc, shelf, name, TRACE_LIMIT)
 }

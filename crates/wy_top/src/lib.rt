@@ -3,12 +3,13 @@
 #![tactic(auto)]
 
 mod answer;
+mod causes;
 mod files;
 pub mod laws;
-mod lines;
 pub mod reading;
-pub mod status;
+mod source;
 pub mod top;
+mod trace;
 
 pub use reading::front;
 pub use top::whyline;

@@ -12,15 +12,21 @@ pub enum Status {
     Absent,
     /// The source has no tokens or no tree, or breaks a rule.
     Program,
-    /// A file could not be read, or the output not be written.
+    /// The trace is cut or damaged, or its source is no program.
+    Trace,
+    /// The question isn't read, or asks about what isn't there.
+    Question,
+    /// A file could not be read or written, or the output not be written.
     Fault,
     /// A file has more bytes than the limit.
     TooLong,
     NoMemory,
+    /// The trace isn't that of the run of its head.
+    Audit,
 }
 
 impl Status {
-    ghost use Rattle.wy_top.specs.Statuses.{code_of};
+    ghost use Rattle.wy_reply.specs.Statuses.{code_of};
 
     /// The number that the process ends with.
     pub fn code(self) -> u8
@@ -31,9 +37,12 @@ impl Status {
             Status::Usage => 2,
             Status::Absent => 3,
             Status::Program => 4,
+            Status::Trace => 5,
+            Status::Question => 6,
             Status::Fault => 7,
             Status::TooLong => 8,
             Status::NoMemory => 9,
+            Status::Audit => 10,
         }
     }
 }

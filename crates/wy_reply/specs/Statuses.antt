@@ -1,16 +1,19 @@
 -- The number of each status.
 use Rattle.std.specs.Prelude.{◌≡◌, ℕ}
-use Rattle.wy_top.specs.declared.status.Status.{Status}
-use Rattle.wy_top.specs.declared.status.Status.TheVariants.{Done, Usage, Absent, Program, Fault, TooLong, NoMemory}
+use Rattle.wy_reply.specs.declared.status.Status.{Status}
+use Rattle.wy_reply.specs.declared.status.Status.TheVariants.{Done, Usage, Absent, Program, Trace, Question, Fault, TooLong, NoMemory, Audit}
 
 abbrev pub code_of : Status → ℕ
 code_of Done = 0
 code_of Usage = 2
 code_of Absent = 3
 code_of Program = 4
+code_of Trace = 5
+code_of Question = 6
 code_of Fault = 7
 code_of TooLong = 8
 code_of NoMemory = 9
+code_of Audit = 10
 
 -- it is the number of a status
 abbrev pub IsStatus : ℕ → Type 0

@@ -1,0 +1,6 @@
+pub mod Statuses
+pub mod Lines
+pub mod Refusals
+pub mod Report
+pub mod Tellings
+pub mod Recordings

@@ -1,0 +1,33 @@
+-- What a recording leaves in the mirrors of its recorder.
+use Rattle.std.specs.Prelude.{◌≡◌, ℕ, List, ◌++◌, map, option_map}
+use Rattle.std.specs.List.{concat}
+use Rattle.wy_kernel.specs.Program.{Program}
+use Rattle.wy_event.specs.Record.{Recorded}
+use Rattle.wy_event.specs.declared.record.Head.{Head}
+use Rattle.wy_event.specs.declared.record.Tail.{Tail}
+use Rattle.wy_steps.specs.Sets.{nothing}
+use Rattle.wy_meaning.specs.Run as meaning
+use Rattle.wy_meaning.specs.Kept.{kept_tail}
+use Rattle.wy_record.specs.Answers.{Mirrors}
+
+-- how a trace is spelled: its opening, an event, and what closes the bytes before it
+pub record Spelling : Type 0 where
+  pub opening : Head → List ℕ
+  pub frame : Recorded → List ℕ
+  pub closing : Tail → List ℕ → List ℕ
+
+-- these bytes are the trace of the run of a program, as it is spelled so: the run's head, its events in order, and its end
+pub record IsTraceOf (s : Spelling) (p : Program) (source input : List ℕ) (steps : ℕ) (bytes : List ℕ) : Type 0 where
+  pub head : Head
+  pub steps_are : head.steps ≡ steps
+  pub input_is : head.input ≡ input
+  pub source_is : head.source ≡ source
+  pub end : Tail
+  pub end_is : kept_tail end ≡ meaning.tail nothing p input steps
+  pub spelled : bytes ≡ (let front = s.opening head ++ concat (map s.frame (meaning.events nothing p input steps)) in front ++ s.closing end front)
+
+-- each mirror that tells its bytes holds the trace
+pub record HoldTrace (s : Spelling) (p : Program) (source input : List ℕ) (steps : ℕ) (old new : Mirrors) : Type 0 where
+  pub bytes : List ℕ
+  pub is_trace : IsTraceOf s p source input steps bytes
+  pub held : new ≡ map (option_map (λ before. bytes)) old

@@ -1,0 +1,68 @@
+-- What is due for the bytes of a trace, under the program of its head.
+use Rattle.std.specs.Prelude.{◌≡◌, ℕ, List, map, Result, Ok, Err}
+use Rattle.wy_kernel.specs.declared.program.Program.{Program}
+use Rattle.wy_kernel.specs.Parts.{program_of}
+use Rattle.wy_event.specs.Record.{recorded}
+use Rattle.wy_event.specs.declared.record.Trace.{Trace}
+use Rattle.wy_payload.specs.declared.fault.DamageRule.{DamageRule}
+use Rattle.wy_frames.specs.declared.error.TraceError.{TraceError}
+use Rattle.wy_frames.specs.declared.error.TraceError.TheVariants.{Cut, Damaged, BadSeal}
+use Rattle.wy_frames.specs.Traces.{IsReadAs}
+use Rattle.wy_machine.specs.Audits.{AuditIs}
+use Rattle.wy_machine.specs.declared.audit.Verdict.{Verdict}
+use Rattle.wy_machine.specs.declared.audit.Verdict.TheVariants as verdict
+use Rattle.wy_telling.specs.Output.{output_text}
+use Rattle.wy_telling.specs.Why.{WhyIs, Refused, NotRead, NoSuch}
+use Rattle.wy_reply.specs.Lines.{cut_line, damaged_line, bad_seal_line, not_read_line, no_such_line, equal_line, differs_line, tail_differs_line}
+use Rattle.wy_reply.specs.declared.telling.Wanted.{Wanted as Asked}
+use Rattle.wy_reply.specs.declared.telling.Wanted.TheVariants as asked
+
+-- the line of what is wrong with bytes
+pub data IsTraceLine : TraceError → List ℕ → Type 0 where
+  cut : (byte : ℕ) → IsTraceLine (Cut byte) (cut_line byte)
+  damaged : (byte : ℕ) (rule : DamageRule) → IsTraceLine (Damaged byte rule) (damaged_line byte rule)
+  bad_seal : IsTraceLine BadSeal bad_seal_line
+
+-- what a trace is to tell: what its run wrote, why a question's event is as it is, or whether it is the trace of that run
+pub data Wanted : Type 0 where
+  Output : Wanted
+  Why : List ℕ → Wanted
+  Audit : Wanted
+
+abbrev pub why_status : Result (List ℕ) Refused → ℕ
+why_status (Ok text) = 0
+why_status (Err e) = 6
+
+abbrev pub why_answer : Result (List ℕ) Refused → List ℕ
+why_answer (Ok text) = text
+why_answer (Err NotRead) = not_read_line
+why_answer (Err (NoSuch number)) = no_such_line number
+
+abbrev pub audit_status : Verdict → ℕ
+audit_status verdict.Equal = 0
+audit_status (verdict.Event event) = 10
+audit_status verdict.Tail = 10
+
+abbrev pub audit_line : Verdict → List ℕ
+audit_line verdict.Equal = equal_line
+audit_line (verdict.Event event) = differs_line event
+audit_line verdict.Tail = tail_differs_line
+
+-- the status and the text of what a trace tells
+pub data Tells (p : Program) (t : Trace) : Wanted → ℕ → List ℕ → Type 0 where
+  output : Tells p t Output 0 (output_text (program_of p) p.lines.items (map recorded t.events) t.tail)
+  why : (question : List ℕ) (answer : Result (List ℕ) Refused) → WhyIs (program_of p) p.lines.items (map recorded t.events) question answer
+      → Tells p t (Why question) (why_status answer) (why_answer answer)
+  audit : (v : Verdict) → AuditIs (program_of p) t.head (map recorded t.events) t.tail v → Tells p t Audit (audit_status v) (audit_line v)
+
+-- the status and the text that are due for bytes: what is wrong with them first, or what the trace tells that they are read as
+pub data DueUnder (p : Program) (bytes : List ℕ) (w : Wanted) : ℕ → List ℕ → Type 0 where
+  refused : (e : TraceError) (line : List ℕ) → IsReadAs p bytes (Err e) → IsTraceLine e line → DueUnder p bytes w 5 line
+  told : (t : Trace) (status : ℕ) (text : List ℕ) → IsReadAs p bytes (Ok t) → Tells p t w status text → DueUnder p bytes w status text
+
+-- ---- what is wanted, in memory
+
+abbrev pub wanted_of : Asked → Wanted
+wanted_of asked.Output = Output
+wanted_of (asked.Why question) = Why question.now
+wanted_of asked.Audit = Audit

@@ -1,0 +1,16 @@
+//! What a command answers once its program is there: a status, and the text that is written with it.
+#![tactic(auto)]
+
+pub mod answer;
+pub mod lines;
+pub mod recording;
+pub mod running;
+pub mod status;
+pub mod telling;
+
+pub use answer::Answer;
+pub use lines::Refusal;
+pub use recording::answer_to_recording;
+pub use running::answer_to_program;
+pub use status::Status;
+pub use telling::{Wanted, answer_to_trace, answer_to_trace_error};

@@ -1,0 +1,161 @@
+//! The lines of refusals.
+ghost use Rattle.std.specs.Prelude.{◌≡◌, ◌++◌, IfOk, OnOk};
+ghost use Rattle.std.specs.Fmt.{decimal};
+ghost use Rattle.wy_reply.specs.Lines.{line_of, at_byte, at_token, damage_name, damaged_as, recorded_line};
+ghost use Rattle.wy_reply.specs.Refusals.{refusal_text};
+
+use std::alloc::{AllocError, Global};
+use wy_payload::fault::DamageRule;
+
+/// Why a command did not do what it says.
+#[derive(Clone, Copy)]
+pub enum Refusal<'a> {
+    Usage,
+    Absent {
+        name: &'a str,
+    },
+    /// What the source breaks at a byte.
+    ProgramByte {
+        rule: &'a str,
+        byte: u32,
+    },
+    /// What the source breaks at a token.
+    ProgramToken {
+        rule: &'a str,
+        line: u32,
+        token: u32,
+    },
+    /// The trace ends before its seal, at so many bytes.
+    Cut {
+        byte: u32,
+    },
+    /// The rule that the trace breaks first.
+    Damaged {
+        byte: u32,
+        rule: DamageRule,
+    },
+    BadSeal,
+    /// What the source of a trace breaks at a byte.
+    TraceByte {
+        rule: &'a str,
+        byte: u32,
+    },
+    /// What the source of a trace breaks at a token.
+    TraceToken {
+        rule: &'a str,
+        line: u32,
+        token: u32,
+    },
+    /// The word asks no question.
+    NotRead,
+    /// What is asked about isn't there.
+    NoSuch {
+        number: u32,
+    },
+    FaultShelf,
+    FaultRecorder,
+    LongFile {
+        name: &'a str,
+    },
+    /// The first event that isn't that of the run.
+    AuditEvent {
+        event: u32,
+    },
+    AuditTail,
+}
+
+/// The line of a refusal.
+pub fn refusal_line(alloc: Global, refusal: Refusal<'_>) -> Result<Vec<u8>, AllocError>
+    ensures { IfOk result (λ line. line.items ≡ refusal_text refusal.entry) }
+{
+    match refusal {
+        Refusal::Usage => line(alloc, "usage: whyline run, record, output, why or audit", ""),
+        Refusal::Absent { name } => line(alloc, "absent: ", name),
+        Refusal::ProgramByte { rule, byte } => at_byte(alloc, "", rule, byte),
+        Refusal::ProgramToken { rule, line, token } => at_token(alloc, "", rule, line, token),
+        Refusal::Cut { byte } => numbered(alloc, "trace: Cut at byte ", byte),
+        Refusal::Damaged { byte, rule } => damaged(alloc, byte, damage_name(rule)),
+        Refusal::BadSeal => line(alloc, "trace: BadSeal", ""),
+        Refusal::TraceByte { rule, byte } => at_byte(alloc, "trace: ", rule, byte),
+        Refusal::TraceToken { rule, line, token } => at_token(alloc, "trace: ", rule, line, token),
+        Refusal::NotRead => line(alloc, "question: not read", ""),
+        Refusal::NoSuch { number } => numbered(alloc, "question: no such ", number),
+        Refusal::FaultShelf => line(alloc, "fault: shelf", ""),
+        Refusal::FaultRecorder => line(alloc, "fault: recorder", ""),
+        Refusal::LongFile { name } => line(alloc, "too long: ", name),
+        Refusal::AuditEvent { event } => numbered(alloc, "audit: differs at event ", event),
+        Refusal::AuditTail => line(alloc, "audit: differs in the tail", ""),
+    }
+}
+
+#[tactic(auto, unfolding(crate::specs::Lines::damage_name))]
+fn damage_name(rule: DamageRule) -> &'static str
+    ensures { result.now ≡ damage_name rule }
+{
+    match rule {
+        DamageRule::Magic => "Magic",
+        DamageRule::FrameKind => "FrameKind",
+        DamageRule::Length => "Length",
+        DamageRule::Range => "Range",
+        DamageRule::Kind => "Kind",
+        DamageRule::Count => "Count",
+        DamageRule::After => "After",
+    }
+}
+
+fn damaged(alloc: Global, byte: u32, rule: &str) -> Result<Vec<u8>, AllocError>
+    ensures { IfOk result (λ line. line.items ≡ damaged_as byte rule.now) }
+{
+    let line = format!(in alloc; "trace: Damaged at byte {byte}, {rule}\n")?;
+    Ok(line.into_bytes())
+}
+
+fn at_byte(alloc: Global, of: &str, rule: &str, byte: u32) -> Result<Vec<u8>, AllocError>
+    ensures { IfOk result (λ line. line.items ≡ of.now ++ at_byte rule.now byte) }
+{
+    let line = format!(in alloc; "{of}program: {rule} at byte {byte}\n")?;
+    Ok(line.into_bytes())
+}
+
+fn at_token(
+    alloc: Global,
+    of: &str,
+    rule: &str,
+    line: u32,
+    token: u32,
+) -> Result<Vec<u8>, AllocError>
+    ensures { IfOk result (λ text. text.items ≡ of.now ++ at_token rule.now line token) }
+{
+    let line = format!(in alloc; "{of}program: {rule} at line {line} token {token}\n")?;
+    Ok(line.into_bytes())
+}
+
+/// A line that ends with a number.
+fn numbered(alloc: Global, first: &str, number: u32) -> Result<Vec<u8>, AllocError>
+    ensures { IfOk result (λ line. line.items ≡ line_of (first.now ++ decimal number)) }
+{
+    let line = format!(in alloc; "{first}{number}\n")?;
+    Ok(line.into_bytes())
+}
+
+pub fn line(alloc: Global, first: &str, second: &str) -> Result<Vec<u8>, AllocError>
+    ensures { IfOk result (λ line. line.items ≡ line_of (first.now ++ second.now)) }
+{
+    let mut line = Vec::new(alloc);
+    line.extend_from_slice(first.as_bytes())?;
+    line.extend_from_slice(second.as_bytes())?;
+    line.push(b'\n')?;
+    Ok(line)
+}
+
+/// The line that a recording adds to what is written of its run.
+pub fn put_recorded(
+    alloc: Global,
+    text: &mut Vec<u8>,
+    events: u32,
+) -> Result<(), AllocError>
+    ensures { OnOk result (text.new.items ≡ text.old.items ++ recorded_line events) }
+{
+    let line = format!(in alloc; "-- recorded {events} events\n")?;
+    text.extend_from_slice(line.as_bytes())
+}

@@ -1,0 +1,48 @@
+//! What is answered for a run that is recorded.
+ghost use Rattle.std.specs.Prelude.{◌≡◌, ◌⊎◌, IfOk};
+ghost use Rattle.wy_kernel.specs.Parts.{program_of};
+ghost use Rattle.wy_record.specs.declared.recorder.Phase.TheVariants.{Ready};
+ghost use Rattle.wy_reply.specs.Report.{recorded_of_end};
+
+use crate::answer::Answer;
+use crate::lines::{Refusal, put_recorded};
+use crate::running::report;
+use crate::status::Status;
+use std::alloc::{AllocError, Global};
+use wy_event::record::Head;
+use wy_kernel::program::Program;
+use wy_machine::{Ended, record};
+use wy_record::{RecordError, Recorder};
+
+/// What is written of a run that was recorded.
+fn recorded_report(alloc: Global, program: &Program, ended: Ended) -> Result<Vec<u8>, AllocError>
+    ensures { IfOk result (λ text. text.items
+        ≡ recorded_of_end (program_of program.now) program.now.lines.items ended) }
+{
+    let events = ended.tail.events;
+    let mut text = report(alloc, program, ended)?;
+    put_recorded(alloc, &mut text, events)?;
+    Ok(text)
+}
+
+/// What a program gives: the report of its run, whose trace each mirror of the recorder has then.
+pub fn answer_to_recording<R: Recorder>(
+    alloc: Global,
+    program: &Program,
+    name: &str,
+    head: &Head,
+    recorder: &mut R,
+) -> Result<Answer, AllocError>
+    requires { R.phase recorder.old ≡ Ready }
+{
+    match record(alloc, program, name, head, Vec::new(alloc), recorder) {
+        Ok(ended) => {
+            let text = recorded_report(alloc, program, ended)?;
+            Ok(Answer::done(text))
+        }
+        Err(RecordError::SinkFault { .. }) => {
+            Answer::refused(alloc, Status::Fault, Refusal::FaultRecorder)
+        }
+        Err(_) => Err(AllocError),
+    }
+}

@@ -1,0 +1,72 @@
+//! What is answered for a source: its run, its recording, or why it is no program.
+ghost use Rattle.std.specs.Prelude.{◌≡◌, ◌≤◌, IfOk, length};
+ghost use Rattle.wy_record.specs.declared.recorder.Phase.TheVariants.{Ready};
+ghost use Rattle.wy_reply.specs.Report.{report};
+ghost use Rattle.wy_reply.specs.Statuses.{code_of};
+ghost use Rattle.wy_top.specs.Due.{DueFor};
+ghost use Rattle.wy_top.specs.Held.{source_limit};
+ghost use Rattle.wy_top.specs.Sources.{RecordsSource, RefusesSource, spelling};
+
+use crate::causes::front_cause;
+use crate::files::Contents;
+use crate::reading::{FrontError, front};
+use std::alloc::{AllocError, Global};
+use wy_event::record::Head;
+use wy_event::sequence::Sequence;
+use wy_record::Recorder;
+use wy_reply::{Answer, Status, answer_to_program, answer_to_recording};
+
+/// The answer to a source that is no program.
+fn answer_to_error(alloc: Global, error: FrontError) -> Result<Answer, AllocError>
+    ensures { IfOk result (λ answer. RefusesSource error answer) }
+{
+    match front_cause(error) {
+        Some(cause) => Answer::refused(alloc, Status::Program, cause.of_source()),
+        None => Err(AllocError),
+    }
+}
+
+/// What a source gives: what its program does with the input in so many steps, or why it is none.
+pub fn run_source(
+    alloc: Global,
+    source: &[u8],
+    input: &[u8],
+    steps: u32,
+) -> Result<Answer, AllocError>
+    requires { length source.now ≤ source_limit }
+    ensures { IfOk result (λ answer. DueFor source.now (λ p lines. report p lines input.now steps)
+        (code_of answer.status) answer.text.items) }
+{
+    match front(alloc, source) {
+        Ok(typed) => answer_to_program(alloc, &typed.program, input, steps),
+        Err(error) => answer_to_error(alloc, error),
+    }
+}
+
+/// The same, and the recorder has the trace of the run.
+pub fn record_source<R: Recorder>(
+    alloc: Global,
+    contents: Contents,
+    steps: u32,
+    name: &str,
+    recorder: &mut R,
+) -> Result<Answer, AllocError>
+    requires ready { R.phase recorder.old ≡ Ready }
+    requires bound { length contents.source.items ≤ source_limit }
+    ensures { IfOk result (λ answer. RecordsSource (spelling R.opening R.frame R.closing)
+        contents steps (R.mirrors recorder.old) (R.mirrors recorder.new)
+        (R.faults recorder.old) (R.faults recorder.new) answer) }
+{
+    let Contents { source, input } = contents;
+    match front(alloc, source.as_slice()) {
+        Ok(typed) => {
+            let head = Head {
+                steps,
+                input: Sequence::new(input),
+                source: Sequence::new(source),
+            };
+            answer_to_recording(alloc, &typed.program, name, &head, recorder)
+        }
+        Err(error) => answer_to_error(alloc, error),
+    }
+}

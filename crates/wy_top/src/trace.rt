@@ -1,0 +1,58 @@
+//! What is answered from the bytes of a trace.
+ghost use Rattle.std.specs.Prelude.{◌≡◌, ◌≤◌, IfOk, length};
+ghost use Rattle.wy_reply.specs.Statuses.{code_of};
+ghost use Rattle.wy_reply.specs.Tellings.{wanted_of};
+ghost use Rattle.wy_top.specs.Due.{DueForBytes};
+ghost use Rattle.wy_top.specs.Held.{source_limit, trace_limit};
+ghost use Rattle.wy_top.specs.Sources.{AnswersUnder, RefusesTrace};
+
+use crate::causes::front_cause;
+use crate::reading::{FrontError, front};
+use std::alloc::{AllocError, Global};
+use wy_frames::read_head;
+use wy_reply::{Answer, Status, Wanted, answer_to_trace, answer_to_trace_error};
+
+/// The answer to a trace whose source is no program.
+fn answer_to_error(alloc: Global, error: FrontError) -> Result<Answer, AllocError>
+    ensures { IfOk result (λ answer. RefusesTrace error answer) }
+{
+    match front_cause(error) {
+        Some(cause) => Answer::refused(alloc, Status::Trace, cause.of_trace()),
+        None => Err(AllocError),
+    }
+}
+
+/// The answer to a trace with the source of its head.
+fn answer_under(
+    alloc: Global,
+    source: &[u8],
+    bytes: &[u8],
+    wanted: Wanted<'_>,
+) -> Result<Answer, AllocError>
+    requires source { length source.now ≤ source_limit }
+    requires bytes { length bytes.now ≤ trace_limit }
+    ensures { IfOk result (λ answer.
+        AnswersUnder source.now bytes.now (wanted_of wanted.entry) answer) }
+{
+    match front(alloc, source) {
+        Ok(typed) => answer_to_trace(alloc, &typed.program, bytes, wanted),
+        Err(error) => answer_to_error(alloc, error),
+    }
+}
+
+/// What a trace tells, or what is wrong with it first: its head, its program and the rest are read
+/// in this order.
+pub fn answer_to_bytes(
+    alloc: Global,
+    bytes: &[u8],
+    wanted: Wanted<'_>,
+) -> Result<Answer, AllocError>
+    requires { length bytes.now ≤ trace_limit }
+    ensures { IfOk result (λ answer. DueForBytes bytes.now (wanted_of wanted.entry)
+        (code_of answer.status) answer.text.items) }
+{
+    match read_head(alloc, bytes) {
+        Ok((head, _)) => answer_under(alloc, head.source.as_slice(), bytes, wanted),
+        Err(error) => answer_to_trace_error(alloc, error),
+    }
+}
