@@ -4,7 +4,7 @@ use Rattle.std.specs.List.{concat}
 use Rattle.wy_event.specs.Record.{recorded}
 use Rattle.wy_record.specs.Answers.{with_more}
 use Rattle.wy_record.specs.declared.recorder.Phase.TheVariants.{Recording}
-use Rattle.wy_recording.proofs.recording.note_all.Given as goal
+use Rattle.wy_machine.proofs.recording.note_all.Given as goal
 
 abbrev pub invariant-loop-event : goal.invariant-loop-event
 invariant-loop-event g l = record {

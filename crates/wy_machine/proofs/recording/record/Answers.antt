@@ -2,8 +2,8 @@ use Rattle.std.proofs.Common.{◌∙◌, ap, map}
 use Rattle.std.specs.List.{concat}
 use Rattle.wy_event.specs.Record.{recorded}
 use Rattle.wy_record.specs.Answers.{with_more}
-use Rattle.wy_recording.proofs.Mirrors.{whole}
-use Rattle.wy_recording.proofs.recording.record.Goals as goal
+use Rattle.wy_machine.proofs.Mirrors.{whole}
+use Rattle.wy_machine.proofs.recording.record.Goals as goal
 
 pub returns-clause-mirrors : goal.returns-clause-mirrors
 returns-clause-mirrors g c =

@@ -1,6 +1,6 @@
 //! A run, and its trace.
 
-ghost use Rattle.std.specs.Prelude.{◌≡◌, ◌++◌, IfOk, OnOk, map};
+ghost use Rattle.std.specs.Prelude.{◌≡◌, ◌<◌, ◌^◌, ◌++◌, IfOk, OnOk, length, map, true};
 ghost use Rattle.std.specs.List.{concat};
 ghost use Rattle.wy_event.specs.Record.{recorded};
 ghost use Rattle.wy_kernel.specs.Parts.{program_of};
@@ -8,26 +8,31 @@ ghost use Rattle.wy_machine.specs.Ended.{IsEndOf};
 ghost use Rattle.wy_meaning.specs.Run as meaning;
 ghost use Rattle.wy_record.specs.Answers.{FaultsAs, with_more};
 ghost use Rattle.wy_record.specs.declared.recorder.Phase.TheVariants.{Done, Ready, Recording};
-ghost use Rattle.wy_recording.specs.Traces.{DiffersIf, closed};
+ghost use Rattle.wy_machine.specs.Differences.{AgreeBelow, DiffersAsFirst};
+ghost use Rattle.wy_machine.specs.Traces.{closed};
 ghost use Rattle.wy_steps.specs.Sets.{nothing};
 
+use crate::ended::Ended;
+use crate::whole::run;
 use std::alloc::{AllocError, Global};
 use wy_event::record::{Event, Head};
 use wy_kernel::program::Program;
-use wy_machine::{Ended, run};
 use wy_record::{MemoryRecorder, RecordError, Recorder};
 
 /// Runs a program with the input and the steps of a head, and hands the head, each event in order
-/// and the end to a recorder, which is done then. The events are kept until the run has ended. Where
-/// memory is wanting for the run, the recorder has the head alone and goes on recording.
+/// and the end to a recorder, which is done then; the expected events are for one that compares.
+/// The events are kept until the run has ended. Where memory is wanting for the run, the recorder
+/// has the head alone and goes on recording.
 pub fn record<R: Recorder>(
     alloc: Global,
     program: &Program,
     name: &str,
     head: &Head,
+    expected: Vec<Event>,
     recorder: &mut R,
 ) -> Result<Ended, RecordError>
-    requires { R.phase recorder.old ≡ Ready }
+    requires ready { R.phase recorder.old ≡ Ready }
+    requires few { length expected.items < 2 ^ 32 }
     ensures ended { IfOk result (λ e.
         IsEndOf (program_of program.now) head.now.input head.now.steps e) }
     ensures mirrors { IfOk result (λ e. R.mirrors recorder.new ≡ closed (R.closing e.tail)
@@ -36,9 +41,12 @@ pub fn record<R: Recorder>(
         (R.mirrors recorder.old)) }
     ensures phase { OnOk result (R.phase recorder.new ≡ Done) }
     ensures faults { FaultsAs result (R.faults recorder.old) (R.faults recorder.new) }
-    ensures differs { DiffersIf R.compares result }
+    ensures as_expected { R.compares ≡ true → OnOk result (map recorded expected.items
+        ≡ meaning.events nothing (program_of program.now) head.now.input head.now.steps) }
+    ensures differs { DiffersAsFirst result R.compares (map recorded expected.items)
+        (meaning.events nothing (program_of program.now) head.now.input head.now.steps) }
 {
-    recorder.start(name, head, Vec::new(alloc))?;
+    recorder.start(name, head, expected)?;
     let (ended, events) = match kept(alloc, program, head) {
         Ok(pair) => pair,
         Err(_) => return Err(RecordError::NoMemory),
@@ -66,12 +74,19 @@ fn kept(alloc: Global, program: &Program, head: &Head) -> Result<(Ended, Vec<Eve
 
 /// Hands events to a recorder, in order.
 fn note_all<R: Recorder>(recorder: &mut R, events: &[Event]) -> Result<(), RecordError>
-    requires { R.phase recorder.old ≡ Recording }
+    requires phase { R.phase recorder.old ≡ Recording }
+    requires position { R.compares ≡ true → R.position recorder.old ≡ 0 }
     ensures phase { OnOk result (R.phase recorder.new ≡ Recording) }
     ensures mirrors { OnOk result (R.mirrors recorder.new
         ≡ with_more (concat (map R.frame (map recorded events.now))) (R.mirrors recorder.old)) }
     ensures faults { FaultsAs result (R.faults recorder.old) (R.faults recorder.new) }
-    ensures differs { DiffersIf R.compares result }
+    ensures expected { R.expected recorder.new ≡ R.expected recorder.old }
+    ensures position { R.compares ≡ true
+        → OnOk result (R.position recorder.new ≡ length events.now) }
+    ensures as_expected { R.compares ≡ true → OnOk result (AgreeBelow
+        (length events.now) (R.expected recorder.old) (map recorded events.now)) }
+    ensures differs { DiffersAsFirst result R.compares
+        (R.expected recorder.old) (map recorded events.now) }
 {
     for event in events {
         recorder.note(event)?;

@@ -2,8 +2,8 @@ use Rattle.std.proofs.Common.{◌∙◌, ap, map, refl, sym, take}
 use Rattle.std.specs.List.{concat}
 use Rattle.wy_event.specs.Record.{recorded}
 use Rattle.wy_record.specs.Answers.{with_more}
-use Rattle.wy_recording.proofs.Mirrors.{one_more, with_both, with_nothing}
-use Rattle.wy_recording.proofs.recording.note_all.Goals as goal
+use Rattle.wy_machine.proofs.Mirrors.{one_more, with_both, with_nothing}
+use Rattle.wy_machine.proofs.recording.note_all.Goals as goal
 
 pub loop-event-init : goal.loop-event-init
 loop-event-init g c = record { phase = c.requires; mirrors = sym (with_nothing _); faults = refl }

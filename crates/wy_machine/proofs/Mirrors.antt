@@ -7,7 +7,7 @@ use Rattle.std.proofs.lemmas.List.Folds.{concat-append}
 use Rattle.wy_event.specs.Record.{Recorded}
 use Rattle.std.specs.List.{concat}
 use Rattle.wy_record.specs.Answers.{Mirrors, with_more, opened}
-use Rattle.wy_recording.specs.Traces.{closed}
+use Rattle.wy_machine.specs.Traces.{closed}
 
 pub with_nothing : (ms : Mirrors) → with_more [] ms ≡ ms
 with_nothing [] = refl

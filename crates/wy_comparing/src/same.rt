@@ -1,0 +1,52 @@
+//! When two records in memory are of one event.
+
+ghost use Rattle.std.specs.Prelude.{◌≡◌, ◌↔◌, IsTrue};
+ghost use Rattle.wy_event.specs.Record.{present, recorded};
+
+use wy_event::record::{Event, Kind, Slot, Use};
+use wy_value::Value;
+
+/// Whether two events are one: all that is recorded of them is the same.
+pub fn same_event(a: &Event, b: &Event) -> bool
+    ensures { IsTrue result ↔ (recorded a.now ≡ recorded b.now) }
+{
+    same_kind(a.kind, b.kind)
+        && a.site == b.site
+        && a.frame == b.frame
+        && a.control == b.control
+        && a.what == b.what
+        && same_slot(a.slot, b.slot)
+        && same_value(a.value, b.value)
+        && same_units(a.units.as_slice(), b.units.as_slice())
+        && same_uses(a.uses.as_slice(), b.uses.as_slice())
+}
+
+fn same_kind(a: Kind, b: Kind) -> bool
+    ensures { IsTrue result ↔ (a ≡ b) }
+{
+    a == b
+}
+
+fn same_slot(a: Slot, b: Slot) -> bool
+    ensures { IsTrue result ↔ (a ≡ b) }
+{
+    a == b
+}
+
+fn same_value(a: Value, b: Value) -> bool
+    ensures { IsTrue result ↔ (a ≡ b) }
+{
+    a == b
+}
+
+fn same_units(a: &[u16], b: &[u16]) -> bool
+    ensures { IsTrue result ↔ (a.now ≡ b.now) }
+{
+    a == b
+}
+
+fn same_uses(a: &[Use], b: &[Use]) -> bool
+    ensures { IsTrue result ↔ (a.now ≡ b.now) }
+{
+    a == b
+}
