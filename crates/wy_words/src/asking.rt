@@ -2,7 +2,8 @@
 ghost use Rattle.std.specs.Prelude.{◌≡◌, option_map};
 ghost use Rattle.wy_words.specs.Views.{asking_of, operands_of};
 ghost use Rattle.wy_words.specs.Words.{is_plain as plain, Operand, Input, Trace};
-ghost use Rattle.wy_words.specs.Reading.{nothing as nothing_asked, with_next as next_added, ended as whole};
+ghost use Rattle.wy_words.specs.Reading.{nothing as nothing_asked, ended as whole};
+ghost use Rattle.wy_words.specs.Reading.{with_next as next_added};
 ghost use Rattle.wy_words.specs.Reading.{with_plain as plain_added, with_steps as steps_added};
 ghost use Rattle.wy_words.specs.Reading.{with_word as word_added};
 
@@ -104,7 +105,8 @@ impl<'a> Asking<'a> {
 
     #[tactic(auto, unfolding(crate::specs::Reading::with_plain, crate::specs::Reading::with_part))]
     fn with_operand(self, word: &'a str) -> Option<Asking<'a>>
-        ensures { option_map asking_of result ≡ plain_added (asking_of self.entry) Operand word.now }
+        ensures { option_map asking_of result
+            ≡ plain_added (asking_of self.entry) Operand word.now }
     {
         if !is_plain(word) {
             return None;
@@ -123,7 +125,8 @@ impl<'a> Asking<'a> {
 
     #[tactic(auto, unfolding(crate::specs::Reading::with_plain, crate::specs::Reading::with_part))]
     fn with_input(self, word: &'a str) -> Option<Asking<'a>>
-        ensures { option_map asking_of result ≡ plain_added (asking_of self.entry) Input word.now }
+        ensures { option_map asking_of result
+            ≡ plain_added (asking_of self.entry) Input word.now }
     {
         if !is_plain(word) || self.input.is_some() {
             return None;
@@ -137,7 +140,8 @@ impl<'a> Asking<'a> {
 
     #[tactic(auto, unfolding(crate::specs::Reading::with_plain, crate::specs::Reading::with_part))]
     fn with_trace(self, word: &'a str) -> Option<Asking<'a>>
-        ensures { option_map asking_of result ≡ plain_added (asking_of self.entry) Trace word.now }
+        ensures { option_map asking_of result
+            ≡ plain_added (asking_of self.entry) Trace word.now }
     {
         if !is_plain(word) || self.trace.is_some() {
             return None;

@@ -1,9 +1,10 @@
 //! Which command a name and what is named behind it are.
 ghost use Rattle.std.specs.Prelude.{◌≡◌, option_map};
 ghost use Rattle.wy_words.specs.Views.{asking_of, asked_of, command_of};
-ghost use Rattle.wy_words.specs.Reading.{command_named as named_so, is_bare as bare, only_operand as alone};
-ghost use Rattle.wy_words.specs.Reading.{run_of, run as run_asked, recording as recording_asked};
-ghost use Rattle.wy_words.specs.Reading.{output as output_asked, why as why_asked, audit as audit_asked};
+ghost use Rattle.wy_words.specs.Reading.{audit as audit_asked, command_named as named_so};
+ghost use Rattle.wy_words.specs.Reading.{is_bare as bare, only_operand as alone, output as output_asked};
+ghost use Rattle.wy_words.specs.Reading.{recording as recording_asked, run as run_asked, run_of};
+ghost use Rattle.wy_words.specs.Reading.{why as why_asked};
 
 use crate::asking::{Asking, Operands};
 
@@ -28,6 +29,7 @@ pub enum Command<'a> {
     Audit { trace: &'a str },
 }
 
+/// The command of this name, where it takes all that is named and needs no more.
 #[tactic(auto, unfolding(crate::specs::Reading::command_named))]
 pub fn command_named<'a>(name: &str, asking: Asking<'a>) -> Option<Command<'a>>
     ensures { option_map command_of result ≡ named_so name.now (asking_of asking.entry) }
@@ -111,6 +113,7 @@ fn audit(asking: Asking<'_>) -> Option<Command<'_>>
     }
 }
 
+/// What is run, where one operand names it.
 #[tactic(auto, unfolding(crate::specs::Reading::run_of))]
 fn to_run(asking: Asking<'_>) -> Option<Asked<'_>>
     ensures { option_map asked_of result
@@ -126,6 +129,7 @@ fn to_run(asking: Asking<'_>) -> Option<Asked<'_>>
     }
 }
 
+/// The operand, where one stands and no option.
 #[tactic(auto, unfolding(crate::specs::Reading::only_operand))]
 fn only_operand(asking: Asking<'_>) -> Option<&str>
     ensures { option_map (λ s. s.now) result

@@ -1,5 +1,6 @@
 //! What a command line asks.
-ghost use Rattle.std.specs.Prelude.{◌≡◌, map, string_bytes, IfSome, None, option_map, option_and_then};
+ghost use Rattle.std.specs.Prelude.{◌≡◌, IfSome, None, map, string_bytes};
+ghost use Rattle.std.specs.Prelude.{option_and_then, option_map};
 ghost use Rattle.wy_words.specs.Views.{asking_of, command_of};
 ghost use Rattle.wy_words.specs.Words.{Asks, IsNoCommand};
 ghost use Rattle.wy_words.specs.Reading.{named_in as all_named, with_next as next_added};
@@ -29,7 +30,8 @@ fn named_in<'a>(words: &'a [String]) -> Option<Asking<'a>>
 /// What is named once a word is read too, and None from where the words are no command.
 fn named_with<'a>(asking: Option<Asking<'a>>, word: &'a str) -> Option<Asking<'a>>
     ensures { option_map asking_of result
-        ≡ option_and_then (λ a. next_added a.awaited a word.now) (option_map asking_of asking.entry) }
+        ≡ option_and_then (λ a. next_added a.awaited a word.now)
+        (option_map asking_of asking.entry) }
 {
     match asking {
         Some(asking) => asking.with_next(word),
