@@ -1,16 +1,34 @@
 -- What is asked, in memory, as contracts see it.
-use Rattle.std.specs.Prelude.{option_map}
+use Rattle.std.specs.Prelude.{ℕ, List, [], ◌∷◌, option_map}
 use Rattle.wy_words.specs.Words as words
+use Rattle.wy_words.specs.Reading as reading
+use Rattle.wy_words.specs.declared.asking.Operands.{Operands}
+use Rattle.wy_words.specs.declared.asking.Operands.TheVariants.{Nothing, One, Two}
 use Rattle.wy_words.specs.declared.asking.Asking.{Asking}
-use Rattle.wy_words.specs.declared.words.Asked.{Asked}
+use Rattle.wy_words.specs.declared.commands.Asked.{Asked}
+use Rattle.wy_words.specs.declared.commands.Command.{Command}
+use Rattle.wy_words.specs.declared.commands.Command.TheVariants.{Run, Record, Output, Why, Audit}
 
-abbrev pub asking_of : Asking → words.Asking
+abbrev pub operands_of : Operands → List (List ℕ)
+operands_of Nothing = []
+operands_of (One word) = word.now ∷ []
+operands_of (Two first second) = first.now ∷ (second.now ∷ [])
+
+abbrev pub asking_of : Asking → reading.Asking
 asking_of a = record {
   awaited = a.awaited;
-  source = option_map (λ s. s.now) a.source;
+  operands = operands_of a.operands;
   input = option_map (λ s. s.now) a.input;
+  trace = option_map (λ s. s.now) a.trace;
   steps = a.steps;
 }
 
 abbrev pub asked_of : Asked → words.Asked
 asked_of a = record { source = a.source.now; input = option_map (λ s. s.now) a.input; steps = a.steps }
+
+abbrev pub command_of : Command → words.Command
+command_of (Run asked) = words.Run (asked_of asked)
+command_of (Record asked trace) = words.Record (asked_of asked) trace.now
+command_of (Output trace) = words.Output trace.now
+command_of (Why trace question) = words.Why trace.now question.now
+command_of (Audit trace) = words.Audit trace.now

@@ -1,85 +1,111 @@
--- What the words of the command line ask: `run SRC [-i IN] [--steps N]`, the options anywhere behind `run`.
-use Rattle.std.specs.Prelude.{◌≡◌, ℕ, length, List, [], ◌∷◌, Bool, false, not, ◌&&◌, ◌==◌, nat_eq, nat_le, bytes_eq, if◌then◌else◌, Option, Some, None, is_none, option_and_then, option_map, unwrap_or, codes, drop}
-use Rattle.std.specs.List.{starts_with}
+-- What the words of the command line ask: a command's name, and behind it operands and options in any order.
+use Rattle.std.specs.Prelude.{◌≡◌, ℕ, length, List, [], ◌∷◌, ◌++◌, Bool, false, not, ◌&&◌, ◌==◌, nat_le, if◌then◌else◌, IsTrue, Option, Some, None, unwrap_or, codes, filter_map}
+use Rattle.std.specs.Option.{option_to_list}
 use Rattle.std.specs.Str.{all_ascii_digits}
 use Rattle.std.specs.Str.Parse.{digits_value}
-use Rattle.wy_words.specs.declared.asking.Awaited.{Awaited}
-use Rattle.wy_words.specs.declared.asking.Awaited.TheVariants.{Word, Input, Steps}
 
--- a name is a word that isn't empty and doesn't begin with a minus sign
-unfoldable pub is_name : List ℕ → Bool
-is_name [] = false
-is_name (first ∷ rest) = not (first == 45)
+-- ---- words
+
+-- a plain word isn't empty and doesn't begin with a minus sign
+unfoldable pub is_plain : List ℕ → Bool
+is_plain [] = false
+is_plain (first ∷ rest) = not (first == 45)
 
 -- a number of steps has one to eight decimal digits and a value from 1 to 50,000,000
 unfoldable pub budget : List ℕ → Option ℕ
 budget word = let value = digits_value 10 word in
     if all_ascii_digits word && nat_le (length word) 8 && nat_le 1 value && nat_le value 50000000 then Some value else None
 
--- the steps that are run where none are asked
-abbrev pub default_steps : ℕ
-default_steps = 1000000
+-- the word is this number of steps
+abbrev pub IsSteps : List ℕ → ℕ → Type 0
+IsSteps word n = budget word ≡ Some n
 
--- what was named so far, and what the next word has to be
-pub record Asking : Type 0 where
-  pub awaited : Awaited
-  pub source : Option (List ℕ)
-  pub input : Option (List ℕ)
-  pub steps : Option ℕ
+-- ---- parts
 
-abbrev pub nothing : Asking
-nothing = record { awaited = Word; source = None; input = None; steps = None }
+-- what stands behind a command's name: an operand, or an option with its value
+pub data Part : Type 0 where
+  Operand : (word : List ℕ) → Part
+  Input : (name : List ℕ) → Part
+  Trace : (name : List ℕ) → Part
+  Steps : (number : ℕ) → Part
 
--- each of the three is named once at most
-unfoldable pub with_source : Asking → List ℕ → Option Asking
-with_source a word = if is_name word && is_none a.source then Some (record a { source = Some word }) else None
+-- the words are these parts, one after another
+pub data Spells : List (List ℕ) → List Part → Type 0 where
+  no_part : Spells [] []
+  operand_part : {word : List ℕ} {words : List (List ℕ)} {parts : List Part} → IsTrue (is_plain word)
+      → Spells words parts → Spells (word ∷ words) (Operand word ∷ parts)
+  input_part : {name : List ℕ} {words : List (List ℕ)} {parts : List Part} → IsTrue (is_plain name)
+      → Spells words parts → Spells (codes "-i" ∷ (name ∷ words)) (Input name ∷ parts)
+  trace_part : {name : List ℕ} {words : List (List ℕ)} {parts : List Part} → IsTrue (is_plain name)
+      → Spells words parts → Spells (codes "-o" ∷ (name ∷ words)) (Trace name ∷ parts)
+  steps_part : {word : List ℕ} {n : ℕ} {words : List (List ℕ)} {parts : List Part} → IsSteps word n
+      → Spells words parts → Spells (codes "--steps" ∷ (word ∷ words)) (Steps n ∷ parts)
+  joined_steps_part : {word : List ℕ} {n : ℕ} {words : List (List ℕ)} {parts : List Part} → IsSteps word n
+      → Spells words parts → Spells ((codes "--steps=" ++ word) ∷ words) (Steps n ∷ parts)
 
-unfoldable pub with_input : Asking → List ℕ → Option Asking
-with_input a word = if is_name word && is_none a.input then Some (record a { awaited = Word; input = Some word }) else None
+abbrev pub operand_of : Part → Option (List ℕ)
+operand_of (Operand word) = Some word
+operand_of _ = None
 
-unfoldable pub with_steps : Asking → List ℕ → Option Asking
-with_steps a word = if is_none a.steps then option_map (λ n. record a { awaited = Word; steps = Some n }) (budget word) else None
+abbrev pub input_of : Part → Option (List ℕ)
+input_of (Input name) = Some name
+input_of _ = None
 
--- a word that no option awaits
-unfoldable pub with_word : Asking → List ℕ → Option Asking
-with_word a word =
-    if bytes_eq word (codes "-i") then Some (record a { awaited = Input })
-    else (if bytes_eq word (codes "--steps") then Some (record a { awaited = Steps })
-    else (if starts_with nat_eq word (codes "--steps=") then with_steps a (drop 8 word)
-    else with_source a word))
+abbrev pub trace_of : Part → Option (List ℕ)
+trace_of (Trace name) = Some name
+trace_of _ = None
 
-unfoldable pub with_next : Awaited → Asking → List ℕ → Option Asking
-with_next Word a word = with_word a word
-with_next Input a word = with_input a word
-with_next Steps a word = with_steps a word
+abbrev pub steps_of : Part → Option ℕ
+steps_of (Steps n) = Some n
+steps_of _ = None
 
--- what is named behind a number of words
-abbrev pub named : Asking → List (List ℕ) → Option Asking
-named a [] = Some a
-named a (word ∷ words) = option_and_then (λ b. named b words) (with_next a.awaited a word)
+-- the parts are these operands in their order, and these options, each at most once
+pub record Holds (parts : List Part) (operands : List (List ℕ)) (input trace : Option (List ℕ)) (steps : Option ℕ) : Type 0 where
+  pub has_operands : filter_map operand_of parts ≡ operands
+  pub has_input : filter_map input_of parts ≡ option_to_list input
+  pub has_trace : filter_map trace_of parts ≡ option_to_list trace
+  pub has_steps : filter_map steps_of parts ≡ option_to_list steps
 
+-- ---- commands
+
+-- a run of the program in a file, on the input in another where one is named
 pub record Asked : Type 0 where
   pub source : List ℕ
   pub input : Option (List ℕ)
   pub steps : ℕ
 
--- a file is named, and no option stands last without its word
-unfoldable pub asked_by : Awaited → Asking → Option Asked
-asked_by Word a = option_map (λ source. record { source = source; input = a.input; steps = unwrap_or a.steps default_steps }) a.source
-asked_by Input a = None
-asked_by Steps a = None
+-- what can be asked
+pub data Command : Type 0 where
+  Run : (asked : Asked) → Command
+  Record : (asked : Asked) (trace : List ℕ) → Command
+  Output : (trace : List ℕ) → Command
+  Why : (trace question : List ℕ) → Command
+  Audit : (trace : List ℕ) → Command
 
-unfoldable pub asked_behind : List (List ℕ) → Option Asked
-asked_behind words = option_and_then (λ a. asked_by a.awaited a) (named nothing words)
+-- the steps that are run where none are asked
+abbrev pub default_steps : ℕ
+default_steps = 1000000
 
-unfoldable pub asked : List (List ℕ) → Option Asked
-asked [] = None
-asked (command ∷ words) = if bytes_eq command (codes "run") then asked_behind words else None
+abbrev pub asked : List ℕ → Option (List ℕ) → Option ℕ → Asked
+asked source input steps = record { source = source; input = input; steps = unwrap_or steps default_steps }
 
--- the words ask for a run
-abbrev pub AsksToRun : List (List ℕ) → Asked → Type 0
-AsksToRun words a = asked words ≡ Some a
+-- the words ask this: the command's name, and then its operands and options
+pub data Asks : List (List ℕ) → Command → Type 0 where
+  run : {words : List (List ℕ)} {parts : List Part} {source : List ℕ} {input : Option (List ℕ)} {steps : Option ℕ} → Spells words parts
+      → Holds parts (source ∷ []) input None steps → Asks (codes "run" ∷ words) (Run (asked source input steps))
+  recording : {words : List (List ℕ)} {parts : List Part} {source trace : List ℕ} {input : Option (List ℕ)} {steps : Option ℕ} → Spells words parts
+      → Holds parts (source ∷ []) input (Some trace) steps → Asks (codes "record" ∷ words) (Record (asked source input steps) trace)
+  output : {words : List (List ℕ)} {parts : List Part} {trace : List ℕ} → Spells words parts
+      → Holds parts (trace ∷ []) None None None → Asks (codes "output" ∷ words) (Output trace)
+  why : {words : List (List ℕ)} {parts : List Part} {trace question : List ℕ} → Spells words parts
+      → Holds parts (trace ∷ (question ∷ [])) None None None → Asks (codes "why" ∷ words) (Why trace question)
+  audit : {words : List (List ℕ)} {parts : List Part} {trace : List ℕ} → Spells words parts
+      → Holds parts (trace ∷ []) None None None → Asks (codes "audit" ∷ words) (Audit trace)
 
 -- the words are no command
 abbrev pub IsNoCommand : List (List ℕ) → Type 0
-IsNoCommand words = asked words ≡ None
+IsNoCommand words = (c : Command) → Asks words c → ⊥
+
+-- no words ask two commands
+abbrev pub AskOneCommand : Type 0
+AskOneCommand = (words : List (List ℕ)) (c d : Command) → Asks words c → Asks words d → c ≡ d

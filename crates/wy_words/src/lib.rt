@@ -3,6 +3,9 @@
 
 mod asking;
 mod budget;
+mod commands;
+pub mod laws;
 mod words;
 
-pub use words::{Asked, command};
+pub use commands::{Asked, Command};
+pub use words::command;

@@ -1,0 +1,169 @@
+-- What the words are read as is what they ask.
+use Rattle.std.proofs.Common.{◌≡◌, ◌∙◌, ℕ, ◌≤◌, length, Bool, true, false, List, [], ◌∷◌, Option, Some, None, refl, sym, ap, subst, arith}
+use Rattle.std.specs.Prelude.{if◌then◌else◌, codes, bytes_eq, option_and_then, IfSome, option_map}
+use Rattle.std.proofs.lemmas.Option.{none-some, same_Some, option_and_then_some}
+use Rattle.std.proofs.lemmas.Slice.Eq.{bytes_eq-Decides}
+use Rattle.wy_words.specs.declared.asking.Awaited.{Awaited}
+use Rattle.wy_words.specs.declared.asking.Awaited.TheVariants as awaited
+use Rattle.wy_words.specs.declared.commands.Command as memory
+use Rattle.wy_words.specs.Views.{command_of}
+use Rattle.wy_words.specs.Words.{Part, Spells, Holds, Command, Run, Record, Output, Why, Audit, asked, Asks, IsNoCommand, AskOneCommand}
+use Rattle.wy_words.specs.Words as words
+use Rattle.wy_words.specs.Reading.{Asking, nothing, named, named_in, ended, command_named, run, run_of, recording, is_bare, only_operand, output, why, audit}
+use Rattle.wy_words.proofs.Spelled.{spelled, named_spelled}
+use Rattle.wy_words.proofs.Held.{naming, held, holds}
+
+-- what the words are read as
+abbrev pub read_as : List (List ℕ) → Option Command
+read_as [] = None
+read_as (name ∷ behind) = option_and_then (command_named name) (named_in behind)
+
+-- ---- what is asked is read
+
+named_there : (behind : List (List ℕ)) (parts : List Part) (operands : List (List ℕ)) (input trace : Option (List ℕ)) (steps : Option ℕ) → length operands ≤ 2
+    → Spells behind parts → Holds parts operands input trace steps → named_in behind ≡ Some (naming operands input trace steps)
+unfolding named_in ended
+named_there behind parts operands input trace steps few s h =
+    ap (option_and_then (λ a. ended a.awaited a)) (spelled behind parts s nothing ∙ held parts operands input trace steps few h)
+
+run_named : (source : List ℕ) (input : Option (List ℕ)) (steps : Option ℕ) → command_named (codes "run") (naming (source ∷ []) input None steps) ≡ Some (Run (asked source input steps))
+unfolding command_named run run_of
+run_named source input steps = refl
+
+recording_named : (source trace : List ℕ) (input : Option (List ℕ)) (steps : Option ℕ)
+    → command_named (codes "record") (naming (source ∷ []) input (Some trace) steps) ≡ Some (Record (asked source input steps) trace)
+unfolding command_named recording run_of
+recording_named source trace input steps = refl
+
+output_named : (trace : List ℕ) → command_named (codes "output") (naming (trace ∷ []) None None None) ≡ Some (Output trace)
+unfolding command_named output only_operand is_bare
+output_named trace = refl
+
+why_named : (trace question : List ℕ) → command_named (codes "why") (naming (trace ∷ (question ∷ [])) None None None) ≡ Some (Why trace question)
+unfolding command_named why is_bare
+why_named trace question = refl
+
+audit_named : (trace : List ℕ) → command_named (codes "audit") (naming (trace ∷ []) None None None) ≡ Some (Audit trace)
+unfolding command_named audit only_operand is_bare
+audit_named trace = refl
+
+pub asked_read : (words : List (List ℕ)) (c : Command) → Asks words c → read_as words ≡ Some c
+asked_read _ _ (words.run {words = ws} {parts = ps} {source = source} {input = i} {steps = n} s h) =
+    ap (option_and_then (command_named (codes "run"))) (named_there ws ps (source ∷ []) i None n (omega arith) s h) ∙ run_named source i n
+asked_read _ _ (words.recording {words = ws} {parts = ps} {source = source} {trace = t} {input = i} {steps = n} s h) =
+    ap (option_and_then (command_named (codes "record"))) (named_there ws ps (source ∷ []) i (Some t) n (omega arith) s h) ∙ recording_named source t i n
+asked_read _ _ (words.output {words = ws} {parts = ps} {trace = t} s h) =
+    ap (option_and_then (command_named (codes "output"))) (named_there ws ps (t ∷ []) None None None (omega arith) s h) ∙ output_named t
+asked_read _ _ (words.why {words = ws} {parts = ps} {trace = t} {question = q} s h) =
+    ap (option_and_then (command_named (codes "why"))) (named_there ws ps (t ∷ (q ∷ [])) None None None (omega arith) s h) ∙ why_named t q
+asked_read _ _ (words.audit {words = ws} {parts = ps} {trace = t} s h) =
+    ap (option_and_then (command_named (codes "audit"))) (named_there ws ps (t ∷ []) None None None (omega arith) s h) ∙ audit_named t
+
+pub one_command : AskOneCommand
+one_command words c d x y = same_Some c d (sym (asked_read words c x) ∙ asked_read words d y)
+
+-- ---- what is read is asked
+
+-- the words spell parts that hold what is named
+record Stands (behind : List (List ℕ)) (operands : List (List ℕ)) (input trace : Option (List ℕ)) (steps : Option ℕ) : Type 0 where
+  parts : List Part
+  spells : Spells behind parts
+  hold : Holds parts operands input trace steps
+
+whole_only : (w : Awaited) (a b : Asking) → a.awaited ≡ w → ended w a ≡ Some b → (a ≡ b) × (b.awaited ≡ awaited.Word)
+unfolding ended
+whole_only awaited.Word a b is e = let same : a ≡ b = same_Some a b e in (same, sym (ap (λ c. c.awaited) same) ∙ is)
+whole_only awaited.Input a b is e = absurd (none-some b e)
+whole_only awaited.Trace a b is e = absurd (none-some b e)
+whole_only awaited.Steps a b is e = absurd (none-some b e)
+
+named_stands : (behind : List (List ℕ)) (b : Asking) → named_in behind ≡ Some b → Stands behind b.operands b.input b.trace b.steps
+unfolding named_in
+named_stands behind b is =
+    option_and_then_some (λ a. ended a.awaited a) (named nothing behind) b is (λ a there e.
+    let whole = whole_only a.awaited a b refl e in
+    let named_so : named nothing behind ≡ Some b = there ∙ ap Some whole.0 in
+    let s = named_spelled b whole.1 behind nothing named_so in
+    record { parts = s.0; spells = s.1; hold = holds s.0 b (sym (spelled behind s.0 s.1 nothing) ∙ named_so) })
+
+run_meant : (behind xs : List (List ℕ)) (w : Awaited) (i t : Option (List ℕ)) (n : Option ℕ) (c : Command) → Stands behind xs i t n
+    → run (record { awaited = w; operands = xs; input = i; trace = t; steps = n }) ≡ Some c → Asks (codes "run" ∷ behind) c
+unfolding run run_of
+run_meant behind [] w i None n c s is = absurd (none-some c is)
+run_meant behind (source ∷ []) w i None n c s is = subst (Asks (codes "run" ∷ behind)) (same_Some _ c is) (words.run s.spells s.hold)
+run_meant behind (source ∷ (second ∷ more)) w i None n c s is = absurd (none-some c is)
+run_meant behind xs w i (Some t) n c s is = absurd (none-some c is)
+
+recording_meant : (behind xs : List (List ℕ)) (w : Awaited) (i t : Option (List ℕ)) (n : Option ℕ) (c : Command) → Stands behind xs i t n
+    → recording t (record { awaited = w; operands = xs; input = i; trace = t; steps = n }) ≡ Some c → Asks (codes "record" ∷ behind) c
+unfolding recording run_of
+recording_meant behind xs w i None n c s is = absurd (none-some c is)
+recording_meant behind [] w i (Some t) n c s is = absurd (none-some c is)
+recording_meant behind (source ∷ []) w i (Some t) n c s is = subst (Asks (codes "record" ∷ behind)) (same_Some _ c is) (words.recording s.spells s.hold)
+recording_meant behind (source ∷ (second ∷ more)) w i (Some t) n c s is = absurd (none-some c is)
+
+output_meant : (behind xs : List (List ℕ)) (w : Awaited) (i t : Option (List ℕ)) (n : Option ℕ) (c : Command) → Stands behind xs i t n
+    → output (record { awaited = w; operands = xs; input = i; trace = t; steps = n }) ≡ Some c → Asks (codes "output" ∷ behind) c
+unfolding output only_operand is_bare
+output_meant behind [] w i t n c s is = absurd (none-some c is)
+output_meant behind (word ∷ []) w None None None c s is = subst (Asks (codes "output" ∷ behind)) (same_Some _ c is) (words.output s.spells s.hold)
+output_meant behind (word ∷ []) w (Some i) t n c s is = absurd (none-some c is)
+output_meant behind (word ∷ []) w None (Some t) n c s is = absurd (none-some c is)
+output_meant behind (word ∷ []) w None None (Some n) c s is = absurd (none-some c is)
+output_meant behind (word ∷ (second ∷ more)) w i t n c s is = absurd (none-some c is)
+
+why_meant : (behind xs : List (List ℕ)) (w : Awaited) (i t : Option (List ℕ)) (n : Option ℕ) (c : Command) → Stands behind xs i t n
+    → why xs (record { awaited = w; operands = xs; input = i; trace = t; steps = n }) ≡ Some c → Asks (codes "why" ∷ behind) c
+unfolding why is_bare
+why_meant behind [] w i t n c s is = absurd (none-some c is)
+why_meant behind (word ∷ []) w i t n c s is = absurd (none-some c is)
+why_meant behind (trace ∷ (question ∷ [])) w None None None c s is = subst (Asks (codes "why" ∷ behind)) (same_Some _ c is) (words.why s.spells s.hold)
+why_meant behind (trace ∷ (question ∷ [])) w (Some i) t n c s is = absurd (none-some c is)
+why_meant behind (trace ∷ (question ∷ [])) w None (Some t) n c s is = absurd (none-some c is)
+why_meant behind (trace ∷ (question ∷ [])) w None None (Some n) c s is = absurd (none-some c is)
+why_meant behind (trace ∷ (question ∷ (third ∷ more))) w i t n c s is = absurd (none-some c is)
+
+audit_meant : (behind xs : List (List ℕ)) (w : Awaited) (i t : Option (List ℕ)) (n : Option ℕ) (c : Command) → Stands behind xs i t n
+    → audit (record { awaited = w; operands = xs; input = i; trace = t; steps = n }) ≡ Some c → Asks (codes "audit" ∷ behind) c
+unfolding audit only_operand is_bare
+audit_meant behind [] w i t n c s is = absurd (none-some c is)
+audit_meant behind (word ∷ []) w None None None c s is = subst (Asks (codes "audit" ∷ behind)) (same_Some _ c is) (words.audit s.spells s.hold)
+audit_meant behind (word ∷ []) w (Some i) t n c s is = absurd (none-some c is)
+audit_meant behind (word ∷ []) w None (Some t) n c s is = absurd (none-some c is)
+audit_meant behind (word ∷ []) w None None (Some n) c s is = absurd (none-some c is)
+audit_meant behind (word ∷ (second ∷ more)) w i t n c s is = absurd (none-some c is)
+
+-- a command by its name
+by_name : (name front : List ℕ) (behind : List (List ℕ)) (c : Command) → bytes_eq name front ≡ true → Asks (front ∷ behind) c → Asks (name ∷ behind) c
+by_name name front behind c same h = subst (λ n. Asks (n ∷ behind) c) (sym ((bytes_eq-Decides name front).0 same)) h
+
+command_meant : (name : List ℕ) (behind : List (List ℕ)) (a : Asking) (c : Command) → Stands behind a.operands a.input a.trace a.steps
+    → command_named name a ≡ Some c → Asks (name ∷ behind) c
+unfolding command_named
+command_meant name behind a c s is =
+    go (bytes_eq name (codes "run")) (bytes_eq name (codes "record")) (bytes_eq name (codes "output")) (bytes_eq name (codes "why")) (bytes_eq name (codes "audit"))
+    refl refl refl refl refl is
+  where
+    go : (r d o y u : Bool) → bytes_eq name (codes "run") ≡ r → bytes_eq name (codes "record") ≡ d → bytes_eq name (codes "output") ≡ o → bytes_eq name (codes "why") ≡ y → bytes_eq name (codes "audit") ≡ u
+        → (if r then run a else (if d then recording a.trace a else (if o then output a else (if y then why a.operands a else (if u then audit a else None))))) ≡ Some c
+        → Asks (name ∷ behind) c
+    go true d o y u er ed eo ey eu e = by_name name (codes "run") behind c er (run_meant behind a.operands a.awaited a.input a.trace a.steps c s e)
+    go false true o y u er ed eo ey eu e = by_name name (codes "record") behind c ed (recording_meant behind a.operands a.awaited a.input a.trace a.steps c s e)
+    go false false true y u er ed eo ey eu e = by_name name (codes "output") behind c eo (output_meant behind a.operands a.awaited a.input a.trace a.steps c s e)
+    go false false false true u er ed eo ey eu e = by_name name (codes "why") behind c ey (why_meant behind a.operands a.awaited a.input a.trace a.steps c s e)
+    go false false false false true er ed eo ey eu e = by_name name (codes "audit") behind c eu (audit_meant behind a.operands a.awaited a.input a.trace a.steps c s e)
+    go false false false false false er ed eo ey eu e = absurd (none-some c e)
+
+pub read_asked : (words : List (List ℕ)) (c : Command) → read_as words ≡ Some c → Asks words c
+read_asked [] c is = absurd (none-some c is)
+read_asked (name ∷ behind) c is =
+    option_and_then_some (command_named name) (named_in behind) c is (λ a there e. command_meant name behind a c (named_stands behind a there) e)
+
+-- ---- an answer that is exact
+
+pub some_asked : (words : List (List ℕ)) (r : Option memory.Command) → option_map command_of r ≡ read_as words → IfSome r (λ c. Asks words (command_of c))
+some_asked words None exact = tt
+some_asked words (Some c) exact = read_asked words (command_of c) (sym exact)
+
+pub none_asked : (words : List (List ℕ)) → read_as words ≡ None → IsNoCommand words
+none_asked words none c h = none-some c (sym none ∙ asked_read words c h)

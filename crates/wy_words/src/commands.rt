@@ -1,0 +1,149 @@
+//! Which command a name and what is named behind it are.
+ghost use Rattle.std.specs.Prelude.{◌≡◌, option_map};
+ghost use Rattle.wy_words.specs.Views.{asking_of, asked_of, command_of};
+ghost use Rattle.wy_words.specs.Reading.{audit as audit_asked, command_named as named_so};
+ghost use Rattle.wy_words.specs.Reading.{is_bare as bare, only_operand as alone, output as output_asked};
+ghost use Rattle.wy_words.specs.Reading.{recording as recording_asked, run as run_asked, run_of};
+ghost use Rattle.wy_words.specs.Reading.{why as why_asked};
+
+use crate::asking::{Asking, Operands};
+
+/// The steps that are run where none are asked.
+const DEFAULT_STEPS: u32 = 1_000_000;
+
+/// A run of the program in a file, on the input in another where one is named.
+#[derive(Clone, Copy)]
+pub struct Asked<'a> {
+    pub source: &'a str,
+    pub input: Option<&'a str>,
+    pub steps: u32,
+}
+
+/// What can be asked.
+#[derive(Clone, Copy)]
+pub enum Command<'a> {
+    Run(Asked<'a>),
+    Record { asked: Asked<'a>, trace: &'a str },
+    Output { trace: &'a str },
+    Why { trace: &'a str, question: &'a str },
+    Audit { trace: &'a str },
+}
+
+/// The command of this name, where it takes all that is named and needs no more.
+#[tactic(auto, unfolding(crate::specs::Reading::command_named))]
+pub fn command_named<'a>(name: &str, asking: Asking<'a>) -> Option<Command<'a>>
+    ensures { option_map command_of result ≡ named_so name.now (asking_of asking.entry) }
+{
+    if name == "run" {
+        return run(asking);
+    }
+    if name == "record" {
+        return recording(asking);
+    }
+    if name == "output" {
+        return output(asking);
+    }
+    if name == "why" {
+        return why(asking);
+    }
+    if name == "audit" {
+        return audit(asking);
+    }
+    None
+}
+
+#[tactic(auto, unfolding(crate::specs::Reading::run))]
+fn run(asking: Asking<'_>) -> Option<Command<'_>>
+    ensures { option_map command_of result ≡ run_asked (asking_of asking.entry) }
+{
+    if asking.trace.is_some() {
+        return None;
+    }
+    match to_run(asking) {
+        Some(asked) => Some(Command::Run(asked)),
+        None => None,
+    }
+}
+
+#[tactic(auto, unfolding(crate::specs::Reading::recording))]
+fn recording(asking: Asking<'_>) -> Option<Command<'_>>
+    ensures { option_map command_of result
+        ≡ recording_asked (asking_of asking.entry).trace (asking_of asking.entry) }
+{
+    let Some(trace) = asking.trace else {
+        return None;
+    };
+    match to_run(asking) {
+        Some(asked) => Some(Command::Record { asked, trace }),
+        None => None,
+    }
+}
+
+#[tactic(auto, unfolding(crate::specs::Reading::output))]
+fn output(asking: Asking<'_>) -> Option<Command<'_>>
+    ensures { option_map command_of result ≡ output_asked (asking_of asking.entry) }
+{
+    match only_operand(asking) {
+        Some(trace) => Some(Command::Output { trace }),
+        None => None,
+    }
+}
+
+#[tactic(auto, unfolding(crate::specs::Reading::why))]
+fn why(asking: Asking<'_>) -> Option<Command<'_>>
+    ensures { option_map command_of result
+        ≡ why_asked (asking_of asking.entry).operands (asking_of asking.entry) }
+{
+    match asking.operands {
+        Operands::Two(trace, question) if is_bare(&asking) => Some(Command::Why {
+            trace,
+            question,
+        }),
+        _ => None,
+    }
+}
+
+#[tactic(auto, unfolding(crate::specs::Reading::audit))]
+fn audit(asking: Asking<'_>) -> Option<Command<'_>>
+    ensures { option_map command_of result ≡ audit_asked (asking_of asking.entry) }
+{
+    match only_operand(asking) {
+        Some(trace) => Some(Command::Audit { trace }),
+        None => None,
+    }
+}
+
+/// What is run, where one operand names it.
+#[tactic(auto, unfolding(crate::specs::Reading::run_of))]
+fn to_run(asking: Asking<'_>) -> Option<Asked<'_>>
+    ensures { option_map asked_of result
+        ≡ run_of (asking_of asking.entry).operands (asking_of asking.entry) }
+{
+    match asking.operands {
+        Operands::One(source) => Some(Asked {
+            source,
+            input: asking.input,
+            steps: asking.steps.unwrap_or(DEFAULT_STEPS),
+        }),
+        _ => None,
+    }
+}
+
+/// The operand, where one stands and no option.
+#[tactic(auto, unfolding(crate::specs::Reading::only_operand))]
+fn only_operand(asking: Asking<'_>) -> Option<&str>
+    ensures { option_map (λ s. s.now) result
+        ≡ alone (asking_of asking.entry).operands (asking_of asking.entry) }
+{
+    match asking.operands {
+        Operands::One(word) if is_bare(&asking) => Some(word),
+        _ => None,
+    }
+}
+
+#[tactic(auto, unfolding(crate::specs::Reading::is_bare))]
+fn is_bare(asking: &Asking<'_>) -> bool
+    ensures { result ≡ bare (asking_of asking.now) }
+{
+    asking.input.is_none() && asking.trace.is_none() && asking.steps.is_none()
+}
