@@ -1,0 +1,5 @@
+pub mod Looks
+pub mod LineEnds
+pub mod Values
+pub mod Merging
+pub mod Answering

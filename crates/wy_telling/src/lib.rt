@@ -3,6 +3,7 @@
 #![tactic(auto)]
 
 pub mod laws;
+mod look;
 mod print;
 mod report;
 mod thrown;

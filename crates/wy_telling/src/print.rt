@@ -11,6 +11,7 @@ ghost use Rattle.wy_telling.specs.Printed.{AreLineEnds, printed, printed_by, pri
 ghost use Rattle.wy_value.specs.Encoding.{utf8_of};
 ghost use Rattle.wy_value.specs.Numeral.{has_text, text_of};
 
+use crate::look::event_at;
 use std::alloc::{AllocError, Global};
 use std::marker::Model;
 use wy_event::record::{Event, Kind};
@@ -25,8 +26,7 @@ struct LineEnds {
 }
 
 impl Model for LineEnds {
-    ghost use Rattle.std.specs.Prelude.{List, ℕ, ◌≡◌};
-    ghost use Rattle.std.specs.Cmp.{IsSorted};
+    ghost use Rattle.std.specs.Prelude.{IsSorted, List, ℕ};
     ghost use Rattle.std.specs.Ordering.{nat_cmp};
 
     ghost Value = { List ℕ };
@@ -117,7 +117,10 @@ fn bytes_of(
     match value {
         Value::Text(number) => to_utf8(alloc, made_text(events, number)),
         Value::Fixed(number) => to_utf8(alloc, fixed_text(program, number)),
-        _ => plain_bytes(alloc, value),
+        _ => {
+            let units = plain_units(alloc, value)?;
+            to_utf8(alloc, &units)
+        }
     }
 }
 
@@ -126,7 +129,7 @@ fn bytes_of(
 fn made_text(events: &[Event], number: u32) -> &[u16]
     ensures { result.now ≡ units_in (slice_get (map recorded events.now) number) }
 {
-    match events.get(number as usize) {
+    match event_at(events, number) {
         Some(event) => event.units.as_slice(),
         None => &[],
     }
@@ -142,15 +145,14 @@ fn fixed_text(program: &Program, number: u32) -> &[u16]
     program.fixed_text(number)
 }
 
-/// The bytes of a number, a truth, a char or null, and none of another value.
-fn plain_bytes(alloc: Global, value: Value) -> Result<Vec<u8>, AllocError>
-    ensures { IfOk result (λ bytes. bytes.items ≡ utf8_of (text_of value)) }
+/// The units of a number, a truth, a char or null, and none of another value.
+fn plain_units(alloc: Global, value: Value) -> Result<Vec<u16>, AllocError>
+    ensures { IfOk result (λ units. units.items ≡ text_of value) }
 {
     if !is_plain(value) {
         return Ok(Vec::new(alloc));
     }
-    let units = digits(alloc, value)?;
-    to_utf8(alloc, &units)
+    digits(alloc, value)
 }
 
 fn is_plain(value: Value) -> bool

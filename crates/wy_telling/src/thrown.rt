@@ -1,12 +1,13 @@
 //! What a trace says of the Throw that ended its run.
 
-ghost use Rattle.std.specs.Prelude.{◌≡◌, map, slice_get};
+ghost use Rattle.std.specs.Prelude.{◌≡◌, ◌<◌, Some, map, slice_get};
 ghost use Rattle.wy_event.specs.Record.{present, recorded};
 ghost use Rattle.wy_kernel.specs.Program.{class_of_type, type_of_code};
 ghost use Rattle.wy_meaning.specs.World.{object_in, type_in};
 ghost use Rattle.wy_steps.specs.Steps.{code_of};
-ghost use Rattle.wy_telling.specs.Thrown.{thrown_class, thrown_site};
+ghost use Rattle.wy_telling.specs.Thrown.{class_thrown, thrown_class, thrown_site};
 
+use crate::look::event_at;
 use wy_event::record::{Event, Thrown};
 use wy_kernel::types::NONE;
 use wy_value::Value;
@@ -23,27 +24,36 @@ const PRIMITIVES: u32 = 6;
 /// The class of Object, which also stands for arrays.
 const OBJECT: u32 = 0;
 
-/// The class and the site of the Throw that is event `last`, and neither where it is none.
+const NOTHING: Thrown = Thrown {
+    class: NONE,
+    site: NONE,
+};
+
+/// What the Throw that is event `last` threw, and where; neither where there is no such event.
 #[tactic(auto, unfolding(crate::specs::Thrown::thrown_class, crate::specs::Thrown::thrown_site, wy_event::specs::Record::recorded, wy_event::specs::Record::present))]
 pub(crate) fn thrown(events: &[Event], last: u32) -> Thrown
     ensures class { present result.class ≡ thrown_class (map recorded events.now) (present last) }
     ensures site { present result.site ≡ thrown_site (map recorded events.now) (present last) }
 {
     if last == NONE {
-        return Thrown {
-            class: NONE,
-            site: NONE,
-        };
+        return NOTHING;
     }
-    match events.get(last as usize) {
-        Some(throw) => Thrown {
-            class: class_at(events, object_in(throw.value)),
-            site: throw.site,
-        },
-        None => Thrown {
-            class: NONE,
-            site: NONE,
-        },
+    match event_at(events, last) {
+        Some(throw) => thrown_by(events, throw),
+        None => NOTHING,
+    }
+}
+
+/// What an event threw, and where.
+#[tactic(auto, unfolding(wy_event::specs::Record::recorded), using(crate::proofs::Values::is_there))]
+fn thrown_by(events: &[Event], throw: &Event) -> Thrown
+    ensures class { present result.class
+        ≡ Some (class_thrown (map recorded events.now) (recorded throw.now)) }
+    ensures site { result.site ≡ throw.now.site }
+{
+    Thrown {
+        class: class_at(events, object_in(throw.value)),
+        site: throw.site,
     }
 }
 
@@ -60,9 +70,11 @@ fn object_in(value: Value) -> u32
 /// The class of the object that an event made.
 #[tactic(auto, unfolding(wy_meaning::specs::World::type_in, wy_event::specs::Record::recorded, wy_kernel::specs::Program::class_of_type))]
 fn class_at(events: &[Event], number: u32) -> u32
-    ensures { result ≡ class_of_type (type_in (slice_get (map recorded events.now) number)) }
+    ensures class { result
+        ≡ class_of_type (type_in (slice_get (map recorded events.now) number)) }
+    ensures there { result < NONE }
 {
-    match events.get(number as usize) {
+    match event_at(events, number) {
         Some(event) => class_of_code(code_of(event.what)),
         None => OBJECT,
     }
@@ -78,7 +90,7 @@ fn code_of(what: u32) -> u32
 #[tactic(auto, unfolding(wy_kernel::specs::Program::type_of_code, wy_kernel::specs::Program::class_of_type, wy_kernel::specs::Program::base_of))]
 fn class_of_code(code: u32) -> u32
     ensures class { result ≡ class_of_type (type_of_code code) }
-    ensures small { result < 16777216 }
+    ensures there { result < NONE }
 {
     if code / BRACKETS != 0 || code % BRACKETS < PRIMITIVES {
         OBJECT

@@ -1,0 +1,110 @@
+-- The way from a question to its answer.
+use Rattle.std.proofs.Common.{◌≡◌, ◌∙◌, ◌⊎◌, inl, inr, ⊎_elim, ◌<◌, ◌≤◌, ℕ, zero, suc, Bool, true, false, List, [], ◌∷◌, length, refl, sym, ap, subst, absurd, arith}
+use Rattle.std.proofs.Math.Path.{fun_ext}
+use Rattle.std.specs.Prelude.{filter, if◌then◌else◌, map, Vec, Option, Some, IfSome, IfOk, Result, Ok, Err}
+use Rattle.std.specs.List.{range_with_len}
+use Rattle.std.specs.declared.alloc.Global.{Global}
+use Rattle.std.proofs.lemmas.Bool.{false≢true}
+use Rattle.wy_kernel.specs.Program.{Program, field}
+use Rattle.wy_event.specs.Numbers.{Numbers}
+use Rattle.wy_event.specs.Record.{Recorded}
+use Rattle.wy_event.specs.Sources.{Owners, Source, closure, data_closure, is_data, source_events, sources}
+use Rattle.wy_view.specs.View.{Told}
+use Rattle.wy_view.specs.declared.view.ViewError.{ViewError}
+use Rattle.wy_index.specs.declared.index.Index.{Index}
+use Rattle.wy_index.specs.Index.{IsIndexOf, IsIndexOfView, owners_of}
+use Rattle.wy_why.specs.Answer.{Rises, up_to}
+use Rattle.wy_why.specs.Walk.{closure_of}
+use Rattle.wy_why.proofs.Closures.{Among, closure_cases, closure_itself, closure_source}
+use Rattle.wy_ask.specs.declared.question.AskError.{AskError}
+use Rattle.wy_ask.specs.declared.question.AskError.TheVariants as errors
+use Rattle.wy_ask.specs.Asked.{IsOf, Resolves, event_of, number_in, owners}
+use Rattle.wy_ask.specs.Questions.{Asked, Asks, IsUnread}
+use Rattle.wy_telling.specs.Why.{AsksFor, IsOfProgram, NoSuch, TellsWhy, WhyIs, answered, marked_lines, not_read, not_there, why_text}
+
+-- ---- the data are among all
+
+flow_sources : (ss : List Source) (w : ℕ) → Among w (source_events false ss) → Among w (source_events true ss)
+unfolding source_events
+flow_sources [] w at = at
+flow_sources (s ∷ ss) w at = go (is_data s.role) at
+  where
+    go : (b : Bool) → Among w (if b then s.event ∷ source_events false ss else source_events false ss) → Among w (s.event ∷ source_events true ss)
+    go true (inl here) = inl here
+    go true (inr later) = inr (flow_sources ss w later)
+    go false later = inr (flow_sources ss w later)
+
+module _ (owner : Owners) (rs : List Recorded) where
+  flow_within : (most n j : ℕ) → n < most → closure_of owner false rs n j ≡ true → closure_of owner true rs n j ≡ true
+  flow_within zero n j lt is = absurd (omega (arith, lt))
+  flow_within (suc most) n j lt is = ⊎_elim
+      (λ (here : j ≡ n). subst (λ m. closure_of owner true rs n m ≡ true) (sym here) (closure_itself owner true rs n))
+      (λ (found : (w : ℕ) × Among w (source_events false (sources owner rs n)) × (w < n) × (closure_of owner false rs w j ≡ true)).
+      closure_source owner true rs n found.0 j (flow_sources (sources owner rs n) found.0 found.1) found.2 (flow_within most found.0 j (omega (arith, lt, found.2)) found.3))
+      (closure_cases owner false rs n j is)
+
+  pub data_within : (n j : ℕ) → data_closure owner rs n j ≡ true → closure owner rs n j ≡ true
+  unfolding closure data_closure
+  data_within n j is = flow_within (suc n) n j (omega arith) is
+
+-- to take those of a smaller set is to take them from those of a greater
+filter_within : (a b : Numbers) → ((j : ℕ) → b j ≡ true → a j ≡ true) → (xs : List ℕ) → filter b xs ≡ filter b (filter a xs)
+filter_within a b within [] = refl
+filter_within a b within (x ∷ xs) = go (b x) (a x) refl refl (filter_within a b within xs)
+  where
+    go : (u v : Bool) → b x ≡ u → a x ≡ v → filter b xs ≡ filter b (filter a xs) → (if u then x ∷ filter b xs else filter b xs) ≡ filter b (if v then x ∷ filter a xs else filter a xs)
+    go true true is there rest = ap (λ l. x ∷ l) rest ∙ sym (ap (λ c. if c then x ∷ filter b (filter a xs) else filter b (filter a xs)) is)
+    go true false is there rest = absurd (false≢true (sym there ∙ within x is))
+    go false true is there rest = rest ∙ sym (ap (λ c. if c then x ∷ filter b (filter a xs) else filter b (filter a xs)) is)
+    go false false is there rest = rest
+
+-- ---- the lines
+
+pub rises_up : (low m n : ℕ) (xs : List ℕ) → m ≤ n → Rises low m xs → Rises low n xs
+rises_up low m n [] le rises = tt
+rises_up low m n (x ∷ xs) le (at, below, more) = (at, omega (arith, le, below), rises_up (suc x) m n xs le more)
+
+-- an answer's marked lines are those that are told of its event
+pub why_told : (p : Program) (lines : List ℕ) (rs : List Recorded) (event : ℕ) (index : Index) (all flow : List ℕ) (r : Result (Vec ℕ Global) ViewError) → IsOfProgram p index
+    → all ≡ up_to event (closure (owners_of index) rs event) → flow ≡ up_to event (data_closure (owners_of index) rs event)
+    → ((by_data : Numbers) → flow ≡ filter by_data all → IfOk r (λ text. text.items ≡ marked_lines p lines rs by_data all))
+    → IfOk r (λ text. text.items ≡ why_text p lines rs event)
+unfolding why_text
+why_told p lines rs event index all flow r same all_is flow_is gives =
+    let owner = owners_of index in
+    let by_data = data_closure owner rs event in
+    let some : flow ≡ filter by_data all = flow_is ∙ filter_within (closure owner rs event) by_data (data_within owner rs event) (range_with_len 0 (suc event)) ∙ ap (filter by_data) (sym all_is) in
+    let told : marked_lines p lines rs by_data all ≡ why_text p lines rs event = ap (marked_lines p lines rs by_data) all_is ∙ ap (λ o. marked_lines p lines rs (data_closure o rs event) (up_to event (closure o rs event))) (fun_ext same) in
+    subst (λ l. IfOk r (λ text. text.items ≡ l)) told (gives by_data some)
+
+-- ---- the question
+
+pub indexed : (p : Program) (index : Index) (told : Told) (rs : List Recorded) → told.records ≡ Some rs → IsIndexOfView index told → ((f : ℕ) → owners_of index f ≡ (field p f).class) → IsOf p index told.count rs
+indexed p index told rs is v owner =
+    let same : rs ≡ v.records = subst (λ o. IfSome o (λ t. t ≡ v.records)) is v.as_told in
+    record {
+      is_index = subst (IsIndexOf index) (sym same) v.is_index;
+      owners = owner;
+      all = ap length same ∙ v.all;
+    }
+
+pub resolved : (p : Program) (rs : List Recorded) (text : List ℕ) (q : Asked) (r : Result ℕ AskError) → Asks text q → Resolves r (event_of p rs q) (number_in q) → AsksFor p rs text r
+resolved p rs text q (Ok event) asks found = (q, asks, found)
+resolved p rs text q (Err errors.BadQuestion) asks found = absurd found
+resolved p rs text q (Err (errors.NoSuch n)) asks found = (q, asks, found.0, found.1)
+resolved p rs text q (Err errors.NoMemory) asks found = tt
+
+pub unread : (p : Program) (rs : List Recorded) (text : List ℕ) (e : AskError) → IsUnread text e → AsksFor p rs text (Err e)
+unread p rs text errors.BadQuestion none = none
+unread p rs text (errors.NoSuch n) none = absurd none
+unread p rs text errors.NoMemory none = tt
+
+-- ---- the answer
+
+pub tells_text : (p : Program) (lines : List ℕ) (rs : List Recorded) (question : List ℕ) (event : ℕ) (text : List ℕ) → AsksFor p rs question (Ok event) → text ≡ why_text p lines rs event → WhyIs p lines rs question (Ok text)
+tells_text p lines rs question event text asks is = subst (λ l. WhyIs p lines rs question (Ok l)) (sym is) (answered asks.0 event asks.1 asks.2)
+
+pub tells_refusal : (p : Program) (lines : List ℕ) (rs : List Recorded) (question : List ℕ) (e : AskError) → AsksFor p rs question (Err e) → TellsWhy p lines rs question (Err e)
+tells_refusal p lines rs question errors.BadQuestion asks = not_read asks
+tells_refusal p lines rs question (errors.NoSuch n) asks = subst (λ m. WhyIs p lines rs question (Err (NoSuch m))) (sym asks.3) (not_there asks.0 asks.1 asks.2)
+tells_refusal p lines rs question errors.NoMemory asks = tt
