@@ -14,7 +14,7 @@ abbrev pub SameLists : Event → Event → Type 0
 SameLists a b = (a.units ≡ b.units) × (a.uses ≡ b.uses)
 
 -- numbers that are present alike are one
-present_once : (m n : ℕ) → present m ≡ present n → m ≡ n
+pub present_once : (m n : ℕ) → present m ≡ present n → m ≡ n
 unfolding present
 present_once m n same = elim (eqb_tells m 4294967295) as (λ _. m ≡ n) [
   | inl none ↦ elim (eqb_tells n 4294967295) as (λ _. m ≡ n) [
