@@ -1,7 +1,7 @@
 //! When two records in memory are of one event.
 
 ghost use Rattle.std.specs.Prelude.{◌≡◌, ◌↔◌, IsTrue};
-ghost use Rattle.wy_event.specs.Record.{present, recorded};
+ghost use Rattle.wy_event.specs.Record.{recorded};
 
 use wy_event::record::{Event, Kind, Slot, Use};
 use wy_value::Value;
@@ -10,14 +10,28 @@ use wy_value::Value;
 pub fn same_event(a: &Event, b: &Event) -> bool
     ensures { IsTrue result ↔ (recorded a.now ≡ recorded b.now) }
 {
-    same_kind(a.kind, b.kind)
-        && a.site == b.site
-        && a.frame == b.frame
-        && a.control == b.control
-        && a.what == b.what
-        && same_slot(a.slot, b.slot)
-        && same_value(a.value, b.value)
-        && same_units(a.units.as_slice(), b.units.as_slice())
+    same_numbers(a, b) && same_data(a, b) && same_lists(a, b)
+}
+
+fn same_numbers(a: &Event, b: &Event) -> bool
+    ensures { IsTrue result ↔ ((a.now.site ≡ b.now.site) × (a.now.frame ≡ b.now.frame)
+        × (a.now.control ≡ b.now.control) × (a.now.what ≡ b.now.what)) }
+{
+    a.site == b.site && a.frame == b.frame && a.control == b.control && a.what == b.what
+}
+
+fn same_data(a: &Event, b: &Event) -> bool
+    ensures { IsTrue result ↔ ((a.now.kind ≡ b.now.kind)
+        × (a.now.slot ≡ b.now.slot) × (a.now.value ≡ b.now.value)) }
+{
+    same_kind(a.kind, b.kind) && same_slot(a.slot, b.slot) && same_value(a.value, b.value)
+}
+
+fn same_lists(a: &Event, b: &Event) -> bool
+    ensures { IsTrue result
+        ↔ ((a.now.units ≡ b.now.units) × (a.now.uses ≡ b.now.uses)) }
+{
+    same_units(a.units.as_slice(), b.units.as_slice())
         && same_uses(a.uses.as_slice(), b.uses.as_slice())
 }
 

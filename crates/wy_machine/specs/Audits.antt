@@ -1,6 +1,7 @@
 -- What an audit of a trace finds.
 use Rattle.std.specs.Prelude.{◌≡◌, ◌≢◌, List}
 use Rattle.wy_event.specs.declared.record.Head.{Head}
+use Rattle.wy_event.specs.declared.record.Tail.{Tail as Kept}
 use Rattle.wy_event.specs.Record.{Recorded}
 use Rattle.wy_kernel.specs.Program.{Program}
 use Rattle.wy_steps.specs.Sets.{nothing}
@@ -25,3 +26,7 @@ AuditIs p head events tail Tail = (events ≡ events_of_head p head) × (tail �
 -- two verdicts on the same are one
 abbrev pub OneAuditIsDue : Type 0
 OneAuditIsDue = (p : Program) (head : Head) (events : List Recorded) (tail : meaning.Tail) (v w : Verdict) → AuditIs p head events tail v → AuditIs p head events tail w → v ≡ w
+
+-- two ends in memory say the same of all but the statements
+abbrev pub SameCounts : Kept → Kept → Type 0
+SameCounts a b = (a.stop ≡ b.stop) × (a.last ≡ b.last) × (a.steps ≡ b.steps) × (a.events ≡ b.events) × (a.uses ≡ b.uses) × (a.output ≡ b.output)

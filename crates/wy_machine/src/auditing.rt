@@ -3,7 +3,7 @@
 ghost use Rattle.std.specs.Prelude.{◌≡◌, ◌<◌, ◌^◌, ◌↔◌, IfOk, IsTrue, length, map};
 ghost use Rattle.wy_event.specs.Record.{recorded};
 ghost use Rattle.wy_kernel.specs.Parts.{program_of};
-ghost use Rattle.wy_machine.specs.Audits.{AuditIs, OneAuditIsDue};
+ghost use Rattle.wy_machine.specs.Audits.{AuditIs, OneAuditIsDue, SameCounts};
 ghost use Rattle.wy_meaning.specs.Kept.{kept_tail};
 
 use crate::recording::record;
@@ -52,13 +52,18 @@ fn counted(events: Vec<Event>) -> Result<Vec<Event>, AllocError>
     }
 }
 
+/// Whether two ends are one.
 fn same_tail(a: &Tail, b: &Tail) -> bool
     ensures { IsTrue result ↔ (kept_tail a.now ≡ kept_tail b.now) }
 {
-    same_covers(
-        a.coverage.statements.as_slice(),
-        b.coverage.statements.as_slice(),
-    ) && a.stop == b.stop
+    let covers = a.coverage.statements.as_slice();
+    same_covers(covers, b.coverage.statements.as_slice()) && same_counts(a, b)
+}
+
+fn same_counts(a: &Tail, b: &Tail) -> bool
+    ensures { IsTrue result ↔ SameCounts a.now b.now }
+{
+    a.stop == b.stop
         && a.last == b.last
         && a.steps == b.steps
         && a.events == b.events
