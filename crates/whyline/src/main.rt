@@ -2,11 +2,14 @@
 //! proved, and ends with its status.
 #![tactic(auto)]
 
+use std::alloc::AllocError;
 use std::env;
 use std::io::ErrorKind;
 use std::process::ExitCode;
+use wy_framing::FrameRecorder;
 use wy_outside::real::{FileShelf, StdinSource, StdoutSink};
-use wy_top::status::Status;
+use wy_reply::Status;
+use wy_sinks::FileTraceSink;
 use wy_top::whyline;
 
 fn main(rt: HostRuntime) -> ExitCode {
@@ -14,14 +17,28 @@ fn main(rt: HostRuntime) -> ExitCode {
         Ok(words) => words,
         Err(status) => return ExitCode::from(status.code()),
     };
+    let Ok(mut recorder) = recorder(&rt) else {
+        return ExitCode::from(Status::NoMemory.code());
+    };
     let status = whyline(
         rt.alloc(),
         words.as_slice(),
         &mut FileShelf::new(&rt),
         &mut StdinSource::new(&rt),
         &mut StdoutSink::new(&rt),
+        &mut recorder,
     );
     ExitCode::from(status)
+}
+
+/// A recorder whose one mirror is a file.
+fn recorder(
+    rt: &HostRuntime,
+) -> Result<FrameRecorder<FileTraceSink<HostRuntime>>, AllocError> {
+    let alloc = rt.alloc();
+    let mut sinks = Vec::new(alloc);
+    sinks.push(FileTraceSink::new(*rt, alloc))?;
+    Ok(FrameRecorder::new(alloc, sinks))
 }
 
 /// The words behind the program's own name, and none where one of them isn't UTF-8, so that they are

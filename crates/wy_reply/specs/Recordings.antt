@@ -1,7 +1,9 @@
 -- What a recording leaves in the mirrors of its recorder.
-use Rattle.std.specs.Prelude.{◌≡◌, ℕ, List, ◌++◌, map, option_map}
+use Rattle.std.specs.Prelude.{◌≡◌, ◌<◌, ◌⊎◌, ℕ, List, ◌++◌, map, option_map}
 use Rattle.std.specs.List.{concat}
 use Rattle.wy_kernel.specs.Program.{Program}
+use Rattle.wy_kernel.specs.declared.program.Program as memory
+use Rattle.wy_kernel.specs.Parts.{program_of}
 use Rattle.wy_event.specs.Record.{Recorded}
 use Rattle.wy_event.specs.declared.record.Head.{Head}
 use Rattle.wy_event.specs.declared.record.Tail.{Tail}
@@ -9,12 +11,19 @@ use Rattle.wy_steps.specs.Sets.{nothing}
 use Rattle.wy_meaning.specs.Run as meaning
 use Rattle.wy_meaning.specs.Kept.{kept_tail}
 use Rattle.wy_record.specs.Answers.{Mirrors}
+use Rattle.wy_reply.specs.declared.answer.Answer.{Answer}
+use Rattle.wy_reply.specs.declared.status.Status.TheVariants.{Done, Fault}
+use Rattle.wy_reply.specs.Lines.{recorder_fault_line}
+use Rattle.wy_reply.specs.Report.{recorded_report}
 
 -- how a trace is spelled: its opening, an event, and what closes the bytes before it
 pub record Spelling : Type 0 where
   pub opening : Head → List ℕ
   pub frame : Recorded → List ℕ
   pub closing : Tail → List ℕ → List ℕ
+
+abbrev pub spelling : (Head → List ℕ) → (Recorded → List ℕ) → (Tail → List ℕ → List ℕ) → Spelling
+spelling opening frame closing = record { opening = opening; frame = frame; closing = closing }
 
 -- these bytes are the trace of the run of a program, as it is spelled so: the run's head, its events in order, and its end
 pub record IsTraceOf (s : Spelling) (p : Program) (source input : List ℕ) (steps : ℕ) (bytes : List ℕ) : Type 0 where
@@ -31,3 +40,10 @@ pub record HoldTrace (s : Spelling) (p : Program) (source input : List ℕ) (ste
   pub bytes : List ℕ
   pub is_trace : IsTraceOf s p source input steps bytes
   pub held : new ≡ map (option_map (λ before. bytes)) old
+
+-- the run of a head is recorded and reported, or the recorder failed and its count of faults rose
+abbrev pub RecordsAs : Spelling → memory.Program → Head → Mirrors → Mirrors → ℕ → ℕ → Answer → Type 0
+RecordsAs s p head old new before after answer =
+    ((answer.status ≡ Fault) × (answer.text.items ≡ recorder_fault_line) × (before < after))
+    ⊎ ((answer.status ≡ Done) × (answer.text.items ≡ recorded_report (program_of p) p.lines.items head.input head.steps)
+    × HoldTrace s (program_of p) head.source head.input head.steps old new × (after ≡ before))

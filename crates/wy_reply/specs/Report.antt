@@ -18,6 +18,10 @@ report p lines input steps =
 abbrev pub recorded_report : Program → List ℕ → List ℕ → ℕ → List ℕ
 recorded_report p lines input steps = report p lines input steps ++ recorded_line (tail nothing p input steps).events
 
--- the first of a run as the machine leaves it
+-- ---- the same of a run as the machine leaves it
+
 abbrev pub report_of_end : Program → List ℕ → Ended → List ℕ
 report_of_end p lines e = whole_lines e.output.items ++ stop_line p lines e.tail.stop (present e.thrown.class) (present e.thrown.site)
+
+abbrev pub recorded_of_end : Program → List ℕ → Ended → List ℕ
+recorded_of_end p lines e = report_of_end p lines e ++ recorded_line e.tail.events

@@ -1,5 +1,5 @@
 -- The number of each status.
-use Rattle.std.specs.Prelude.{◌≡◌, ℕ}
+use Rattle.std.specs.Prelude.{◌≡◌, ℕ, Bool, true, false}
 use Rattle.wy_reply.specs.declared.status.Status.{Status}
 use Rattle.wy_reply.specs.declared.status.Status.TheVariants.{Done, Usage, Absent, Program, Trace, Question, Fault, TooLong, NoMemory, Audit}
 
@@ -18,3 +18,11 @@ code_of Audit = 10
 -- it is the number of a status
 abbrev pub IsStatus : ℕ → Type 0
 IsStatus number = (status : Status) × (number ≡ code_of status)
+
+-- it says that the words are no command, or that a file could not be read or written
+abbrev pub is_of_files : Status → Bool
+is_of_files Usage = true
+is_of_files Absent = true
+is_of_files TooLong = true
+is_of_files Fault = true
+is_of_files _ = false

@@ -8,12 +8,15 @@ use Rattle.wy_payload.specs.declared.fault.DamageRule.{DamageRule}
 use Rattle.wy_frames.specs.declared.error.TraceError.{TraceError}
 use Rattle.wy_frames.specs.declared.error.TraceError.TheVariants.{Cut, Damaged, BadSeal}
 use Rattle.wy_frames.specs.Traces.{IsReadAs}
+use Rattle.wy_meaning.specs.Kept.{kept_tail}
 use Rattle.wy_machine.specs.Audits.{AuditIs}
-use Rattle.wy_machine.specs.declared.audit.Verdict.{Verdict}
-use Rattle.wy_machine.specs.declared.audit.Verdict.TheVariants as verdict
+use Rattle.wy_machine.specs.declared.auditing.Verdict.{Verdict}
+use Rattle.wy_machine.specs.declared.auditing.Verdict.TheVariants as verdict
 use Rattle.wy_telling.specs.Output.{output_text}
 use Rattle.wy_telling.specs.Why.{WhyIs, Refused, NotRead, NoSuch}
 use Rattle.wy_reply.specs.Lines.{cut_line, damaged_line, bad_seal_line, not_read_line, no_such_line, equal_line, differs_line, tail_differs_line}
+use Rattle.wy_reply.specs.declared.answer.Answer.{Answer}
+use Rattle.wy_reply.specs.declared.status.Status.TheVariants as status
 use Rattle.wy_reply.specs.declared.telling.Wanted.{Wanted as Asked}
 use Rattle.wy_reply.specs.declared.telling.Wanted.TheVariants as asked
 
@@ -22,6 +25,10 @@ pub data IsTraceLine : TraceError → List ℕ → Type 0 where
   cut : (byte : ℕ) → IsTraceLine (Cut byte) (cut_line byte)
   damaged : (byte : ℕ) (rule : DamageRule) → IsTraceLine (Damaged byte rule) (damaged_line byte rule)
   bad_seal : IsTraceLine BadSeal bad_seal_line
+
+-- a refusal with the line of what is wrong
+abbrev pub RefusesTrace : TraceError → Answer → Type 0
+RefusesTrace error answer = (answer.status ≡ status.Trace) × IsTraceLine error answer.text.items
 
 -- what a trace is to tell: what its run wrote, why a question's event is as it is, or whether it is the trace of that run
 pub data Wanted : Type 0 where
@@ -53,7 +60,7 @@ pub data Tells (p : Program) (t : Trace) : Wanted → ℕ → List ℕ → Type 
   output : Tells p t Output 0 (output_text (program_of p) p.lines.items (map recorded t.events) t.tail)
   why : (question : List ℕ) (answer : Result (List ℕ) Refused) → WhyIs (program_of p) p.lines.items (map recorded t.events) question answer
       → Tells p t (Why question) (why_status answer) (why_answer answer)
-  audit : (v : Verdict) → AuditIs (program_of p) t.head (map recorded t.events) t.tail v → Tells p t Audit (audit_status v) (audit_line v)
+  audit : (v : Verdict) → AuditIs (program_of p) t.head (map recorded t.events) (kept_tail t.tail) v → Tells p t Audit (audit_status v) (audit_line v)
 
 -- the status and the text that are due for bytes: what is wrong with them first, or what the trace tells that they are read as
 pub data DueUnder (p : Program) (bytes : List ℕ) (w : Wanted) : ℕ → List ℕ → Type 0 where

@@ -1,7 +1,8 @@
 //! What is answered for a run that is recorded.
-ghost use Rattle.std.specs.Prelude.{◌≡◌, ◌⊎◌, IfOk};
+ghost use Rattle.std.specs.Prelude.{◌≡◌, IfOk};
 ghost use Rattle.wy_kernel.specs.Parts.{program_of};
 ghost use Rattle.wy_record.specs.declared.recorder.Phase.TheVariants.{Ready};
+ghost use Rattle.wy_reply.specs.Recordings.{RecordsAs, spelling};
 ghost use Rattle.wy_reply.specs.Report.{recorded_of_end};
 
 use crate::answer::Answer;
@@ -34,6 +35,9 @@ pub fn answer_to_recording<R: Recorder>(
     recorder: &mut R,
 ) -> Result<Answer, AllocError>
     requires { R.phase recorder.old ≡ Ready }
+    ensures { IfOk result (λ answer. RecordsAs (spelling R.opening R.frame R.closing)
+        program.now head.now (R.mirrors recorder.old) (R.mirrors recorder.new)
+        (R.faults recorder.old) (R.faults recorder.new) answer) }
 {
     match record(alloc, program, name, head, Vec::new(alloc), recorder) {
         Ok(ended) => {

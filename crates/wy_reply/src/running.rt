@@ -47,8 +47,9 @@ pub fn answer_to_program(
     input: &[u8],
     steps: u32,
 ) -> Result<Answer, AllocError>
-    ensures { IfOk result (λ answer. (answer.status ≡ Done) × (answer.text.items
-        ≡ report (program_of program.now) program.now.lines.items input.now steps)) }
+    ensures status { IfOk result (λ answer. answer.status ≡ Done) }
+    ensures text { IfOk result (λ answer. answer.text.items
+        ≡ report (program_of program.now) program.now.lines.items input.now steps) }
 {
     let (ended, _) = run(alloc, program, input, steps, quiet(alloc)?)?;
     let text = report(alloc, program, ended)?;

@@ -1,4 +1,13 @@
 //! What is answered from a trace.
+ghost use Rattle.std.specs.Prelude.{◌≡◌, ◌<◌, ◌≤◌, ◌^◌, IfOk, false, length, map};
+ghost use Rattle.wy_frames.specs.Traces.{IsReadAs};
+ghost use Rattle.wy_spelling.specs.Spelling.{trace_limit};
+ghost use Rattle.wy_reply.specs.declared.status.Status.TheVariants.{Trace as TraceStatus};
+ghost use Rattle.wy_reply.specs.Statuses.{code_of, is_of_files};
+ghost use Rattle.wy_reply.specs.Tellings.{DueUnder, RefusesTrace, Tells, wanted_of};
+ghost use Rattle.wy_reply.specs.Tellings as wanted;
+ghost use Rattle.wy_view.specs.References.{AllRefersBelow};
+
 use crate::answer::Answer;
 use crate::lines::{Refusal, line};
 use crate::status::Status;
@@ -9,6 +18,7 @@ use wy_event::sequence::Sequence;
 use wy_frames::{TraceError, decode};
 use wy_kernel::program::Program;
 use wy_machine::{Verdict, audit};
+use wy_referring::{decoded_events_refer_below, few_events_are_decoded};
 use wy_telling::{output_text, why_text};
 
 /// What a trace is to tell.
@@ -23,7 +33,9 @@ pub enum Wanted<'a> {
 }
 
 /// The answer to bytes that are no trace.
-pub fn answer_to_trace_error(alloc: Global, error: TraceError) -> Result<Answer, AllocError> {
+pub fn answer_to_trace_error(alloc: Global, error: TraceError) -> Result<Answer, AllocError>
+    ensures { IfOk result (λ answer. RefusesTrace error answer) }
+{
     match error {
         TraceError::Cut { byte } => Answer::refused(alloc, Status::Trace, Refusal::Cut { byte }),
         TraceError::Damaged { byte, rule } => {
@@ -38,7 +50,11 @@ fn answer_to_output(
     alloc: Global,
     program: &Program,
     trace: &Trace,
-) -> Result<Answer, AllocError> {
+) -> Result<Answer, AllocError>
+    ensures due { IfOk result (λ answer. Tells program.now trace.now wanted.Output
+        (code_of answer.status) answer.text.items) }
+    ensures settled { IfOk result (λ answer. is_of_files answer.status ≡ false) }
+{
     let text = output_text(alloc, program, trace.events.as_slice(), &trace.tail)?;
     Ok(Answer::done(text))
 }
@@ -48,7 +64,14 @@ fn answer_to_question(
     program: &Program,
     trace: Trace,
     question: &str,
-) -> Result<Answer, AllocError> {
+) -> Result<Answer, AllocError>
+    requires few { length trace.events < 2 ^ 32 }
+    requires refer_below { AllRefersBelow trace.events }
+    requires few_fields { length program.now.fields.items < 2 ^ 32 }
+    ensures due { IfOk result (λ answer. Tells program.now trace (wanted.Why question.now)
+        (code_of answer.status) answer.text.items) }
+    ensures settled { IfOk result (λ answer. is_of_files answer.status ≡ false) }
+{
     let Trace { events, .. } = trace;
     match why_text(alloc, program, events.into_vec(), question) {
         Ok(text) => Ok(Answer::done(text)),
@@ -62,7 +85,11 @@ fn answer_to_question(
     }
 }
 
-fn answer_to_audit(alloc: Global, program: &Program, trace: Trace) -> Result<Answer, AllocError> {
+fn answer_to_audit(alloc: Global, program: &Program, trace: Trace) -> Result<Answer, AllocError>
+    ensures due { IfOk result (λ answer. Tells program.now trace wanted.Audit
+        (code_of answer.status) answer.text.items) }
+    ensures settled { IfOk result (λ answer. is_of_files answer.status ≡ false) }
+{
     match audit(alloc, program, trace)? {
         Verdict::Equal => Ok(Answer::done(line(alloc, "audit: equal", "")?)),
         Verdict::Event { event } => {
@@ -78,7 +105,14 @@ fn tell(
     program: &Program,
     trace: Trace,
     wanted: Wanted<'_>,
-) -> Result<Answer, AllocError> {
+) -> Result<Answer, AllocError>
+    requires few { length trace.events < 2 ^ 32 }
+    requires refer_below { AllRefersBelow trace.events }
+    requires few_fields { length program.now.fields.items < 2 ^ 32 }
+    ensures due { IfOk result (λ answer. Tells program.now trace (wanted_of wanted.entry)
+        (code_of answer.status) answer.text.items) }
+    ensures settled { IfOk result (λ answer. is_of_files answer.status ≡ false) }
+{
     match wanted {
         Wanted::Output => answer_to_output(alloc, program, &trace),
         Wanted::Why { question } => answer_to_question(alloc, program, trace, question),
@@ -92,7 +126,15 @@ pub fn answer_to_trace(
     program: &Program,
     bytes: &[u8],
     wanted: Wanted<'_>,
-) -> Result<Answer, AllocError> {
+) -> Result<Answer, AllocError>
+    requires limit { length bytes.now ≤ trace_limit }
+    requires few_fields { length program.now.fields.items < 2 ^ 32 }
+    ensures due { IfOk result (λ answer. DueUnder program.now bytes.now (wanted_of wanted.entry)
+        (code_of answer.status) answer.text.items) }
+    ensures settled { IfOk result (λ answer. is_of_files answer.status ≡ false) }
+{
+    decoded_events_refer_below();
+    few_events_are_decoded();
     match decode(alloc, bytes, program) {
         Ok(trace) => tell(alloc, program, trace, wanted),
         Err(error) => answer_to_trace_error(alloc, error),

@@ -18,10 +18,16 @@ pub record Counts : Type 0 where
   pub shelf : ℕ
   pub recorder : ℕ
 
+abbrev pub counts : ℕ → ℕ → Counts
+counts shelf recorder = record { shelf = shelf; recorder = recorder }
+
+-- the line of a fault of one of the two, whose count rose
+abbrev pub IsFaultLine : Counts → Counts → List ℕ → Type 0
+IsFaultLine before after line = ((line ≡ shelf_fault_line) × Rose before.shelf after.shelf) ⊎ ((line ≡ recorder_fault_line) × Rose before.recorder after.recorder)
+
 -- one of the two failed, and the answer names it
 abbrev pub IsFault : Counts → Counts → Answer → Type 0
-IsFault before after answer = (answer.status ≡ Fault)
-    × (((answer.text.items ≡ shelf_fault_line) × Rose before.shelf after.shelf) ⊎ ((answer.text.items ≡ recorder_fault_line) × Rose before.recorder after.recorder))
+IsFault before after answer = (answer.status ≡ Fault) × IsFaultLine before after answer.text.items
 
 -- an answer to the words: that one failed, or, where none did, what is due
 abbrev pub IsAnswer : List (List ℕ) → Option Files → Counts → Counts → Answer → Type 0

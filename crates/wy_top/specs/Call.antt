@@ -1,16 +1,14 @@
 -- What a call promises of the bytes that it writes, and of the trace that it records.
-use Rattle.std.specs.Prelude.{◌≡◌, ◌<◌, ◌⊎◌, ℕ, List, [], Option, Some}
+use Rattle.std.specs.Prelude.{◌≡◌, ◌⊎◌, ℕ, List, [], Option, Some}
 use Rattle.wy_kernel.specs.declared.program.Program.{Program}
 use Rattle.wy_kernel.specs.Parts.{program_of}
-use Rattle.wy_outside.specs.Counts.{Rose}
 use Rattle.wy_outside.specs.Shelf.{Files}
 use Rattle.wy_outside.specs.Sink.{appended}
 use Rattle.wy_record.specs.Answers.{Mirrors}
 use Rattle.wy_words.specs.Words.{Asked, Asks, Record}
-use Rattle.wy_reply.specs.Lines.{shelf_fault_line, recorder_fault_line}
 use Rattle.wy_reply.specs.Recordings.{HoldTrace, Spelling}
 use Rattle.wy_top.specs.Due.{Due, IsFrontOf}
-use Rattle.wy_top.specs.Answers.{Counts, Knows}
+use Rattle.wy_top.specs.Answers.{Counts, IsFaultLine, Knows}
 use Rattle.wy_top.specs.Held.{Holds, IsInput, source_limit}
 use Rattle.wy_top.specs.Programs.{IsProgramOf}
 
@@ -22,13 +20,9 @@ WritesDue words held status before after = (text : List ℕ) × Due words held s
 abbrev pub BeginsDue : List (List ℕ) → Option Files → List ℕ → Type 0
 BeginsDue words held part = (status : ℕ) × (text : List ℕ) × Due words held status text × IsFrontOf part text
 
--- no count of faults rose
-abbrev pub NoneRose : Counts → Counts → Type 0
-NoneRose before after = (¬ Rose before.shelf after.shelf) × (¬ Rose before.recorder after.recorder)
-
--- a fault of the shelf or of the recorder
-abbrev pub IsFaultLine : Counts → Counts → List ℕ → Type 0
-IsFaultLine before after line = ((line ≡ shelf_fault_line) × Rose before.shelf after.shelf) ⊎ ((line ≡ recorder_fault_line) × Rose before.recorder after.recorder)
+-- the line of a fault was written
+abbrev pub WritesFaultLine : Counts → Counts → Option (List ℕ) → Option (List ℕ) → Type 0
+WritesFaultLine faults_before faults_after before after = (line : List ℕ) × IsFaultLine faults_before faults_after line × (after ≡ appended before line)
 
 -- a first part of a text was written, and nothing after it: of the line of a fault where one came, else of a text that is due, where the shelf tells its files
 abbrev pub WritesFront : List (List ℕ) → Option Files → Counts → Counts → Option (List ℕ) → Option (List ℕ) → Type 0

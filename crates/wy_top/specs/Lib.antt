@@ -7,3 +7,5 @@ pub mod Answers
 pub mod Reads
 pub mod Call
 pub mod Deliveries
+pub mod Replies
+pub mod Recorder

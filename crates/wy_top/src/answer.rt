@@ -1,13 +1,17 @@
 //! What the words and the files give, before any byte of it is written.
-ghost use Rattle.std.specs.Prelude.{◌≡◌, IfOk, map, string_bytes, option_map};
+ghost use Rattle.std.specs.Prelude.{◌≡◌, ℕ, IfOk, Some, map, string_bytes};
+ghost use Rattle.wy_outside.specs.Shelf.{Files};
 ghost use Rattle.wy_outside.specs.Counts.{Rose};
 ghost use Rattle.wy_record.specs.declared.recorder.Phase.TheVariants.{Ready};
 ghost use Rattle.wy_reply.specs.declared.status.Status.TheVariants.{Absent, Done, TooLong, Usage, Fault};
 ghost use Rattle.wy_reply.specs.Tellings.{wanted_of};
-ghost use Rattle.wy_top.specs.Answers.{Counts, IsAnswer};
-ghost use Rattle.wy_top.specs.Call.{RecordsNothing, Traces};
+ghost use Rattle.wy_top.specs.Answers.{IsAnswer, IsFault, counts};
+ghost use Rattle.wy_top.specs.Call.{RecordsNothing, Traced, Traces};
 ghost use Rattle.wy_top.specs.Reads.{Tells};
-ghost use Rattle.wy_top.specs.Sources.{IsAnswerOfTrace, IsRecording, IsRun, spelling};
+ghost use Rattle.wy_top.specs.Replies.{AnswersBy, HasCause, at_shelf};
+ghost use Rattle.wy_top.specs.Due.{DueForRun, DueForTrace};
+ghost use Rattle.wy_reply.specs.Recordings.{spelling};
+ghost use Rattle.wy_reply.specs.Report.{report, recorded_report};
 ghost use Rattle.wy_words.specs.Views.{asked_of};
 ghost use Rattle.wy_words.specs.Words.{IsNoCommand};
 
@@ -18,7 +22,7 @@ use std::alloc::{AllocError, Global};
 use wy_outside::shelf::Shelf;
 use wy_record::Recorder;
 use wy_reply::{Answer, Refusal, Status, Wanted};
-use wy_words::{Asked, Command, command};
+use wy_words::{Asked, Command, command, words_ask_one_command};
 
 /// The answer where a file was not read.
 fn answer_to_lack(alloc: Global, error: FileError<'_>) -> Result<Answer, AllocError>
@@ -41,7 +45,15 @@ fn answer_to_run<S: Shelf>(
     alloc: Global,
     shelf: &mut S,
     asked: Asked<'_>,
-) -> Result<Answer, AllocError> {
+) -> Result<Answer, AllocError>
+    ensures due { (n : ℕ) → IfOk result (λ answer. AnswersBy (λ files. DueForRun files (asked_of asked)
+        (λ input p lines. report p lines input asked.steps)) (S.held shelf.old)
+        (counts (S.faults shelf.old) n) (counts (S.faults shelf.new) n) answer) }
+    ensures causes { IfOk result (λ answer. HasCause
+        (at_shelf (S.faults shelf.old) (S.misses shelf.old) (S.fulls shelf.old))
+        (at_shelf (S.faults shelf.new) (S.misses shelf.new) (S.fulls shelf.new)) answer) }
+    ensures files_stay { S.held shelf.new ≡ S.held shelf.old }
+{
     match read_both(alloc, shelf, asked.source, asked.input) {
         Ok(Contents { source, input }) => {
             run_source(alloc, source.as_slice(), input.as_slice(), asked.steps)
@@ -59,6 +71,18 @@ fn answer_to_record<S: Shelf, R: Recorder>(
     recorder: &mut R,
 ) -> Result<Answer, AllocError>
     requires { R.phase recorder.old ≡ Ready }
+    ensures due { IfOk result (λ answer. AnswersBy (λ files. DueForRun files (asked_of asked)
+        (λ input p lines. recorded_report p lines input asked.steps)) (S.held shelf.old)
+        (counts (S.faults shelf.old) (R.faults recorder.old))
+        (counts (S.faults shelf.new) (R.faults recorder.new)) answer) }
+    ensures traced { IfOk result (λ answer. answer.status ≡ Done → (files : Files)
+        → S.held shelf.old ≡ Some files
+        → Traced (spelling R.opening R.frame R.closing) files (asked_of asked)
+        (R.mirrors recorder.old) (R.mirrors recorder.new)) }
+    ensures causes { IfOk result (λ answer. HasCause
+        (at_shelf (S.faults shelf.old) (S.misses shelf.old) (S.fulls shelf.old))
+        (at_shelf (S.faults shelf.new) (S.misses shelf.new) (S.fulls shelf.new)) answer) }
+    ensures files_stay { S.held shelf.new ≡ S.held shelf.old }
 {
     match read_both(alloc, shelf, asked.source, asked.input) {
         Ok(contents) => record_source(alloc, contents, asked.steps, trace, recorder),
@@ -72,7 +96,15 @@ fn answer_from<S: Shelf>(
     shelf: &mut S,
     trace: &str,
     wanted: Wanted<'_>,
-) -> Result<Answer, AllocError> {
+) -> Result<Answer, AllocError>
+    ensures due { (n : ℕ) → IfOk result (λ answer.
+        AnswersBy (λ files. DueForTrace files trace.now (wanted_of wanted.entry))
+        (S.held shelf.old) (counts (S.faults shelf.old) n) (counts (S.faults shelf.new) n) answer) }
+    ensures causes { IfOk result (λ answer. HasCause
+        (at_shelf (S.faults shelf.old) (S.misses shelf.old) (S.fulls shelf.old))
+        (at_shelf (S.faults shelf.new) (S.misses shelf.new) (S.fulls shelf.new)) answer) }
+    ensures files_stay { S.held shelf.new ≡ S.held shelf.old }
+{
     match read_trace(alloc, shelf, trace) {
         Ok(bytes) => answer_to_bytes(alloc, bytes.as_slice(), wanted),
         Err(error) => answer_to_lack(alloc, error),
@@ -88,7 +120,29 @@ pub fn answer_to<S: Shelf, R: Recorder>(
     recorder: &mut R,
 ) -> Result<Answer, AllocError>
     requires { R.phase recorder.old ≡ Ready }
+    ensures due { IfOk result (λ answer.
+        IsAnswer (map string_bytes words.now) (S.held shelf.old)
+        (counts (S.faults shelf.old) (R.faults recorder.old))
+        (counts (S.faults shelf.new) (R.faults recorder.new)) answer) }
+    ensures traces { IfOk result (λ answer. answer.status ≡ Done
+        → Traces (spelling R.opening R.frame R.closing) (map string_bytes words.now)
+        (S.held shelf.old) (R.mirrors recorder.old) (R.mirrors recorder.new)) }
+    ensures absent { IfOk result (λ answer.
+        answer.status ≡ Absent → Rose (S.misses shelf.old) (S.misses shelf.new)) }
+    ensures too_long { IfOk result (λ answer.
+        answer.status ≡ TooLong → Rose (S.fulls shelf.old) (S.fulls shelf.new)) }
+    ensures usage { IfOk result (λ answer.
+        answer.status ≡ Usage → IsNoCommand (map string_bytes words.now)) }
+    ensures fault { IfOk result (λ answer. answer.status ≡ Fault → IsFault
+        (counts (S.faults shelf.old) (R.faults recorder.old))
+        (counts (S.faults shelf.new) (R.faults recorder.new)) answer) }
+    ensures files_stay { S.held shelf.new ≡ S.held shelf.old }
+    ensures reads_nothing { IsNoCommand (map string_bytes words.now)
+        → S.gets shelf.new ≡ S.gets shelf.old }
+    ensures records_nothing { RecordsNothing (map string_bytes words.now)
+        → recorder.new ≡ recorder.old }
 {
+    words_ask_one_command();
     match command(words) {
         None => Answer::refused(alloc, Status::Usage, Refusal::Usage),
         Some(Command::Run(asked)) => answer_to_run(alloc, shelf, asked),

@@ -1,11 +1,12 @@
 //! What is answered for a source: its run, its recording, or why it is no program.
-ghost use Rattle.std.specs.Prelude.{◌≡◌, ◌≤◌, IfOk, length};
+ghost use Rattle.std.specs.Prelude.{◌≡◌, ◌≤◌, IfOk, false, length};
 ghost use Rattle.wy_record.specs.declared.recorder.Phase.TheVariants.{Ready};
 ghost use Rattle.wy_reply.specs.Report.{report};
-ghost use Rattle.wy_reply.specs.Statuses.{code_of};
+ghost use Rattle.wy_reply.specs.Recordings.{spelling};
+ghost use Rattle.wy_reply.specs.Statuses.{code_of, is_of_files};
 ghost use Rattle.wy_top.specs.Due.{DueFor};
 ghost use Rattle.wy_top.specs.Held.{source_limit};
-ghost use Rattle.wy_top.specs.Sources.{RecordsSource, RefusesSource, spelling};
+ghost use Rattle.wy_top.specs.Replies.{RecordsSource, RefusesSource};
 
 use crate::causes::front_cause;
 use crate::files::Contents;
@@ -34,8 +35,9 @@ pub fn run_source(
     steps: u32,
 ) -> Result<Answer, AllocError>
     requires { length source.now ≤ source_limit }
-    ensures { IfOk result (λ answer. DueFor source.now (λ p lines. report p lines input.now steps)
-        (code_of answer.status) answer.text.items) }
+    ensures due { IfOk result (λ answer. DueFor source.now
+        (λ p lines. report p lines input.now steps) (code_of answer.status) answer.text.items) }
+    ensures settled { IfOk result (λ answer. is_of_files answer.status ≡ false) }
 {
     match front(alloc, source) {
         Ok(typed) => answer_to_program(alloc, &typed.program, input, steps),
@@ -54,7 +56,8 @@ pub fn record_source<R: Recorder>(
     requires ready { R.phase recorder.old ≡ Ready }
     requires bound { length contents.source.items ≤ source_limit }
     ensures { IfOk result (λ answer. RecordsSource (spelling R.opening R.frame R.closing)
-        contents steps (R.mirrors recorder.old) (R.mirrors recorder.new)
+        contents.source.items contents.input.items steps
+        (R.mirrors recorder.old) (R.mirrors recorder.new)
         (R.faults recorder.old) (R.faults recorder.new) answer) }
 {
     let Contents { source, input } = contents;

@@ -1,10 +1,10 @@
 //! What is answered from the bytes of a trace.
-ghost use Rattle.std.specs.Prelude.{◌≡◌, ◌≤◌, IfOk, length};
-ghost use Rattle.wy_reply.specs.Statuses.{code_of};
+ghost use Rattle.std.specs.Prelude.{◌≡◌, ◌≤◌, IfOk, false, length};
+ghost use Rattle.wy_reply.specs.Statuses.{code_of, is_of_files};
 ghost use Rattle.wy_reply.specs.Tellings.{wanted_of};
 ghost use Rattle.wy_top.specs.Due.{DueForBytes};
 ghost use Rattle.wy_top.specs.Held.{source_limit, trace_limit};
-ghost use Rattle.wy_top.specs.Sources.{AnswersUnder, RefusesTrace};
+ghost use Rattle.wy_top.specs.Replies.{AnswersUnder, RefusesTrace};
 
 use crate::causes::front_cause;
 use crate::reading::{FrontError, front};
@@ -31,8 +31,9 @@ fn answer_under(
 ) -> Result<Answer, AllocError>
     requires source { length source.now ≤ source_limit }
     requires bytes { length bytes.now ≤ trace_limit }
-    ensures { IfOk result (λ answer.
+    ensures due { IfOk result (λ answer.
         AnswersUnder source.now bytes.now (wanted_of wanted.entry) answer) }
+    ensures settled { IfOk result (λ answer. is_of_files answer.status ≡ false) }
 {
     match front(alloc, source) {
         Ok(typed) => answer_to_trace(alloc, &typed.program, bytes, wanted),
@@ -48,8 +49,9 @@ pub fn answer_to_bytes(
     wanted: Wanted<'_>,
 ) -> Result<Answer, AllocError>
     requires { length bytes.now ≤ trace_limit }
-    ensures { IfOk result (λ answer. DueForBytes bytes.now (wanted_of wanted.entry)
+    ensures due { IfOk result (λ answer. DueForBytes bytes.now (wanted_of wanted.entry)
         (code_of answer.status) answer.text.items) }
+    ensures settled { IfOk result (λ answer. is_of_files answer.status ≡ false) }
 {
     match read_head(alloc, bytes) {
         Ok((head, _)) => answer_under(alloc, head.source.as_slice(), bytes, wanted),
