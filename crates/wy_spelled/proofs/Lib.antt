@@ -6,3 +6,5 @@ pub mod Steps
 pub mod Values
 pub mod Uses
 pub mod Events
+pub mod Standing
+pub mod Traces

@@ -134,7 +134,7 @@ tail_spelled earlier totals coverage bytes x are e =
 
 -- ---- whole payloads
 
-ends : {A : Type 0} (b : Bool) (x y : A) → cond b (Ok x) (Err rule.Length) ≡ done y → (b ≡ true) × (x ≡ y)
+pub ends : {A : Type 0} (b : Bool) (x y : A) → cond b (Ok x) (Err rule.Length) ≡ done y → (b ≡ true) × (x ≡ y)
 ends true x y e = (refl, ok_is x y e)
 ends false x y e = absurd cc
 

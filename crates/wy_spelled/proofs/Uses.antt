@@ -1,11 +1,8 @@
 -- Uses that are read are spelled so.
-use Rattle.std.proofs.Common.{◌≡◌, ℕ, zero, suc, ◌+◌, List, [], ◌∷◌, ◌++◌, map, length, Option, Some, Ok, refl, sym, subst, arith}
-use Rattle.std.specs.Prelude.{None as Absent}
-use Rattle.std.specs.Prelude.{IfOk, slice_get}
+use Rattle.std.proofs.Common.{◌≡◌, ℕ, zero, suc, ◌+◌, List, [], ◌∷◌, ◌++◌, length, Some, Ok, refl, sym, subst, arith}
 use Rattle.std.specs.List.{flat_map}
-use Rattle.std.specs.Int.{w8, w32}
+use Rattle.std.specs.Int.{w32}
 use Rattle.std.proofs.lemmas.Result.{IfOk-at_ok}
-use Rattle.wy_event.specs.declared.record.Slot.{Slot}
 use Rattle.wy_event.specs.declared.record.Use.{Use}
 use Rattle.wy_spelling.specs.Spelling.{number, slot_bytes, use_bytes, uses_bytes}
 use Rattle.wy_payload.specs.declared.ranges.Ranges.{Ranges}
@@ -68,6 +65,6 @@ unfolding uses_at uses_bytes
 uses_have r earlier bytes are =
     then_has (number_at w32 bytes) _ _ _ (number_has bytes are) (λ count s.
     if_read (rows_from (use_at r earlier) count.0 count.1) (λ x. Spelled bytes (uses_bytes x.0) x.1) (λ x e.
-        let rows = rows_spelled (use_at r earlier) use_bytes (use_spelled r earlier) count.0 count.1 x s.rest_bytes e in
-        let all = one_after bytes (number count.0) count.1 (flat_map use_bytes x.0) x.1 s rows.0 in
-        subst (λ (n : ℕ). Spelled bytes (number n ++ flat_map use_bytes x.0) x.1) (sym rows.1) all))
+    let rows = rows_spelled (use_at r earlier) use_bytes (use_spelled r earlier) count.0 count.1 x s.rest_bytes e in
+    let all = one_after bytes (number count.0) count.1 (flat_map use_bytes x.0) x.1 s rows.0 in
+    subst (λ (n : ℕ). Spelled bytes (number n ++ flat_map use_bytes x.0) x.1) (sym rows.1) all))

@@ -1,5 +1,5 @@
 -- A value that is read is spelled so, and so are units.
-use Rattle.std.proofs.Common.{◌≡◌, ℕ, zero, suc, ◌+◌, ◌<◌, ◌^◌, Bool, true, false, cond, eqb, ltb, List, [], ◌∷◌, ◌++◌, length, Some, Ok, refl, sym, ap, subst, arith}
+use Rattle.std.proofs.Common.{◌≡◌, ℕ, zero, suc, ◌+◌, ◌<◌, ◌^◌, Bool, true, false, cond, eqb, List, [], ◌∷◌, ◌++◌, length, Some, Ok, refl, sym, subst, arith}
 use Rattle.std.specs.Prelude.{None as Absent}
 use Rattle.std.specs.Prelude.{IfOk, nat_lt, ◌==◌, slice_get, slice_index}
 use Rattle.std.specs.List.{flat_map}
@@ -25,7 +25,7 @@ use Rattle.wy_spelled.specs.Laws.{AreBytes}
 use Rattle.wy_spelled.proofs.Numbers.{Spelled, one_after}
 use Rattle.wy_spelled.proofs.Tails.{rows_spelled}
 use Rattle.wy_spelled.proofs.Slots.{reference_spelled}
-use Rattle.wy_spelled.proofs.Steps.{Spells, if_read, then_has, after, passed_has, byte_has, number_has, Fits, fits_16, fits_32, fits_64, tag_is, then_tag}
+use Rattle.wy_spelled.proofs.Steps.{Spells, if_read, then_has, passed_has, byte_has, number_has, fits_16, fits_32, fits_64, tag_is, then_tag}
 
 abbrev value_number : ValueTag → ℕ
 value_number tags.None = 0

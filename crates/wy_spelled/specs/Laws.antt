@@ -1,7 +1,9 @@
 -- What is read is spelled so.
 use Rattle.std.specs.Prelude.{◌≡◌, ℕ, ◌<◌, ◌++◌, List, take, Ok, slice_index}
+use Rattle.wy_kernel.specs.declared.program.Program.{Program}
 use Rattle.wy_event.specs.declared.record.Head.{Head}
-use Rattle.wy_spelling.specs.Spelling.{coverage_payload, event_payload, opening, slot_bytes, tail_payload}
+use Rattle.wy_event.specs.declared.record.Trace.{Trace}
+use Rattle.wy_spelling.specs.Spelling.{coverage_payload, event_payload, opening, slot_bytes, tail_payload, trace_bytes}
 use Rattle.wy_event.specs.declared.record.Coverage.{Coverage}
 use Rattle.wy_event.specs.declared.record.Tail.{Tail}
 use Rattle.wy_event.specs.declared.record.Slot.{Slot}
@@ -16,6 +18,7 @@ use Rattle.wy_payload.specs.declared.closing.Totals.{Totals}
 use Rattle.wy_payload.specs.Reading.{all_of}
 use Rattle.wy_payload.specs.Closing.{coverage_at, tail_at}
 use Rattle.wy_frames.specs.Heads.{head_of}
+use Rattle.wy_frames.specs.Traces.{IsReadAs}
 
 -- each is below 256
 abbrev pub AreBytes : List ℕ → Type 0
@@ -38,3 +41,7 @@ SlotsAreSpelled = (r : Ranges) (earlier : List Known) (wanted : SlotForm) (bytes
 -- a whole event that a payload is read as, to its end, by what is known of those before it and behind so much output
 abbrev pub EventsAreSpelled : Type 0
 EventsAreSpelled = (r : Ranges) (earlier : List Known) (output : ℕ) (payload : List ℕ) (w : Written) → AreBytes payload → all_of (event_at r earlier output payload) ≡ Ok w → payload ≡ event_payload (recorded w.event)
+
+-- a trace that bytes are read as, all of them
+abbrev pub TracesAreSpelled : Type 0
+TracesAreSpelled = (p : Program) (bytes : List ℕ) (x : Trace) → AreBytes bytes → IsReadAs p bytes (Ok x) → bytes ≡ trace_bytes x
