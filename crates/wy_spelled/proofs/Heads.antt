@@ -60,10 +60,10 @@ whole_payload payload h are e =
 
 -- ---- the frame
 
-record IsFrame (bytes : List ℕ) (f : Frame) : Type 0 where
-  whole_is : f.whole ≡ f.letter ∷ number (length f.payload) ++ f.payload
-  parts : f.whole ++ f.rest ≡ bytes
-  payload_bytes : AreBytes f.payload
+pub record IsFrame (bytes : List ℕ) (f : Frame) : Type 0 where
+  pub whole_is : f.whole ≡ f.letter ∷ number (length f.payload) ++ f.payload
+  pub parts : f.whole ++ f.rest ≡ bytes
+  pub payload_bytes : AreBytes f.payload
 
 long_frame : (b : ℕ) (tail : List ℕ) (f : Frame) → AreBytes (b ∷ tail) → frame_of (b ∷ tail) ≡ Some f → IsFrame (b ∷ tail) f
 unfolding frame_of frame_of_length
@@ -90,7 +90,7 @@ no_frame : (f : Frame) → frame_of [] ≡ Some f → ⊥
 unfolding frame_of
 no_frame f e = cc
 
-whole_frame : (bytes : List ℕ) (f : Frame) → AreBytes bytes → frame_of bytes ≡ Some f → IsFrame bytes f
+pub whole_frame : (bytes : List ℕ) (f : Frame) → AreBytes bytes → frame_of bytes ≡ Some f → IsFrame bytes f
 whole_frame [] f are e = absurd (no_frame f e)
 whole_frame (b ∷ tail) f are e = long_frame b tail f are e
 

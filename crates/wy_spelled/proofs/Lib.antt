@@ -2,3 +2,9 @@ pub mod Numbers
 pub mod Heads
 pub mod Tails
 pub mod Slots
+pub mod Steps
+pub mod Values
+pub mod Uses
+pub mod Events
+pub mod Standing
+pub mod Traces

@@ -134,11 +134,11 @@ tail_spelled earlier totals coverage bytes x are e =
 
 -- ---- whole payloads
 
-ends : {A : Type 0} (b : Bool) (x y : A) → cond b (Ok x) (Err rule.Length) ≡ done y → (b ≡ true) × (x ≡ y)
+pub ends : {A : Type 0} (b : Bool) (x y : A) → cond b (Ok x) (Err rule.Length) ≡ done y → (b ≡ true) × (x ≡ y)
 ends true x y e = (refl, ok_is x y e)
 ends false x y e = absurd cc
 
-whole : {A : Type 0} (spell : A → List ℕ) (payload : List ℕ) (read : Read A) (y : A) → ((x : A × List ℕ) → read ≡ Ok x → Spelled payload (spell x.0) x.1) → all_of read ≡ Ok y → payload ≡ spell y
+pub whole : {A : Type 0} (spell : A → List ℕ) (payload : List ℕ) (read : Read A) (y : A) → ((x : A × List ℕ) → read ≡ Ok x → Spelled payload (spell x.0) x.1) → all_of read ≡ Ok y → payload ≡ spell y
 whole spell payload read y each e =
     let a = read_then read (λ x. cond (eqb (length x.1) 0) (Ok x.0) (Err rule.Length)) y e in
     let s = each a.0 a.1 in

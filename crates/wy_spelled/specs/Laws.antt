@@ -1,18 +1,24 @@
 -- What is read is spelled so.
 use Rattle.std.specs.Prelude.{◌≡◌, ℕ, ◌<◌, ◌++◌, List, take, Ok, slice_index}
+use Rattle.wy_kernel.specs.declared.program.Program.{Program}
 use Rattle.wy_event.specs.declared.record.Head.{Head}
-use Rattle.wy_spelling.specs.Spelling.{coverage_payload, opening, slot_bytes, tail_payload}
+use Rattle.wy_event.specs.declared.record.Trace.{Trace}
+use Rattle.wy_spelling.specs.Spelling.{coverage_payload, event_payload, opening, slot_bytes, tail_payload, trace_bytes}
 use Rattle.wy_event.specs.declared.record.Coverage.{Coverage}
 use Rattle.wy_event.specs.declared.record.Tail.{Tail}
 use Rattle.wy_event.specs.declared.record.Slot.{Slot}
+use Rattle.wy_event.specs.Record.{recorded}
 use Rattle.wy_payload.specs.declared.ranges.Ranges.{Ranges}
 use Rattle.wy_payload.specs.declared.slot.SlotForm.{SlotForm}
+use Rattle.wy_payload.specs.declared.event.Written.{Written}
 use Rattle.wy_payload.specs.Places.{slot_at}
+use Rattle.wy_payload.specs.Events.{event_at}
 use Rattle.wy_payload.specs.declared.known.Known.{Known}
 use Rattle.wy_payload.specs.declared.closing.Totals.{Totals}
 use Rattle.wy_payload.specs.Reading.{all_of}
 use Rattle.wy_payload.specs.Closing.{coverage_at, tail_at}
 use Rattle.wy_frames.specs.Heads.{head_of}
+use Rattle.wy_frames.specs.Traces.{IsReadAs}
 
 -- each is below 256
 abbrev pub AreBytes : List ℕ → Type 0
@@ -31,3 +37,11 @@ TailsAreSpelled = (earlier : List Known) (totals : Totals) (coverage : Coverage)
 -- a slot that bytes are read to begin with
 abbrev pub SlotsAreSpelled : Type 0
 SlotsAreSpelled = (r : Ranges) (earlier : List Known) (wanted : SlotForm) (bytes : List ℕ) (x : Slot) (rest : List ℕ) → AreBytes bytes → slot_at r earlier wanted bytes ≡ Ok (x, rest) → bytes ≡ slot_bytes x ++ rest
+
+-- a whole event that a payload is read as, to its end, by what is known of those before it and behind so much output
+abbrev pub EventsAreSpelled : Type 0
+EventsAreSpelled = (r : Ranges) (earlier : List Known) (output : ℕ) (payload : List ℕ) (w : Written) → AreBytes payload → all_of (event_at r earlier output payload) ≡ Ok w → payload ≡ event_payload (recorded w.event)
+
+-- a trace that bytes are read as, all of them
+abbrev pub TracesAreSpelled : Type 0
+TracesAreSpelled = (p : Program) (bytes : List ℕ) (x : Trace) → AreBytes bytes → IsReadAs p bytes (Ok x) → bytes ≡ trace_bytes x

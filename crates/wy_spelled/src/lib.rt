@@ -2,7 +2,7 @@
 //! The functions do nothing: their contracts are the laws.
 #![tactic(auto)]
 
-ghost use Rattle.wy_spelled.specs.Laws.{CoveragesAreSpelled, HeadsAreSpelled, SlotsAreSpelled, TailsAreSpelled};
+ghost use Rattle.wy_spelled.specs.Laws.{CoveragesAreSpelled, EventsAreSpelled, HeadsAreSpelled, SlotsAreSpelled, TailsAreSpelled, TracesAreSpelled};
 
 /// A head that bytes are read to begin with is spelled there, with the magic before it and nothing between.
 pub fn heads_are_spelled()
@@ -22,4 +22,14 @@ pub fn tails_are_spelled()
 /// A slot that bytes are read to begin with is spelled there.
 pub fn slots_are_spelled()
     ensures { SlotsAreSpelled }
+{}
+
+/// A whole event that a payload is read as is spelled by it.
+pub fn events_are_spelled()
+    ensures { EventsAreSpelled }
+{}
+
+/// Bytes that are read as a trace are its one spelling.
+pub fn traces_are_spelled()
+    ensures { TracesAreSpelled }
 {}
