@@ -1,5 +1,5 @@
 //! The lines of refusals.
-ghost use Rattle.std.specs.Prelude.{◌≡◌, ◌++◌, IfOk, OnOk};
+ghost use Rattle.std.specs.Prelude.{◌≡◌, ◌++◌, IfOk};
 ghost use Rattle.std.specs.Fmt.{decimal};
 ghost use Rattle.wy_reply.specs.Lines.{line_of, at_byte, at_token, damage_name, damaged_as, recorded_line};
 ghost use Rattle.wy_reply.specs.Refusals.{refusal_text};
@@ -69,7 +69,11 @@ pub fn refusal_line(alloc: Global, refusal: Refusal<'_>) -> Result<Vec<u8>, Allo
     ensures { IfOk result (λ line. line.items ≡ refusal_text refusal.entry) }
 {
     match refusal {
-        Refusal::Usage => line(alloc, "usage: whyline run, record, output, why or audit", ""),
+        Refusal::Usage => line(
+            alloc,
+            "usage: whyline run, record, output, why or audit",
+            "",
+        ),
         Refusal::Absent { name } => line(alloc, "absent: ", name),
         Refusal::ProgramByte { rule, byte } => at_byte(alloc, "", rule, byte),
         Refusal::ProgramToken { rule, line, token } => at_token(alloc, "", rule, line, token),
@@ -149,13 +153,9 @@ pub fn line(alloc: Global, first: &str, second: &str) -> Result<Vec<u8>, AllocEr
 }
 
 /// The line that a recording adds to what is written of its run.
-pub fn put_recorded(
-    alloc: Global,
-    text: &mut Vec<u8>,
-    events: u32,
-) -> Result<(), AllocError>
-    ensures { OnOk result (text.new.items ≡ text.old.items ++ recorded_line events) }
+pub fn recorded_line(alloc: Global, events: u32) -> Result<Vec<u8>, AllocError>
+    ensures { IfOk result (λ line. line.items ≡ recorded_line events) }
 {
     let line = format!(in alloc; "-- recorded {events} events\n")?;
-    text.extend_from_slice(line.as_bytes())
+    Ok(line.into_bytes())
 }

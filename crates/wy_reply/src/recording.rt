@@ -6,7 +6,7 @@ ghost use Rattle.wy_reply.specs.Recordings.{RecordsAs, spelling};
 ghost use Rattle.wy_reply.specs.Report.{recorded_of_end};
 
 use crate::answer::Answer;
-use crate::lines::{Refusal, put_recorded};
+use crate::lines::{Refusal, recorded_line};
 use crate::running::report;
 use crate::status::Status;
 use std::alloc::{AllocError, Global};
@@ -22,7 +22,8 @@ fn recorded_report(alloc: Global, program: &Program, ended: Ended) -> Result<Vec
 {
     let events = ended.tail.events;
     let mut text = report(alloc, program, ended)?;
-    put_recorded(alloc, &mut text, events)?;
+    let line = recorded_line(alloc, events)?;
+    text.extend_from_slice(line.as_slice())?;
     Ok(text)
 }
 

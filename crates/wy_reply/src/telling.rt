@@ -46,11 +46,7 @@ pub fn answer_to_trace_error(alloc: Global, error: TraceError) -> Result<Answer,
     }
 }
 
-fn answer_to_output(
-    alloc: Global,
-    program: &Program,
-    trace: &Trace,
-) -> Result<Answer, AllocError>
+fn answer_to_output(alloc: Global, program: &Program, trace: &Trace) -> Result<Answer, AllocError>
     ensures due { IfOk result (λ answer. Tells program.now trace.now wanted.Output
         (code_of answer.status) answer.text.items) }
     ensures settled { IfOk result (λ answer. is_of_files answer.status ≡ false) }
@@ -75,9 +71,7 @@ fn answer_to_question(
     let Trace { events, .. } = trace;
     match why_text(alloc, program, events.into_vec(), question) {
         Ok(text) => Ok(Answer::done(text)),
-        Err(AskError::BadQuestion) => {
-            Answer::refused(alloc, Status::Question, Refusal::NotRead)
-        }
+        Err(AskError::BadQuestion) => { Answer::refused(alloc, Status::Question, Refusal::NotRead) }
         Err(AskError::NoSuch(number)) => {
             Answer::refused(alloc, Status::Question, Refusal::NoSuch { number })
         }

@@ -22,7 +22,8 @@ use std::alloc::{AllocError, Global};
 use wy_outside::shelf::Shelf;
 use wy_record::Recorder;
 use wy_reply::{Answer, Refusal, Status, Wanted};
-use wy_words::{Asked, Command, command, words_ask_one_command};
+use wy_words::laws::words_ask_one_command;
+use wy_words::{Asked, Command, command};
 
 /// The answer where a file was not read.
 fn answer_to_lack(alloc: Global, error: FileError<'_>) -> Result<Answer, AllocError>
@@ -46,8 +47,8 @@ fn answer_to_run<S: Shelf>(
     shelf: &mut S,
     asked: Asked<'_>,
 ) -> Result<Answer, AllocError>
-    ensures due { (n : ℕ) → IfOk result (λ answer. AnswersBy (λ files. DueForRun files (asked_of asked)
-        (λ input p lines. report p lines input asked.steps)) (S.held shelf.old)
+    ensures due { (n : ℕ) → IfOk result (λ answer. AnswersBy (λ files. DueForRun files (asked_of asked.entry)
+        (λ input p lines. report p lines input asked.entry.steps)) (S.held shelf.old)
         (counts (S.faults shelf.old) n) (counts (S.faults shelf.new) n) answer) }
     ensures causes { IfOk result (λ answer. HasCause
         (at_shelf (S.faults shelf.old) (S.misses shelf.old) (S.fulls shelf.old))
@@ -71,13 +72,13 @@ fn answer_to_record<S: Shelf, R: Recorder>(
     recorder: &mut R,
 ) -> Result<Answer, AllocError>
     requires { R.phase recorder.old ≡ Ready }
-    ensures due { IfOk result (λ answer. AnswersBy (λ files. DueForRun files (asked_of asked)
-        (λ input p lines. recorded_report p lines input asked.steps)) (S.held shelf.old)
+    ensures due { IfOk result (λ answer. AnswersBy (λ files. DueForRun files (asked_of asked.entry)
+        (λ input p lines. recorded_report p lines input asked.entry.steps)) (S.held shelf.old)
         (counts (S.faults shelf.old) (R.faults recorder.old))
         (counts (S.faults shelf.new) (R.faults recorder.new)) answer) }
     ensures traced { IfOk result (λ answer. answer.status ≡ Done → (files : Files)
         → S.held shelf.old ≡ Some files
-        → Traced (spelling R.opening R.frame R.closing) files (asked_of asked)
+        → Traced (spelling R.opening R.frame R.closing) files (asked_of asked.entry)
         (R.mirrors recorder.old) (R.mirrors recorder.new)) }
     ensures causes { IfOk result (λ answer. HasCause
         (at_shelf (S.faults shelf.old) (S.misses shelf.old) (S.fulls shelf.old))

@@ -25,7 +25,7 @@ pub enum Cause {
 impl Cause {
     /// The refusal of a source that is read from its file.
     pub fn of_source(self) -> Refusal<'static>
-        ensures { refusal_text result ≡ cause_line self.entry }
+        ensures { refusal_text result ≡ cause_line self }
     {
         match self {
             Cause::Byte { rule, byte } => Refusal::ProgramByte { rule, byte },
@@ -35,7 +35,7 @@ impl Cause {
 
     /// The refusal of a source that is read from a trace.
     pub fn of_trace(self) -> Refusal<'static>
-        ensures { refusal_text result ≡ of_trace (cause_line self.entry) }
+        ensures { refusal_text result ≡ of_trace (cause_line self) }
     {
         match self {
             Cause::Byte { rule, byte } => Refusal::TraceByte { rule, byte },

@@ -45,18 +45,18 @@ pub fn whyline<S: Shelf, K: Source, O: Sink, T: TraceSink + Drop>(
     requires { recorder.old.phase ≡ Phase.Ready }
     ensures status { IsStatus result }
     ensures due { ¬ Rose (S.faults shelf.old) (S.faults shelf.new)
-        → ¬ Rose (faults_of T.faults recorder.old) (faults_of T.faults recorder.new)
+        → ¬ Rose (faults_of T.faults recorder.old.sinks.items) (faults_of T.faults recorder.new.sinks.items)
         → ¬ Rose (O.faults out.old) (O.faults out.new)
         → Knows (map string_bytes words.now) (S.held shelf.old)
         → result ≢ 9
         → WritesDue (map string_bytes words.now) (S.held shelf.old) result
         (O.written out.old) (O.written out.new) }
     ensures front { WritesFront (map string_bytes words.now) (S.held shelf.old)
-        (counts (S.faults shelf.old) (faults_of T.faults recorder.old))
-        (counts (S.faults shelf.new) (faults_of T.faults recorder.new))
+        (counts (S.faults shelf.old) (faults_of T.faults recorder.old.sinks.items))
+        (counts (S.faults shelf.new) (faults_of T.faults recorder.new.sinks.items))
         (O.written out.old) (O.written out.new) }
     ensures traces { result ≡ 0 → Traces trace_spelling (map string_bytes words.now)
-        (S.held shelf.old) (mirrors_of T.bytes recorder.old) (mirrors_of T.bytes recorder.new) }
+        (S.held shelf.old) (mirrors_of T.bytes recorder.old.sinks.items) (mirrors_of T.bytes recorder.new.sinks.items) }
     ensures records_nothing { RecordsNothing (map string_bytes words.now)
         → recorder.new ≡ recorder.old }
     ensures usage { result ≡ 2 → IsNoCommand (map string_bytes words.now) }
@@ -64,15 +64,15 @@ pub fn whyline<S: Shelf, K: Source, O: Sink, T: TraceSink + Drop>(
     ensures too_long { result ≡ 8 → Rose (S.fulls shelf.old) (S.fulls shelf.new) }
     ensures fault { result ≡ 7
         → Rose (S.faults shelf.old) (S.faults shelf.new)
-        ⊎ Rose (faults_of T.faults recorder.old) (faults_of T.faults recorder.new)
+        ⊎ Rose (faults_of T.faults recorder.old.sinks.items) (faults_of T.faults recorder.new.sinks.items)
         ⊎ Rose (O.faults out.old) (O.faults out.new) }
     ensures fault_line { result ≡ 7
         → ¬ Rose (O.faults out.old) (O.faults out.new)
-        → WritesFaultLine (counts (S.faults shelf.old) (faults_of T.faults recorder.old))
-        (counts (S.faults shelf.new) (faults_of T.faults recorder.new))
+        → WritesFaultLine (counts (S.faults shelf.old) (faults_of T.faults recorder.old.sinks.items))
+        (counts (S.faults shelf.new) (faults_of T.faults recorder.new.sinks.items))
         (O.written out.old) (O.written out.new) }
     ensures shelf_fault { S.faults shelf.old < S.faults shelf.new → (result ≡ 7) ⊎ (result ≡ 9) }
-    ensures recorder_fault { faults_of T.faults recorder.old < faults_of T.faults recorder.new
+    ensures recorder_fault { faults_of T.faults recorder.old.sinks.items < faults_of T.faults recorder.new.sinks.items
         → (result ≡ 7) ⊎ (result ≡ 9) }
     ensures out_fault { O.faults out.old < O.faults out.new → (result ≡ 7) ⊎ (result ≡ 9) }
     ensures files_stay { S.held shelf.new ≡ S.held shelf.old }

@@ -1,0 +1,58 @@
+-- What a trace tells is due.
+use Rattle.std.proofs.Common.{◌≡◌, ◌∙◌, sym, subst, refl, ℕ, List, map, Result, Ok, Err, IfOk}
+use Rattle.std.specs.declared.alloc.AllocError.{AllocError}
+use Rattle.wy_kernel.specs.declared.program.Program.{Program}
+use Rattle.wy_kernel.specs.Parts.{program_of}
+use Rattle.wy_event.specs.Record.{recorded}
+use Rattle.wy_event.specs.declared.record.Trace.{Trace}
+use Rattle.wy_meaning.specs.Kept.{kept_tail}
+use Rattle.wy_frames.specs.declared.error.TraceError.{TraceError}
+use Rattle.wy_frames.specs.declared.error.TraceError.TheVariants.{Cut, Damaged, BadSeal, NoMemory}
+use Rattle.wy_frames.specs.Traces.{IsReadAs, ReadsAs}
+use Rattle.wy_machine.specs.Audits.{AuditIs}
+use Rattle.wy_machine.specs.declared.auditing.Verdict.{Verdict}
+use Rattle.wy_telling.specs.Why.{WhyIs, Refused}
+use Rattle.wy_reply.specs.declared.answer.Answer.{Answer}
+use Rattle.wy_reply.specs.declared.status.Status.{Status}
+use Rattle.wy_reply.specs.declared.status.Status.TheVariants as status
+use Rattle.wy_reply.specs.Statuses.{code_of}
+use Rattle.wy_reply.specs.Tellings.{IsTraceLine, RefusesTrace, Wanted, Why, Audit, Tells, DueUnder, why_status, why_answer, audit_status, audit_line, why, audit, cut, damaged, bad_seal, refused, told}
+
+-- the status and the text of a refusal, where it was made
+abbrev pub Refuses : Status → List ℕ → Result Answer AllocError → Type 0
+Refuses s text r = IfOk r (λ answer. (answer.status ≡ s) × (answer.text.items ≡ text))
+
+pub refuses_line : (e d : TraceError) (line : List ℕ) (r : Result Answer AllocError) → e ≡ d → IsTraceLine d line → Refuses status.Trace line r → IfOk r (λ answer. RefusesTrace e answer)
+refuses_line e d line (Ok answer) same is h = (h.0, subst (λ (x : TraceError). IsTraceLine x answer.text.items) (sym same) (subst (IsTraceLine d) (sym h.1) is))
+refuses_line e d line (Err x) same is h = tt
+
+-- a status and a text that something is told with
+abbrev Told : Program → Trace → Wanted → Answer → Type 0
+Told p t w answer = Tells p t w (code_of answer.status) answer.text.items
+
+pub told_why : (p : Program) (t : Trace) (question : List ℕ) (a : Result (List ℕ) Refused) (s : Status) (r : Result Answer AllocError) → WhyIs (program_of p) p.lines.items (map recorded t.events) question a →
+    code_of s ≡ why_status a → Refuses s (why_answer a) r → IfOk r (Told p t (Why question))
+told_why p t question a s (Ok answer) is same h = rw (h.0, h.1, same) (why question a is)
+told_why p t question a s (Err x) is same h = tt
+
+pub told_audit : (p : Program) (t : Trace) (v : Verdict) (s : Status) (r : Result Answer AllocError) → AuditIs (program_of p) t.head (map recorded t.events) (kept_tail t.tail) v →
+    code_of s ≡ audit_status v → Refuses s (audit_line v) r → IfOk r (Told p t Audit)
+told_audit p t v s (Ok answer) is same h = rw (h.0, h.1, same) (audit v is)
+told_audit p t v s (Err x) is same h = tt
+
+-- ---- under a program
+
+pub told_under : (p : Program) (bytes : List ℕ) (w : Wanted) (t : Trace) (r : Result Answer AllocError) → IsReadAs p bytes (Ok t) → IfOk r (Told p t w) →
+    IfOk r (λ answer. DueUnder p bytes w (code_of answer.status) answer.text.items)
+told_under p bytes w t (Ok answer) reads tells = told t (code_of answer.status) answer.text.items reads tells
+told_under p bytes w t (Err x) reads tells = tt
+
+refused_as : (p : Program) (bytes : List ℕ) (w : Wanted) (e : TraceError) (line : List ℕ) → ReadsAs (Err e) p bytes → IsTraceLine e line → DueUnder p bytes w 5 line
+refused_as p bytes w _ _ reads (cut byte) = refused (Cut byte) _ reads (cut byte)
+refused_as p bytes w _ _ reads (damaged byte rule) = refused (Damaged byte rule) _ reads (damaged byte rule)
+refused_as p bytes w _ _ reads bad_seal = refused BadSeal _ reads bad_seal
+
+pub refused_under : (p : Program) (bytes : List ℕ) (w : Wanted) (e : TraceError) (r : Result Answer AllocError) → ReadsAs (Err e) p bytes → IfOk r (λ answer. RefusesTrace e answer) →
+    IfOk r (λ answer. DueUnder p bytes w (code_of answer.status) answer.text.items)
+refused_under p bytes w e (Ok answer) reads h = rw (h.0) (refused_as p bytes w e answer.text.items reads h.1)
+refused_under p bytes w e (Err x) reads h = tt
