@@ -1,14 +1,14 @@
 -- Events that agree so far with those that were expected, and the first one that doesn't.
-use Rattle.std.proofs.Common.{◌≡◌, ◌≢◌, ◌∙◌, ◌<◌, ◌≤◌, ◌+◌, ℕ, suc, Bool, true, false, List, [], ◌∷◌, length, map, get_or, Some, refl, sym, ap, ap₂, subst, arith}
-use Rattle.std.specs.Prelude.{◌&&◌, if◌then◌else◌, None as Absent, slice_get, option_map, Result, Err}
+use Rattle.std.proofs.Common.{◌≡◌, ◌≢◌, ◌∙◌, ◌<◌, ◌+◌, ℕ, suc, Bool, true, List, [], ◌∷◌, length, map, get_or, Some, refl, sym, ap, ap₂, arith}
+use Rattle.std.specs.Prelude.{◌&&◌, if◌then◌else◌, None as Absent, slice_get, option_map, Err}
 use Rattle.std.proofs.lemmas.List.{length-map}
-use Rattle.std.proofs.lemmas.Option.{slice_get-map, slice_get_past}
+use Rattle.std.proofs.lemmas.Option.{slice_get-map}
 use borrow.Author.Count.{below_more}
 use Rattle.wy_event.specs.Record.{Recorded}
 use Rattle.wy_record.specs.declared.recorder.RecordError.{RecordError}
 use Rattle.wy_record.specs.declared.recorder.RecordError.TheVariants.{SinkFault, Differs, NoMemory}
 use Rattle.wy_record.specs.Answers.{DiffersFor}
-use Rattle.wy_machine.specs.Differences.{AgreeBelow, DiffersAsFirst, FirstDifference}
+use Rattle.wy_machine.specs.Differences.{AgreeBelow, DiffersAsFirst}
 
 -- ---- what an event is among those of a list
 

@@ -1,10 +1,7 @@
 -- What is kept of a whole run is that of the state at its end.
-use Rattle.std.proofs.Common.{◌≡◌, ◌∙◌, ◌<◌, ◌+◌, ◌-◌, ℕ, suc, Bool, true, List, [], ◌∷◌, length, map, reverse, get_or, Option, Some, refl, sym, ap, ap₂, subst, arith}
-use Rattle.std.specs.Prelude.{None as Absent}
+use Rattle.std.proofs.Common.{◌≡◌, ◌∙◌, ◌<◌, ◌+◌, ◌-◌, ℕ, suc, true, List, [], ◌∷◌, length, map, reverse, get_or, refl, sym, ap, ap₂, arith}
 use Rattle.wy_kernel.specs.Program.{Program}
 use Rattle.wy_event.specs.declared.record.Cover.{Cover}
-use Rattle.wy_event.specs.declared.record.Tail.{Tail}
-use Rattle.wy_event.specs.declared.record.Thrown.{Thrown}
 use Rattle.wy_event.specs.Record.{present}
 use Rattle.wy_steps.specs.Sets.{nothing}
 use Rattle.wy_steps.specs.State.{Carried, State, Covered, Outcome, Done, Left, Stopped, go_on, return, leave, stop}
@@ -14,7 +11,7 @@ use Rattle.wy_meaning.specs.Kept.{kept_tail, kept_thrown}
 use Rattle.wy_operands.specs.Values.{Values}
 use Rattle.wy_state.specs.declared.parts.Limit.TheVariants as limit
 use Rattle.wy_state.specs.declared.parts.Reason.TheVariants as reason
-use Rattle.wy_state.specs.Agrees.{Agrees, Comes, HasCovers, Shape}
+use Rattle.wy_state.specs.Agrees.{Comes, Shape}
 use Rattle.wy_state.specs.Seen.{blank, covered_of}
 use Rattle.wy_work.specs.declared.turn.Signal.{Signal}
 use Rattle.wy_work.specs.declared.turn.Signal.TheVariants as signal

@@ -1,5 +1,5 @@
 -- What is left to do is less by a turn, and the rest is the same run.
-use Rattle.std.proofs.Common.{◌≡◌, ◌∙◌, ◌<◌, arith, length, List, [], ◌∷◌, ◌++◌, reverse, refl, sym, ap, subst, Option, Some, Result, Ok, Err}
+use Rattle.std.proofs.Common.{◌≡◌, ◌∙◌, ◌<◌, arith, length, List, [], ◌∷◌, refl, sym, subst, Option, Result, Ok, Err}
 use Rattle.std.specs.Prelude.{IfOk}
 use Rattle.std.specs.Prelude.{None as Absent}
 use Rattle.std.specs.Option.{IsSome}
@@ -13,7 +13,6 @@ use Rattle.wy_state.specs.declared.parts.Halt.TheVariants as halt
 use Rattle.wy_state.specs.Agrees.{Shape, Comes, Onward}
 use Rattle.wy_work.specs.declared.frame.Frame.{Frame}
 use Rattle.wy_work.specs.declared.turn.Signal.{Signal}
-use Rattle.wy_work.specs.declared.turn.Signal.TheVariants as signal
 use Rattle.wy_work.specs.Frames.{Standing, Ends, after, around, goes, outcome_at, pushed, then_all}
 use Rattle.wy_machine.specs.Going.{GoesOn, Reaches}
 

@@ -1,5 +1,5 @@
 -- What stands before the first step is the start of the definition, and the whole run is before it.
-use Rattle.std.proofs.Common.{◌≡◌, ◌∙◌, ◌<◌, ℕ, List, [], ◌∷◌, length, replicate, get_or, Bool, true, Option, Some, refl, sym, ap, subst, arith}
+use Rattle.std.proofs.Common.{◌≡◌, ◌∙◌, ◌<◌, ℕ, List, [], ◌∷◌, length, replicate, get_or, Bool, true, Some, refl, sym, ap, subst, arith}
 use Rattle.std.specs.Prelude.{None as Absent}
 use Rattle.std.proofs.lemmas.List.{get_or-replicate, length-replicate}
 use Rattle.wy_kernel.specs.Program.{Program, class, method}

@@ -1,6 +1,6 @@
 -- The Throws that the state has are those of the records.
-use Rattle.std.proofs.Common.{◌≡◌, ◌≢◌, ◌⊎◌, ◌∙◌, ◌<◌, ◌≤◌, ◌-◌, ◌++◌, ℕ, suc, Bool, true, false, List, [], ◌∷◌, length, map, reverse, get_or, Option, Some, refl, sym, ap, subst, arith, inl, inr}
-use Rattle.std.specs.Prelude.{None as Absent, slice_get, nat_eq, option_and_then, if◌then◌else◌}
+use Rattle.std.proofs.Common.{◌≡◌, ◌≢◌, ◌⊎◌, ◌∙◌, ◌<◌, ◌≤◌, ◌-◌, ◌++◌, ℕ, List, [], ◌∷◌, length, map, reverse, get_or, Option, Some, refl, sym, ap, subst, arith, inl, inr}
+use Rattle.std.specs.Prelude.{None as Absent, slice_get, nat_eq, if◌then◌else◌}
 use Rattle.std.proofs.lemmas.Bool.Decides.{eqb_tells}
 use Rattle.std.proofs.lemmas.List.{get_or-reverse, length-append, length-map, length-reverse}
 use Rattle.std.proofs.lemmas.Option.{slice_get_cases, slice_get_past, slice_get_within, get_or_from_slice_get}
@@ -10,7 +10,6 @@ use Rattle.wy_value.specs.declared.value.Value.TheVariants.{Object}
 use Rattle.wy_event.specs.Record.{Recorded, present}
 use Rattle.wy_event.specs.declared.record.Kind.{Kind}
 use Rattle.wy_event.specs.declared.record.Kind.TheVariants as kinds
-use Rattle.wy_event.specs.declared.record.Thrown.{Thrown}
 use Rattle.wy_heap.proofs.Slots.{get-append, get-append_past}
 use Rattle.wy_heap.specs.Heap.{code}
 use Rattle.wy_kernel.specs.Program.{Program, class_of_type, type_of_code}

@@ -1,8 +1,8 @@
 -- Where the events of a run first differ from those that were expected.
-use Rattle.std.specs.Prelude.{◌≡◌, ◌≢◌, ◌<◌, ℕ, Bool, true, List, slice_get, Result, Ok, Err}
+use Rattle.std.specs.Prelude.{◌≡◌, ◌≢◌, ◌<◌, ℕ, Bool, true, List, slice_get, Result, Err}
 use Rattle.wy_event.specs.Record.{Recorded}
 use Rattle.wy_record.specs.declared.recorder.RecordError.{RecordError}
-use Rattle.wy_record.specs.declared.recorder.RecordError.TheVariants.{SinkFault, Differs, NoMemory}
+use Rattle.wy_record.specs.declared.recorder.RecordError.TheVariants.{Differs}
 
 -- below this place each has what the other has
 abbrev pub AgreeBelow : ℕ → List Recorded → List Recorded → Type 0

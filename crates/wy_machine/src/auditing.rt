@@ -18,7 +18,7 @@ use wy_record::RecordError;
 pub enum Verdict {
     /// The trace is that of the run.
     Equal,
-    /// The least event that the run has and the trace hasn't, or the other way round.
+    /// The first event at which the trace and the run differ, or one of them has ended.
     Event { event: u32 },
     /// The events are those of the run, and the tail isn't.
     Tail,

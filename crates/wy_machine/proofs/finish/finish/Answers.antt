@@ -1,4 +1,4 @@
-use Rattle.std.proofs.Common.{◌≡◌, ◌∙◌, ap, arith, refl, sym}
+use Rattle.std.proofs.Common.{◌∙◌, ap, arith, refl}
 use Rattle.wy_state.specs.Agrees.{shape}
 use Rattle.wy_machine.specs.Ended.{last_thrown}
 use Rattle.wy_machine.proofs.Ends.{events_kept, kept_of}

@@ -1,4 +1,4 @@
-use Rattle.std.proofs.Common.{◌≡◌, ◌∙◌, arith, [], ◌∷◌, ap, subst, reverse, refl, sym}
+use Rattle.std.proofs.Common.{◌≡◌, ◌∙◌, arith, [], ◌∷◌, ap, subst, reverse, sym}
 use Rattle.std.proofs.lemmas.List.{append-nil, reverse-append}
 use Rattle.wy_kernel.specs.Parts.{program_of}
 use Rattle.wy_work.specs.Frames.{Standing, pushed}

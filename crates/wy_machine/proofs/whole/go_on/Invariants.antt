@@ -1,5 +1,4 @@
 -- the run that was before the machine at first is the one that is left
-use Rattle.std.proofs.Common.{◌≡◌}
 use Rattle.wy_kernel.specs.Parts.{program_of}
 use Rattle.wy_steps.specs.Sets.{nothing}
 use Rattle.wy_steps.specs.State.{Outcome}
