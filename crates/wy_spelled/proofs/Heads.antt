@@ -3,7 +3,7 @@ use Rattle.std.proofs.Common.{◌≡◌, ℕ, suc, ◌+◌, ◌≤◌, Bool, tru
 use Rattle.std.specs.Prelude.{None as Absent}
 use Rattle.std.specs.Prelude.{nat_le, ◌&&◌}
 use Rattle.std.specs.Int.{w32}
-use Rattle.std.proofs.lemmas.Bool.{eqb-true, ltb-false}
+use Rattle.std.proofs.lemmas.Bool.{eqb-true, leb-true, ltb-false}
 use Rattle.std.proofs.lemmas.List.{append-nil, nil_from_length, take_at, take-append-drop, take-take, length-take, length-drop}
 use Rattle.std.proofs.lemmas.Nat.{be_bytes_4}
 use Rattle.wy_event.specs.declared.record.Head.{Head}
@@ -11,7 +11,7 @@ use Rattle.wy_spelling.specs.Spelling.{magic, number, head_payload, head_frame, 
 use Rattle.wy_payload.specs.declared.fault.DamageRule.{DamageRule}
 use Rattle.wy_payload.specs.declared.fault.DamageRule.TheVariants as rule
 use Rattle.wy_payload.specs.Rules.{in_range}
-use Rattle.wy_payload.specs.Reading.{◌>>=◌, passed, number_at, block_at, all_of}
+use Rattle.wy_payload.specs.Reading.{◌>>=◌, passed, number_at, at_most_at, block_at, all_of}
 use Rattle.wy_payload.specs.Closing.{head_at, steps_limit, input_limit, source_limit}
 use Rattle.wy_frames.specs.declared.error.TraceError.{TraceError}
 use Rattle.wy_frames.specs.declared.error.TraceError.TheVariants.{Cut, Damaged}
@@ -19,7 +19,7 @@ use Rattle.wy_frames.specs.Frames.{Frame, opening_length, said_length, frame_of_
 use Rattle.wy_frames.specs.Heads.{agreeing, magic_length, read_head_as, head_in, head_of}
 use Rattle.wy_frames.proofs.Scans.{inner_is, some_is}
 use Rattle.wy_spelled.specs.Laws.{AreBytes}
-use Rattle.wy_spelled.proofs.Numbers.{bytes_behind, bytes_before, read_then, passing, Spelled, number_spelled, block_spelled, one_after}
+use Rattle.wy_spelled.proofs.Numbers.{bytes_behind, bytes_before, guarded, read_then, passing, Spelled, number_spelled, block_spelled, one_after}
 
 abbrev pub done : {A : Type 0} → A → Result A DamageRule
 done x = Ok x
@@ -143,3 +143,50 @@ head_spelled bytes head end are e =
     let n = agreeing magic bytes in
     let r = refuses (eqb n magic_length) (head_in (length bytes) (frame_of (drop magic_length bytes))) (eqb n (length bytes)) (Cut n) (Damaged n rule.Magic) (head, end) e in
     with_frame bytes (head, end) (frame_of (drop 8 bytes)) are (agrees magic bytes (eqb-true n 8 r.0)) refl r.1
+
+-- ---- limits
+
+in_limit : {A : Type 0} (b : Bool) (x y : A) → passed (in_range b) x ≡ Ok y → b ≡ true
+in_limit true x y e = refl
+in_limit false x y e = absurd cc
+
+short_block : (limit : ℕ) (bytes : List ℕ) (x : List ℕ × List ℕ) → block_at limit bytes ≡ Ok x → length x.0 ≤ limit
+unfolding block_at at_most_at
+short_block limit bytes x e =
+    let b = read_then (at_most_at limit bytes) (λ n. cond (ltb (length n.1) n.0) (Err rule.Length) (Ok (take n.0 n.1, drop n.0 n.1))) x e in
+    let m = read_then (number_at w32 bytes) (λ n. passed (in_range (nat_le n.0 limit)) n) b.0 b.1 in
+    let le : m.0.0 ≤ limit = leb-true _ _ (in_limit (nat_le m.0.0 limit) m.0 b.0 m.2) in
+    let same : m.0.0 ≡ b.0.0 = ap (λ (n : ℕ × List ℕ). n.0) (passing (in_range (nat_le m.0.0 limit)) m.0 b.0 m.2) in
+    let g = guarded (ltb (length b.0.1) b.0.0) rule.Length (take b.0.0 b.0.1, drop b.0.0 b.0.1) x b.2 in
+    let front-is : length (take b.0.0 b.0.1) ≡ length x.0 = ap (λ (p : List ℕ × List ℕ). length p.0) g.1 in
+    omega (arith, le, same, front-is, length-take b.0.0 b.0.1)
+
+short_payload : (bytes : List ℕ) (x : Head × List ℕ) → head_at bytes ≡ Ok x → length x.0.source ≤ source_limit
+unfolding head_at
+short_payload bytes x e =
+    let a = read_then (number_at w32 bytes) (λ steps. passed (in_range (nat_le 1 steps.0 && nat_le steps.0 steps_limit)) steps.1 >>= λ rest. block_at input_limit rest >>= λ input. block_at source_limit input.1 >>= λ source. Ok (record { steps = steps.0; input = input.0; source = source.0 }, source.1)) x e in
+    let b = read_then (passed (in_range (nat_le 1 a.0.0 && nat_le a.0.0 steps_limit)) a.0.1) (λ rest. block_at input_limit rest >>= λ input. block_at source_limit input.1 >>= λ source. Ok (record { steps = a.0.0; input = input.0; source = source.0 }, source.1)) x a.2 in
+    let c = read_then (block_at input_limit b.0) (λ input. block_at source_limit input.1 >>= λ source. Ok (record { steps = a.0.0; input = input.0; source = source.0 }, source.1)) x b.2 in
+    let d = read_then (block_at source_limit c.0.1) (λ source. Ok (record { steps = a.0.0; input = c.0.0; source = source.0 }, source.1)) x c.2 in
+    let made : Head × List ℕ = (record { steps = a.0.0; input = c.0.0; source = d.0.0 }, d.0.1) in
+    subst (λ (y : Head × List ℕ). length y.0.source ≤ source_limit) (ok_is made x d.2) (short_block source_limit c.0.1 d.0 d.1)
+
+short_whole : (payload : List ℕ) (h : Head) → all_of (head_at payload) ≡ Ok h → length h.source ≤ source_limit
+short_whole payload h e =
+    let a = read_then (head_at payload) (λ x. cond (eqb (length x.1) 0) (Ok x.0) (Err rule.Length)) h e in
+    let g = ended (eqb (length a.0.1) 0) a.0.0 h a.2 in
+    subst (λ (y : Head). length y.source ≤ source_limit) g.1 (short_payload payload a.0 a.1)
+
+short_in : (size : ℕ) (y : Head × ℕ) (o : Option Frame) → head_in size o ≡ Ok y → length y.0.source ≤ source_limit
+short_in size y Absent e = absurd cc
+short_in size y (Some f) e =
+    let l = lettered (eqb f.letter 72) (read_head_as (magic_length + length f.whole) (all_of (head_at f.payload))) (Damaged magic_length rule.FrameKind) y e in
+    let a = answered (magic_length + length f.whole) (all_of (head_at f.payload)) y l.1 in
+    short_whole f.payload y.0 a.0
+
+pub head_is_short : (bytes : List ℕ) (head : Head) (end : ℕ) → head_of bytes ≡ Ok (head, end) → length head.source ≤ source_limit
+unfolding head_of
+head_is_short bytes head end e =
+    let n = agreeing magic bytes in
+    let r = refuses (eqb n magic_length) (head_in (length bytes) (frame_of (drop magic_length bytes))) (eqb n (length bytes)) (Cut n) (Damaged n rule.Magic) (head, end) e in
+    short_in (length bytes) (head, end) (frame_of (drop 8 bytes)) r.1

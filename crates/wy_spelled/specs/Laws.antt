@@ -1,5 +1,5 @@
 -- What is read is spelled so.
-use Rattle.std.specs.Prelude.{◌≡◌, ℕ, ◌<◌, ◌++◌, List, take, Ok, slice_index}
+use Rattle.std.specs.Prelude.{◌≡◌, ℕ, ◌<◌, ◌≤◌, ◌++◌, length, List, take, Ok, slice_index}
 use Rattle.wy_kernel.specs.declared.program.Program.{Program}
 use Rattle.wy_event.specs.declared.record.Head.{Head}
 use Rattle.wy_event.specs.declared.record.Trace.{Trace}
@@ -16,7 +16,7 @@ use Rattle.wy_payload.specs.Events.{event_at}
 use Rattle.wy_payload.specs.declared.known.Known.{Known}
 use Rattle.wy_payload.specs.declared.closing.Totals.{Totals}
 use Rattle.wy_payload.specs.Reading.{all_of}
-use Rattle.wy_payload.specs.Closing.{coverage_at, tail_at}
+use Rattle.wy_payload.specs.Closing.{coverage_at, source_limit, tail_at}
 use Rattle.wy_frames.specs.Heads.{head_of}
 use Rattle.wy_frames.specs.Traces.{IsReadAs}
 
@@ -45,3 +45,7 @@ EventsAreSpelled = (r : Ranges) (earlier : List Known) (output : ℕ) (payload :
 -- a trace that bytes are read as, all of them
 abbrev pub TracesAreSpelled : Type 0
 TracesAreSpelled = (p : Program) (bytes : List ℕ) (x : Trace) → AreBytes bytes → IsReadAs p bytes (Ok x) → bytes ≡ trace_bytes x
+
+-- the source of a head that bytes begin with is within its limit
+abbrev pub HeadsAreShort : Type 0
+HeadsAreShort = (bytes : List ℕ) (head : Head) (end : ℕ) → head_of bytes ≡ Ok (head, end) → length head.source ≤ source_limit

@@ -2,7 +2,7 @@
 //! The functions do nothing: their contracts are the laws.
 #![tactic(auto)]
 
-ghost use Rattle.wy_spelled.specs.Laws.{CoveragesAreSpelled, EventsAreSpelled, HeadsAreSpelled, SlotsAreSpelled, TailsAreSpelled, TracesAreSpelled};
+ghost use Rattle.wy_spelled.specs.Laws.{CoveragesAreSpelled, EventsAreSpelled, HeadsAreShort, HeadsAreSpelled, SlotsAreSpelled, TailsAreSpelled, TracesAreSpelled};
 
 /// A head that bytes are read to begin with is spelled there, with the magic before it and nothing between.
 pub fn heads_are_spelled()
@@ -32,4 +32,9 @@ pub fn events_are_spelled()
 /// Bytes that are read as a trace are its one spelling.
 pub fn traces_are_spelled()
     ensures { TracesAreSpelled }
+{}
+
+/// The source of a head that bytes are read to begin with is within its limit.
+pub fn heads_are_short()
+    ensures { HeadsAreShort }
 {}
