@@ -1,120 +1,188 @@
 -- What an answer is, from what the reading of the files gave.
-use Rattle.std.proofs.Common.{◌≡◌, ◌∙◌, sym, refl, inl, inr, ℕ, List, Option, Some, None, Result, Ok, Err, IfOk, Bor}
+use Rattle.std.proofs.Common.{◌≡◌, ◌∙◌, sym, ap, subst, refl, inl, inr, ℕ, ◌<◌, Bool, true, false, List, map, Option, Some, None, Result, Ok, Err, IfOk, Bor, Vec, Global}
+use Rattle.std.specs.Prelude.{MatchBool}
 use Rattle.std.specs.declared.alloc.AllocError.{AllocError}
-use Rattle.wy_outside.specs.Counts.{Rose, RoseAt}
+use Rattle.wy_kernel.specs.Program.{Program}
+use Rattle.wy_outside.specs.Counts.{Rose}
 use Rattle.wy_outside.specs.Shelf.{Files}
-use Rattle.wy_words.specs.Words.{Asked, AsksToRun, IsNoCommand}
-use Rattle.wy_top.specs.declared.answer.Answer.{Answer}
+use Rattle.wy_record.specs.Answers.{Mirrors}
+use Rattle.wy_words.specs.Words.{Asked, Asks, Command, Record, IsNoCommand, AskOneCommand}
+use Rattle.wy_reply.specs.declared.answer.Answer.{Answer}
+use Rattle.wy_reply.specs.declared.status.Status.{Status}
+use Rattle.wy_reply.specs.declared.status.Status.TheVariants.{Usage, Absent, TooLong, Fault, Done}
+use Rattle.wy_reply.specs.Lines.{usage_line, shelf_fault_line, absent_line, too_long_line}
+use Rattle.wy_reply.specs.Recordings.{Spelling}
+use Rattle.wy_reply.specs.Report.{recorded_report}
+use Rattle.wy_reply.specs.Statuses.{code_of, is_of_files}
+use Rattle.wy_reply.specs.Tellings.{Wanted}
 use Rattle.wy_top.specs.declared.files.Contents.{Contents}
 use Rattle.wy_top.specs.declared.files.FileError.{FileError}
 use Rattle.wy_top.specs.declared.files.FileError.TheVariants as error
-use Rattle.wy_top.specs.declared.status.Status.{Status}
-use Rattle.wy_top.specs.declared.status.Status.TheVariants.{Usage, Absent, TooLong, Fault}
-use Rattle.wy_top.specs.Lines.{usage_line, shelf_fault_line}
-use Rattle.wy_top.specs.Due.{Due, DueFor, usage, no_source, no_input, read}
-use Rattle.wy_top.specs.Statuses.{code_of}
-use Rattle.wy_top.specs.Answers.{IsAnswer, Knows}
-use Rattle.wy_top.specs.Reads.{GivesBoth, LacksEither, Tells, is_absent, is_too_long, is_fault}
+use Rattle.wy_top.specs.Answers.{Counts, counts, IsAnswer, IsFault, Knows}
+use Rattle.wy_top.specs.Call.{Traced, Traces}
+use Rattle.wy_top.specs.Due.{Due, DueFor, DueForRun, DueForBytes, DueForTrace, DueTo}
+use Rattle.wy_top.specs.Due as due
+use Rattle.wy_top.specs.Held.{Lacks, trace_limit}
+use Rattle.wy_top.specs.Reads.{GivesBoth, GivesFile, LacksEither, Tells, is_fault}
+use Rattle.wy_top.specs.Replies.{AnswersBy, RecordsSource, TracesSource}
+use Rattle.wy_top.proofs.ErrorDues.{Refuses}
 
--- the status and the text of a refusal, where it was made
-abbrev pub Refuses : Status → List ℕ → Result Answer AllocError → Type 0
-Refuses status text r = IfOk r (λ answer. (answer.status ≡ status) × (answer.text.items ≡ text))
+-- what is due for the files that a shelf tells
+abbrev DueBy : Type 1
+DueBy = Files → ℕ → List ℕ → Type 0
 
-pub usage_due : (words : List (List ℕ)) (held : Option Files) (n : ℕ) (r : Result Answer AllocError) →
-    IsNoCommand words → Refuses Usage usage_line r → IfOk r (λ answer. IsAnswer words held n n answer)
-usage_due words held n (Ok answer) unread h = inr (refl, λ _. rw (h.0, h.1) (usage unread))
+no_fault : (s : Status) → is_of_files s ≡ false → s ≡ Fault → ⊥
+no_fault s settled is = let x : true ≡ false = sym (ap is_of_files is) ∙ settled in cc
+
+-- ---- files that were read
+
+run_read : (held : Option Files) (a : Asked) (told : List ℕ → Program → List ℕ → List ℕ) (contents : Contents) (status : ℕ) (text : List ℕ) → GivesBoth held a.source a.input (Ok contents) →
+    DueFor contents.source.items (told contents.input.items) status text → (files : Files) → held ≡ Some files → DueForRun files a told status text
+run_read None a told contents status text gives is files told_so = absurd (cc)
+run_read (Some shelf) a told contents status text gives is files told_so =
+    let same : shelf ≡ files = cc in
+    subst (λ (f : Files). DueForRun f a told status text) same (due.read contents.source.items contents.input.items status text gives.0 gives.1 is)
+
+pub run_answers : (held : Option Files) (a : Asked) (told : List ℕ → Program → List ℕ → List ℕ) (contents : Contents) (source input : List ℕ) (n m k : ℕ) (r : Result Answer AllocError) →
+    GivesBoth held a.source a.input (Ok contents) → m ≡ n → source ≡ contents.source.items → input ≡ contents.input.items →
+    IfOk r (λ answer. DueFor source (told input) (code_of answer.status) answer.text.items) → IfOk r (λ answer. is_of_files answer.status ≡ false) →
+    IfOk r (λ answer. AnswersBy (λ files. DueForRun files a told) held (counts n k) (counts m k) answer)
+run_answers held a told contents source input n m k (Err e) gives same first second is settled = tt
+run_answers held a told contents source input n m k (Ok answer) gives same first second is settled =
+    inr (ap (λ z. counts z k) same, no_fault answer.status settled, run_read held a told contents (code_of answer.status) answer.text.items gives (rw (← first, ← second) is))
+
+-- the text of a recording, by its input
+abbrev recording_told : ℕ → List ℕ → Program → List ℕ → List ℕ
+recording_told steps input p lines = recorded_report p lines input steps
+
+pub record_answers : (s : Spelling) (held : Option Files) (a : Asked) (contents : Contents) (old new : Mirrors) (n m k l : ℕ) (r : Result Answer AllocError) →
+    GivesBoth held a.source a.input (Ok contents) → m ≡ n → IfOk r (λ answer. RecordsSource s contents.source.items contents.input.items a.steps old new k l answer) →
+    IfOk r (λ answer. AnswersBy (λ files. DueForRun files a (recording_told a.steps)) held (counts n k) (counts m l) answer)
+record_answers s held a contents old new n m k l (Err e) gives same is = tt
+record_answers s held a contents old new n m k l (Ok answer) gives same (inl (fault, line, rose)) = inl (fault, inr (line, inl rose))
+record_answers s held a contents old new n m k l (Ok answer) gives same (inr (kept, settled, is, traced)) =
+    inr (λ i. counts (same i) (kept i), no_fault answer.status settled, run_read held a (recording_told a.steps) contents (code_of answer.status) answer.text.items gives is)
+
+traced_by : (s : Spelling) (held : Option Files) (a : Asked) (contents : Contents) (old new : Mirrors) → GivesBoth held a.source a.input (Ok contents) →
+    TracesSource s contents.source.items contents.input.items a.steps old new → (files : Files) → held ≡ Some files → Traced s files a old new
+traced_by s None a contents old new gives is files told_so = absurd (cc)
+traced_by s (Some shelf) a contents old new gives (p, of, held) files told_so =
+    let same : shelf ≡ files = cc in
+    subst (λ (f : Files). Traced s f a old new) same (record { source = contents.source.items; holds = gives.0; input = contents.input.items; is_input = gives.1; program = p; is_program = of; held = held })
+
+pub record_traces : (s : Spelling) (held : Option Files) (a : Asked) (contents : Contents) (old new : Mirrors) (k l : ℕ) (r : Result Answer AllocError) →
+    GivesBoth held a.source a.input (Ok contents) → IfOk r (λ answer. RecordsSource s contents.source.items contents.input.items a.steps old new k l answer) →
+    IfOk r (λ answer. answer.status ≡ Done → (files : Files) → held ≡ Some files → Traced s files a old new)
+record_traces s held a contents old new k l (Err e) gives is = tt
+record_traces s held a contents old new k l (Ok answer) gives (inl (fault, line, rose)) = λ done. absurd (let x = sym fault ∙ done in cc)
+record_traces s held a contents old new k l (Ok answer) gives (inr (kept, settled, is, traced)) = λ done. traced_by s held a contents old new gives (traced done)
+
+trace_read : (held : Option Files) (name : List ℕ) (w : Wanted) (bytes : Vec ℕ Global) (status : ℕ) (text : List ℕ) → GivesFile held name trace_limit (Ok bytes) → DueForBytes bytes.items w status text →
+    (files : Files) → held ≡ Some files → DueForTrace files name w status text
+trace_read None name w bytes status text gives is files told_so = absurd (cc)
+trace_read (Some shelf) name w bytes status text gives is files told_so =
+    let same : shelf ≡ files = cc in
+    subst (λ (f : Files). DueForTrace f name w status text) same (due.read bytes.items status text gives is)
+
+pub trace_answers : (held : Option Files) (name : List ℕ) (w : Wanted) (bytes : Vec ℕ Global) (given : List ℕ) (n m k : ℕ) (r : Result Answer AllocError) → GivesFile held name trace_limit (Ok bytes) → m ≡ n →
+    given ≡ bytes.items → IfOk r (λ answer. DueForBytes given w (code_of answer.status) answer.text.items) → IfOk r (λ answer. is_of_files answer.status ≡ false) →
+    IfOk r (λ answer. AnswersBy (λ files. DueForTrace files name w) held (counts n k) (counts m k) answer)
+trace_answers held name w bytes given n m k (Err e) gives same first is settled = tt
+trace_answers held name w bytes given n m k (Ok answer) gives same first is settled =
+    inr (ap (λ z. counts z k) same, no_fault answer.status settled, trace_read held name w bytes (code_of answer.status) answer.text.items gives (rw (← first) is))
+
+-- ---- files that were not
+
+-- a fault's count rose, and at any other refusal it stayed
+abbrev pub Faulted : FileError → ℕ → ℕ → Type 0
+Faulted e n m = MatchBool (is_fault e) (Rose n m) (m ≡ n)
+
+-- what is due where a file is lacking is due for the command
+abbrev LackDue : DueBy → Option Files → FileError → Type 0
+LackDue by None e = Unit {0}
+LackDue by (Some files) (error.Absent name) = (text : List ℕ) → text ≡ absent_line name.now → by files 3 text
+LackDue by (Some files) (error.TooLong name) = (text : List ℕ) → text ≡ too_long_line name.now → by files 8 text
+LackDue by (Some files) _ = Unit {0}
+
+lack_by : (by : DueBy) (held : Option Files) (e : FileError) (n m k : ℕ) (answer : Answer) → LackDue by held e → Faulted e n m → Tells e answer → AnswersBy by held (counts n k) (counts m k) answer
+lack_by by held (error.Absent name) n m k answer lacks same tells = inr (ap (λ z. counts z k) same, (λ is. absurd (let x = sym tells.0 ∙ is in cc)), found held lacks) where
+  found : (held : Option Files) → LackDue by held (error.Absent name) → (files : Files) → held ≡ Some files → by files (code_of answer.status) answer.text.items
+  found None lacks files told_so = absurd (cc)
+  found (Some shelf) lacks files told_so = let e : shelf ≡ files = cc in rw (tells.0) (subst (λ (f : Files). by f 3 answer.text.items) e (lacks answer.text.items tells.1))
+lack_by by held (error.TooLong name) n m k answer lacks same tells = inr (ap (λ z. counts z k) same, (λ is. absurd (let x = sym tells.0 ∙ is in cc)), found held lacks) where
+  found : (held : Option Files) → LackDue by held (error.TooLong name) → (files : Files) → held ≡ Some files → by files (code_of answer.status) answer.text.items
+  found None lacks files told_so = absurd (cc)
+  found (Some shelf) lacks files told_so = let e : shelf ≡ files = cc in rw (tells.0) (subst (λ (f : Files). by f 8 answer.text.items) e (lacks answer.text.items tells.1))
+lack_by by held error.Fault n m k answer lacks rose tells = inl (tells.0, inl (tells.1, rose))
+lack_by by held error.NoMemory n m k answer lacks same tells = absurd tells
+
+lack_due : (by : DueBy) (held : Option Files) (e : FileError) (n m k : ℕ) (r : Result Answer AllocError) → LackDue by held e → Faulted e n m → IfOk r (λ answer. Tells e answer) →
+    IfOk r (λ answer. AnswersBy by held (counts n k) (counts m k) answer)
+lack_due by held e n m k (Ok answer) lacks rose tells = lack_by by held e n m k answer lacks rose tells
+lack_due by held e n m k (Err x) lacks rose tells = tt
+
+lacks_run : (files : Files) (a : Asked) (told : List ℕ → Program → List ℕ → List ℕ) (status : ℕ) (text : List ℕ) → LacksEither files a.source a.input status text → DueForRun files a told status text
+lacks_run files a told status text (inl lacks) = due.no_source status text lacks
+lacks_run files a told status text (inr (source, name, holds, named, lacks)) = due.no_input source name status text holds named lacks
+
+lacks_run_by : (held : Option Files) (a : Asked) (told : List ℕ → Program → List ℕ → List ℕ) (e : FileError) → GivesBoth held a.source a.input (Err e) → LackDue (λ files. DueForRun files a told) held e
+lacks_run_by None a told e gives = tt
+lacks_run_by (Some files) a told (error.Absent name) gives = λ text is. subst (DueForRun files a told 3) (sym is) (lacks_run files a told 3 (absent_line name.now) gives)
+lacks_run_by (Some files) a told (error.TooLong name) gives = λ text is. subst (DueForRun files a told 8) (sym is) (lacks_run files a told 8 (too_long_line name.now) gives)
+lacks_run_by (Some files) a told error.Fault gives = tt
+lacks_run_by (Some files) a told error.NoMemory gives = tt
+
+pub run_lack : (held : Option Files) (a : Asked) (told : List ℕ → Program → List ℕ → List ℕ) (e : FileError) (n m k : ℕ) (r : Result Answer AllocError) → GivesBoth held a.source a.input (Err e) → Faulted e n m →
+    IfOk r (λ answer. Tells e answer) → IfOk r (λ answer. AnswersBy (λ files. DueForRun files a told) held (counts n k) (counts m k) answer)
+run_lack held a told e n m k r gives rose tells = lack_due (λ files. DueForRun files a told) held e n m k r (lacks_run_by held a told e gives) rose tells
+
+lacks_trace_by : (held : Option Files) (name : List ℕ) (w : Wanted) (e : FileError) → GivesFile held name trace_limit (Err e) → LackDue (λ files. DueForTrace files name w) held e
+lacks_trace_by None name w e gives = tt
+lacks_trace_by (Some files) name w (error.Absent lacking) gives = λ text is. subst (DueForTrace files name w 3) (sym is) (due.no_trace 3 (absent_line lacking.now) gives)
+lacks_trace_by (Some files) name w (error.TooLong lacking) gives = λ text is. subst (DueForTrace files name w 8) (sym is) (due.no_trace 8 (too_long_line lacking.now) gives)
+lacks_trace_by (Some files) name w error.Fault gives = tt
+lacks_trace_by (Some files) name w error.NoMemory gives = tt
+
+pub trace_lack : (held : Option Files) (name : List ℕ) (w : Wanted) (e : FileError) (n m k : ℕ) (r : Result Answer AllocError) → GivesFile held name trace_limit (Err e) → Faulted e n m →
+    IfOk r (λ answer. Tells e answer) → IfOk r (λ answer. AnswersBy (λ files. DueForTrace files name w) held (counts n k) (counts m k) answer)
+trace_lack held name w e n m k r gives rose tells = lack_due (λ files. DueForTrace files name w) held e n m k r (lacks_trace_by held name w e gives) rose tells
+
+-- ---- the words
+
+pub usage_due : (words : List (List ℕ)) (held : Option Files) (n : Counts) (r : Result Answer AllocError) → IsNoCommand words → Refuses Usage usage_line r → IfOk r (λ answer. IsAnswer words held n n answer)
+usage_due words held n (Ok answer) unread h = inr (refl, λ _. rw (h.0, h.1) (due.usage unread))
 usage_due words held n (Err e) unread h = tt
 
--- words that ask for a run are a command
-command : (words : List (List ℕ)) (a : Asked) (X : Type 0) → AsksToRun words a → IsNoCommand words → X
-command words a X asks none = absurd (let e : Some a ≡ None = sym asks ∙ none in cc)
+asked_due : (words : List (List ℕ)) (held : Option Files) (c : Command) (before after : Counts) (answer : Answer) → Asks words c → AnswersBy (λ files. DueTo files c) held before after answer → IsAnswer words held before after answer
+asked_due words held c before after answer asks (inl fault) = inl fault
+asked_due words held c before after answer asks (inr (same, unfaulted, is)) = inr (same, knows) where
+  knows : Knows words held → Due words held (code_of answer.status) answer.text.items
+  knows (inl none) = absurd (none c asks)
+  knows (inr (files, told)) = due.asked c files (code_of answer.status) answer.text.items asks told (is files told)
 
--- ---- both files were read
+pub command_due : (words : List (List ℕ)) (held : Option Files) (c : Command) (before after : Counts) (r : Result Answer AllocError) → Asks words c →
+    IfOk r (λ answer. AnswersBy (λ files. DueTo files c) held before after answer) → IfOk r (λ answer. IsAnswer words held before after answer)
+command_due words held c before after (Ok answer) asks is = asked_due words held c before after answer asks is
+command_due words held c before after (Err e) asks is = tt
 
-pub read_due : (words : List (List ℕ)) (held : Option Files) (a : Asked) (contents : Contents) (source input : List ℕ) (n m : ℕ) (r : Result Answer AllocError) →
-    AsksToRun words a → GivesBoth held a.source a.input (Ok contents) → m ≡ n → source ≡ contents.source.items → input ≡ contents.input.items →
-    IfOk r (λ answer. DueFor source input a.steps (code_of answer.status) answer.text.items) → IfOk r (λ answer. IsAnswer words held n m answer)
-read_due words held a contents source input n m (Err e) asks gives same first second due = tt
-read_due words held a contents source input n m (Ok answer) asks gives same first second due = inr (same, found held gives) where
-  found : (held : Option Files) → GivesBoth held a.source a.input (Ok contents) → Knows words held → Due words held (code_of answer.status) answer.text.items
-  found held gives (inl none) = command words a _ asks none
-  found None gives (inr (files, told)) = absurd (cc)
-  found (Some files) gives (inr known) =
-      read a files contents.source.items contents.input.items (code_of answer.status) answer.text.items (record { asked = asks; told = refl }) gives.0 gives.1 (rw (← first, ← second) due)
+faulted : (by : DueBy) (held : Option Files) (before after : Counts) (answer : Answer) → AnswersBy by held before after answer → answer.status ≡ Fault → IsFault before after answer
+faulted by held before after answer (inl fault) is = fault
+faulted by held before after answer (inr (same, unfaulted, due)) is = absurd (unfaulted is)
 
--- ---- one of them was not
+pub fault_named : (held : Option Files) (c : Command) (before after : Counts) (r : Result Answer AllocError) → IfOk r (λ answer. AnswersBy (λ files. DueTo files c) held before after answer) →
+    IfOk r (λ answer. answer.status ≡ Fault → IsFault before after answer)
+fault_named held c before after (Ok answer) is = faulted (λ files. DueTo files c) held before after answer is
+fault_named held c before after (Err e) is = tt
 
-abbrev unread : FileError → Result Contents FileError
-unread e = Err e
+same_asked : (a b : Asked) (t u : List ℕ) → Record a t ≡ Record b u → a ≡ b
+same_asked a b t u e = cc
 
-lacking : (words : List (List ℕ)) (files : Files) (a : Asked) (status : ℕ) (text : List ℕ) → AsksToRun words a → LacksEither files a.source a.input status text → Due words (Some files) status text
-lacking words files a status text asks (inl lacks) = no_source a files status text (record { asked = asks; told = refl }) lacks
-lacking words files a status text asks (inr (source, name, holds, named, lacks)) = no_input a files source name status text (record { asked = asks; told = refl }) holds named lacks
+traces_of : AskOneCommand → (s : Spelling) (words : List (List ℕ)) (held : Option Files) (a : Asked) (trace : List ℕ) (old new : Mirrors) → Asks words (Record a trace) →
+    ((files : Files) → held ≡ Some files → Traced s files a old new) → Traces s words held old new
+traces_of one s words held a trace old new asks traced = λ b name files also told.
+    subst (λ (z : Asked). Traced s files z old new) (same_asked a b trace name (one words (Record a trace) (Record b name) asks also)) (traced files told)
 
-absent_due : (words : List (List ℕ)) (held : Option Files) (a : Asked) (name : Bor (List ℕ)) (answer : Answer) → AsksToRun words a → GivesBoth held a.source a.input (Err (error.Absent name)) →
-    Tells (error.Absent name) answer → Knows words held → Due words held (code_of answer.status) answer.text.items
-absent_due words held a name answer asks gives tells (inl none) = command words a _ asks none
-absent_due words None a name answer asks gives tells (inr (files, told)) = absurd (cc)
-absent_due words (Some files) a name answer asks gives tells (inr known) = rw (tells.0, tells.1) (lacking words files a 3 _ asks gives)
-
-too_long_due : (words : List (List ℕ)) (held : Option Files) (a : Asked) (name : Bor (List ℕ)) (answer : Answer) → AsksToRun words a → GivesBoth held a.source a.input (Err (error.TooLong name)) →
-    Tells (error.TooLong name) answer → Knows words held → Due words held (code_of answer.status) answer.text.items
-too_long_due words held a name answer asks gives tells (inl none) = command words a _ asks none
-too_long_due words None a name answer asks gives tells (inr (files, told)) = absurd (cc)
-too_long_due words (Some files) a name answer asks gives tells (inr known) = rw (tells.0, tells.1) (lacking words files a 8 _ asks gives)
-
-lack : (words : List (List ℕ)) (held : Option Files) (a : Asked) (e : FileError) (n m : ℕ) (answer : Answer) →
-    AsksToRun words a → GivesBoth held a.source a.input (unread e) → RoseAt is_fault (unread e) n m → Tells e answer → IsAnswer words held n m answer
-lack words held a (error.Absent name) n m answer asks gives same tells = inr (same, absent_due words held a name answer asks gives tells)
-lack words held a (error.TooLong name) n m answer asks gives same tells = inr (same, too_long_due words held a name answer asks gives tells)
-lack words held a error.Fault n m answer asks gives rose tells = inl (tells.0, tells.1, rose)
-lack words held a error.NoMemory n m answer asks gives same tells = absurd tells
-
-pub lack_due : (words : List (List ℕ)) (held : Option Files) (a : Asked) (e : FileError) (n m : ℕ) (r : Result Answer AllocError) →
-    AsksToRun words a → GivesBoth held a.source a.input (unread e) → RoseAt is_fault (unread e) n m → IfOk r (λ answer. Tells e answer) →
-    IfOk r (λ answer. IsAnswer words held n m answer)
-lack_due words held a e n m (Ok answer) asks gives rose tells = lack words held a e n m answer asks gives rose tells
-lack_due words held a e n m (Err x) asks gives rose tells = tt
-
-absent_rises : (e : FileError) (answer : Answer) (n m : ℕ) → RoseAt is_absent (unread e) n m → Tells e answer → answer.status ≡ Absent → Rose n m
-absent_rises (error.Absent name) answer n m rose tells is = rose
-absent_rises (error.TooLong name) answer n m rose tells is = absurd (let s = tells.0 in cc)
-absent_rises error.Fault answer n m rose tells is = absurd (let s = tells.0 in cc)
-absent_rises error.NoMemory answer n m rose tells is = absurd tells
-
-pub absent_rose : (e : FileError) (n m : ℕ) (r : Result Answer AllocError) → RoseAt is_absent (unread e) n m → IfOk r (λ answer. Tells e answer) →
-    IfOk r (λ answer. answer.status ≡ Absent → Rose n m)
-absent_rose e n m (Ok answer) rose tells = absent_rises e answer n m rose tells
-absent_rose e n m (Err x) rose tells = tt
-
-long_rises : (e : FileError) (answer : Answer) (n m : ℕ) → RoseAt is_too_long (unread e) n m → Tells e answer → answer.status ≡ TooLong → Rose n m
-long_rises (error.Absent name) answer n m rose tells is = absurd (let s = tells.0 in cc)
-long_rises (error.TooLong name) answer n m rose tells is = rose
-long_rises error.Fault answer n m rose tells is = absurd (let s = tells.0 in cc)
-long_rises error.NoMemory answer n m rose tells is = absurd tells
-
-pub long_rose : (e : FileError) (n m : ℕ) (r : Result Answer AllocError) → RoseAt is_too_long (unread e) n m → IfOk r (λ answer. Tells e answer) →
-    IfOk r (λ answer. answer.status ≡ TooLong → Rose n m)
-long_rose e n m (Ok answer) rose tells = long_rises e answer n m rose tells
-long_rose e n m (Err x) rose tells = tt
-
-no_usage : (e : FileError) (answer : Answer) (X : Type 0) → Tells e answer → answer.status ≡ Usage → X
-no_usage (error.Absent name) answer X tells is = absurd (let s = tells.0 in cc)
-no_usage (error.TooLong name) answer X tells is = absurd (let s = tells.0 in cc)
-no_usage error.Fault answer X tells is = absurd (let s = tells.0 in cc)
-no_usage error.NoMemory answer X tells is = absurd tells
-
-pub lack_is_no_usage : (e : FileError) (X : Type 0) (r : Result Answer AllocError) → IfOk r (λ answer. Tells e answer) → IfOk r (λ answer. answer.status ≡ Usage → X)
-lack_is_no_usage e X (Ok answer) tells = no_usage e answer X tells
-lack_is_no_usage e X (Err x) tells = tt
-
-fault_rises : (e : FileError) (answer : Answer) (n m : ℕ) → RoseAt is_fault (unread e) n m → Tells e answer → answer.status ≡ Fault → (answer.text.items ≡ shelf_fault_line) × Rose n m
-fault_rises (error.Absent name) answer n m rose tells is = absurd (let s = tells.0 in cc)
-fault_rises (error.TooLong name) answer n m rose tells is = absurd (let s = tells.0 in cc)
-fault_rises error.Fault answer n m rose tells is = (tells.1, rose)
-fault_rises error.NoMemory answer n m rose tells is = absurd tells
-
-pub fault_rose : (e : FileError) (n m : ℕ) (r : Result Answer AllocError) → RoseAt is_fault (unread e) n m → IfOk r (λ answer. Tells e answer) →
-    IfOk r (λ answer. answer.status ≡ Fault → (answer.text.items ≡ shelf_fault_line) × Rose n m)
-fault_rose e n m (Ok answer) rose tells = fault_rises e answer n m rose tells
-fault_rose e n m (Err x) rose tells = tt
+pub traces_due : AskOneCommand → (s : Spelling) (words : List (List ℕ)) (held : Option Files) (a : Asked) (trace : List ℕ) (old new : Mirrors) (r : Result Answer AllocError) → Asks words (Record a trace) →
+    IfOk r (λ answer. answer.status ≡ Done → (files : Files) → held ≡ Some files → Traced s files a old new) → IfOk r (λ answer. answer.status ≡ Done → Traces s words held old new)
+traces_due one s words held a trace old new (Ok answer) asks traced = λ done. traces_of one s words held a trace old new asks (traced done)
+traces_due one s words held a trace old new (Err e) asks traced = tt

@@ -19,9 +19,9 @@ use Rattle.wy_program.specs.declared.typed.TypedProgram.{TypedProgram}
 use Rattle.wy_program.specs.Texts.{Reads}
 use Rattle.wy_top.specs.declared.reading.FrontError.{FrontError}
 use Rattle.wy_top.specs.declared.reading.FrontError.TheVariants.{Lex, Parse, Typing, NoMemory}
-use Rattle.wy_top.specs.Due.{HasTree, unplaced}
+use Rattle.wy_top.specs.Programs.{HasTree, IsProgramOf, unplaced}
 use Rattle.wy_top.specs.Held.{source_limit}
-use Rattle.wy_top.specs.Fronts.{IsCauseOf, IsProgramOf, IsTypedAs, LacksTree, LacksTypes}
+use Rattle.wy_top.specs.Fronts.{IsCauseOf, IsTypedAs, LacksTree, LacksTypes}
 
 -- tokens in order are at most as many as the bytes
 few : (place line size : ℕ) (spans : List Placed) → place ≤ size → InOrder place line size spans → place + length spans ≤ size

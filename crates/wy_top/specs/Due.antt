@@ -1,5 +1,5 @@
 -- What a call of the program has to answer: its status and its text, by the words and the files alone.
-use Rattle.std.specs.Prelude.{◌≡◌, ◌≤◌, ℕ, List, ◌++◌, length, map, Option, Some, Result, Ok, Err}
+use Rattle.std.specs.Prelude.{◌≡◌, ◌≤◌, ℕ, List, ◌++◌, length, map, Option, Some, None, Result, Ok, Err}
 use Rattle.wy_kernel.specs.Program.{Program}
 use Rattle.wy_kernel.specs.declared.program.Program as memory
 use Rattle.wy_event.specs.declared.record.Head.{Head}
@@ -50,6 +50,27 @@ DueTo files (Audit trace) status text = DueForTrace files trace wanted.Audit sta
 pub data Due (words : List (List ℕ)) (held : Option Files) : ℕ → List ℕ → Type 0 where
   usage : IsNoCommand words → Due words held 2 usage_line
   asked : (c : Command) (files : Files) (status : ℕ) (text : List ℕ) → Asks words c → held ≡ Some files → DueTo files c status text → Due words held status text
+
+-- ---- the one freedom
+
+-- the run that a command asks for, and the trace that it reads
+abbrev pub run_of : Command → Option Asked
+run_of (Run a) = Some a
+run_of (Record a trace) = Some a
+run_of _ = None
+
+abbrev pub trace_of : Command → Option (List ℕ)
+trace_of (Output trace) = Some trace
+trace_of (Why trace question) = Some trace
+trace_of (Audit trace) = Some trace
+trace_of _ = None
+
+-- both texts are lines of Syntax for the tokens of one source: that of the file which a run names, or that in the head of the trace which is read
+pub data AreSyntaxLines (words : List (List ℕ)) (held : Option Files) : List ℕ → List ℕ → Type 0 where
+  of_source : (c : Command) (files : Files) (a : Asked) (source : List ℕ) (spans : List Placed) (x y : List ℕ) → Asks words c → held ≡ Some files → run_of c ≡ Some a → Holds files a.source source_limit source →
+      Tokens source spans → IsSyntaxLine spans x → IsSyntaxLine spans y → AreSyntaxLines words held x y
+  of_head : (c : Command) (files : Files) (name bytes : List ℕ) (head : Head) (end : ℕ) (spans : List Placed) (x y : List ℕ) → Asks words c → held ≡ Some files → trace_of c ≡ Some name → Holds files name trace_limit bytes →
+      head_of bytes ≡ Ok (head, end) → Tokens head.source spans → IsSyntaxLine spans x → IsSyntaxLine spans y → AreSyntaxLines words held (of_trace x) (of_trace y)
 
 -- the second text begins with the first
 abbrev pub IsFrontOf : List ℕ → List ℕ → Type 0

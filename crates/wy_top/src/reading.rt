@@ -2,8 +2,8 @@
 ghost use Rattle.std.specs.Prelude.{◌≡◌, ◌≤◌, map, length, IfOk, IfErr};
 ghost use Rattle.wy_program.specs.Texts.{Reads};
 ghost use Rattle.wy_syntax.specs.Declarations.{unit};
-ghost use Rattle.wy_top.specs.Due.{unplaced};
-ghost use Rattle.wy_top.specs.Fronts.{IsCauseOf, IsProgramOf, IsTypedAs, LacksTree, LacksTypes};
+ghost use Rattle.wy_top.specs.Programs.{IsProgramOf, unplaced};
+ghost use Rattle.wy_top.specs.Fronts.{IsCauseOf, IsTypedAs, LacksTree, LacksTypes};
 ghost use Rattle.wy_top.specs.Held.{source_limit};
 ghost use Rattle.wy_tree.specs.Ast.{view};
 ghost use Rattle.wy_tree.specs.Tokens.{placed, Tokens};

@@ -10,6 +10,7 @@ use crate::causes::front_cause;
 use crate::reading::{FrontError, front};
 use std::alloc::{AllocError, Global};
 use wy_frames::read_head;
+use wy_spelled::heads_are_short;
 use wy_reply::{Answer, Status, Wanted, answer_to_trace, answer_to_trace_error};
 
 /// The answer to a trace whose source is no program.
@@ -53,6 +54,7 @@ pub fn answer_to_bytes(
         (code_of answer.status) answer.text.items) }
     ensures settled { IfOk result (λ answer. is_of_files answer.status ≡ false) }
 {
+    heads_are_short();
     match read_head(alloc, bytes) {
         Ok((head, _)) => answer_under(alloc, head.source.as_slice(), bytes, wanted),
         Err(error) => answer_to_trace_error(alloc, error),

@@ -1,15 +1,47 @@
 use Rattle.wy_words.specs.Views.{asked_of}
-use Rattle.wy_top.proofs.AnswerLemmas.{usage_due, read_due, lack_due}
+use Rattle.wy_words.specs.Words.{Run, Record, Output, Why, Audit}
+use Rattle.wy_top.proofs.AnswerLemmas.{usage_due, command_due, fault_named, traces_due}
 use Rattle.wy_top.proofs.answer.answer_to.Goals as goal
 
-pub returns-in_default-clause-due : goal.returns-in_default-clause-due
-returns-in_default-clause-due g c = usage_due _ _ _ _ (c.command.ensures.refused c.in_default.is) c.refused.ensures
+pub returns-in-None-clause-due : goal.returns-in-None-clause-due
+returns-in-None-clause-due g c = usage_due _ _ _ _ (c.command.ensures.refused c.in-None.is) c.refused.ensures
 
-pub returns-in-Ok-clause-due : goal.returns-in-Ok-clause-due
-returns-in-Ok-clause-due g c =
-    read_due _ _ (asked_of c.in-Some.field-0) c.in-Ok.field-0 _ _ _ _ _ c.in-Some.ensures.asked c.in-Ok.ensures.content c.in-Ok.ensures.fault
-    c.as_slice.ensures.value c.as_slice-in-Ok.ensures.value c.answer_to_source.ensures
+pub returns-in-Some-Run-clause-due : goal.returns-in-Some-Run-clause-due
+returns-in-Some-Run-clause-due g c =
+    command_due _ _ (Run (asked_of c.in-Some-Run.asked)) _ _ c.answer_to_run.result (rw (c.in-Some-Run.field-0-is) at c.in-Some-Run.ensures.asked) (c.answer_to_run.ensures.due _)
 
-pub returns-in-Err-clause-due : goal.returns-in-Err-clause-due
-returns-in-Err-clause-due g c =
-    lack_due _ _ (asked_of c.in-Some.field-0) c.in-Err.error _ _ _ c.in-Some.ensures.asked c.in-Err.ensures.content c.in-Err.ensures.fault c.answer_to_lack.ensures
+pub returns-in-Some-Run-clause-fault : goal.returns-in-Some-Run-clause-fault
+returns-in-Some-Run-clause-fault g c = fault_named _ (Run (asked_of c.in-Some-Run.asked)) _ _ c.answer_to_run.result (c.answer_to_run.ensures.due _)
+
+pub returns-in-Some-Record-clause-due : goal.returns-in-Some-Record-clause-due
+returns-in-Some-Record-clause-due g c =
+    command_due _ _ (Record (asked_of c.in-Some-Record.asked) c.in-Some-Record.trace.now) _ _ c.answer_to_record.result (rw (c.in-Some-Record.field-0-is) at c.in-Some-Record.ensures.asked) c.answer_to_record.ensures.due
+
+pub returns-in-Some-Record-clause-traces : goal.returns-in-Some-Record-clause-traces
+returns-in-Some-Record-clause-traces g c =
+    traces_due c.words_ask_one_command.ensures _ _ _ (asked_of c.in-Some-Record.asked) c.in-Some-Record.trace.now _ _ c.answer_to_record.result (rw (c.in-Some-Record.field-0-is) at c.in-Some-Record.ensures.asked)
+    c.answer_to_record.ensures.traced
+
+pub returns-in-Some-Record-clause-fault : goal.returns-in-Some-Record-clause-fault
+returns-in-Some-Record-clause-fault g c = fault_named _ (Record (asked_of c.in-Some-Record.asked) c.in-Some-Record.trace.now) _ _ c.answer_to_record.result c.answer_to_record.ensures.due
+
+pub returns-in-Some-Output-clause-due : goal.returns-in-Some-Output-clause-due
+returns-in-Some-Output-clause-due g c =
+    command_due _ _ (Output c.in-Some-Output.trace.now) _ _ c.answer_from.result (rw (c.in-Some-Output.field-0-is) at c.in-Some-Output.ensures.asked) (c.answer_from.ensures.due _)
+
+pub returns-in-Some-Output-clause-fault : goal.returns-in-Some-Output-clause-fault
+returns-in-Some-Output-clause-fault g c = fault_named _ (Output c.in-Some-Output.trace.now) _ _ c.answer_from.result (c.answer_from.ensures.due _)
+
+pub returns-in-Some-Why-clause-due : goal.returns-in-Some-Why-clause-due
+returns-in-Some-Why-clause-due g c =
+    command_due _ _ (Why c.in-Some-Why.trace.now c.in-Some-Why.question.now) _ _ c.answer_from-in-Some-Why.result (rw (c.in-Some-Why.field-0-is) at c.in-Some-Why.ensures.asked) (c.answer_from-in-Some-Why.ensures.due _)
+
+pub returns-in-Some-Why-clause-fault : goal.returns-in-Some-Why-clause-fault
+returns-in-Some-Why-clause-fault g c = fault_named _ (Why c.in-Some-Why.trace.now c.in-Some-Why.question.now) _ _ c.answer_from-in-Some-Why.result (c.answer_from-in-Some-Why.ensures.due _)
+
+pub returns-in-Some-Audit-clause-due : goal.returns-in-Some-Audit-clause-due
+returns-in-Some-Audit-clause-due g c =
+    command_due _ _ (Audit c.in-Some-Audit.trace.now) _ _ c.answer_from-in-Some-Audit.result (rw (c.in-Some-Audit.field-0-is) at c.in-Some-Audit.ensures.asked) (c.answer_from-in-Some-Audit.ensures.due _)
+
+pub returns-in-Some-Audit-clause-fault : goal.returns-in-Some-Audit-clause-fault
+returns-in-Some-Audit-clause-fault g c = fault_named _ (Audit c.in-Some-Audit.trace.now) _ _ c.answer_from-in-Some-Audit.result (c.answer_from-in-Some-Audit.ensures.due _)

@@ -1,0 +1,95 @@
+-- What a call promises, from its answer and what came of writing it.
+use Rattle.std.proofs.Common.{◌≡◌, ◌≢◌, ◌∙◌, sym, ap, refl, inl, inr, ℕ, ◌<◌, ◌⊎◌, List, length, take, drop, Option, arith}
+use Rattle.std.proofs.Math.Seq.{take-length}
+use Rattle.std.proofs.lemmas.List.{take-append-drop}
+use Rattle.wy_outside.specs.Counts.{Rose}
+use Rattle.wy_outside.specs.Shelf.{Files}
+use Rattle.wy_outside.specs.Sink.{appended}
+use Rattle.wy_reply.specs.declared.answer.Answer.{Answer}
+use Rattle.wy_reply.specs.declared.status.Status.{Status}
+use Rattle.wy_reply.specs.declared.status.Status.TheVariants.{Done, Usage, Absent, Program, Trace, Question, Fault, TooLong, NoMemory, Audit}
+use Rattle.wy_reply.specs.Statuses.{code_of}
+use Rattle.wy_top.specs.Due.{IsFrontOf}
+use Rattle.wy_top.specs.Answers.{Counts, IsAnswer, IsFault, IsFaultLine, Knows}
+use Rattle.wy_top.specs.Deliveries.{Delivers, WritesPart}
+use Rattle.wy_top.specs.Call.{BeginsDue, WritesDue, WritesFaultLine, WritesFront}
+
+-- ---- statuses by their numbers
+
+done_at : (s : Status) → code_of s ≡ 0 → s ≡ Done
+done_at Done e = refl
+done_at Usage e = absurd cc
+done_at Absent e = absurd cc
+done_at Program e = absurd cc
+done_at Trace e = absurd cc
+done_at Question e = absurd cc
+done_at Fault e = absurd cc
+done_at TooLong e = absurd cc
+done_at NoMemory e = absurd cc
+done_at Audit e = absurd cc
+
+fault_at : (s : Status) → code_of s ≡ 7 → s ≡ Fault
+fault_at Done e = absurd cc
+fault_at Usage e = absurd cc
+fault_at Absent e = absurd cc
+fault_at Program e = absurd cc
+fault_at Trace e = absurd cc
+fault_at Question e = absurd cc
+fault_at Fault e = refl
+fault_at TooLong e = absurd cc
+fault_at NoMemory e = absurd cc
+fault_at Audit e = absurd cc
+
+-- ---- what is written
+
+pub written_due : (words : List (List ℕ)) (held : Option Files) (old new : Counts) (n m : ℕ) (before after : Option (List ℕ)) (answer : Answer) (status : Status) (code : ℕ) → IsAnswer words held old new answer →
+    Delivers answer status n m before after → code ≡ code_of status → ¬ Rose old.shelf new.shelf → ¬ Rose old.recorder new.recorder → ¬ Rose n m → Knows words held → code ≢ 9 → WritesDue words held code before after
+written_due words held old new n m before after answer status code (inl (fault, inl (line, rose))) delivers is shelf recorder out knows some = absurd (shelf rose)
+written_due words held old new n m before after answer status code (inl (fault, inr (line, rose))) delivers is shelf recorder out knows some = absurd (recorder rose)
+written_due words held old new n m before after answer status code (inr (same, due)) (inl (as_answered, kept, all)) is shelf recorder out knows some =
+    (answer.text.items, rw (is, as_answered) (due knows), all)
+written_due words held old new n m before after answer status code (inr (same, due)) (inr (inl (fault, rose, part))) is shelf recorder out knows some = absurd (out rose)
+written_due words held old new n m before after answer status code (inr (same, due)) (inr (inr (memory, kept, part))) is shelf recorder out knows some = absurd (some (is ∙ ap code_of memory))
+
+-- some first part of the text was written
+part_of : (answer : Answer) (status : Status) (n m : ℕ) (before after : Option (List ℕ)) → Delivers answer status n m before after → WritesPart answer.text.items before after
+part_of answer status n m before after (inl (same, kept, all)) = (length answer.text.items, omega arith, rw (take-length answer.text.items) all)
+part_of answer status n m before after (inr (inl (fault, rose, part))) = part
+part_of answer status n m before after (inr (inr (memory, kept, part))) = part
+
+front_of : (words : List (List ℕ)) (held : Option Files) (old new : Counts) (before after : Option (List ℕ)) (answer : Answer) → IsAnswer words held old new answer → WritesPart answer.text.items before after →
+    WritesFront words held old new before after
+front_of words held old new before after answer is (k, within, written) = (take k answer.text.items, written, inr (of is)) where
+  begins : IsFrontOf (take k answer.text.items) answer.text.items
+  begins = (drop k answer.text.items, sym (take-append-drop k answer.text.items))
+
+  of : IsAnswer words held old new answer →
+      ((line : List ℕ) × IsFaultLine old new line × IsFrontOf (take k answer.text.items) line) ⊎ ((new ≡ old) × (Knows words held → BeginsDue words held (take k answer.text.items)))
+  of (inl (fault, line)) = inl (answer.text.items, line, begins)
+  of (inr (same, due)) = inr (same, λ knows. (code_of answer.status, answer.text.items, due knows, begins))
+
+pub front : (words : List (List ℕ)) (held : Option Files) (old new : Counts) (n m : ℕ) (before after : Option (List ℕ)) (answer : Answer) (status : Status) → IsAnswer words held old new answer →
+    Delivers answer status n m before after → WritesFront words held old new before after
+front words held old new n m before after answer status is delivers = front_of words held old new before after answer is (part_of answer status n m before after delivers)
+
+-- ---- statuses
+
+pub answered_done : (n m : ℕ) (before after : Option (List ℕ)) (answer : Answer) (status : Status) (code : ℕ) → Delivers answer status n m before after → code ≡ code_of status → code ≡ 0 → answer.status ≡ Done
+answered_done n m before after answer status code (inl (same, kept, all)) is zero = sym same ∙ done_at status (sym is ∙ zero)
+answered_done n m before after answer status code (inr (inl (fault, rose, part))) is zero = absurd (let x = sym (done_at status (sym is ∙ zero)) ∙ fault in cc)
+answered_done n m before after answer status code (inr (inr (memory, kept, part))) is zero = absurd (let x = sym (done_at status (sym is ∙ zero)) ∙ memory in cc)
+
+pub fault_cause : (old new : Counts) (n m : ℕ) (before after : Option (List ℕ)) (answer : Answer) (status : Status) (code : ℕ) → (answer.status ≡ Fault → IsFault old new answer) → Delivers answer status n m before after →
+    code ≡ code_of status → code ≡ 7 → Rose old.shelf new.shelf ⊎ Rose old.recorder new.recorder ⊎ Rose n m
+fault_cause old new n m before after answer status code faults (inl (same, kept, all)) is seven = of (faults (sym same ∙ fault_at status (sym is ∙ seven))) where
+  of : IsFault old new answer → Rose old.shelf new.shelf ⊎ Rose old.recorder new.recorder ⊎ Rose n m
+  of (fault, inl (line, rose)) = inl rose
+  of (fault, inr (line, rose)) = inr (inl rose)
+fault_cause old new n m before after answer status code faults (inr (inl (fault, rose, part))) is seven = inr (inr rose)
+fault_cause old new n m before after answer status code faults (inr (inr (memory, kept, part))) is seven = absurd (let x = sym (fault_at status (sym is ∙ seven)) ∙ memory in cc)
+
+pub fault_line : (old new : Counts) (n m : ℕ) (before after : Option (List ℕ)) (answer : Answer) (status : Status) (code : ℕ) → (answer.status ≡ Fault → IsFault old new answer) → Delivers answer status n m before after →
+    code ≡ code_of status → code ≡ 7 → ¬ Rose n m → WritesFaultLine old new before after
+fault_line old new n m before after answer status code faults (inl (same, kept, all)) is seven out = (answer.text.items, (faults (sym same ∙ fault_at status (sym is ∙ seven))).1, all)
+fault_line old new n m before after answer status code faults (inr (inl (fault, rose, part))) is seven out = absurd (out rose)
+fault_line old new n m before after answer status code faults (inr (inr (memory, kept, part))) is seven out = absurd (let x = sym (fault_at status (sym is ∙ seven)) ∙ memory in cc)
