@@ -63,7 +63,7 @@ texts_are : {V : Type 0} (units : V → List ℕ) (texts : List V) → map (λ t
 texts_are units [] = refl
 texts_are units (t ∷ texts) = ap (λ l. length (utf8_of (units t)) ∷ l) (texts_are units texts)
 
-ranges_in : Program → List ℕ → Ranges
+abbrev ranges_in : Program → List ℕ → Ranges
 ranges_in p lines = record {
   tokens = length lines;
   classes = length p.classes;
@@ -105,7 +105,7 @@ all_stand p q head fed t same is = record {
 read_behind : (p q : memory.Program) (head : Head) (fed : List ℕ) (r : Result Trace TraceError) → ranges_of p ≡ ranges_of q → IsReadBehind p head fed r → IsReadBehind q head fed r
 read_behind p q head fed (Ok x) same (t, stand, has) = (t, all_stand p q head fed t same stand, has)
 read_behind p q head fed (Err e) same (inl fails) = inl (subst (λ (r : Ranges). Refused r head.steps (start head) fed e) same fails)
-read_behind p q head fed (Err e) same (inr (t, stand, open, is)) = inr (t, all_stand p q head fed t same stand, open, is)
+read_behind p q head fed (Err e) same (inr (t, stand, unsealed, is)) = inr (t, all_stand p q head fed t same stand, unsealed, is)
 
 read_at : (p q : memory.Program) (bytes : List ℕ) (h : Result (Head × ℕ) TraceError) (r : Result Trace TraceError) → ranges_of p ≡ ranges_of q →
     MatchResult h (λ x. IsReadBehind p x.0 (drop x.1 bytes) r) (λ e. r ≡ Err e) → MatchResult h (λ x. IsReadBehind q x.0 (drop x.1 bytes) r) (λ e. r ≡ Err e)
@@ -171,8 +171,14 @@ of_lines : (bytes : List ℕ) (head : Head) (end : ℕ) (x y : List ℕ) → hea
 of_lines bytes head end x y is (inl e) = as_one bytes (of_trace x) (of_trace y) (ap of_trace e)
 of_lines bytes head end x y is (inr (spans, ts, first, second)) = syntax_lines head end spans x y is ts first second
 
+abbrev head_at : Head × ℕ → Result (Head × ℕ) TraceError
+head_at x = Ok x
+
+one_pair : (x y : Head × ℕ) → head_at x ≡ head_at y → x ≡ y
+one_pair x y e = cc
+
 one_head : (bytes : List ℕ) (h g : Head) (m n : ℕ) → head_of bytes ≡ Ok (h, m) → head_of bytes ≡ Ok (g, n) → g ≡ h
-one_head bytes h g m n a b = let e : Ok (g, n) ≡ Ok (h, m) = sym b ∙ a in cc
+one_head bytes h g m n a b = ap (λ (x : Head × ℕ). x.0) (one_pair (g, n) (h, m) (sym b ∙ a))
 
 abbrev no_head_at : TraceError → Result (Head × ℕ) TraceError
 no_head_at e = Err e

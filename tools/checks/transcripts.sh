@@ -1,0 +1,38 @@
+#!/usr/bin/env bash
+# Runs each command that README.md and docs/tour.md show, in their order, in a folder that has the examples, and compares
+# what it writes with the lines below it. A line that begins with "$ ./whyline " is a command; what it writes ends where the
+# next line begins with "$ " or the block ends. WHYLINE names another program than ./whyline.
+set -u
+source "$(dirname "$0")/counting.bash"
+program=$(readlink -f "${WHYLINE:-./whyline}")
+home=$PWD
+
+check() { # NAME WORDS: compares with the file `wanted`
+  local words same=1
+  read -r -a words <<<"$2"
+  "$program" "${words[@]}" >"$scratch/out" 2>/dev/null
+  cmp -s "$scratch/wanted" "$scratch/out" || same=0
+  report "$1: $2" "$same"
+}
+
+follow() { # PAGE
+  local line words=''
+  mkdir -p "$scratch/${1//\//_}"
+  cd "$scratch/${1//\//_}" || exit 1
+  cp -r "$home/examples" .
+  while IFS= read -r line || [ -n "$line" ]; do
+    case $line in
+      '$ '* | '```'*)
+        [ -n "$words" ] && check "$1" "$words"
+        words=''
+        : >"$scratch/wanted"
+        case $line in '$ ./whyline '*) words=${line#'$ ./whyline '} ;; esac
+        ;;
+      *) printf '%s\n' "$line" >>"$scratch/wanted" ;;
+    esac
+  done <"$home/$1"
+}
+
+follow README.md
+follow docs/tour.md
+finish transcripts
