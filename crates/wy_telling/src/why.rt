@@ -1,11 +1,10 @@
 //! All that an event comes from, line by line.
 
 ghost use Rattle.std.specs.Prelude.{◌≡◌, ◌++◌, ◌∷◌, ◌<◌, ◌^◌, ℕ, List, Some, IfOk, OnOk, filter, length, map};
-ghost use Rattle.std.specs.List.{flat_map};
 ghost use Rattle.wy_ask.specs.Questions.{asked};
 ghost use Rattle.wy_event.specs.Numbers.{Numbers};
 ghost use Rattle.wy_event.specs.Record.{Recorded, recorded};
-ghost use Rattle.wy_index.specs.Index.{IsIndexOfView, owners_of};
+ghost use Rattle.wy_index.specs.Index.{IsIndexOfView};
 ghost use Rattle.wy_kernel.specs.Parts.{program_of};
 ghost use Rattle.wy_lines.specs.Lines.{event_line};
 ghost use Rattle.wy_telling.specs.Why.{IsOfProgram, TellsOf, TellsWhy, marked_lines, why_text};
