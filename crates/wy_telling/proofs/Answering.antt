@@ -1,7 +1,7 @@
 -- The way from a question to its answer.
-use Rattle.std.proofs.Common.{◌≡◌, ◌∙◌, ◌⊎◌, inl, inr, ⊎_elim, ◌<◌, ◌≤◌, ℕ, zero, suc, Bool, true, false, List, [], ◌∷◌, length, refl, sym, ap, subst, absurd, arith}
+use Rattle.std.proofs.Common.{◌≡◌, ◌∙◌, inl, inr, ⊎_elim, ◌<◌, ◌≤◌, ℕ, zero, suc, Bool, true, false, List, [], ◌∷◌, length, refl, sym, ap, subst, arith}
 use Rattle.std.proofs.Math.Path.{fun_ext}
-use Rattle.std.specs.Prelude.{filter, if◌then◌else◌, map, Vec, Option, Some, IfSome, IfOk, Result, Ok, Err}
+use Rattle.std.specs.Prelude.{filter, if◌then◌else◌, Vec, Some, IfSome, IfOk, Result, Ok, Err}
 use Rattle.std.specs.List.{range_with_len}
 use Rattle.std.specs.declared.alloc.Global.{Global}
 use Rattle.std.proofs.lemmas.Bool.{false≢true}
@@ -18,21 +18,21 @@ use Rattle.wy_why.specs.Walk.{closure_of}
 use Rattle.wy_why.proofs.Closures.{Among, closure_cases, closure_itself, closure_source}
 use Rattle.wy_ask.specs.declared.question.AskError.{AskError}
 use Rattle.wy_ask.specs.declared.question.AskError.TheVariants as errors
-use Rattle.wy_ask.specs.Asked.{IsOf, Resolves, event_of, number_in, owners}
+use Rattle.wy_ask.specs.Asked.{IsOf, Resolves, event_of, number_in}
 use Rattle.wy_ask.specs.Questions.{Asked, Asks, IsUnread}
-use Rattle.wy_telling.specs.Why.{AsksFor, IsOfProgram, NoSuch, TellsWhy, WhyIs, answered, marked_lines, not_read, not_there, why_text}
+use Rattle.wy_telling.specs.Why.{IsOfProgram, NoSuch, TellsOf, TellsWhy, WhyIs, answered, marked_lines, not_read, not_there, why_text}
 
 -- ---- the data are among all
 
 flow_sources : (ss : List Source) (w : ℕ) → Among w (source_events false ss) → Among w (source_events true ss)
 unfolding source_events
 flow_sources [] w at = at
-flow_sources (s ∷ ss) w at = go (is_data s.role) at
+flow_sources (s ∷ ss) w at = go (is_data s.role) at (flow_sources ss w)
   where
-    go : (b : Bool) → Among w (if b then s.event ∷ source_events false ss else source_events false ss) → Among w (s.event ∷ source_events true ss)
-    go true (inl here) = inl here
-    go true (inr later) = inr (flow_sources ss w later)
-    go false later = inr (flow_sources ss w later)
+    go : (b : Bool) → Among w (if b then s.event ∷ source_events false ss else source_events false ss) → (Among w (source_events false ss) → Among w (source_events true ss)) → Among w (s.event ∷ source_events true ss)
+    go true (inl here) more = inl here
+    go true (inr later) more = inr (more later)
+    go false later more = inr (more later)
 
 module _ (owner : Owners) (rs : List Recorded) where
   flow_within : (most n j : ℕ) → n < most → closure_of owner false rs n j ≡ true → closure_of owner true rs n j ≡ true
@@ -88,23 +88,20 @@ indexed p index told rs is v owner =
       all = ap length same ∙ v.all;
     }
 
-pub resolved : (p : Program) (rs : List Recorded) (text : List ℕ) (q : Asked) (r : Result ℕ AskError) → Asks text q → Resolves r (event_of p rs q) (number_in q) → AsksFor p rs text r
-resolved p rs text q (Ok event) asks found = (q, asks, found)
-resolved p rs text q (Err errors.BadQuestion) asks found = absurd found
-resolved p rs text q (Err (errors.NoSuch n)) asks found = (q, asks, found.0, found.1)
-resolved p rs text q (Err errors.NoMemory) asks found = tt
-
-pub unread : (p : Program) (rs : List Recorded) (text : List ℕ) (e : AskError) → IsUnread text e → AsksFor p rs text (Err e)
-unread p rs text errors.BadQuestion none = none
-unread p rs text (errors.NoSuch n) none = absurd none
-unread p rs text errors.NoMemory none = tt
+pub refused : (p : Program) (lines : List ℕ) (rs : List Recorded) (q : Asked) (e : AskError) → Resolves (Err e) (event_of p rs q) (number_in q) → TellsOf p lines rs q (Err e)
+refused p lines rs q errors.BadQuestion found = absurd found
+refused p lines rs q (errors.NoSuch n) found = found
+refused p lines rs q errors.NoMemory found = tt
 
 -- ---- the answer
 
-pub tells_text : (p : Program) (lines : List ℕ) (rs : List Recorded) (question : List ℕ) (event : ℕ) (text : List ℕ) → AsksFor p rs question (Ok event) → text ≡ why_text p lines rs event → WhyIs p lines rs question (Ok text)
-tells_text p lines rs question event text asks is = subst (λ l. WhyIs p lines rs question (Ok l)) (sym is) (answered asks.0 event asks.1 asks.2)
+pub unread : (p : Program) (lines : List ℕ) (rs : List Recorded) (text : List ℕ) (e : AskError) → IsUnread text e → TellsWhy p lines rs text (Err e)
+unread p lines rs text errors.BadQuestion none = not_read none
+unread p lines rs text (errors.NoSuch n) none = absurd none
+unread p lines rs text errors.NoMemory none = tt
 
-pub tells_refusal : (p : Program) (lines : List ℕ) (rs : List Recorded) (question : List ℕ) (e : AskError) → AsksFor p rs question (Err e) → TellsWhy p lines rs question (Err e)
-tells_refusal p lines rs question errors.BadQuestion asks = not_read asks
-tells_refusal p lines rs question (errors.NoSuch n) asks = subst (λ m. WhyIs p lines rs question (Err (NoSuch m))) (sym asks.3) (not_there asks.0 asks.1 asks.2)
-tells_refusal p lines rs question errors.NoMemory asks = tt
+pub read : (p : Program) (lines : List ℕ) (rs : List Recorded) (text : List ℕ) (q : Asked) (r : Result (Vec ℕ Global) AskError) → Asks text q → TellsOf p lines rs q r → TellsWhy p lines rs text r
+read p lines rs text q (Ok told) asks (event, at, is) = subst (λ l. WhyIs p lines rs text (Ok l)) (sym is) (answered q event asks at)
+read p lines rs text q (Err (errors.NoSuch n)) asks (none, is) = subst (λ m. WhyIs p lines rs text (Err (NoSuch m))) (sym is) (not_there q asks none)
+read p lines rs text q (Err errors.BadQuestion) asks told = absurd told
+read p lines rs text q (Err errors.NoMemory) asks told = tt

@@ -3,3 +3,4 @@ pub mod LineEnds
 pub mod Values
 pub mod Merging
 pub mod Answering
+mod Rows

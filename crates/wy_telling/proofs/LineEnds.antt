@@ -1,7 +1,6 @@
 -- A site is found among sites that rise exactly where it is one of them.
-use Rattle.std.proofs.Common.{◌≡◌, ◌∙◌, ◌<◌, ◌≤◌, ℕ, Bool, true, false, List, length, get_or, ⊎_elim, sym, ap, eq-eqb, ne_eqb, arith}
+use Rattle.std.proofs.Common.{◌≡◌, ◌∙◌, ◌<◌, ◌≤◌, ℕ, List, length, get_or, ⊎_elim, sym, ap, eq-eqb, ne_eqb, arith}
 use Rattle.std.specs.Prelude.{◌==◌, Result, Ok, Err, IsPermutation, IsSorted, MatchResult, is_ok}
-use Rattle.std.specs.List.{list_any}
 use Rattle.std.specs.Ordering.{nat_cmp}
 use Rattle.std.specs.List.Sorted.{IsBinarySearchResult}
 use Rattle.std.proofs.lemmas.Bool.{cases_lt}

@@ -1,6 +1,6 @@
 -- Values that print nothing, and classes that are there.
-use Rattle.std.proofs.Common.{◌≡◌, ◌∙◌, ◌<◌, ◌≤◌, ℕ, Bool, true, false, List, [], length, ne_eqb, refl, sym, ap, arith}
-use Rattle.std.specs.Prelude.{map, Option, Some, if◌then◌else◌}
+use Rattle.std.proofs.Common.{◌≡◌, ◌<◌, ◌≤◌, ℕ, false, [], length, ne_eqb, refl, sym, ap, arith}
+use Rattle.std.specs.Prelude.{map, Some, if◌then◌else◌}
 use Rattle.std.specs.Prelude.{None as Absent}
 use Rattle.std.proofs.lemmas.Bool.{true≢false}
 use Rattle.std.proofs.lemmas.List.{get_or_past, length-map}

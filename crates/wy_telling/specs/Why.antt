@@ -1,5 +1,5 @@
 -- The answer to a question about a trace.
-use Rattle.std.specs.Prelude.{◌≡◌, ℕ, List, Option, Some, Result, Ok, Err, Vec}
+use Rattle.std.specs.Prelude.{◌≡◌, ℕ, List, Some, Result, Ok, Err, Vec}
 use Rattle.std.specs.Prelude.{None as Absent}
 use Rattle.std.specs.List.{flat_map}
 use Rattle.std.specs.declared.alloc.Global.{Global}
@@ -53,13 +53,13 @@ TellsWhy p lines rs question (Err errors.NoMemory) = Unit {0}
 
 -- ---- the parts of the way
 
--- the text asks about this event, or about none
-abbrev pub AsksFor : Program → List Recorded → List ℕ → Result ℕ AskError → Type 0
-AsksFor p rs question (Ok event) = (q : Asked) × Asks question q × (event_of p rs q ≡ Some event)
-AsksFor p rs question (Err errors.BadQuestion) = (q : Asked) → ¬ Spells q question
-AsksFor p rs question (Err (errors.NoSuch n)) =
-    (q : Asked) × Asks question q × (event_of p rs q ≡ Absent) × (n ≡ number_in q)
-AsksFor p rs question (Err errors.NoMemory) = Unit {0}
+-- the lines of the event that a question asks about, or a refusal where it is not there
+abbrev pub TellsOf : Program → List ℕ → List Recorded → Asked → Result (Vec ℕ Global) AskError → Type 0
+TellsOf p lines rs q (Ok text) =
+    (event : ℕ) × (event_of p rs q ≡ Some event) × (text.items ≡ why_text p lines rs event)
+TellsOf p lines rs q (Err (errors.NoSuch n)) = (event_of p rs q ≡ Absent) × (n ≡ number_in q)
+TellsOf p lines rs q (Err errors.BadQuestion) = ⊥
+TellsOf p lines rs q (Err errors.NoMemory) = Unit {0}
 
 -- an index knows the classes of the program's fields
 abbrev pub IsOfProgram : Program → Index → Type 0

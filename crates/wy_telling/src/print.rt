@@ -1,13 +1,12 @@
 //! The bytes that the prints of a trace wrote.
 
-ghost use Rattle.std.specs.Prelude.{◌≡◌, ◌++◌, ◌==◌, IfOk, OnOk, map, slice_get};
-ghost use Rattle.std.specs.List.{list_any};
+ghost use Rattle.std.specs.Prelude.{◌≡◌, ◌++◌, IfOk, OnOk, map, slice_get};
 ghost use Rattle.wy_event.specs.Record.{recorded};
 ghost use Rattle.wy_kernel.specs.Parts.{program_of};
 ghost use Rattle.wy_kernel.specs.Program.{fixed_text};
 ghost use Rattle.wy_meaning.specs.Text.{line_end};
 ghost use Rattle.wy_meaning.specs.World.{units_in};
-ghost use Rattle.wy_telling.specs.Printed.{AreLineEnds, printed, printed_by, printed_units};
+ghost use Rattle.wy_telling.specs.Printed.{AreLineEnds, is_among, printed, printed_by, printed_units};
 ghost use Rattle.wy_value.specs.Encoding.{utf8_of};
 ghost use Rattle.wy_value.specs.Numeral.{has_text, text_of};
 
@@ -46,7 +45,7 @@ impl LineEnds {
     }
 
     fn has(&self, site: u32) -> bool
-        ensures { result ≡ list_any (λ s. s == site) self.now }
+        ensures { result ≡ is_among self.now site }
     {
         self.sites.binary_search(&site).is_ok()
     }

@@ -1,14 +1,13 @@
 //! All that an event comes from, line by line.
 
 ghost use Rattle.std.specs.Prelude.{◌≡◌, ◌++◌, ◌∷◌, ◌<◌, ◌^◌, ℕ, List, Some, IfOk, OnOk, filter, length, map};
-ghost use Rattle.std.specs.List.{flat_map};
-ghost use Rattle.wy_ask.specs.Asked.{IsOf, owners};
+ghost use Rattle.wy_ask.specs.Questions.{asked};
 ghost use Rattle.wy_event.specs.Numbers.{Numbers};
 ghost use Rattle.wy_event.specs.Record.{Recorded, recorded};
-ghost use Rattle.wy_index.specs.Index.{IsIndexOfView, owners_of};
+ghost use Rattle.wy_index.specs.Index.{IsIndexOfView};
 ghost use Rattle.wy_kernel.specs.Parts.{program_of};
 ghost use Rattle.wy_lines.specs.Lines.{event_line};
-ghost use Rattle.wy_telling.specs.Why.{AsksFor, IsOfProgram, TellsWhy, marked_lines, why_text};
+ghost use Rattle.wy_telling.specs.Why.{IsOfProgram, TellsOf, TellsWhy, marked_lines, why_text};
 ghost use Rattle.wy_view.specs.References.{AllRefersBelow};
 ghost use Rattle.wy_view.specs.View.{Answers, Keeps};
 ghost use Rattle.wy_why.specs.Answer.{Rises};
@@ -16,7 +15,7 @@ ghost use Rattle.wy_why.specs.Answer.{Rises};
 use std::alloc::Global;
 use std::marker::Brand;
 use std::sync::ledger::{Blank, Ledger};
-use wy_ask::{AskError, read_question, resolve};
+use wy_ask::{AskError, Question, read_question, resolve};
 use wy_event::record::Event;
 use wy_index::Index;
 use wy_kernel::program::Program;
@@ -37,15 +36,17 @@ pub fn why_text(
     ensures { TellsWhy (program_of program.now) program.now.lines.items
         (map recorded events.items) question.now result }
 {
-    why_with::<Brand>(alloc, program, events, question, Blank::new(1))
+    let question = read_question(alloc, question)?;
+    why_asked::<Brand>(alloc, program, events, &question, Blank::new(1))
 }
 
-/// The same, with a ledger for the steps, which nobody reads. Events in memory refuse for want of memory alone.
-fn why_with<L: Ledger>(
+/// The answer to a question that is read, with a ledger for the steps, which nobody reads.
+/// Events in memory refuse for want of memory alone.
+fn why_asked<L: Ledger>(
     alloc: Global,
     program: &Program,
     events: Vec<Event>,
-    question: &str,
+    question: &Question,
     blank: Blank,
 ) -> Result<Vec<u8>, AskError>
     requires fields { length program.now.fields.items < 2 ^ 32 }
@@ -54,38 +55,19 @@ fn why_with<L: Ledger>(
     requires name { blank.name ≡ L.name }
     requires parts { blank.parts ≡ L.parts }
     requires some { 0 < blank.parts }
-    ensures { TellsWhy (program_of program.now) program.now.lines.items
-        (map recorded events.items) question.now result }
+    ensures { TellsOf (program_of program.now) program.now.lines.items
+        (map recorded events.items) (asked question.now) result }
 {
     let mut steps = Steps::<L>::new(blank);
     let mut view = MemoryView { events };
     let Ok(index) = Index::build(alloc, &mut view, program, &mut steps) else {
         return Err(AskError::NoMemory);
     };
-    let event = event_asked(alloc, program, &index, view.count(), question, &mut steps)?;
+    let event = resolve(question, program, &index, view.count(), &mut steps)?;
     let Ok(text) = event_lines(alloc, program, &mut view, &index, event, &mut steps) else {
         return Err(AskError::NoMemory);
     };
     Ok(text)
-}
-
-/// The event that a text asks about.
-fn event_asked<L: Ledger>(
-    alloc: Global,
-    program: &Program,
-    index: &Index,
-    count: u32,
-    question: &str,
-    steps: &mut Steps<L>,
-) -> Result<u32, AskError>
-    requires { length program.now.fields.items < 2 ^ 32 }
-    ensures event { (rs : List Recorded) → IsOf (program_of program.now) index.now count rs
-        → AsksFor (program_of program.now) rs question.now result }
-    ensures below { (rs : List Recorded) → IsOf (program_of program.now) index.now count rs
-        → IfOk result (λ event. event < count) }
-{
-    let question = read_question(alloc, question)?;
-    resolve(&question, program, index, count, steps)
 }
 
 /// The lines of all that an event comes from.
@@ -141,9 +123,13 @@ fn taken(flow: &[u32], event: u32) -> (bool, &[u32])
         → flow.now ≡ filter by_data (event ∷ rest)
         → (result.0 ≡ by_data event) × (result.1.now ≡ filter by_data rest) }
 {
-    match flow {
-        [first, rest @ ..] if *first == event => (true, rest),
-        _ => (false, flow),
+    let Some((first, rest)) = flow.split_first() else {
+        return (false, flow);
+    };
+    if *first == event {
+        (true, rest)
+    } else {
+        (false, flow)
     }
 }
 

@@ -1,12 +1,12 @@
 -- A text asks one question, which names one event or none.
-use Rattle.std.proofs.Common.{◌≡◌, ◌∙◌, refl, sym, ap, absurd, ℕ, List, Some, Result, Ok, Err}
+use Rattle.std.proofs.Common.{◌≡◌, ◌∙◌, refl, sym, ap, ℕ, List, Some, Result, Ok, Err}
 use Rattle.std.specs.Prelude.{None as Absent}
 use Rattle.std.proofs.lemmas.Option.{none-some, same_Some}
 use Rattle.wy_kernel.specs.Program.{Program}
 use Rattle.wy_event.specs.Record.{Recorded}
 use Rattle.wy_ask.specs.Asked.{event_of, number_in}
 use Rattle.wy_ask.specs.Questions.{Asked, Asks}
-use Rattle.wy_telling.specs.Why.{NoSuch, NotRead, Refused, WhyIs, answered, not_read, not_there, why_text}
+use Rattle.wy_telling.specs.Why.{NoSuch, Refused, WhyIs, answered, not_read, not_there, why_text}
 use Rattle.wy_telling.proofs.laws.one_answer_to_why.Goals as goal
 
 module _ (p : Program) (lines : List ℕ) (rs : List Recorded) (question : List ℕ) where
