@@ -1,13 +1,14 @@
 #!/usr/bin/env bash
-# Runs each example through ./whyline and compares what it writes and its status with the stored ones,
-# and then one call for each other status. Ends with a failure if one differs.
+# Runs each example and compares what it writes and its status with the stored ones, and then one call for each other
+# status. Ends with a failure if one differs. WHYLINE names another program than ./whyline.
 set -u
 source "$(dirname "$0")/counting.bash"
+program=$(readlink -f "${WHYLINE:-./whyline}")
 
 expect() { # NAME STATUS FILE WORD..: the call writes what the file holds, and has this status
   local name=$1 status=$2 wanted=$3 same=1
   shift 3
-  ./whyline "$@" >"$scratch/out" 2>"$scratch/err"
+  "$program" "$@" >"$scratch/out" 2>"$scratch/err"
   [ $? = "$status" ] || same=0
   cmp -s "$scratch/out" "$wanted" || same=0
   report "$name" "$same"
@@ -41,7 +42,7 @@ head -c 1048577 /dev/zero | tr '\0' ' ' >"$scratch/long.java"
 head -c 16777216 /dev/zero | tr '\0' 'x' >"$scratch/full"
 head -c 16777217 /dev/zero | tr '\0' 'x' >"$scratch/over"
 
-usage='usage: whyline run SRC [-i IN] [--steps N]'
+usage='usage: whyline run, record, output, why or audit'
 
 expect_line "the step limit" 0 '-- step limit' run "$scratch/endless.java"
 expect_line "a step too few" 0 '-- step limit' run --steps 19 examples/first.java
@@ -56,7 +57,11 @@ expect_line "a name without letters" 2 "$usage" run ''
 expect_line "no name" 2 "$usage" run
 expect_line "a word in capitals" 2 "$usage" Run examples/first.java
 expect_line "words in another order" 2 "$usage" examples/first.java run
-expect_line "another word" 2 "$usage" record examples/first.java
+expect_line "another word" 2 "$usage" rerun examples/first.java
+expect_line "a recording without a trace's name" 2 "$usage" record examples/first.java
+expect_line "a trace's name for a run" 2 "$usage" run examples/first.java -o "$scratch/t"
+expect_line "why without a question" 2 "$usage" why "$scratch/t"
+expect_line "steps for an output" 2 "$usage" output "$scratch/t" --steps 5
 expect_line "a name that begins with a minus sign" 2 "$usage" run -x
 expect_line "an option without its word" 2 "$usage" run examples/first.java -i
 expect_line "no steps" 2 "$usage" run examples/first.java --steps 0
@@ -78,13 +83,41 @@ expect_line "a folder in place of an input" 7 'fault: shelf' run examples/first.
 expect_line "an input of a byte too many" 8 "too long: $scratch/over" run "$scratch/unknown.java" -i "$scratch/over"
 expect_line "a file of a byte too many" 8 "too long: $scratch/long.java" run "$scratch/long.java"
 
-./whyline run "$scratch/syntax.java" >"$scratch/out" 2>/dev/null
+# A trace, and what is told of it.
+trace=$scratch/first.trace
+expect_line "a recording" 0 $'5\n-- finished\n-- recorded 10 events' record examples/first.java -o "$trace"
+expect_line "the options before the file" 0 $'5\n-- finished\n-- recorded 10 events' record -o "$trace" --steps=20 examples/first.java
+expect_line "an output of a trace" 0 $'5\n-- finished' output "$trace"
+expect_line "an audit" 0 'audit: equal' audit "$trace"
+expect_line "why" 0 $'#2 line 2 call Main.main\n#4 line 3 set x = 2 *' why "$trace" e4
+expect_line "a word that is no question" 6 'question: not read' why "$trace" x4
+expect_line "an event that isn't there" 6 'question: no such 10' why "$trace" e10
+expect_line "a print that isn't there" 6 'question: no such 1' why "$trace" p1
+expect_line "a recording that the step limit stops" 0 $'-- step limit\n-- recorded 3 events' record examples/first.java -o "$scratch/short.trace" --steps 5
+expect_line "its output" 0 '-- step limit' output "$scratch/short.trace"
+expect_line "no such trace" 3 "absent: $scratch/none" why "$scratch/none" p0
+expect_line "a source for a trace" 5 'trace: Damaged at byte 0, Magic' output examples/first.java
+expect_line "an empty trace" 5 'trace: Cut at byte 0' audit "$scratch/empty.java"
+head -c 100 "$trace" >"$scratch/cut.trace"
+expect_line "a trace that is cut" 5 'trace: Cut at byte 100' why "$scratch/cut.trace" p0
+(cat "$trace" && printf 'x') >"$scratch/more.trace"
+expect_line "a byte behind the seal" 5 "trace: Damaged at byte $(wc -c <"$trace"), After" output "$scratch/more.trace"
+expect_line "a recording of no program" 4 'program: UnknownName at line 1 token 17' record "$scratch/unknown.java" -o "$scratch/unmade.trace"
+[ ! -e "$scratch/unmade.trace" ] && report "no trace of it" 1 || report "no trace of it" 0
+expect_line "a trace in a folder that isn't there" 7 'fault: recorder' record examples/first.java -o "$scratch/none/first.trace"
+expect_line "a trace on a disk that is full" 7 'fault: recorder' record examples/first.java -o /dev/full
+expect_line "a folder in place of a trace" 7 'fault: shelf' output examples
+truncate -s 1073741825 "$scratch/long.trace"
+expect_line "a trace of a byte too many" 8 "too long: $scratch/long.trace" output "$scratch/long.trace"
+rm "$scratch/long.trace"
+
+"$program" run "$scratch/syntax.java" >"$scratch/out" 2>/dev/null
 [ $? = 4 ] && grep -qx 'program: Syntax at line 1 token [0-8]' "$scratch/out" && report "tokens without a tree" 1 || report "tokens without a tree" 0
 
-./whyline run examples/first.java >/dev/full 2>/dev/null
+"$program" run examples/first.java >/dev/full 2>/dev/null
 [ $? = 7 ] && report "an output that is full" 1 || report "an output that is full" 0
 
-(cd "$scratch" && "$OLDPWD/whyline" run endless.java >here 2>/dev/null)
+(cd "$scratch" && "$program" run endless.java >here 2>/dev/null)
 printf -- '-- step limit\n' | cmp -s - "$scratch/here" && report "the caller's folder" 1 || report "the caller's folder" 0
 
 finish examples
