@@ -93,7 +93,7 @@ expect_line "why" 0 $'#2 line 2 call Main.main\n#4 line 3 set x = 2 *' why "$tra
 expect_line "a word that is no question" 6 'question: not read' why "$trace" x4
 expect_line "an event that isn't there" 6 'question: no such 10' why "$trace" e10
 expect_line "a print that isn't there" 6 'question: no such 1' why "$trace" p1
-expect_line "a recording that the step limit stops" 0 $'-- step limit\n-- recorded 3 events' record examples/first.java -o "$scratch/short.trace" --steps 5
+expect_line "a recording that the step limit stops" 0 $'-- step limit\n-- recorded 5 events' record examples/first.java -o "$scratch/short.trace" --steps 5
 expect_line "its output" 0 '-- step limit' output "$scratch/short.trace"
 expect_line "no such trace" 3 "absent: $scratch/none" why "$scratch/none" p0
 expect_line "a source for a trace" 5 'trace: Damaged at byte 0, Magic' output examples/first.java
