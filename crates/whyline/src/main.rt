@@ -32,9 +32,7 @@ fn main(rt: HostRuntime) -> ExitCode {
 }
 
 /// A recorder whose one mirror is a file.
-fn recorder(
-    rt: &HostRuntime,
-) -> Result<FrameRecorder<FileTraceSink<HostRuntime>>, AllocError> {
+fn recorder(rt: &HostRuntime) -> Result<FrameRecorder<FileTraceSink<HostRuntime>>, AllocError> {
     let alloc = rt.alloc();
     let mut sinks = Vec::new(alloc);
     sinks.push(FileTraceSink::new(*rt, alloc))?;

@@ -139,7 +139,7 @@ one_telling : Traces → (p q : memory.Program) (t : Trace) (w : Wanted) (s u : 
 one_telling known p q t _ _ _ _ _ parts lines output output = (refl, λ i. output_text (parts i) (lines i) (map recorded t.events) t.tail)
 one_telling known p q t _ _ _ _ _ parts lines (why question a first) (why asked b second) =
     let e : a ≡ b = known.answers (program_of p) p.lines.items (map recorded t.events) question a b first
-        (subst (λ (l : List ℕ). WhyIs (program_of p) l (map recorded t.events) question b) (sym lines) (subst (λ (z : Program). WhyIs z q.lines.items (map recorded t.events) question b) (sym parts) second)) in
+    (subst (λ (l : List ℕ). WhyIs (program_of p) l (map recorded t.events) question b) (sym lines) (subst (λ (z : Program). WhyIs z q.lines.items (map recorded t.events) question b) (sym parts) second)) in
     (ap why_status e, ap why_answer e)
 one_telling known p q t _ _ _ _ _ parts lines (audit v first) (audit w second) =
     let e : v ≡ w = known.audits (program_of p) t.head (map recorded t.events) (kept_tail t.tail) v w first (rw (parts) second) in

@@ -45,9 +45,12 @@ record_due : (s : Spelling) (source input : List ℕ) (steps : ℕ) (p : memory.
     head.source ≡ source → head.input ≡ input → head.steps ≡ steps → RecordsAs s p head old new n m answer → RecordsSource s source input steps old new n m answer
 record_due s source input steps p head old new n m answer is _ _ _ (inl fault) = inl fault
 record_due s source input steps p head old new n m answer is text given budget (inr (done, said, held, same)) =
-    inr (same, ap is_of_files done,
-    rw (done, said, given, budget) (program_due source (λ p lines. recorded_report p lines input steps) p is),
-    λ _. (p, is, rw (text, given, budget) at held))
+    inr (
+      same,
+      ap is_of_files done,
+      rw (done, said, given, budget) (program_due source (λ p lines. recorded_report p lines input steps) p is),
+      λ _. (p, is, rw (text, given, budget) at held),
+    )
 
 pub recorded_due : (s : Spelling) (source input : List ℕ) (steps : ℕ) (p : memory.Program) (head : Head) (old new : Mirrors) (n m : ℕ) (r : Result Answer AllocError) → IsProgramOf source p →
     head.source ≡ source → head.input ≡ input → head.steps ≡ steps → IfOk r (λ answer. RecordsAs s p head old new n m answer) → IfOk r (λ answer. RecordsSource s source input steps old new n m answer)

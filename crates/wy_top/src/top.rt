@@ -11,9 +11,9 @@ ghost use Rattle.wy_top.specs.Recorder.{faults_of, mirrors_of, trace_spelling};
 
 use crate::answer::answer_to;
 use std::alloc::Global;
+use wy_framing::FrameRecorder;
 use wy_outside::shelf::Shelf;
 use wy_outside::sink::{Sink, SinkError};
-use wy_framing::FrameRecorder;
 use wy_outside::source::Source;
 use wy_reply::{Answer, Status};
 use wy_sinks::TraceSink;

@@ -10,8 +10,8 @@ use crate::causes::front_cause;
 use crate::reading::{FrontError, front};
 use std::alloc::{AllocError, Global};
 use wy_frames::read_head;
-use wy_spelled::heads_are_short;
 use wy_reply::{Answer, Status, Wanted, answer_to_trace, answer_to_trace_error};
+use wy_spelled::heads_are_short;
 
 /// The answer to a trace whose source is no program.
 fn answer_to_error(alloc: Global, error: FrontError) -> Result<Answer, AllocError>
