@@ -2,6 +2,9 @@
 //! proved, and ends with its status.
 #![tactic(auto)]
 
+ghost use Rattle.std.specs.Prelude.{◌≡◌, IfOk};
+ghost use Rattle.wy_record.specs.declared.recorder.Phase.TheVariants.{Ready};
+
 use std::alloc::AllocError;
 use std::env;
 use std::io::ErrorKind;
@@ -32,7 +35,9 @@ fn main(rt: HostRuntime) -> ExitCode {
 }
 
 /// A recorder whose one mirror is a file.
-fn recorder(rt: &HostRuntime) -> Result<FrameRecorder<FileTraceSink<HostRuntime>>, AllocError> {
+fn recorder(rt: &HostRuntime) -> Result<FrameRecorder<FileTraceSink<HostRuntime>>, AllocError>
+    ensures { IfOk result (λ recorder. recorder.phase ≡ Ready) }
+{
     let alloc = rt.alloc();
     let mut sinks = Vec::new(alloc);
     sinks.push(FileTraceSink::new(*rt, alloc))?;
