@@ -8,3 +8,6 @@ pub mod Uses
 pub mod Events
 pub mod Standing
 pub mod Traces
+mod Back
+mod BackParts
+mod BackValues
