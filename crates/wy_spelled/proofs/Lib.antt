@@ -11,3 +11,4 @@ pub mod Traces
 mod Back
 mod BackParts
 mod BackValues
+mod BackEvents
