@@ -12,3 +12,4 @@ mod Back
 mod BackParts
 mod BackValues
 mod BackEvents
+mod BackTraces
