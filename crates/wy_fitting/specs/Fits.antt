@@ -1,5 +1,5 @@
 -- Records whose numbers fit the bytes that a trace spells them in.
-use Rattle.std.specs.Prelude.{ℕ, ◌<◌, ◌^◌, List, [], All, Option, IfSome, FitsSigned}
+use Rattle.std.specs.Prelude.{◌≡◌, ℕ, ◌<◌, ◌^◌, List, [], All, Option, IfSome, FitsSigned}
 use Rattle.std.specs.Int.{w8, w16, w32, w64}
 use Rattle.wy_value.specs.declared.value.Value.{Value}
 use Rattle.wy_value.specs.declared.value.Value.TheVariants as val
@@ -83,3 +83,10 @@ told e = record {
   units = told_units e.kind e.units;
   uses = e.uses;
 }
+
+-- bytes tell all of it
+abbrev pub IsTold : Recorded → Type 0
+IsTold e = told e ≡ e
+
+abbrev pub AllTold : List Recorded → Type 0
+AllTold rs = All IsTold rs

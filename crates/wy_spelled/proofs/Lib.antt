@@ -8,3 +8,8 @@ pub mod Uses
 pub mod Events
 pub mod Standing
 pub mod Traces
+mod Back
+mod BackParts
+mod BackValues
+mod BackEvents
+mod BackTraces

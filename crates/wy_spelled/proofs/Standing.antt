@@ -53,7 +53,7 @@ pub record Grown (head : Head) (s : Standing) (bytes : List ℕ) (t : Standing) 
 abbrev pub Grows : Head → Standing → List ℕ → Next → Type 0
 Grows head s bytes next = IfOk next (λ t. Grown head s bytes t)
 
-read_has : {A : Type 0} (f : A → Standing) (r : Result A DamageRule) (P : A → Type 0) (Q : Standing → Type 0) → IfOk r P → ((x : A) → P x → Q (f x)) → IfOk (read_as f r) Q
+pub read_has : {A : Type 0} (f : A → Standing) (r : Result A DamageRule) (P : A → Type 0) (Q : Standing → Type 0) → IfOk r P → ((x : A) → P x → Q (f x)) → IfOk (read_as f r) Q
 read_has f (Ok x) P Q h k = k x h
 read_has f (Err r) P Q h k = tt
 
@@ -109,7 +109,7 @@ end_grows steps head s c bytes f shown letter told =
 
 -- ---- the seal
 
-tested : (b : Bool) (x y : Next) (Q : Standing → Type 0) → (b ≡ true → IfOk x Q) → (b ≡ false → IfOk y Q) → IfOk (cond b x y) Q
+pub tested : (b : Bool) (x y : Next) (Q : Standing → Type 0) → (b ≡ true → IfOk x Q) → (b ≡ false → IfOk y Q) → IfOk (cond b x y) Q
 tested true x y Q h k = h refl
 tested false x y Q h k = k refl
 

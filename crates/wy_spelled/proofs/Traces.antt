@@ -32,7 +32,7 @@ record Stands (all : List ℕ) (head : Head) (s : Standing) (rest : List ℕ) : 
 
 -- ---- one frame more
 
-bytes_after : (a b : List ℕ) → AreBytes (a ++ b) → AreBytes b
+pub bytes_after : (a b : List ℕ) → AreBytes (a ++ b) → AreBytes b
 bytes_after a b are i = subst (λ (n : ℕ). n < 256) (get_or-append-add a b i 0) (are (length a + i))
 
 grown_stands : (all : List ℕ) (head : Head) (s t : Standing) (rest : List ℕ) (f : Frame) → IsFrame rest f → Stands all head s rest → Grown head s f.whole t → Stands all head t f.rest
@@ -50,7 +50,7 @@ next_goes all head s t rest others f (Ok u) shown stands grows e =
 next_goes all head s t rest others f (Err (Breaks r)) shown stands grows e = absurd cc
 next_goes all head s t rest others f (Err Unsealed) shown stands grows e = absurd cc
 
-never_goes : (at : ℕ) (b : Bool) (t : Standing) (others : List ℕ) → without_frame at b ≡ Goes t others → ⊥
+pub never_goes : (at : ℕ) (b : Bool) (t : Standing) (others : List ℕ) → without_frame at b ≡ Goes t others → ⊥
 never_goes at true t others e = cc
 never_goes at false t others e = cc
 

@@ -1,13 +1,15 @@
 -- What is read is spelled so.
-use Rattle.std.specs.Prelude.{◌≡◌, ℕ, ◌<◌, ◌≤◌, ◌++◌, length, List, take, Ok, slice_index}
+use Rattle.std.specs.Prelude.{◌≡◌, ℕ, ◌<◌, ◌≤◌, ◌++◌, length, List, map, take, Ok, slice_index}
+use Rattle.std.specs.List.{concat}
 use Rattle.wy_kernel.specs.declared.program.Program.{Program}
 use Rattle.wy_event.specs.declared.record.Head.{Head}
 use Rattle.wy_event.specs.declared.record.Trace.{Trace}
-use Rattle.wy_spelling.specs.Spelling.{coverage_payload, event_payload, opening, slot_bytes, tail_payload, trace_bytes}
+use Rattle.wy_spelling.specs.Spelling.{closing, coverage_payload, event_frame, event_payload, opening, slot_bytes, tail_payload, trace_bytes, trace_limit}
+use Rattle.wy_fitting.specs.Fits.{AllFit, told}
 use Rattle.wy_event.specs.declared.record.Coverage.{Coverage}
 use Rattle.wy_event.specs.declared.record.Tail.{Tail}
 use Rattle.wy_event.specs.declared.record.Slot.{Slot}
-use Rattle.wy_event.specs.Record.{recorded}
+use Rattle.wy_event.specs.Record.{Recorded, recorded}
 use Rattle.wy_payload.specs.declared.ranges.Ranges.{Ranges}
 use Rattle.wy_payload.specs.declared.slot.SlotForm.{SlotForm}
 use Rattle.wy_payload.specs.declared.event.Written.{Written}
@@ -49,3 +51,13 @@ TracesAreSpelled = (p : Program) (bytes : List ℕ) (x : Trace) → AreBytes byt
 -- the source of a head that bytes begin with is within its limit
 abbrev pub HeadsAreShort : Type 0
 HeadsAreShort = (bytes : List ℕ) (head : Head) (end : ℕ) → head_of bytes ≡ Ok (head, end) → length head.source ≤ source_limit
+
+-- ---- the way back
+
+-- the trace of a run: its head, a frame for each event, and what closes them
+abbrev pub run_bytes : Head → List Recorded → Tail → List ℕ
+run_bytes head rs end = let front = opening head ++ concat (map event_frame rs) in front ++ closing end front
+
+-- from the trace of a run whose events fit their bytes these are read, so far as bytes tell them
+abbrev pub RecordedTracesAreReadBack : Type 0
+RecordedTracesAreReadBack = (p : Program) (head : Head) (rs : List Recorded) (end : Tail) (bytes : List ℕ) (x : Trace) → AreBytes bytes → length bytes ≤ trace_limit → AllFit rs → bytes ≡ run_bytes head rs end → IsReadAs p bytes (Ok x) → map recorded x.events ≡ map told rs

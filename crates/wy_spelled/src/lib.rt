@@ -2,7 +2,7 @@
 //! The functions do nothing: their contracts are the laws.
 #![tactic(auto)]
 
-ghost use Rattle.wy_spelled.specs.Laws.{CoveragesAreSpelled, EventsAreSpelled, HeadsAreShort, HeadsAreSpelled, SlotsAreSpelled, TailsAreSpelled, TracesAreSpelled};
+ghost use Rattle.wy_spelled.specs.Laws.{CoveragesAreSpelled, EventsAreSpelled, HeadsAreShort, HeadsAreSpelled, RecordedTracesAreReadBack, SlotsAreSpelled, TailsAreSpelled, TracesAreSpelled};
 
 /// A head that bytes are read to begin with is spelled there, with the magic before it and nothing between.
 pub fn heads_are_spelled()
@@ -37,4 +37,9 @@ pub fn traces_are_spelled()
 /// The source of a head that bytes are read to begin with is within its limit.
 pub fn heads_are_short()
     ensures { HeadsAreShort }
+{}
+
+/// The events of a run's own trace are read back from it.
+pub fn recorded_traces_are_read_back()
+    ensures { RecordedTracesAreReadBack }
 {}
