@@ -3,6 +3,7 @@
 ghost use Rattle.std.specs.Prelude.{◌≡◌, ◌<◌, ◌^◌, ◌++◌, IfOk, OnOk, length, map, true};
 ghost use Rattle.std.specs.List.{concat};
 ghost use Rattle.wy_event.specs.Record.{recorded};
+ghost use Rattle.wy_fitting.specs.Fits.{AllFit};
 ghost use Rattle.wy_kernel.specs.Parts.{program_of};
 ghost use Rattle.wy_machine.specs.Ended.{IsEndOf};
 ghost use Rattle.wy_meaning.specs.Run as meaning;
@@ -16,6 +17,7 @@ use crate::ended::Ended;
 use crate::whole::run;
 use std::alloc::{AllocError, Global};
 use wy_event::record::{Event, Head};
+use wy_fitting::events_fit;
 use wy_kernel::program::Program;
 use wy_record::{MemoryRecorder, RecordError, Recorder};
 
@@ -39,6 +41,8 @@ pub fn record<R: Recorder>(
         (R.opening head.now ++ concat (map R.frame
         (meaning.events nothing (program_of program.now) head.now.input head.now.steps)))
         (R.mirrors recorder.old)) }
+    ensures fits { IfOk result (λ e. AllFit
+        (meaning.events nothing (program_of program.now) head.now.input head.now.steps)) }
     ensures phase { OnOk result (R.phase recorder.new ≡ Done) }
     ensures faults { FaultsAs result (R.faults recorder.old) (R.faults recorder.new) }
     ensures as_expected { R.compares ≡ true → OnOk result (map recorded expected.items
@@ -62,6 +66,7 @@ fn kept(alloc: Global, program: &Program, head: &Head) -> Result<(Ended, Vec<Eve
         IsEndOf (program_of program.now) head.now.input head.now.steps r.0) }
     ensures events { IfOk result (λ r. map recorded r.1.items
         ≡ meaning.events nothing (program_of program.now) head.now.input head.now.steps) }
+    ensures fits { IfOk result (λ r. AllFit (map recorded r.1.items)) }
 {
     let mut memory = MemoryRecorder::new(alloc);
     match memory.start("", head, Vec::new(alloc)) {
@@ -69,7 +74,9 @@ fn kept(alloc: Global, program: &Program, head: &Head) -> Result<(Ended, Vec<Eve
         Err(_) => return Err(AllocError),
     }
     let (ended, mut memory) = run(alloc, program, head.input.as_slice(), head.steps, memory)?;
-    Ok((ended, memory.take()))
+    let events = memory.take();
+    events_fit(events.as_slice());
+    Ok((ended, events))
 }
 
 /// Hands events to a recorder, in order.

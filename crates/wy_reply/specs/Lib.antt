@@ -4,3 +4,4 @@ pub mod Refusals
 pub mod Report
 pub mod Tellings
 pub mod Recordings
+pub mod Carried

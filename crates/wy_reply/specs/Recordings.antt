@@ -1,5 +1,5 @@
 -- What a recording leaves in the mirrors of its recorder.
-use Rattle.std.specs.Prelude.{◌≡◌, ◌<◌, ◌⊎◌, ℕ, List, ◌++◌, map, option_map}
+use Rattle.std.specs.Prelude.{◌≡◌, ◌<◌, ◌^◌, ◌⊎◌, ℕ, List, ◌++◌, map, option_map}
 use Rattle.std.specs.List.{concat}
 use Rattle.wy_kernel.specs.Program.{Program}
 use Rattle.wy_kernel.specs.declared.program.Program as memory
@@ -7,6 +7,8 @@ use Rattle.wy_kernel.specs.Parts.{program_of}
 use Rattle.wy_event.specs.Record.{Recorded}
 use Rattle.wy_event.specs.declared.record.Head.{Head}
 use Rattle.wy_event.specs.declared.record.Tail.{Tail}
+use Rattle.wy_fitting.specs.Fits.{AllFit}
+use Rattle.wy_spelling.specs.Spelling as bytes_of
 use Rattle.wy_steps.specs.Sets.{nothing}
 use Rattle.wy_meaning.specs.Run as meaning
 use Rattle.wy_meaning.specs.Kept.{kept_tail}
@@ -25,7 +27,11 @@ pub record Spelling : Type 0 where
 abbrev pub spelling : (Head → List ℕ) → (Recorded → List ℕ) → (Tail → List ℕ → List ℕ) → Spelling
 spelling opening frame closing = record { opening = opening; frame = frame; closing = closing }
 
--- these bytes are the trace of the run of a program, as it is spelled so: the run's head, its events in order, and its end
+-- the spelling of a trace in bytes
+abbrev pub trace_spelling : Spelling
+trace_spelling = spelling bytes_of.opening bytes_of.event_frame bytes_of.closing
+
+-- these bytes are the trace of the run of a program, as it is spelled so: the run's head, its events in order, and its end; each number of them fits the bytes that it is spelled in
 pub record IsTraceOf (s : Spelling) (p : Program) (source input : List ℕ) (steps : ℕ) (bytes : List ℕ) : Type 0 where
   pub head : Head
   pub steps_are : head.steps ≡ steps
@@ -33,6 +39,8 @@ pub record IsTraceOf (s : Spelling) (p : Program) (source input : List ℕ) (ste
   pub source_is : head.source ≡ source
   pub end : Tail
   pub end_is : kept_tail end ≡ meaning.tail nothing p input steps
+  pub steps_fit : steps < 2 ^ 32
+  pub events_fit : AllFit (meaning.events nothing p input steps)
   pub spelled : bytes ≡ (let front = s.opening head ++ concat (map s.frame (meaning.events nothing p input steps)) in front ++ s.closing end front)
 
 -- each mirror that tells its bytes holds the trace

@@ -1,5 +1,5 @@
 //! What is answered for a run that is recorded.
-ghost use Rattle.std.specs.Prelude.{◌≡◌, IfOk};
+ghost use Rattle.std.specs.Prelude.{◌≡◌, ◌<◌, ◌^◌, IfOk};
 ghost use Rattle.wy_kernel.specs.Parts.{program_of};
 ghost use Rattle.wy_record.specs.declared.recorder.Phase.TheVariants.{Ready};
 ghost use Rattle.wy_reply.specs.Recordings.{RecordsAs, spelling};
@@ -35,7 +35,8 @@ pub fn answer_to_recording<R: Recorder>(
     head: &Head,
     recorder: &mut R,
 ) -> Result<Answer, AllocError>
-    requires { R.phase recorder.old ≡ Ready }
+    requires ready { R.phase recorder.old ≡ Ready }
+    requires steps { head.now.steps < 2 ^ 32 }
     ensures { IfOk result (λ answer. RecordsAs (spelling R.opening R.frame R.closing)
         program.now head.now (R.mirrors recorder.old) (R.mirrors recorder.new)
         (R.faults recorder.old) (R.faults recorder.new) answer) }

@@ -1,0 +1,350 @@
+-- What why tells over the trace of a run is what the run carried.
+use Rattle.std.proofs.Common.{◌≡◌, ◌∙◌, sym, ap, subst, refl, inl, inr, ℕ, zero, suc, ◌<◌, ◌≤◌, ◌^◌, Bool, true, false, cond, List, [], ◌∷◌, length, map, drop, Option, Some, None, Result, Ok, Err, IfOk, arith}
+use Rattle.std.specs.Prelude.{All, MatchResult, slice_get, nat_le, nat_lt}
+use Rattle.std.specs.declared.alloc.AllocError.{AllocError}
+use Rattle.std.proofs.lemmas.Bool.{leb-true, ltb-true}
+use Rattle.std.proofs.lemmas.List.{length-map}
+use Rattle.wy_kernel.specs.declared.program.Program as memory
+use Rattle.wy_kernel.specs.Program.{Program}
+use Rattle.wy_kernel.specs.Parts.{program_of}
+use Rattle.wy_value.specs.declared.value.Value.{Value}
+use Rattle.wy_value.specs.declared.value.Value.TheVariants as val
+use Rattle.wy_event.specs.Numbers.{Numbers}
+use Rattle.wy_event.specs.Record.{Recorded, recorded}
+use Rattle.wy_event.specs.Sources.{Owners, closure, data_closure, last_write, written, creation, is_so, or_else, writes, creates}
+use Rattle.wy_event.specs.declared.record.Kind.{Kind}
+use Rattle.wy_event.specs.declared.record.Kind.TheVariants as kind
+use Rattle.wy_event.specs.declared.record.Slot.{Slot}
+use Rattle.wy_event.specs.declared.record.Slot.TheVariants as slot
+use Rattle.wy_event.specs.declared.record.Head.{Head}
+use Rattle.wy_event.specs.declared.record.Trace.{Trace}
+use Rattle.wy_spelling.specs.Spelling.{trace_limit}
+use Rattle.wy_frames.specs.Heads.{head_of}
+use Rattle.wy_frames.specs.Traces.{IsReadAs, IsReadBehind}
+use Rattle.wy_frames.specs.declared.error.TraceError.{TraceError}
+use Rattle.wy_spelled.specs.Laws.{AreBytes, RecordedHeadsAreReadBack, RecordedTracesAreReadBack}
+use Rattle.wy_fitting.specs.Fits.{AllTold, IsTold, told, told_value, told_units}
+use Rattle.wy_steps.specs.Sets.{nothing, numbers}
+use Rattle.wy_steps.specs.State.{Held, Noted}
+use Rattle.wy_steps.specs.Steps.{owner_in}
+use Rattle.wy_meaning.specs.Run.{events, history}
+use Rattle.wy_backward.specs.Backward.{BackwardIsForward, StoredIsLastWrite, stored_at}
+use Rattle.wy_shaped.specs.Shaped.{RecordsAreShaped, Shaped, UnitsOf, ValueOf, IsNoValue}
+use Rattle.wy_why.specs.Answer.{up_to}
+use Rattle.wy_ask.specs.Asked.{event_of, owners, static_place, field_place, element_place, stored}
+use Rattle.wy_ask.specs.Reading.{and_then}
+use Rattle.wy_ask.specs.Questions.{Asked, Asks}
+use Rattle.wy_ask.specs.Questions as question
+use Rattle.wy_ask.proofs.Stores.{print_below}
+use Rattle.wy_telling.specs.Why.{WhyIs, Refused, NotRead, NoSuch, answered, not_there, not_read, marked_lines, why_text}
+use Rattle.wy_reply.specs.declared.answer.Answer.{Answer}
+use Rattle.wy_reply.specs.declared.status.Status.TheVariants.{Done}
+use Rattle.wy_reply.specs.Statuses.{code_of}
+use Rattle.wy_reply.specs.Recordings.{IsTraceOf, trace_spelling}
+use Rattle.wy_reply.specs.Tellings.{Wanted, Why, Audit, Output, RefusesTrace, Tells, why, audit, output}
+use Rattle.wy_reply.specs.Carried.{CarriedAnswer, CarriesBy, HasSource, Means, SameSets, static, field, element, local}
+
+-- ---- bytes tell all of a run's records
+
+nothing_is : (v : Value) → IsNoValue v → val.None ≡ v
+nothing_is val.None h = refl
+nothing_is (val.Bool b) h = absurd h
+nothing_is (val.Byte z) h = absurd h
+nothing_is (val.Short z) h = absurd h
+nothing_is (val.Char u) h = absurd h
+nothing_is (val.Int z) h = absurd h
+nothing_is (val.Long z) h = absurd h
+nothing_is val.Null h = absurd h
+nothing_is (val.Object n) h = absurd h
+nothing_is (val.Text n) h = absurd h
+nothing_is (val.Fixed n) h = absurd h
+
+value_is : (k : Kind) (v : Value) → ValueOf k v → told_value k v ≡ v
+value_is kind.Text v h = nothing_is v h
+value_is kind.Init v h = refl
+value_is kind.New v h = refl
+value_is kind.Call v h = refl
+value_is kind.Bind v h = refl
+value_is kind.Set v h = refl
+value_is kind.Test v h = refl
+value_is kind.Read v h = refl
+value_is kind.Print v h = refl
+value_is kind.Return v h = refl
+value_is kind.Jump v h = refl
+value_is kind.Throw v h = refl
+value_is kind.Catch v h = refl
+
+units_are : (k : Kind) (us : List ℕ) → UnitsOf k us → told_units k us ≡ us
+units_are kind.Text us h = refl
+units_are kind.Init [] h = refl
+units_are kind.New [] h = refl
+units_are kind.Call [] h = refl
+units_are kind.Bind [] h = refl
+units_are kind.Set [] h = refl
+units_are kind.Test [] h = refl
+units_are kind.Read [] h = refl
+units_are kind.Print [] h = refl
+units_are kind.Return [] h = refl
+units_are kind.Jump [] h = refl
+units_are kind.Throw [] h = refl
+units_are kind.Catch [] h = refl
+units_are kind.Init (u ∷ us) h = absurd h
+units_are kind.New (u ∷ us) h = absurd h
+units_are kind.Call (u ∷ us) h = absurd h
+units_are kind.Bind (u ∷ us) h = absurd h
+units_are kind.Set (u ∷ us) h = absurd h
+units_are kind.Test (u ∷ us) h = absurd h
+units_are kind.Read (u ∷ us) h = absurd h
+units_are kind.Print (u ∷ us) h = absurd h
+units_are kind.Return (u ∷ us) h = absurd h
+units_are kind.Jump (u ∷ us) h = absurd h
+units_are kind.Throw (u ∷ us) h = absurd h
+units_are kind.Catch (u ∷ us) h = absurd h
+
+shaped_is_told : (rs : List Recorded) (n : ℕ) (e : Recorded) → Shaped rs n e → IsTold e
+unfolding told
+shaped_is_told rs n e s = λ i. record {
+  kind = e.kind;
+  site = e.site;
+  frame = e.frame;
+  control = e.control;
+  what = e.what;
+  slot = e.slot;
+  value = value_is e.kind e.value s.value_of_kind i;
+  units = units_are e.kind e.units s.units_of_kind i;
+  uses = e.uses;
+}
+
+-- what holds of each record by its number holds of all
+all_by_number : (P : Recorded → Type 0) (rs : List Recorded) → ((n : ℕ) (e : Recorded) → slice_get rs n ≡ Some e → P e) → All P rs
+all_by_number P [] each = tt
+all_by_number P (r ∷ rs) each = (each 0 r refl, all_by_number P rs (λ n e at. each (suc n) e at))
+
+pub all_told : (p : Program) (input : List ℕ) (steps : ℕ) → RecordsAreShaped nothing p input steps → AllTold (events nothing p input steps)
+all_told p input steps shaped = all_by_number IsTold (events nothing p input steps) (λ n e at. shaped_is_told (events nothing p input steps) n e (shaped n e at))
+
+-- ---- an answer is below the end
+
+some_is : (a b : ℕ) → Some a ≡ Some b → a ≡ b
+some_is a b e = cc
+
+written_step : (b : Bool) (m w : ℕ) (o : Option ℕ) → (o ≡ Some w → w < m) → cond b (Some m) o ≡ Some w → w < suc m
+written_step true m w o below e = let same = some_is m w e in omega (arith, same)
+written_step false m w o below e = let le = below e in omega (arith, le)
+
+written_below : (rs : List Recorded) (x : Slot) (m w : ℕ) → written rs x m ≡ Some w → w < m
+unfolding written
+written_below rs x zero w e = absurd (cc)
+written_below rs x (suc m) w e = written_step (is_so (writes x) (slice_get rs m)) m w (written rs x m) (written_below rs x m w) e
+
+created_step : (b : Bool) (m w : ℕ) (o : Option ℕ) → (o ≡ Some w → w < m) → or_else o (cond b (Some m) None) ≡ Some w → w < suc m
+unfolding or_else
+created_step b m w (Some n) below e = let le = below e in omega (arith, le)
+created_step true m w None below e = let same = some_is m w e in omega (arith, same)
+created_step false m w None below e = absurd (cc)
+
+creation_below : (owner : Owners) (rs : List Recorded) (x : Slot) (m w : ℕ) → creation owner rs x m ≡ Some w → w < m
+unfolding creation
+creation_below owner rs x zero w e = absurd (cc)
+creation_below owner rs x (suc m) w e = created_step (is_so (creates owner m x) (slice_get rs m)) m w (creation owner rs x m) (creation_below owner rs x m w) e
+
+either_below : (o c : Option ℕ) (m w : ℕ) → (o ≡ Some w → w < m) → (c ≡ Some w → w < m) → or_else o c ≡ Some w → w < m
+unfolding or_else
+either_below (Some n) c m w first second e = first e
+either_below None c m w first second e = second e
+
+last_write_below : (owner : Owners) (rs : List Recorded) (x : Slot) (m w : ℕ) → last_write owner rs x m ≡ Some w → w < m
+unfolding last_write
+last_write_below owner rs x m w e = either_below (written rs x m) (creation owner rs x m) m w (written_below rs x m w) (creation_below owner rs x m w) e
+
+-- what a question with a moment finds is the last write of its place below a moment that the trace reaches
+pub record Found (owner : Owners) (rs : List Recorded) (place : Option Slot) (m w : ℕ) : Type 0 where
+  pub reached : m ≤ length rs
+  pub slot : Slot
+  pub is_slot : place ≡ Some slot
+  pub is_last : last_write owner rs slot m ≡ Some w
+
+found_at : (b : Bool) (owner : Owners) (rs : List Recorded) (place : Option Slot) (m w : ℕ) → nat_le m (length rs) ≡ b → cond b (and_then place (λ x. last_write owner rs x m)) None ≡ Some w → Found owner rs place m w
+found_at true owner rs (Some x) m w reached e = record { reached = leb-true _ _ reached; slot = x; is_slot = refl; is_last = e }
+found_at true owner rs None m w reached e = absurd (cc)
+found_at false owner rs place m w reached e = absurd (cc)
+
+found : (owner : Owners) (rs : List Recorded) (place : Option Slot) (m w : ℕ) → stored owner rs place m ≡ Some w → Found owner rs place m w
+found owner rs place m w e = found_at (nat_le m (length rs)) owner rs place m w refl e
+
+found_below : (owner : Owners) (rs : List Recorded) (place : Option Slot) (m w : ℕ) → Found owner rs place m w → w < length rs
+found_below owner rs place m w f = let a = f.reached in let b = last_write_below owner rs f.slot m w f.is_last in omega arith
+
+number_below : (b : Bool) (n w m : ℕ) → nat_lt n m ≡ b → cond b (Some n) None ≡ Some w → w < m
+number_below true n w m less e = let lt = ltb-true n m less in let same = some_is n w e in omega (arith, lt, same)
+number_below false n w m less e = absurd (cc)
+
+event_below : (p : Program) (rs : List Recorded) (q : Asked) (w : ℕ) → event_of p rs q ≡ Some w → w < length rs
+event_below p rs (question.Print k) w e = print_below rs k (Some w) (sym e)
+event_below p rs (question.Event n) w e = number_below (nat_lt n (length rs)) n w (length rs) refl e
+event_below p rs (question.Static class name m) w e = found_below (owners p) rs (static_place p class name) m w (found (owners p) rs (static_place p class name) m w e)
+event_below p rs (question.Field n class name m) w e = found_below (owners p) rs (field_place p rs n class name m) m w (found (owners p) rs (field_place p rs n class name m) m w e)
+event_below p rs (question.Elem n i m) w e = found_below (owners p) rs (element_place rs n i m) m w (found (owners p) rs (element_place rs n i m) m w e)
+event_below p rs (question.Local n i m) w e = found_below (owners p) rs (Some (slot.Local n i)) m w (found (owners p) rs (Some (slot.Local n i)) m w e)
+
+-- ---- the answer
+
+-- what is known of each run
+pub record Runs (p : Program) (input : List ℕ) (steps : ℕ) : Type 0 where
+  pub same : events numbers p input steps ≡ events nothing p input steps
+  pub carried : BackwardIsForward p input steps
+  pub stores : StoredIsLastWrite p input steps
+
+noted_at : (l : List (Noted numbers)) (n : ℕ) → n < length (map (λ (e : Noted numbers). e.event) l) → (e : Noted numbers) × (slice_get l n ≡ Some e)
+noted_at [] n less = absurd (omega (arith, less))
+noted_at (e ∷ l) zero less = (e, refl)
+noted_at (e ∷ l) (suc n) less = noted_at l n (omega (arith, less))
+
+owners_are : (p : Program) → owners p ≡ owner_in p
+unfolding owner_in
+owners_are p = refl
+
+placed : (p : Program) (rs : List Recorded) (place : Option Slot) (x : Slot) (m w : ℕ) → place ≡ Some x → Found (owners p) rs place m w → (m ≤ length rs) × (last_write (owners p) rs x m ≡ Some w)
+placed p rs place x m w is f = let both : Some f.slot ≡ Some x = sym f.is_slot ∙ is in let same : f.slot ≡ x = cc in (f.reached, subst (λ (y : Slot). last_write (owners p) rs y m ≡ Some w) same f.is_last)
+
+-- the records of a run are those of its history
+history_length : (p : Program) (input : List ℕ) (steps : ℕ) → length (events numbers p input steps) ≡ length (history numbers p input steps)
+unfolding events
+history_length p input steps = length-map (history numbers p input steps) (λ (e : Noted numbers). e.event)
+
+history_reached : (p : Program) (input : List ℕ) (steps m : ℕ) → m ≤ length (events numbers p input steps) → m ≤ length (history numbers p input steps)
+history_reached p input steps m le = omega (arith, le, history_length p input steps)
+
+history_below : (p : Program) (input : List ℕ) (steps w : ℕ) → w < length (events numbers p input steps) → w < length (map (λ (e : Noted numbers). e.event) (history numbers p input steps))
+unfolding events
+history_below p input steps w less = less
+
+abbrev ok_text : List ℕ → Result (List ℕ) Refused
+ok_text x = Ok x
+
+ok_is : (x y : List ℕ) → ok_text x ≡ ok_text y → x ≡ y
+ok_is x y e = cc
+
+-- the place of a question with a moment, as what is found has it
+place_found : (p : Program) (rs : List Recorded) (q : Asked) (x : Slot) (m w : ℕ) → Means p rs q x m → event_of p rs q ≡ Some w → (m ≤ length rs) × (last_write (owners p) rs x m ≡ Some w)
+place_found p rs _ x m w (static class name _ _ is) e = placed p rs (static_place p class name) x m w is (found (owners p) rs (static_place p class name) m w e)
+place_found p rs _ x m w (field object class name _ _ is) e = placed p rs (field_place p rs object class name m) x m w is (found (owners p) rs (field_place p rs object class name m) m w e)
+place_found p rs _ x m w (element array index _ _ is) e = placed p rs (element_place rs array index m) x m w is (found (owners p) rs (element_place rs array index m) m w e)
+place_found p rs _ x m w (local frame index _) e = placed p rs (Some x) x m w refl (found (owners p) rs (Some x) m w e)
+
+held_is : (p : Program) (input : List ℕ) (steps : ℕ) → Runs p input steps → (q : Asked) (w : ℕ) (e : Noted numbers) → event_of p (events numbers p input steps) q ≡ Some w →
+    slice_get (history numbers p input steps) w ≡ Some e → (x : Slot) (m : ℕ) → Means p (events numbers p input steps) q x m → (h : Held numbers) × (stored_at p input steps m x ≡ Some h) × SameSets h e
+held_is p input steps run q w e is at x m means =
+    let f = place_found p (events numbers p input steps) q x m w means is in
+    let reached : m ≤ length (history numbers p input steps) = history_reached p input steps m f.0 in
+    let h = run.stores m x w e reached (subst (λ (o : Owners). last_write o (events numbers p input steps) x m ≡ Some w) (owners_are p) f.1) at in
+    (h.0, h.1, record { by_data = h.2; in_all = h.3 })
+
+carried_text : (p : Program) (lines input : List ℕ) (steps w : ℕ) (e : Noted numbers) → Runs p input steps → slice_get (history numbers p input steps) w ≡ Some e →
+    why_text p lines (events numbers p input steps) w ≡ marked_lines p lines (events numbers p input steps) e.from_data (up_to w e.from_all)
+unfolding why_text
+carried_text p lines input steps w e run at =
+    let data-is : data_closure (owners p) (events numbers p input steps) w ≡ e.from_data = λ i k. (run.carried w e at k).0 i in
+    let all-is : closure (owners p) (events numbers p input steps) w ≡ e.from_all = λ i k. (run.carried w e at k).1 i in
+    λ i. marked_lines p lines (events numbers p input steps) (data-is i) (up_to w (all-is i))
+
+answer_carried : (p : Program) (lines input : List ℕ) (steps : ℕ) (asks text : List ℕ) → Runs p input steps → (r : Result (List ℕ) Refused) → r ≡ Ok text → WhyIs p lines (events numbers p input steps) asks r →
+    CarriedAnswer p lines input steps asks text
+answer_carried p lines input steps asks text run _ same (answered q w is_asked is) =
+    let e = noted_at (history numbers p input steps) w (history_below p input steps w (event_below p (events numbers p input steps) q w is)) in
+    let texts : why_text p lines (events numbers p input steps) w ≡ text = ok_is _ _ same in
+    record {
+      asked = q;
+      is_asked = is_asked;
+      event = w;
+      is_event = is;
+      noted = e.0;
+      is_noted = e.1;
+      lists = sym texts ∙ carried_text p lines input steps w e.0 run e.1;
+      stored = held_is p input steps run q w e.0 is e.1;
+    }
+answer_carried p lines input steps asks text run _ same (not_there q is_asked is) = absurd (cc)
+answer_carried p lines input steps asks text run _ same (not_read none) = absurd (cc)
+
+-- ---- what is told
+
+tells_why : (p : memory.Program) (t : Trace) (w : Wanted) (s : ℕ) (x : List ℕ) → Tells p t w s x → (asks : List ℕ) → w ≡ Why asks → s ≡ 0 →
+    (r : Result (List ℕ) Refused) × (r ≡ Ok x) × WhyIs (program_of p) p.lines.items (map recorded t.events) asks r
+tells_why p t _ _ _ output asks same zero_is = absurd (cc)
+tells_why p t _ _ _ (why question (Ok text) is) asks same zero_is = let e : question ≡ asks = cc in (Ok text, refl, subst (λ (q : List ℕ). WhyIs (program_of p) p.lines.items (map recorded t.events) q (Ok text)) e is)
+tells_why p t _ _ _ (why question (Err NotRead) is) asks same zero_is = absurd (omega (arith, zero_is))
+tells_why p t _ _ _ (why question (Err (NoSuch n)) is) asks same zero_is = absurd (omega (arith, zero_is))
+tells_why p t _ _ _ (audit v is) asks same zero_is = absurd (cc)
+
+pub told_carried : (p : memory.Program) (t : Trace) (w : Wanted) (s : ℕ) (x : List ℕ) (input : List ℕ) (steps : ℕ) → Runs (program_of p) input steps → map recorded t.events ≡ events nothing (program_of p) input steps →
+    Tells p t w s x → s ≡ 0 → (asks : List ℕ) → w ≡ Why asks → CarriedAnswer (program_of p) p.lines.items input steps asks x
+told_carried p t w s x input steps run read tells done asks same =
+    let r = tells_why p t w s x tells asks same done in
+    answer_carried (program_of p) p.lines.items input steps asks x run r.0 r.1
+    (subst (λ (rs : List Recorded). WhyIs (program_of p) p.lines.items rs asks r.0) (read ∙ sym run.same) r.2)
+
+-- ---- the bytes of a run's trace
+
+-- what is known of runs and of what is read of their traces
+pub record Laws : Type 0 where
+  pub back : RecordedTracesAreReadBack
+  pub heads : RecordedHeadsAreReadBack
+  pub shaped : (p : Program) (input : List ℕ) (steps : ℕ) → RecordsAreShaped nothing p input steps
+  pub same : (p : Program) (input : List ℕ) (steps : ℕ) → events numbers p input steps ≡ events nothing p input steps
+  pub carried : (p : Program) (input : List ℕ) (steps : ℕ) → BackwardIsForward p input steps
+  pub stores : (p : Program) (input : List ℕ) (steps : ℕ) → StoredIsLastWrite p input steps
+
+pub known : RecordedTracesAreReadBack → RecordedHeadsAreReadBack → ((p : Program) (input : List ℕ) (steps : ℕ) → RecordsAreShaped nothing p input steps) →
+    ((p : Program) (input : List ℕ) (steps : ℕ) → events numbers p input steps ≡ events nothing p input steps) → ((p : Program) (input : List ℕ) (steps : ℕ) → BackwardIsForward p input steps) →
+    ((p : Program) (input : List ℕ) (steps : ℕ) → StoredIsLastWrite p input steps) → Laws
+known back heads shaped same carried stores = record { back = back; heads = heads; shaped = shaped; same = same; carried = carried; stores = stores }
+
+run_of : Laws → (p : Program) (input : List ℕ) (steps : ℕ) → Runs p input steps
+run_of laws p input steps = record { same = laws.same p input steps; carried = laws.carried p input steps; stores = laws.stores p input steps }
+
+-- the records that are read are those of the run
+read_back : Laws → (p q : memory.Program) (source input : List ℕ) (steps : ℕ) (bytes : List ℕ) (x : Trace) → AreBytes bytes → length bytes ≤ trace_limit → IsTraceOf trace_spelling (program_of q) source input steps bytes →
+    IsReadAs p bytes (Ok x) → map recorded x.events ≡ events nothing (program_of q) input steps
+read_back laws p q source input steps bytes x are short is reads =
+    laws.back p is.head (events nothing (program_of q) input steps) is.end bytes x are short is.events_fit is.spelled reads (all_told (program_of q) input steps (laws.shaped (program_of q) input steps))
+
+carries : Laws → (p : memory.Program) (bytes : List ℕ) (w : Wanted) (t : Trace) (s : ℕ) (text : List ℕ) → AreBytes bytes → length bytes ≤ trace_limit → IsReadAs p bytes (Ok t) → Tells p t w s text → s ≡ 0 → CarriesBy p bytes w text
+carries laws p bytes w t s text are short reads tells done = λ asks same source input steps is.
+    told_carried p t w s text input steps (run_of laws (program_of p) input steps) (read_back laws p p source input steps bytes t are short is reads) tells done asks same
+
+pub under_carries : Laws → (p : memory.Program) (bytes : List ℕ) (w : Wanted) (t : Trace) (r : Result Answer AllocError) → AreBytes bytes → length bytes ≤ trace_limit → IsReadAs p bytes (Ok t) →
+    IfOk r (λ answer. Tells p t w (code_of answer.status) answer.text.items) → IfOk r (λ answer. answer.status ≡ Done → CarriesBy p bytes w answer.text.items)
+under_carries laws p bytes w t (Ok answer) are short reads tells = λ done. carries laws p bytes w t (code_of answer.status) answer.text.items are short reads tells (ap code_of done)
+under_carries laws p bytes w t (Err e) are short reads tells = tt
+
+abbrev headed : Head × ℕ → Result (Head × ℕ) TraceError
+headed y = Ok y
+
+one_head : (y z : Head × ℕ) → headed y ≡ headed z → y ≡ z
+one_head y z e = cc
+
+head_in_trace : (p : memory.Program) (bytes : List ℕ) (x : Trace) (h : Result (Head × ℕ) TraceError) (head : Head) (end : ℕ) → MatchResult h (λ y. IsReadBehind p y.0 (drop y.1 bytes) (Ok x)) (λ e. Ok x ≡ Err e) →
+    h ≡ Ok (head, end) → x.head ≡ head
+head_in_trace p bytes x (Ok y) head end (t, stand, has) is = has.head_is ∙ ap (λ (z : Head × ℕ). z.0) (one_head y (head, end) is)
+head_in_trace p bytes x (Err e) head end reads is = absurd (cc)
+
+has_source : Laws → (p : memory.Program) (bytes : List ℕ) (x : Trace) → AreBytes bytes → length bytes ≤ trace_limit → IsReadAs p bytes (Ok x) → HasSource bytes
+has_source laws p bytes x are short reads = λ q source input steps is head end at.
+    let few : is.head.steps < 2 ^ 32 = subst (λ n. n < 2 ^ 32) (sym is.steps_are) is.steps_fit in
+    let read : x.head ≡ is.head = laws.heads p is.head (events nothing q input steps) is.end bytes x are short is.events_fit is.spelled reads few in
+    ap (λ (h : Head). h.source) (sym (head_in_trace p bytes x (head_of bytes) head end reads at) ∙ read) ∙ is.source_is
+
+pub under_source : Laws → (p : memory.Program) (bytes : List ℕ) (x : Trace) (r : Result Answer AllocError) → AreBytes bytes → length bytes ≤ trace_limit → IsReadAs p bytes (Ok x) →
+    IfOk r (λ answer. answer.status ≡ Done → HasSource bytes)
+under_source laws p bytes x (Ok answer) are short reads = λ done. has_source laws p bytes x are short reads
+under_source laws p bytes x (Err e) are short reads = tt
+
+-- a trace that is refused isn't done
+pub refused_carries : (X : Type 0) (e : TraceError) (r : Result Answer AllocError) → IfOk r (λ answer. RefusesTrace e answer) → IfOk r (λ answer. answer.status ≡ Done → X)
+refused_carries X e (Ok answer) h = λ done. absurd (let s = sym h.0 ∙ done in cc)
+refused_carries X e (Err x) h = tt
+
+pub refused_carries_by : (p : memory.Program) (bytes : List ℕ) (w : Wanted) (e : TraceError) (r : Result Answer AllocError) → IfOk r (λ answer. RefusesTrace e answer) →
+    IfOk r (λ answer. answer.status ≡ Done → CarriesBy p bytes w answer.text.items)
+refused_carries_by p bytes w e (Ok answer) h = λ done. absurd (let s = sym h.0 ∙ done in cc)
+refused_carries_by p bytes w e (Err x) h = tt
