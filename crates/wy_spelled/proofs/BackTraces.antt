@@ -27,7 +27,7 @@ use Rattle.wy_payload.specs.declared.event.Written.{Written}
 use Rattle.wy_payload.specs.Ranges.{ranges_of}
 use Rattle.wy_payload.specs.Reading.{all_of}
 use Rattle.wy_payload.specs.Events.{event_at}
-use Rattle.wy_payload.specs.Closing.{coverage_at, tail_at}
+use Rattle.wy_payload.specs.Closing.{coverage_at, steps_limit, tail_at}
 use Rattle.wy_frames.specs.declared.error.TraceError.{TraceError}
 use Rattle.wy_frames.specs.declared.stage.Placed.{Placed}
 use Rattle.wy_frames.specs.declared.stage.Stage.{Stage}
@@ -40,18 +40,18 @@ use Rattle.wy_frames.specs.Traces.{IsReadBehind, IsReadAs}
 use Rattle.wy_spelled.specs.Laws.{AreBytes, run_bytes}
 use Rattle.wy_spelled.proofs.Numbers.{bytes_behind}
 use Rattle.wy_spelled.proofs.Steps.{if_read}
-use Rattle.wy_spelled.proofs.Heads.{IsFrame, whole_frame, head_spelled}
+use Rattle.wy_spelled.proofs.Heads.{IsFrame, whole_frame, head_spelled, head_has_limits}
 use Rattle.wy_spelled.proofs.Standing.{read_has, tested}
 use Rattle.wy_spelled.proofs.Traces.{bytes_after, never_goes}
 use Rattle.wy_spelled.proofs.BackEvents.{whole_back}
 
 -- ---- frames of the same bytes are one
 
-record SameNumber (n m : ℕ) (a b : List ℕ) : Type 0 where
-  numbers : n ≡ m
-  behind : a ≡ b
+pub record SameNumber (n m : ℕ) (a b : List ℕ) : Type 0 where
+  pub numbers : n ≡ m
+  pub behind : a ≡ b
 
-same_number : (n m : ℕ) (a b : List ℕ) → n < 2 ^ 32 → m < 2 ^ 32 → number n ++ a ≡ number m ++ b → SameNumber n m a b
+pub same_number : (n m : ℕ) (a b : List ℕ) → n < 2 ^ 32 → m < 2 ^ 32 → number n ++ a ≡ number m ++ b → SameNumber n m a b
 same_number n m a b n-small m-small e =
     let bytes : number n ≡ number m = sym (take_at (number n) a 4 refl) ∙ ap (take 4) e ∙ take_at (number m) b 4 refl in
     record {
@@ -238,8 +238,14 @@ closing_closes end front =
     let seal = seal_frame (sha256 (front ++ tail_frames end)) in
     (coverage_payload end.coverage, end_frame end ++ seal, append_assoc (coverage_frame end.coverage) (end_frame end) seal)
 
+-- what is read
+pub record IsBack (head : Head) (rs : List Recorded) (x : Trace) : Type 0 where
+  pub events : map recorded x.events ≡ map told rs
+  pub payloads : head_payload x.head ≡ head_payload head
+  pub steps : x.head.steps ≤ steps_limit
+
 with_head : (p : Program) (head : Head) (rs : List Recorded) (end : Tail) (bytes : List ℕ) (x : Trace) (h : Result (Head × ℕ) TraceError) → AreBytes bytes → length bytes ≤ trace_limit → AllFit rs → bytes ≡ run_bytes head rs end → head_of bytes ≡ h
-    → MatchResult h (λ y. IsReadBehind p y.0 (drop y.1 bytes) (Ok x)) (λ e. Ok x ≡ Err e) → map recorded x.events ≡ map told rs
+    → MatchResult h (λ y. IsReadBehind p y.0 (drop y.1 bytes) (Ok x)) (λ e. Ok x ≡ Err e) → IsBack head rs x
 with_head p head rs end bytes x (Ok y) are small fit parts is read =
     let events = concat (map event_frame rs) in
     let behind = closing end (opening head ++ events) in
@@ -248,8 +254,13 @@ with_head p head rs end bytes x (Ok y) are small fit parts is read =
     let both : opening y.0 ++ fed ≡ opening head ++ (events ++ behind) = split ∙ parts ∙ append_assoc (opening head) events behind in
     let short : length (opening y.0 ++ fed) < 2 ^ 32 = subst (λ (w : List ℕ). length w < 2 ^ 32) (sym split) (omega (arith, small)) in
     let same = same_head y.0 head fed (events ++ behind) both short in
-    behind_told p y.0 rs behind fed x (closing_closes end (opening head ++ events)) fit same.rests (bytes_behind y.1 bytes are) (omega (arith, short, length-append (opening y.0) fed)) read
+    let head-is : x.head ≡ y.0 = read.2.head_is in
+    record {
+      events = behind_told p y.0 rs behind fed x (closing_closes end (opening head ++ events)) fit same.rests (bytes_behind y.1 bytes are) (omega (arith, short, length-append (opening y.0) fed)) read;
+      payloads = ap head_payload head-is ∙ same.payloads;
+      steps = subst (λ (h : Head). h.steps ≤ steps_limit) (sym head-is) (head_has_limits bytes y.0 y.1 is).steps;
+    }
 with_head p head rs end bytes x (Err e) are small fit parts is read = absurd cc
 
-pub run_read_back : (p : Program) (head : Head) (rs : List Recorded) (end : Tail) (bytes : List ℕ) (x : Trace) → AreBytes bytes → length bytes ≤ trace_limit → AllFit rs → bytes ≡ run_bytes head rs end → IsReadAs p bytes (Ok x) → map recorded x.events ≡ map told rs
+pub run_read_back : (p : Program) (head : Head) (rs : List Recorded) (end : Tail) (bytes : List ℕ) (x : Trace) → AreBytes bytes → length bytes ≤ trace_limit → AllFit rs → bytes ≡ run_bytes head rs end → IsReadAs p bytes (Ok x) → IsBack head rs x
 run_read_back p head rs end bytes x are small fit parts read = with_head p head rs end bytes x (head_of bytes) are small fit parts refl read

@@ -161,7 +161,15 @@ short_block limit bytes x e =
     let front-is : length (take b.0.0 b.0.1) ≡ length x.0 = ap (λ (p : List ℕ × List ℕ). length p.0) g.1 in
     omega (arith, le, same, front-is, length-take b.0.0 b.0.1)
 
-short_payload : (bytes : List ℕ) (x : Head × List ℕ) → head_at bytes ≡ Ok x → length x.0.source ≤ source_limit
+second : (a b : Bool) → (a && b) ≡ true → b ≡ true
+second true b e = e
+second false b e = absurd cc
+
+pub record HasLimits (h : Head) : Type 0 where
+  pub steps : h.steps ≤ steps_limit
+  pub source : length h.source ≤ source_limit
+
+short_payload : (bytes : List ℕ) (x : Head × List ℕ) → head_at bytes ≡ Ok x → HasLimits x.0
 unfolding head_at
 short_payload bytes x e =
     let a = read_then (number_at w32 bytes) (λ steps. passed (in_range (nat_le 1 steps.0 && nat_le steps.0 steps_limit)) steps.1 >>= λ rest. block_at input_limit rest >>= λ input. block_at source_limit input.1 >>= λ source. Ok (record { steps = steps.0; input = input.0; source = source.0 }, source.1)) x e in
@@ -169,24 +177,28 @@ short_payload bytes x e =
     let c = read_then (block_at input_limit b.0) (λ input. block_at source_limit input.1 >>= λ source. Ok (record { steps = a.0.0; input = input.0; source = source.0 }, source.1)) x b.2 in
     let d = read_then (block_at source_limit c.0.1) (λ source. Ok (record { steps = a.0.0; input = c.0.0; source = source.0 }, source.1)) x c.2 in
     let made : Head × List ℕ = (record { steps = a.0.0; input = c.0.0; source = d.0.0 }, d.0.1) in
-    subst (λ (y : Head × List ℕ). length y.0.source ≤ source_limit) (ok_is made x d.2) (short_block source_limit c.0.1 d.0 d.1)
+    let few : a.0.0 ≤ steps_limit = leb-true _ _ (second (nat_le 1 a.0.0) (nat_le a.0.0 steps_limit) (in_limit (nat_le 1 a.0.0 && nat_le a.0.0 steps_limit) a.0.1 b.0 b.1)) in
+    subst (λ (y : Head × List ℕ). HasLimits y.0) (ok_is made x d.2) (record { steps = few; source = short_block source_limit c.0.1 d.0 d.1 })
 
-short_whole : (payload : List ℕ) (h : Head) → all_of (head_at payload) ≡ Ok h → length h.source ≤ source_limit
+short_whole : (payload : List ℕ) (h : Head) → all_of (head_at payload) ≡ Ok h → HasLimits h
 short_whole payload h e =
     let a = read_then (head_at payload) (λ x. cond (eqb (length x.1) 0) (Ok x.0) (Err rule.Length)) h e in
     let g = ended (eqb (length a.0.1) 0) a.0.0 h a.2 in
-    subst (λ (y : Head). length y.source ≤ source_limit) g.1 (short_payload payload a.0 a.1)
+    subst (λ (y : Head). HasLimits y) g.1 (short_payload payload a.0 a.1)
 
-short_in : (size : ℕ) (y : Head × ℕ) (o : Option Frame) → head_in size o ≡ Ok y → length y.0.source ≤ source_limit
+short_in : (size : ℕ) (y : Head × ℕ) (o : Option Frame) → head_in size o ≡ Ok y → HasLimits y.0
 short_in size y Absent e = absurd cc
 short_in size y (Some f) e =
     let l = lettered (eqb f.letter 72) (read_head_as (magic_length + length f.whole) (all_of (head_at f.payload))) (Damaged magic_length rule.FrameKind) y e in
     let a = answered (magic_length + length f.whole) (all_of (head_at f.payload)) y l.1 in
     short_whole f.payload y.0 a.0
 
-pub head_is_short : (bytes : List ℕ) (head : Head) (end : ℕ) → head_of bytes ≡ Ok (head, end) → length head.source ≤ source_limit
+pub head_has_limits : (bytes : List ℕ) (head : Head) (end : ℕ) → head_of bytes ≡ Ok (head, end) → HasLimits head
 unfolding head_of
-head_is_short bytes head end e =
+head_has_limits bytes head end e =
     let n = agreeing magic bytes in
     let r = refuses (eqb n magic_length) (head_in (length bytes) (frame_of (drop magic_length bytes))) (eqb n (length bytes)) (Cut n) (Damaged n rule.Magic) (head, end) e in
     short_in (length bytes) (head, end) (frame_of (drop 8 bytes)) r.1
+
+pub head_is_short : (bytes : List ℕ) (head : Head) (end : ℕ) → head_of bytes ≡ Ok (head, end) → length head.source ≤ source_limit
+head_is_short bytes head end e = (head_has_limits bytes head end e).source

@@ -13,3 +13,4 @@ mod BackParts
 mod BackValues
 mod BackEvents
 mod BackTraces
+mod BackEnds

@@ -1,11 +1,11 @@
 -- What is read is spelled so.
-use Rattle.std.specs.Prelude.{◌≡◌, ℕ, ◌<◌, ◌≤◌, ◌++◌, length, List, map, take, Ok, slice_index}
+use Rattle.std.specs.Prelude.{◌≡◌, ℕ, ◌<◌, ◌≤◌, ◌^◌, ◌++◌, length, List, map, take, Ok, slice_index}
 use Rattle.std.specs.List.{concat}
 use Rattle.wy_kernel.specs.declared.program.Program.{Program}
 use Rattle.wy_event.specs.declared.record.Head.{Head}
 use Rattle.wy_event.specs.declared.record.Trace.{Trace}
-use Rattle.wy_spelling.specs.Spelling.{closing, coverage_payload, event_frame, event_payload, opening, slot_bytes, tail_payload, trace_bytes, trace_limit}
-use Rattle.wy_fitting.specs.Fits.{AllFit, told}
+use Rattle.wy_spelling.specs.Spelling.{closing, coverage_payload, event_frame, event_payload, opening, slot_bytes, tail_frames, tail_payload, trace_bytes, trace_limit}
+use Rattle.wy_fitting.specs.Fits.{AllFit, AllTold, told}
 use Rattle.wy_event.specs.declared.record.Coverage.{Coverage}
 use Rattle.wy_event.specs.declared.record.Tail.{Tail}
 use Rattle.wy_event.specs.declared.record.Slot.{Slot}
@@ -58,6 +58,22 @@ HeadsAreShort = (bytes : List ℕ) (head : Head) (end : ℕ) → head_of bytes �
 abbrev pub run_bytes : Head → List Recorded → Tail → List ℕ
 run_bytes head rs end = let front = opening head ++ concat (map event_frame rs) in front ++ closing end front
 
--- from the trace of a run whose events fit their bytes these are read, so far as bytes tell them
+-- what holds of each run whose events fit their bytes, and of the trace that is read from its bytes
+abbrev pub OfReadRuns : (Head → List Recorded → Tail → Trace → Type 0) → Type 0
+OfReadRuns Q = (p : Program) (head : Head) (rs : List Recorded) (end : Tail) (bytes : List ℕ) (x : Trace) → AreBytes bytes → length bytes ≤ trace_limit → AllFit rs → bytes ≡ run_bytes head rs end → IsReadAs p bytes (Ok x) → Q head rs end x
+
+-- its events are read, so far as bytes tell them
+abbrev pub RecordedEventsAreTold : Type 0
+RecordedEventsAreTold = OfReadRuns (λ head rs end x. map recorded x.events ≡ map told rs)
+
+-- just its events are read where bytes tell all of them
 abbrev pub RecordedTracesAreReadBack : Type 0
-RecordedTracesAreReadBack = (p : Program) (head : Head) (rs : List Recorded) (end : Tail) (bytes : List ℕ) (x : Trace) → AreBytes bytes → length bytes ≤ trace_limit → AllFit rs → bytes ≡ run_bytes head rs end → IsReadAs p bytes (Ok x) → map recorded x.events ≡ map told rs
+RecordedTracesAreReadBack = OfReadRuns (λ head rs end x. AllTold rs → map recorded x.events ≡ rs)
+
+-- its head is read
+abbrev pub RecordedHeadsAreReadBack : Type 0
+RecordedHeadsAreReadBack = OfReadRuns (λ head rs end x. head.steps < 2 ^ 32 → x.head ≡ head)
+
+-- its coverage and its end are read, so far as their bytes tell
+abbrev pub RecordedEndsAreTold : Type 0
+RecordedEndsAreTold = OfReadRuns (λ head rs end x. tail_frames x.tail ≡ tail_frames end)

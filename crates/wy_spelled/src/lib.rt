@@ -2,7 +2,7 @@
 //! The functions do nothing: their contracts are the laws.
 #![tactic(auto)]
 
-ghost use Rattle.wy_spelled.specs.Laws.{CoveragesAreSpelled, EventsAreSpelled, HeadsAreShort, HeadsAreSpelled, RecordedTracesAreReadBack, SlotsAreSpelled, TailsAreSpelled, TracesAreSpelled};
+ghost use Rattle.wy_spelled.specs.Laws.{CoveragesAreSpelled, EventsAreSpelled, HeadsAreShort, HeadsAreSpelled, RecordedEndsAreTold, RecordedEventsAreTold, RecordedHeadsAreReadBack, RecordedTracesAreReadBack, SlotsAreSpelled, TailsAreSpelled, TracesAreSpelled};
 
 /// A head that bytes are read to begin with is spelled there, with the magic before it and nothing between.
 pub fn heads_are_spelled()
@@ -39,7 +39,18 @@ pub fn heads_are_short()
     ensures { HeadsAreShort }
 {}
 
-/// The events of a run's own trace are read back from it.
+/// The events of a run's own trace are read back from it, so far as bytes tell them.
 pub fn recorded_traces_are_read_back()
-    ensures { RecordedTracesAreReadBack }
+    ensures told { RecordedEventsAreTold }
+    ensures whole { RecordedTracesAreReadBack }
+{}
+
+/// The head of a run's own trace is read back from it.
+pub fn recorded_heads_are_read_back()
+    ensures { RecordedHeadsAreReadBack }
+{}
+
+/// What the bytes of a run's own trace tell of its coverage and its end is read back from it.
+pub fn recorded_ends_are_told()
+    ensures { RecordedEndsAreTold }
 {}

@@ -1,5 +1,8 @@
-use Rattle.wy_spelled.proofs.BackTraces.{run_read_back}
+use Rattle.wy_spelled.proofs.BackEnds.{events_back, events_told}
 use Rattle.wy_spelled.proofs.recorded_traces_are_read_back.Goals as goal
 
-pub returns : goal.returns
-returns c = run_read_back
+pub returns-clause-told : goal.returns-clause-told
+returns-clause-told c = events_told
+
+pub returns-clause-whole : goal.returns-clause-whole
+returns-clause-whole c = events_back
