@@ -1,13 +1,11 @@
-//! Which events bytes tell whole: the numbers of events in memory fit the bytes that a trace spells them in, since
-//! memory has no others, and a Text has units alone, and any other event a value alone.
+//! The numbers of events in memory fit the bytes that a trace spells them in, since memory has no others.
 #![tactic(auto)]
 
-ghost use Rattle.std.specs.Prelude.{◌≡◌, All, Decides, List, map, ℕ};
-ghost use Rattle.wy_value.specs.declared.value.Value.TheVariants.{None as NoValue};
+ghost use Rattle.std.specs.Prelude.{All, map};
 ghost use Rattle.wy_event.specs.Record.{present, recorded};
-ghost use Rattle.wy_fitting.specs.Fits.{AllFit, AllTold, Fits, IsPresent, IsTold, IsUnit, SlotFits, UseFits, ValueFits, told_units, told_value};
+ghost use Rattle.wy_fitting.specs.Fits.{AllFit, Fits, IsPresent, IsUnit, SlotFits, UseFits, ValueFits};
 
-use wy_event::record::{Event, Kind, Slot, Use};
+use wy_event::record::{Event, Slot, Use};
 use wy_value::Value;
 
 fn slot_fits(slot: Slot)
@@ -89,41 +87,4 @@ pub fn events_fit(events: &[Event])
     for event in events {
         event_fits(event);
     }
-}
-
-fn is_nothing(value: Value) -> bool
-    ensures { Decides result (value ≡ NoValue) }
-{
-    match value {
-        Value::None => true,
-        _ => false,
-    }
-}
-
-fn parts_are_told(kind: Kind, value: Value, units: &[u16]) -> bool
-    ensures { Decides result
-        ((told_value kind value ≡ value) × (told_units kind units.now ≡ units.now)) }
-{
-    match kind {
-        Kind::Text => is_nothing(value),
-        _ => units.is_empty(),
-    }
-}
-
-fn is_told(event: &Event) -> bool
-    ensures { Decides result (IsTold (recorded event.now)) }
-{
-    parts_are_told(event.kind, event.value, event.units.as_slice())
-}
-
-/// Whether bytes tell all of each event.
-pub fn are_told(events: &[Event]) -> bool
-    ensures { Decides result (AllTold (map recorded events.now)) }
-{
-    for event in events {
-        if !is_told(event) {
-            return false;
-        }
-    }
-    true
 }

@@ -117,8 +117,9 @@ shaped_is_told rs n e s = λ i. record {
 
 -- what holds of each record by its number holds of all
 all_by_number : (P : Recorded → Type 0) (rs : List Recorded) → ((n : ℕ) (e : Recorded) → slice_get rs n ≡ Some e → P e) → All P rs
-all_by_number P [] each = tt
-all_by_number P (r ∷ rs) each = (each 0 r refl, all_by_number P rs (λ n e at. each (suc n) e at))
+all_by_number P [] each k d less = absurd (omega (arith, less))
+all_by_number P (r ∷ rs) each zero d less = each 0 r refl
+all_by_number P (r ∷ rs) each (suc k) d less = all_by_number P rs (λ n e at. each (suc n) e at) k d (omega (arith, less))
 
 pub all_told : (p : Program) (input : List ℕ) (steps : ℕ) → RecordsAreShaped nothing p input steps → AllTold (events nothing p input steps)
 all_told p input steps shaped = all_by_number IsTold (events nothing p input steps) (λ n e at. shaped_is_told (events nothing p input steps) n e (shaped n e at))
@@ -244,8 +245,10 @@ carried_text : (p : Program) (lines input : List ℕ) (steps w : ℕ) (e : Noted
     why_text p lines (events numbers p input steps) w ≡ marked_lines p lines (events numbers p input steps) e.from_data (up_to w e.from_all)
 unfolding why_text
 carried_text p lines input steps w e run at =
-    let data-is : data_closure (owners p) (events numbers p input steps) w ≡ e.from_data = λ i k. (run.carried w e at k).0 i in
-    let all-is : closure (owners p) (events numbers p input steps) w ≡ e.from_all = λ i k. (run.carried w e at k).1 i in
+    let data-there : data_closure (owner_in p) (events numbers p input steps) w ≡ e.from_data = λ i k. (run.carried w e at k).0 i in
+    let all-there : closure (owner_in p) (events numbers p input steps) w ≡ e.from_all = λ i k. (run.carried w e at k).1 i in
+    let data-is = subst (λ (o : Owners). data_closure o (events numbers p input steps) w ≡ e.from_data) (sym (owners_are p)) data-there in
+    let all-is = subst (λ (o : Owners). closure o (events numbers p input steps) w ≡ e.from_all) (sym (owners_are p)) all-there in
     λ i. marked_lines p lines (events numbers p input steps) (data-is i) (up_to w (all-is i))
 
 answer_carried : (p : Program) (lines input : List ℕ) (steps : ℕ) (asks text : List ℕ) → Runs p input steps → (r : Result (List ℕ) Refused) → r ≡ Ok text → WhyIs p lines (events numbers p input steps) asks r →

@@ -1,3 +1,4 @@
+use Rattle.std.proofs.Common.{arith}
 use Rattle.wy_reply.proofs.Carrying.{known, under_carries, under_source, refused_carries, refused_carries_by}
 use Rattle.wy_reply.proofs.Tellings.{told_under, refused_under}
 use Rattle.wy_reply.proofs.telling.answer_to_trace.Goals as goal
@@ -9,15 +10,15 @@ pub returns-in-Err-clause-due : goal.returns-in-Err-clause-due
 returns-in-Err-clause-due c = refused_under _ _ _ c.in-Err.error _ c.in-Err.ensures c.answer_to_trace_error.ensures
 
 pub returns-in-Ok-clause-carried : goal.returns-in-Ok-clause-carried
-returns-in-Ok-clause-carried c = under_carries (known c.recorded_traces_are_read_back.ensures c.recorded_heads_are_read_back.ensures c.references_point_below.ensures.records c.carrying_changes_nothing.ensures.events c.backward_is_forward.ensures.events c.backward_is_forward.ensures.stored)
-    _ _ _ c.in-Ok.trace _ (λ i. c.type_inv.bytes i) c.requires.limit c.in-Ok.ensures c.tell.ensures.due
+returns-in-Ok-clause-carried c = under_carries (known c.recorded_traces_are_read_back.ensures.whole c.recorded_heads_are_read_back.ensures c.references_point_below.ensures.records c.carrying_changes_nothing.ensures.events c.backward_is_forward.ensures.events c.backward_is_forward.ensures.stored)
+    _ _ _ c.in-Ok.trace _ (λ i. omega (arith, c.type_inv.bytes i)) c.requires.limit c.in-Ok.ensures c.tell.ensures.due
 
 pub returns-in-Ok-clause-source : goal.returns-in-Ok-clause-source
-returns-in-Ok-clause-source c = under_source (known c.recorded_traces_are_read_back.ensures c.recorded_heads_are_read_back.ensures c.references_point_below.ensures.records c.carrying_changes_nothing.ensures.events c.backward_is_forward.ensures.events c.backward_is_forward.ensures.stored)
-    _ _ c.in-Ok.trace c.tell.result (λ i. c.type_inv.bytes i) c.requires.limit c.in-Ok.ensures
+returns-in-Ok-clause-source c = under_source (known c.recorded_traces_are_read_back.ensures.whole c.recorded_heads_are_read_back.ensures c.references_point_below.ensures.records c.carrying_changes_nothing.ensures.events c.backward_is_forward.ensures.events c.backward_is_forward.ensures.stored)
+    _ _ c.in-Ok.trace c.tell.result (λ i. omega (arith, c.type_inv.bytes i)) c.requires.limit c.in-Ok.ensures
 
 pub returns-in-Err-clause-carried : goal.returns-in-Err-clause-carried
-returns-in-Err-clause-carried c = refused_carries_by _ _ _ c.in-Err.error _ c.answer_to_trace_error.ensures
+returns-in-Err-clause-carried c = refused_carries_by c.args.program.now _ _ c.in-Err.error _ c.answer_to_trace_error.ensures
 
 pub returns-in-Err-clause-source : goal.returns-in-Err-clause-source
 returns-in-Err-clause-source c = refused_carries _ c.in-Err.error _ c.answer_to_trace_error.ensures
