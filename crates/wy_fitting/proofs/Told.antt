@@ -1,5 +1,5 @@
 -- An event of which bytes tell all is one of which they tell the value and the units.
-use Rattle.std.proofs.Common.{◌≡◌, ℕ, ◌<◌, Bool, true, List, map, length, get_or, refl, sym, ap, ◌∙◌, subst, Decides}
+use Rattle.std.proofs.Common.{◌≡◌, ℕ, ◌<◌, Bool, List, map, length, get_or, sym, ap, ◌∙◌, subst, Decides}
 use Rattle.std.proofs.lemmas.List.{get_or-map, length-map}
 use Rattle.wy_value.specs.declared.value.Value.{Value}
 use Rattle.wy_event.specs.declared.record.Event.{Event}
