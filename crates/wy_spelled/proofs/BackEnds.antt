@@ -1,12 +1,11 @@
 -- The head of a run's own trace is read back, and so is what its bytes tell of its end.
-use Rattle.std.proofs.Common.{◌≡◌, ℕ, ◌+◌, ◌<◌, ◌≤◌, ◌^◌, List, [], ◌∷◌, ◌++◌, map, length, take, drop, Ok, refl, sym, ap, ◌∙◌, subst, append_assoc, arith, length-append, All}
-use Rattle.std.specs.List.{concat, flat_map}
+use Rattle.std.proofs.Common.{◌≡◌, ℕ, ◌<◌, ◌≤◌, ◌^◌, List, [], ◌∷◌, ◌++◌, map, length, take, drop, refl, sym, ap, ◌∙◌, subst, append_assoc, arith, length-append}
+use Rattle.std.specs.List.{concat}
 use Rattle.std.proofs.lemmas.List.{append_cancel_left, take_at, drop_at}
 use Rattle.std.proofs.lemmas.List.Concat.{flat_map-cons}
 use Rattle.std.proofs.lemmas.List.Folds.{map_fixed}
 use Rattle.sha2.specs.Sha256.{sha256}
 use Rattle.sha2.proofs.Facts256.{length-sha256}
-use Rattle.wy_kernel.specs.declared.program.Program.{Program}
 use Rattle.wy_value.specs.declared.value.Value.{Value}
 use Rattle.wy_event.specs.declared.record.Kind.{Kind}
 use Rattle.wy_event.specs.declared.record.Kind.TheVariants as kind
@@ -15,12 +14,11 @@ use Rattle.wy_event.specs.declared.record.Head.{Head}
 use Rattle.wy_event.specs.declared.record.Tail.{Tail}
 use Rattle.wy_event.specs.declared.record.Trace.{Trace}
 use Rattle.wy_event.specs.Record.{Recorded, recorded}
-use Rattle.wy_fitting.specs.Fits.{AllFit, AllTold, IsTold, told, told_units, told_value}
+use Rattle.wy_fitting.specs.Fits.{told, told_units, told_value}
 use Rattle.wy_spelling.specs.Spelling.{number, frame, magic, content_bytes, origin_bytes, event_payload, event_frame, events_bytes, head_payload, head_frame, opening, tail_frames, closing, seal_frame, sealed, trace_bytes, trace_limit}
-use Rattle.wy_frames.specs.Traces.{IsReadAs}
-use Rattle.wy_spelled.specs.Laws.{AreBytes, OfReadRuns, RecordedEventsAreTold, RecordedTracesAreReadBack, RecordedHeadsAreReadBack, RecordedEndsAreTold, run_bytes}
+use Rattle.wy_spelled.specs.Laws.{RecordedEventsAreTold, RecordedTracesAreReadBack, RecordedHeadsAreReadBack, RecordedEndsAreTold, run_bytes}
 use Rattle.wy_spelled.proofs.Traces.{whole_trace}
-use Rattle.wy_spelled.proofs.BackTraces.{same_number, IsBack, run_read_back}
+use Rattle.wy_spelled.proofs.BackTraces.{same_number, run_read_back}
 
 pub events_told : RecordedEventsAreTold
 events_told p head rs end bytes x are small fit parts read = (run_read_back p head rs end bytes x are small fit parts read).events

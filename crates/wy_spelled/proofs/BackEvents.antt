@@ -1,19 +1,15 @@
 -- A whole event is read back, so far as its bytes tell it.
-use Rattle.std.proofs.Common.{◌≡◌, ℕ, ◌+◌, ◌<◌, ◌≤◌, ◌^◌, Bool, true, false, cond, eqb, List, [], ◌∷◌, ◌++◌, length, Option, Some, Result, Ok, Err, refl, sym, ap, ◌∙◌, subst, append_assoc, append-nil, arith, length-append, All}
+use Rattle.std.proofs.Common.{◌≡◌, ℕ, ◌+◌, ◌<◌, ◌^◌, Bool, true, false, cond, eqb, List, [], ◌∷◌, ◌++◌, length, Option, Some, Ok, Err, refl, sym, subst, append-nil, arith, length-append, All}
 use Rattle.std.specs.Prelude.{None as Absent}
 use Rattle.std.specs.Prelude.{IfOk, nat_lt, slice_get}
-use Rattle.std.specs.Int.{w8, w32}
 use Rattle.std.proofs.lemmas.Bool.{eqb-true}
 use Rattle.wy_value.specs.declared.value.Value.{Value}
 use Rattle.wy_event.specs.declared.record.Kind.{Kind}
 use Rattle.wy_event.specs.declared.record.Kind.TheVariants as kind
-use Rattle.wy_event.specs.declared.record.Slot.{Slot}
-use Rattle.wy_event.specs.declared.record.Use.{Use}
 use Rattle.wy_event.specs.Record.{Recorded, NONE, present, recorded}
-use Rattle.wy_fitting.specs.Fits.{IsNumber, IsUnit, IsPresent, ValueFits, Fits, told_value, told_units, told}
+use Rattle.wy_fitting.specs.Fits.{IsUnit, IsPresent, ValueFits, Fits, told_value, told_units, told}
 use Rattle.wy_spelling.specs.Spelling.{number, optional, kind_number, slot_bytes, content_bytes, uses_bytes, origin_bytes, event_payload}
 use Rattle.wy_spelling.proofs.Lengths.{units_are_few, uses_are_few}
-use Rattle.wy_payload.specs.declared.fault.DamageRule.{DamageRule}
 use Rattle.wy_payload.specs.declared.fault.DamageRule.TheVariants as rule
 use Rattle.wy_payload.specs.declared.ranges.Ranges.{Ranges}
 use Rattle.wy_payload.specs.declared.known.Known.{Known}
@@ -23,7 +19,7 @@ use Rattle.wy_payload.specs.declared.event.Origin.{Origin}
 use Rattle.wy_payload.specs.declared.event.Content.{Content}
 use Rattle.wy_payload.specs.declared.event.Written.{Written}
 use Rattle.wy_payload.specs.Rules.{in_range, optional_rule, site_rule, what_rule}
-use Rattle.wy_payload.specs.Reading.{◌>>=◌, Read, passed, number_at, optional_at, all_of}
+use Rattle.wy_payload.specs.Reading.{Read, optional_at, all_of}
 use Rattle.wy_payload.specs.Places.{slot_at, slot_form}
 use Rattle.wy_payload.specs.Values.{value_form, output_behind, units_at, value_at}
 use Rattle.wy_payload.specs.Events.{event_limit, kinds, kind_at, site_at, what_at, origin_at, content_at, uses_at, event_at}

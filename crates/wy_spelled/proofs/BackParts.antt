@@ -1,38 +1,22 @@
 -- Slots, values, units and uses are read back.
-use Rattle.std.proofs.Common.{◌≡◌, ℕ, ◌+◌, ◌<◌, ◌≤◌, ◌^◌, Bool, true, false, List, [], ◌∷◌, ◌++◌, length, Some, Result, Ok, refl, sym, ap, ◌∙◌, subst, append_assoc, arith, ℤ, FitsSigned, to_z-of_z, length-append, All}
-use Rattle.std.specs.Prelude.{IfOk, nat_lt, ◌==◌, slice_get}
-use Rattle.std.specs.List.{flat_map}
-use mir.Val.{bits}
-use mir.ValLaws as laws
-use Rattle.std.specs.Int.{Width, w8, w16, w32, w64, byte_len, to_be_bytes, cast_signed, cast_unsigned}
-use Rattle.std.proofs.lemmas.List.Elements.{recursion_from_All}
-use Rattle.wy_value.specs.declared.value.Value.{Value}
-use Rattle.wy_value.specs.declared.value.Value.TheVariants as val
+use Rattle.std.proofs.Common.{◌≡◌, ℕ, ◌<◌, ◌^◌, true, false, List, ◌∷◌, ◌++◌, Some, refl}
+use Rattle.std.specs.Prelude.{nat_lt, slice_get}
+use Rattle.std.specs.Int.{w32}
 use Rattle.wy_event.specs.declared.record.Slot.{Slot}
 use Rattle.wy_event.specs.declared.record.Slot.TheVariants as slots
-use Rattle.wy_event.specs.declared.record.Use.{Use}
-use Rattle.wy_event.specs.declared.record.Use.TheVariants as used
-use Rattle.wy_fitting.specs.Fits.{IsNumber, IsUnit, SlotFits, ValueFits, UseFits}
-use Rattle.wy_spelling.specs.Spelling.{number, slot_bytes, value_bytes, units_bytes, use_bytes, uses_bytes}
-use Rattle.wy_payload.specs.declared.fault.DamageRule.{DamageRule}
+use Rattle.wy_fitting.specs.Fits.{IsNumber, SlotFits}
+use Rattle.wy_spelling.specs.Spelling.{number, slot_bytes}
 use Rattle.wy_payload.specs.declared.ranges.Ranges.{Ranges}
 use Rattle.wy_payload.specs.declared.known.Known.{Known}
 use Rattle.wy_payload.specs.declared.known.Role.{Role}
 use Rattle.wy_payload.specs.declared.known.Role.TheVariants as role
 use Rattle.wy_payload.specs.declared.slot.SlotForm.{SlotForm}
-use Rattle.wy_payload.specs.declared.slot.SlotForm.TheVariants as form
 use Rattle.wy_payload.specs.declared.slot.SlotTag.{SlotTag}
 use Rattle.wy_payload.specs.declared.slot.SlotTag.TheVariants as places
-use Rattle.wy_payload.specs.declared.value.ValueTag.{ValueTag}
-use Rattle.wy_payload.specs.declared.value.ValueTag.TheVariants as tags
-use Rattle.wy_payload.specs.declared.value.ValueForm.{ValueForm}
-use Rattle.wy_payload.specs.declared.event.UseTag.TheVariants as ways
 use Rattle.wy_payload.specs.Rules.{in_range, reference_rule, field_rule, local_rule, index_limit}
-use Rattle.wy_payload.specs.Reading.{◌>>=◌, passed, known_tag, number_at, reference_at, below_at, at_most_at, rows_from}
+use Rattle.wy_payload.specs.Reading.{passed, number_at, reference_at, below_at, at_most_at}
 use Rattle.wy_payload.specs.Places.{slot_tags, allows_slot, local_at, static_at, field_at, element_at, slot_of, slot_at}
-use Rattle.wy_payload.specs.Values.{value_tags, allows_value, int_rule, object_role, bool_at, int_at, plain_at, object_at, text_at, fixed_at, value_of, value_at, units_tag, units_at}
-use Rattle.wy_payload.specs.Events.{use_tag, place_at, use_of, use_at, uses_at}
-use Rattle.wy_spelled.proofs.Back.{Gives, then_back, passed_back, surely, byte_back, back_16, back_32, back_64, number_back, checked_back, tag_back, rows_back}
+use Rattle.wy_spelled.proofs.Back.{Gives, then_back, passed_back, number_back, checked_back, tag_back}
 
 pub reference_back : (r : Role) (earlier : List Known) (n : ℕ) (rest : List ℕ) → n < 2 ^ 32 → Gives n rest (reference_at r earlier (number n ++ rest))
 unfolding reference_at

@@ -1,5 +1,5 @@
 -- The events of a run's own trace are read back.
-use Rattle.std.proofs.Common.{◌≡◌, ℕ, ◌+◌, ◌<◌, ◌≤◌, ◌^◌, Bool, true, false, cond, eqb, List, [], ◌∷◌, ◌++◌, map, length, take, drop, Option, Some, Result, Ok, Err, refl, sym, ap, ◌∙◌, subst, append_assoc, append-nil, take-append-drop, arith, length-append, All}
+use Rattle.std.proofs.Common.{◌≡◌, ℕ, ◌<◌, ◌≤◌, ◌^◌, eqb, List, [], ◌∷◌, ◌++◌, map, length, take, drop, Option, Some, Result, Ok, Err, refl, sym, ap, ◌∙◌, subst, append_assoc, append-nil, take-append-drop, arith, length-append}
 use Rattle.std.specs.Prelude.{None as Absent}
 use Rattle.std.specs.Prelude.{IfOk, MatchResult, slice_index}
 use Rattle.std.specs.Str.{bytes_eq}
@@ -21,7 +21,6 @@ use Rattle.wy_fitting.specs.Fits.{Fits, AllFit, told}
 use Rattle.wy_spelling.specs.Spelling.{number, frame, magic, event_payload, event_frame, coverage_payload, coverage_frame, end_frame, seal_frame, head_payload, head_frame, opening, tail_frames, closing, trace_limit}
 use Rattle.wy_payload.specs.declared.fault.DamageRule.{DamageRule}
 use Rattle.wy_payload.specs.declared.fault.DamageRule.TheVariants as rule
-use Rattle.wy_payload.specs.declared.closing.Totals.{Totals}
 use Rattle.wy_payload.specs.declared.ranges.Ranges.{Ranges}
 use Rattle.wy_payload.specs.declared.event.Written.{Written}
 use Rattle.wy_payload.specs.Ranges.{ranges_of}
@@ -39,7 +38,6 @@ use Rattle.wy_frames.specs.Heads.{head_of}
 use Rattle.wy_frames.specs.Traces.{IsReadBehind, IsReadAs}
 use Rattle.wy_spelled.specs.Laws.{AreBytes, run_bytes}
 use Rattle.wy_spelled.proofs.Numbers.{bytes_behind}
-use Rattle.wy_spelled.proofs.Steps.{if_read}
 use Rattle.wy_spelled.proofs.Heads.{IsFrame, whole_frame, head_spelled, head_has_limits}
 use Rattle.wy_spelled.proofs.Standing.{read_has, tested}
 use Rattle.wy_spelled.proofs.Traces.{bytes_after, never_goes}

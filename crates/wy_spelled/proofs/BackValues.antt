@@ -1,6 +1,6 @@
 -- Values, units and uses are read back.
-use Rattle.std.proofs.Common.{◌≡◌, ℕ, ◌+◌, ◌<◌, ◌≤◌, ◌^◌, Bool, true, false, cond, eqb, List, [], ◌∷◌, ◌++◌, length, Some, Result, Ok, refl, sym, ap, ◌∙◌, subst, append_assoc, arith, ℤ, FitsSigned, All}
-use Rattle.std.specs.Prelude.{IfOk, nat_lt, ◌==◌, slice_get}
+use Rattle.std.proofs.Common.{◌≡◌, ℕ, ◌<◌, ◌^◌, Bool, true, false, cond, eqb, List, ◌∷◌, ◌++◌, length, Some, Ok, refl, sym, ap, subst, append_assoc, ℤ, FitsSigned, All}
+use Rattle.std.specs.Prelude.{nat_lt, slice_get}
 use Rattle.std.specs.List.{flat_map}
 use mir.Val.{bits}
 use mir.ValLaws as laws
@@ -20,14 +20,13 @@ use Rattle.wy_payload.specs.declared.slot.SlotForm.TheVariants as form
 use Rattle.wy_payload.specs.declared.value.ValueTag.{ValueTag}
 use Rattle.wy_payload.specs.declared.value.ValueTag.TheVariants as tags
 use Rattle.wy_payload.specs.declared.value.ValueForm.{ValueForm}
-use Rattle.wy_payload.specs.declared.event.UseTag.{UseTag}
 use Rattle.wy_payload.specs.declared.event.UseTag.TheVariants as ways
 use Rattle.wy_payload.specs.Rules.{in_range}
-use Rattle.wy_payload.specs.Reading.{passed, number_at, reference_at, below_at, at_most_at, rows_from}
+use Rattle.wy_payload.specs.Reading.{passed, number_at, reference_at, below_at, at_most_at}
 use Rattle.wy_payload.specs.Places.{slot_at}
 use Rattle.wy_payload.specs.Values.{value_tags, allows_value, int_rule, object_role, bool_at, int_at, plain_at, object_at, text_at, fixed_at, value_of, value_at, units_tag, units_at}
 use Rattle.wy_payload.specs.Events.{use_tag, place_at, use_of, use_at, uses_at}
-use Rattle.wy_spelled.proofs.Back.{Gives, then_back, passed_back, surely, byte_back, back_16, back_32, back_64, number_back, tag_back, rows_back}
+use Rattle.wy_spelled.proofs.Back.{Gives, then_back, passed_back, surely, byte_back, back_16, back_64, number_back, tag_back, rows_back}
 use Rattle.wy_spelled.proofs.BackParts.{reference_back, below_back, at_most_back, slot_back}
 
 -- ---- values

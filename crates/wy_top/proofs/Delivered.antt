@@ -16,7 +16,7 @@ use Rattle.wy_top.specs.Call.{BeginsDue, WritesDue, WritesFaultLine, WritesFront
 
 -- ---- statuses by their numbers
 
-done_at : (s : Status) → code_of s ≡ 0 → s ≡ Done
+pub done_at : (s : Status) → code_of s ≡ 0 → s ≡ Done
 done_at Done e = refl
 done_at Usage e = absurd cc
 done_at Absent e = absurd cc

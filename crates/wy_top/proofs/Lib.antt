@@ -6,3 +6,4 @@ pub mod AnswerLemmas
 pub mod Delivered
 pub mod OneText
 pub mod OneTrace
+pub mod CarriedLemmas

@@ -5,8 +5,11 @@ use Rattle.wy_kernel.specs.Parts.{program_of}
 use Rattle.wy_outside.specs.Shelf.{Files}
 use Rattle.wy_outside.specs.Sink.{appended}
 use Rattle.wy_record.specs.Answers.{Mirrors}
-use Rattle.wy_words.specs.Words.{Asked, Asks, Record}
-use Rattle.wy_reply.specs.Recordings.{HoldTrace, Spelling}
+use Rattle.wy_words.specs.Words.{Asked, Asks, Record, Why}
+use Rattle.wy_reply.specs.Carried.{CarriedAnswer}
+use Rattle.wy_reply.specs.Recordings.{HoldTrace, IsTraceOf, Spelling, trace_spelling}
+use Rattle.wy_reply.specs.Tellings.{Wanted}
+use Rattle.wy_reply.specs.Tellings as wanted
 use Rattle.wy_top.specs.Due.{Due, IsFrontOf}
 use Rattle.wy_top.specs.Answers.{Counts, IsFaultLine, Knows}
 use Rattle.wy_top.specs.Held.{Holds, IsInput, source_limit}
@@ -49,3 +52,22 @@ Traces s words held old new = (a : Asked) (trace : List ℕ) (files : Files) →
 -- the words ask to record no run
 abbrev pub RecordsNothing : List (List ℕ) → Type 0
 RecordsNothing words = (a : Asked) (trace : List ℕ) → ¬ Asks words (Record a trace)
+
+-- ---- what a run carried
+
+-- the text answers the question over the trace of each run that has these bytes by what that run carried
+abbrev pub AnswersRun : List ℕ → Wanted → List ℕ → Type 0
+AnswersRun bytes w text = (question : List ℕ) → w ≡ wanted.Why question → (source input : List ℕ) (steps : ℕ) (p : Program) → IsProgramOf source p →
+    IsTraceOf trace_spelling (program_of p) source input steps bytes → CarriedAnswer (program_of p) p.lines.items input steps question text
+
+-- the same for the file of a name
+abbrev pub AnswersRunOf : Option Files → List ℕ → Wanted → List ℕ → Type 0
+AnswersRunOf held name w text = (files : Files) (bytes : List ℕ) → held ≡ Some files → files name ≡ Some bytes → AnswersRun bytes w text
+
+-- each why that the words ask over the trace of a run is answered by what that run carried
+abbrev pub Carries : List (List ℕ) → Option Files → List ℕ → Type 0
+Carries words held text = (trace question : List ℕ) → Asks words (Why trace question) → AnswersRunOf held trace (wanted.Why question) text
+
+-- such a text was written, all of it
+abbrev pub WritesCarried : List (List ℕ) → Option Files → Option (List ℕ) → Option (List ℕ) → Type 0
+WritesCarried words held before after = (text : List ℕ) × (after ≡ appended before text) × Carries words held text

@@ -6,8 +6,9 @@ ghost use Rattle.wy_reply.specs.Statuses.{IsStatus};
 ghost use Rattle.wy_words.specs.Words.{IsNoCommand};
 ghost use Rattle.wy_top.specs.Answers.{Knows, counts};
 ghost use Rattle.wy_top.specs.Deliveries.{Delivers};
-ghost use Rattle.wy_top.specs.Call.{RecordsNothing, Traces, WritesDue, WritesFaultLine, WritesFront};
-ghost use Rattle.wy_top.specs.Recorder.{faults_of, mirrors_of, trace_spelling};
+ghost use Rattle.wy_top.specs.Call.{RecordsNothing, Traces, WritesCarried, WritesDue, WritesFaultLine, WritesFront};
+ghost use Rattle.wy_top.specs.Recorder.{faults_of, mirrors_of};
+ghost use Rattle.wy_reply.specs.Recordings.{trace_spelling};
 
 use crate::answer::answer_to;
 use std::alloc::Global;
@@ -57,6 +58,8 @@ pub fn whyline<S: Shelf, K: Source, O: Sink, T: TraceSink + Drop>(
         (O.written out.old) (O.written out.new) }
     ensures traces { result ≡ 0 → Traces trace_spelling (map string_bytes words.now)
         (S.held shelf.old) (mirrors_of T.bytes recorder.old.sinks.items) (mirrors_of T.bytes recorder.new.sinks.items) }
+    ensures carried { result ≡ 0 → WritesCarried (map string_bytes words.now)
+        (S.held shelf.old) (O.written out.old) (O.written out.new) }
     ensures records_nothing { RecordsNothing (map string_bytes words.now)
         → recorder.new ≡ recorder.old }
     ensures usage { result ≡ 2 → IsNoCommand (map string_bytes words.now) }

@@ -1,5 +1,9 @@
 //! What is answered from the bytes of a trace.
-ghost use Rattle.std.specs.Prelude.{◌≡◌, ◌≤◌, IfOk, false, length};
+ghost use Rattle.std.specs.Prelude.{◌≡◌, ◌≤◌, ℕ, IfOk, Ok, false, length};
+ghost use Rattle.wy_event.specs.declared.record.Head.{Head};
+ghost use Rattle.wy_frames.specs.Heads.{head_of};
+ghost use Rattle.wy_reply.specs.declared.status.Status.TheVariants.{Done};
+ghost use Rattle.wy_top.specs.Call.{AnswersRun};
 ghost use Rattle.wy_reply.specs.Statuses.{code_of, is_of_files};
 ghost use Rattle.wy_reply.specs.Tellings.{wanted_of};
 ghost use Rattle.wy_top.specs.Due.{DueForBytes};
@@ -9,9 +13,12 @@ ghost use Rattle.wy_top.specs.Replies.{AnswersUnder, RefusesTrace};
 use crate::causes::front_cause;
 use crate::reading::{FrontError, front};
 use std::alloc::{AllocError, Global};
+use wy_elab_stmt::laws::a_text_has_one_program;
 use wy_frames::read_head;
+use wy_parser::laws::a_token_list_has_one_tree;
 use wy_reply::{Answer, Status, Wanted, answer_to_trace, answer_to_trace_error};
 use wy_spelled::heads_are_short;
+use wy_tree::laws::{a_refused_text_has_no_tokens, a_text_has_one_token_list};
 
 /// The answer to a trace whose source is no program.
 fn answer_to_error(alloc: Global, error: FrontError) -> Result<Answer, AllocError>
@@ -35,7 +42,14 @@ fn answer_under(
     ensures due { IfOk result (λ answer.
         AnswersUnder source.now bytes.now (wanted_of wanted.entry) answer) }
     ensures settled { IfOk result (λ answer. is_of_files answer.status ≡ false) }
+    ensures carried { (head : Head) (end : ℕ) → head_of bytes.now ≡ Ok (head, end)
+        → head.source ≡ source.now → IfOk result (λ answer. answer.status ≡ Done
+        → AnswersRun bytes.now (wanted_of wanted.entry) answer.text.items) }
 {
+    a_text_has_one_token_list();
+    a_refused_text_has_no_tokens();
+    a_token_list_has_one_tree();
+    a_text_has_one_program();
     match front(alloc, source) {
         Ok(typed) => answer_to_trace(alloc, &typed.program, bytes, wanted),
         Err(error) => answer_to_error(alloc, error),
@@ -53,6 +67,8 @@ pub fn answer_to_bytes(
     ensures due { IfOk result (λ answer. DueForBytes bytes.now (wanted_of wanted.entry)
         (code_of answer.status) answer.text.items) }
     ensures settled { IfOk result (λ answer. is_of_files answer.status ≡ false) }
+    ensures carried { IfOk result (λ answer. answer.status ≡ Done
+        → AnswersRun bytes.now (wanted_of wanted.entry) answer.text.items) }
 {
     heads_are_short();
     match read_head(alloc, bytes) {

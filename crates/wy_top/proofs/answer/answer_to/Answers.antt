@@ -1,5 +1,6 @@
 use Rattle.wy_words.specs.Views.{asked_of}
 use Rattle.wy_words.specs.Words.{Run, Record, Output, Why, Audit}
+use Rattle.wy_top.proofs.CarriedLemmas.{no_command_carries, other_command_carries, why_carries}
 use Rattle.wy_top.proofs.AnswerLemmas.{usage_due, command_due, fault_named, traces_due}
 use Rattle.wy_top.proofs.answer.answer_to.Goals as goal
 
@@ -45,3 +46,22 @@ returns-in-Some-Audit-clause-due g c =
 
 pub returns-in-Some-Audit-clause-fault : goal.returns-in-Some-Audit-clause-fault
 returns-in-Some-Audit-clause-fault g c = fault_named _ (Audit c.in-Some-Audit.trace.now) _ _ c.answer_from-in-Some-Audit.result (c.answer_from-in-Some-Audit.ensures.due _)
+
+pub returns-in-None-clause-carried : goal.returns-in-None-clause-carried
+returns-in-None-clause-carried g c = no_command_carries _ _ c.refused.result (c.command.ensures.refused c.in-None.is)
+
+pub returns-in-Some-Run-clause-carried : goal.returns-in-Some-Run-clause-carried
+returns-in-Some-Run-clause-carried g c = other_command_carries c.words_ask_one_command.ensures _ _ (Run (asked_of c.in-Some-Run.asked)) c.answer_to_run.result (rw (c.in-Some-Run.field-0-is) at c.in-Some-Run.ensures.asked) (λ trace question e. cc)
+
+pub returns-in-Some-Record-clause-carried : goal.returns-in-Some-Record-clause-carried
+returns-in-Some-Record-clause-carried g c = other_command_carries c.words_ask_one_command.ensures _ _ (Record (asked_of c.in-Some-Record.asked) c.in-Some-Record.trace.now) c.answer_to_record.result (rw (c.in-Some-Record.field-0-is) at c.in-Some-Record.ensures.asked) (λ trace question e. cc)
+
+pub returns-in-Some-Output-clause-carried : goal.returns-in-Some-Output-clause-carried
+returns-in-Some-Output-clause-carried g c = other_command_carries c.words_ask_one_command.ensures _ _ (Output c.in-Some-Output.trace.now) c.answer_from.result (rw (c.in-Some-Output.field-0-is) at c.in-Some-Output.ensures.asked) (λ trace question e. cc)
+
+pub returns-in-Some-Audit-clause-carried : goal.returns-in-Some-Audit-clause-carried
+returns-in-Some-Audit-clause-carried g c = other_command_carries c.words_ask_one_command.ensures _ _ (Audit c.in-Some-Audit.trace.now) c.answer_from-in-Some-Audit.result (rw (c.in-Some-Audit.field-0-is) at c.in-Some-Audit.ensures.asked) (λ trace question e. cc)
+
+pub returns-in-Some-Why-clause-carried : goal.returns-in-Some-Why-clause-carried
+returns-in-Some-Why-clause-carried g c =
+    why_carries c.words_ask_one_command.ensures _ _ c.in-Some-Why.trace.now c.in-Some-Why.question.now c.answer_from-in-Some-Why.result (rw (c.in-Some-Why.field-0-is) at c.in-Some-Why.ensures.asked) c.answer_from-in-Some-Why.ensures.carried

@@ -1,4 +1,6 @@
-use Rattle.wy_top.proofs.Delivered.{written_due, front, answered_done, fault_cause, fault_line}
+use Rattle.std.proofs.Common.{◌∙◌, sym}
+use Rattle.wy_top.proofs.CarriedLemmas.{written_carried}
+use Rattle.wy_top.proofs.Delivered.{written_due, front, answered_done, done_at, fault_cause, fault_line}
 use Rattle.wy_top.proofs.top.whyline.Goals as goal
 
 pub returns-in-Ok-clause-due : goal.returns-in-Ok-clause-due
@@ -15,3 +17,7 @@ returns-in-Ok-clause-fault g c = fault_cause _ _ _ _ _ _ c.in-Ok.answer _ _ c.in
 
 pub returns-in-Ok-clause-fault_line : goal.returns-in-Ok-clause-fault_line
 returns-in-Ok-clause-fault_line g c = fault_line _ _ _ _ _ _ c.in-Ok.answer _ _ c.in-Ok.ensures.fault c.deliver.ensures c.code.ensures
+
+pub returns-in-Ok-clause-carried : goal.returns-in-Ok-clause-carried
+returns-in-Ok-clause-carried g c = λ zero.
+    written_carried _ _ _ _ _ _ c.in-Ok.answer _ c.deliver.ensures (done_at _ (sym c.code.ensures ∙ zero)) (c.in-Ok.ensures.carried (answered_done _ _ _ _ c.in-Ok.answer _ _ c.deliver.ensures c.code.ensures zero))
