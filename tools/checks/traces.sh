@@ -7,6 +7,8 @@ program=$(readlink -f "${WHYLINE:-./whyline}")
 trace=$scratch/first.trace
 
 "$program" record examples/first.java -o "$trace" >/dev/null 2>&1
+# ./whyline looks at every source before it starts the program that it built, so it is passed over from here on.
+[ -n "${WHYLINE:-}" ] || program=$PWD/crates/whyline/out/whyline
 if python3 tools/checks/traces.py "$program" "$trace" tools/checks/traces.tsv "$scratch" >"$scratch/answers"; then
   while read -r same name; do
     report "$name" "$same"
