@@ -1,9 +1,11 @@
 #!/usr/bin/env bash
 # Times `./whyline run` on each program of tools/bench, and `javac` and `java -Xint` together on the same file where they are
-# installed; then the loop of 3,900,000 events at a quarter, a half and all of its steps. Prints times, the greatest memory and
-# ratios. Nothing rests on them.
+# installed; then the loop of 3,900,000 events at a quarter, a half and all of its steps; then its recording beside the run alone
+# and `sha256sum` of the trace, and what is asked of the trace. Prints times, the greatest memory and ratios. Nothing rests on
+# them. WHYLINE names another program than ./whyline.
 set -u
 cd "$(dirname "$0")/../.." || exit 1
+program=$(readlink -f "${WHYLINE:-./whyline}")
 scratch=$(mktemp -d) || exit 1
 trap 'rm -rf "$scratch"' EXIT
 steps=50000000
@@ -41,9 +43,9 @@ for source in tools/bench/*.java; do
     cp "$scratch/numbers" "$scratch/in"
     words+=(-i "$scratch/numbers")
   fi
-  ours=$(seconds_of ./whyline "${words[@]}") || exit 1
+  ours=$(seconds_of "$program" "${words[@]}") || exit 1
   cp "$scratch/out" "$scratch/ours"
-  printf '%-8s whyline %s s%s' "$name" "$ours" "$(memory_of ./whyline "${words[@]}")"
+  printf '%-8s whyline %s s%s' "$name" "$ours" "$(memory_of "$program" "${words[@]}")"
   if command -v javac >/dev/null 2>&1 && command -v java >/dev/null 2>&1; then
     theirs=$(seconds_of compiled_and_run "$source" "$name") || exit 1
     head -n -1 "$scratch/ours" | cmp -s - "$scratch/out" || { echo "; the outputs differ" >&2; exit 1; }
@@ -53,6 +55,26 @@ for source in tools/bench/*.java; do
 done
 
 for part in 4 2 1; do
-  taken=$(seconds_of ./whyline run tools/bench/Events.java --steps $((16000000 / part))) || exit 1
+  taken=$(seconds_of "$program" run tools/bench/Events.java --steps $((16000000 / part))) || exit 1
   printf 'Events, %d steps: %s s\n' $((16000000 / part)) "$taken"
 done
+
+measure() { # NAME WORD..: the time is left in `taken`
+  local name=$1
+  shift
+  taken=$(seconds_of "$@") || exit 1
+  printf 'Events, %s: %s s%s\n' "$name" "$taken" "$(memory_of "$@")"
+}
+
+events=tools/bench/Events.java
+trace=$scratch/events.trace
+measure run "$program" run "$events" --steps "$steps"
+alone=$taken
+measure record "$program" record "$events" -o "$trace" --steps "$steps"
+recorded=$taken
+measure "sha256sum of $(wc -c <"$trace") bytes" sha256sum "$trace"
+awk -v r="$recorded" -v a="$alone" -v h="$taken" \
+  'BEGIN { printf "Events, record: %.2f times as long as run and sha256sum together\n", r / (a + h) }'
+measure output "$program" output "$trace"
+measure audit "$program" audit "$trace"
+measure why "$program" why "$trace" p0
