@@ -1,0 +1,4 @@
+pub mod Forms
+pub mod Seen
+pub mod Ways
+pub mod Standings
