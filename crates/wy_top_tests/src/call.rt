@@ -60,13 +60,16 @@ fn files(
     Ok(vec![in alloc; source, input, trace]?)
 }
 
-fn recorder(alloc: Global, fails: Fails) -> Result<FrameRecorder<MemoryTraceSink>, AllocError>
+fn recorder(
+    alloc: Global,
+    first: Vec<u32>,
+    second: Vec<u32>,
+) -> Result<FrameRecorder<MemoryTraceSink>, AllocError>
     ensures { IfOk result (λ recorder. recorder.phase ≡ Phase.Ready) }
 {
     let mut sinks = Vec::new(alloc);
-    for call in [fails.first, fails.second] {
-        sinks.push(MemoryTraceSink::new(alloc, Vec::from_slice(alloc, &[call])?))?;
-    }
+    sinks.push(MemoryTraceSink::new(alloc, first))?;
+    sinks.push(MemoryTraceSink::new(alloc, second))?;
     Ok(FrameRecorder::new(alloc, sinks))
 }
 
@@ -88,7 +91,11 @@ pub fn call(
     );
     let mut keys = MemorySource::new(Vec::new(alloc), Vec::new(alloc));
     let mut out = MemorySink::new(alloc, Vec::from_slice(alloc, &[fails.out])?);
-    let mut recorder = recorder(alloc, fails)?;
+    let mut recorder = recorder(
+        alloc,
+        Vec::from_slice(alloc, &[fails.first])?,
+        Vec::from_slice(alloc, &[fails.second])?,
+    )?;
     let status = whyline(
         alloc,
         words.as_slice(),
