@@ -36,7 +36,7 @@ run_answered known source bytes w p text head end of at here has carries = λ qu
     let there : text_of ≡ source = sym (has (program_of q) text_of input steps is head end at) ∙ here in
     let one = one_program known source p q of (subst (λ (s : List ℕ). IsProgramOf s q) there also) in
     let trace : IsTraceOf trace_spelling (program_of p) source input steps bytes =
-        subst (λ (z : Program). IsTraceOf trace_spelling z source input steps bytes) (sym one.0) (subst (λ (s : List ℕ). IsTraceOf trace_spelling (program_of q) s input steps bytes) there is) in
+    subst (λ (z : Program). IsTraceOf trace_spelling z source input steps bytes) (sym one.0) (subst (λ (s : List ℕ). IsTraceOf trace_spelling (program_of q) s input steps bytes) there is) in
     let answer : CarriedAnswer (program_of p) p.lines.items input steps question text = carries question same source input steps trace in
     subst (λ (z : Program). CarriedAnswer z q.lines.items input steps question text) one.0 (subst (λ (l : List ℕ). CarriedAnswer (program_of p) l input steps question text) one.1 answer)
 

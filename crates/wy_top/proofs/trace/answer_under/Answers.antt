@@ -10,13 +10,13 @@ returns-in-Err-clause-due c = under_none _ _ _ c.in-Err.error c.answer_to_error.
 
 pub returns-in-Ok-clause-carried : goal.returns-in-Ok-clause-carried
 returns-in-Ok-clause-carried c = under_answered (record {
-    lists = c.a_text_has_one_token_list.ensures;
-    tokens = c.a_refused_text_has_no_tokens.ensures.tokens;
-    one = c.a_refused_text_has_no_tokens.ensures.one;
-    utf8 = c.a_refused_text_has_no_tokens.ensures.utf8;
-    trees = c.a_token_list_has_one_tree.ensures;
-    programs = c.a_text_has_one_program.ensures;
-    })
+  lists = c.a_text_has_one_token_list.ensures;
+  tokens = c.a_refused_text_has_no_tokens.ensures.tokens;
+  one = c.a_refused_text_has_no_tokens.ensures.one;
+  utf8 = c.a_refused_text_has_no_tokens.ensures.utf8;
+  trees = c.a_token_list_has_one_tree.ensures;
+  programs = c.a_text_has_one_program.ensures;
+})
     _ _ _ c.in-Ok.typed.program c.answer_to_trace.result c.in-Ok.ensures.program c.answer_to_trace.ensures.carried c.answer_to_trace.ensures.source
 
 pub returns-in-Err-clause-carried : goal.returns-in-Err-clause-carried
