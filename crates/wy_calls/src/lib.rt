@@ -9,8 +9,6 @@ mod frame;
 mod lookup;
 mod parts;
 mod signature;
-#[cfg(test)]
-mod tests;
 
 pub use calls::{Calls, DEPTH_LIMIT, Scope};
 pub use error::CallError;

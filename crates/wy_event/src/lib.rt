@@ -4,5 +4,3 @@
 
 pub mod record;
 pub mod sequence;
-#[cfg(test)]
-mod tests;

@@ -5,7 +5,5 @@
 mod piece;
 mod recorder;
 mod serve;
-#[cfg(test)]
-mod tests;
 
 pub use recorder::FrameRecorder;

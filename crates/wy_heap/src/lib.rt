@@ -8,7 +8,5 @@ mod heap;
 pub mod law;
 mod layout;
 mod plan;
-#[cfg(test)]
-mod tests;
 
 pub use heap::{Heap, HeapError};

@@ -5,8 +5,6 @@
 mod memory;
 mod quiet;
 mod recorder;
-#[cfg(test)]
-mod tests;
 
 pub use memory::MemoryRecorder;
 pub use quiet::QuietRecorder;

@@ -6,8 +6,6 @@
 mod file;
 mod memory;
 mod sink;
-#[cfg(test)]
-mod tests;
 
 pub use file::{FileTraceSink, put_through, write_block};
 pub use memory::MemoryTraceSink;

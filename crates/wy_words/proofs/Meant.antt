@@ -7,9 +7,9 @@ use Rattle.wy_words.specs.declared.asking.Awaited.{Awaited}
 use Rattle.wy_words.specs.declared.asking.Awaited.TheVariants as awaited
 use Rattle.wy_words.specs.declared.commands.Command as memory
 use Rattle.wy_words.specs.Views.{command_of}
-use Rattle.wy_words.specs.Words.{Part, Spells, Holds, Command, Run, Record, Output, Why, Audit, asked, Asks, IsNoCommand, AskOneCommand}
+use Rattle.wy_words.specs.Words.{Part, Spells, Holds, Command, Run, Record, Output, Why, WhyNot, Questions, Audit, asked, Asks, IsNoCommand, AskOneCommand}
 use Rattle.wy_words.specs.Words as words
-use Rattle.wy_words.specs.Reading.{Asking, nothing, named, named_in, ended, command_named, run, run_of, recording, is_bare, only_operand, output, why, audit}
+use Rattle.wy_words.specs.Reading.{Asking, nothing, named, named_in, ended, command_named, run, run_of, recording, is_bare, only_operand, two_operands, output, why, whynot, questions, audit}
 use Rattle.wy_words.proofs.Spelled.{spelled, named_spelled}
 use Rattle.wy_words.proofs.Held.{naming, held, holds}
 
@@ -40,8 +40,16 @@ unfolding command_named output only_operand is_bare
 output_named trace = refl
 
 why_named : (trace question : List ℕ) → command_named (codes "why") (naming (trace ∷ (question ∷ [])) None None None) ≡ Some (Why trace question)
-unfolding command_named why is_bare
+unfolding command_named why two_operands is_bare
 why_named trace question = refl
+
+whynot_named : (trace statement : List ℕ) → command_named (codes "whynot") (naming (trace ∷ (statement ∷ [])) None None None) ≡ Some (WhyNot trace statement)
+unfolding command_named whynot two_operands is_bare
+whynot_named trace statement = refl
+
+questions_named : (trace : List ℕ) → command_named (codes "questions") (naming (trace ∷ []) None None None) ≡ Some (Questions trace)
+unfolding command_named questions only_operand is_bare
+questions_named trace = refl
 
 audit_named : (trace : List ℕ) → command_named (codes "audit") (naming (trace ∷ []) None None None) ≡ Some (Audit trace)
 unfolding command_named audit only_operand is_bare
@@ -56,6 +64,10 @@ asked_read _ _ (words.output {words = ws} {parts = ps} {trace = t} s h) =
     ap (option_and_then (command_named (codes "output"))) (named_there ws ps (t ∷ []) None None None (omega arith) s h) ∙ output_named t
 asked_read _ _ (words.why {words = ws} {parts = ps} {trace = t} {question = q} s h) =
     ap (option_and_then (command_named (codes "why"))) (named_there ws ps (t ∷ (q ∷ [])) None None None (omega arith) s h) ∙ why_named t q
+asked_read _ _ (words.whynot {words = ws} {parts = ps} {trace = t} {statement = k} s h) =
+    ap (option_and_then (command_named (codes "whynot"))) (named_there ws ps (t ∷ (k ∷ [])) None None None (omega arith) s h) ∙ whynot_named t k
+asked_read _ _ (words.questions {words = ws} {parts = ps} {trace = t} s h) =
+    ap (option_and_then (command_named (codes "questions"))) (named_there ws ps (t ∷ []) None None None (omega arith) s h) ∙ questions_named t
 asked_read _ _ (words.audit {words = ws} {parts = ps} {trace = t} s h) =
     ap (option_and_then (command_named (codes "audit"))) (named_there ws ps (t ∷ []) None None None (omega arith) s h) ∙ audit_named t
 
@@ -102,36 +114,79 @@ recording_meant behind [] w i (Some t) n c s is = absurd (none-some c is)
 recording_meant behind (source ∷ []) w i (Some t) n c s is = subst (Asks (codes "record" ∷ behind)) (same_Some _ c is) (words.recording s.spells s.hold)
 recording_meant behind (source ∷ (second ∷ more)) w i (Some t) n c s is = absurd (none-some c is)
 
-output_meant : (behind xs : List (List ℕ)) (w : Awaited) (i t : Option (List ℕ)) (n : Option ℕ) (c : Command) → Stands behind xs i t n
-    → output (record { awaited = w; operands = xs; input = i; trace = t; steps = n }) ≡ Some c → Asks (codes "output" ∷ behind) c
-unfolding output only_operand is_bare
-output_meant behind [] w i t n c s is = absurd (none-some c is)
-output_meant behind (word ∷ []) w None None None c s is = subst (Asks (codes "output" ∷ behind)) (same_Some _ c is) (words.output s.spells s.hold)
-output_meant behind (word ∷ []) w (Some i) t n c s is = absurd (none-some c is)
-output_meant behind (word ∷ []) w None (Some t) n c s is = absurd (none-some c is)
-output_meant behind (word ∷ []) w None None (Some n) c s is = absurd (none-some c is)
-output_meant behind (word ∷ (second ∷ more)) w i t n c s is = absurd (none-some c is)
+-- the one operand, and the two, stand without options
+alone : (behind xs : List (List ℕ)) (w : Awaited) (i t : Option (List ℕ)) (n : Option ℕ) (word : List ℕ) → Stands behind xs i t n
+    → only_operand xs (record { awaited = w; operands = xs; input = i; trace = t; steps = n }) ≡ Some word → Stands behind (word ∷ []) None None None
+unfolding only_operand is_bare
+alone behind [] w i t n word s is = absurd (none-some word is)
+alone behind (first ∷ []) w None None None word s is = subst (λ v. Stands behind (v ∷ []) None None None) (same_Some first word is) s
+alone behind (first ∷ []) w (Some i) t n word s is = absurd (none-some word is)
+alone behind (first ∷ []) w None (Some t) n word s is = absurd (none-some word is)
+alone behind (first ∷ []) w None None (Some n) word s is = absurd (none-some word is)
+alone behind (first ∷ (second ∷ more)) w i t n word s is = absurd (none-some word is)
 
-why_meant : (behind xs : List (List ℕ)) (w : Awaited) (i t : Option (List ℕ)) (n : Option ℕ) (c : Command) → Stands behind xs i t n
-    → why xs (record { awaited = w; operands = xs; input = i; trace = t; steps = n }) ≡ Some c → Asks (codes "why" ∷ behind) c
-unfolding why is_bare
-why_meant behind [] w i t n c s is = absurd (none-some c is)
-why_meant behind (word ∷ []) w i t n c s is = absurd (none-some c is)
-why_meant behind (trace ∷ (question ∷ [])) w None None None c s is = subst (Asks (codes "why" ∷ behind)) (same_Some _ c is) (words.why s.spells s.hold)
-why_meant behind (trace ∷ (question ∷ [])) w (Some i) t n c s is = absurd (none-some c is)
-why_meant behind (trace ∷ (question ∷ [])) w None (Some t) n c s is = absurd (none-some c is)
-why_meant behind (trace ∷ (question ∷ [])) w None None (Some n) c s is = absurd (none-some c is)
-why_meant behind (trace ∷ (question ∷ (third ∷ more))) w i t n c s is = absurd (none-some c is)
+both : (behind xs : List (List ℕ)) (w : Awaited) (i t : Option (List ℕ)) (n : Option ℕ) (x : List ℕ × List ℕ) → Stands behind xs i t n
+    → two_operands xs (record { awaited = w; operands = xs; input = i; trace = t; steps = n }) ≡ Some x → Stands behind (x.0 ∷ (x.1 ∷ [])) None None None
+unfolding two_operands is_bare
+both behind [] w i t n x s is = absurd (none-some x is)
+both behind (first ∷ []) w i t n x s is = absurd (none-some x is)
+both behind (first ∷ (second ∷ [])) w None None None x s is = subst (λ v. Stands behind (v.0 ∷ (v.1 ∷ [])) None None None) (same_Some (first, second) x is) s
+both behind (first ∷ (second ∷ [])) w (Some i) t n x s is = absurd (none-some x is)
+both behind (first ∷ (second ∷ [])) w None (Some t) n x s is = absurd (none-some x is)
+both behind (first ∷ (second ∷ [])) w None None (Some n) x s is = absurd (none-some x is)
+both behind (first ∷ (second ∷ (third ∷ more))) w i t n x s is = absurd (none-some x is)
 
-audit_meant : (behind xs : List (List ℕ)) (w : Awaited) (i t : Option (List ℕ)) (n : Option ℕ) (c : Command) → Stands behind xs i t n
-    → audit (record { awaited = w; operands = xs; input = i; trace = t; steps = n }) ≡ Some c → Asks (codes "audit" ∷ behind) c
-unfolding audit only_operand is_bare
-audit_meant behind [] w i t n c s is = absurd (none-some c is)
-audit_meant behind (word ∷ []) w None None None c s is = subst (Asks (codes "audit" ∷ behind)) (same_Some _ c is) (words.audit s.spells s.hold)
-audit_meant behind (word ∷ []) w (Some i) t n c s is = absurd (none-some c is)
-audit_meant behind (word ∷ []) w None (Some t) n c s is = absurd (none-some c is)
-audit_meant behind (word ∷ []) w None None (Some n) c s is = absurd (none-some c is)
-audit_meant behind (word ∷ (second ∷ more)) w i t n c s is = absurd (none-some c is)
+-- what something is made into is made of it
+record Mapped {X Y : Type 0} (f : X → Y) (o : Option X) (y : Y) : Type 0 where
+  from : X
+  there : o ≡ Some from
+  made : f from ≡ y
+
+mapped : {X Y : Type 0} (f : X → Y) (o : Option X) (y : Y) → option_map f o ≡ Some y → Mapped f o y
+mapped f None y is = absurd (none-some y is)
+mapped f (Some x) y is = record { from = x; there = refl; made = same_Some (f x) y is }
+
+-- a command of one operand, or of two
+of_one : (front : List ℕ) (behind : List (List ℕ)) (a : Asking) (kind : List ℕ → Command) (c : Command)
+    → ((word : List ℕ) → Stands behind (word ∷ []) None None None → Asks (front ∷ behind) (kind word))
+    → Stands behind a.operands a.input a.trace a.steps
+    → option_map kind (only_operand a.operands a) ≡ Some c → Asks (front ∷ behind) c
+of_one front behind a kind c asks s is =
+    let m = mapped kind (only_operand a.operands a) c is in
+    subst (Asks (front ∷ behind)) m.made (asks m.from (alone behind a.operands a.awaited a.input a.trace a.steps m.from s m.there))
+
+of_two : (front : List ℕ) (behind : List (List ℕ)) (a : Asking) (kind : List ℕ → List ℕ → Command) (c : Command)
+    → ((first second : List ℕ) → Stands behind (first ∷ (second ∷ [])) None None None → Asks (front ∷ behind) (kind first second))
+    → Stands behind a.operands a.input a.trace a.steps
+    → option_map (λ x. kind x.0 x.1) (two_operands a.operands a) ≡ Some c → Asks (front ∷ behind) c
+of_two front behind a kind c asks s is =
+    let m = mapped (λ x. kind x.0 x.1) (two_operands a.operands a) c is in
+    subst (Asks (front ∷ behind)) m.made (asks m.from.0 m.from.1 (both behind a.operands a.awaited a.input a.trace a.steps m.from s m.there))
+
+output_meant : (behind : List (List ℕ)) (a : Asking) (c : Command) → Stands behind a.operands a.input a.trace a.steps
+    → output a ≡ Some c → Asks (codes "output" ∷ behind) c
+unfolding output
+output_meant behind a c s is = of_one (codes "output") behind a Output c (λ word t. words.output t.spells t.hold) s is
+
+questions_meant : (behind : List (List ℕ)) (a : Asking) (c : Command) → Stands behind a.operands a.input a.trace a.steps
+    → questions a ≡ Some c → Asks (codes "questions" ∷ behind) c
+unfolding questions
+questions_meant behind a c s is = of_one (codes "questions") behind a Questions c (λ word t. words.questions t.spells t.hold) s is
+
+audit_meant : (behind : List (List ℕ)) (a : Asking) (c : Command) → Stands behind a.operands a.input a.trace a.steps
+    → audit a ≡ Some c → Asks (codes "audit" ∷ behind) c
+unfolding audit
+audit_meant behind a c s is = of_one (codes "audit") behind a Audit c (λ word t. words.audit t.spells t.hold) s is
+
+why_meant : (behind : List (List ℕ)) (a : Asking) (c : Command) → Stands behind a.operands a.input a.trace a.steps
+    → why a ≡ Some c → Asks (codes "why" ∷ behind) c
+unfolding why
+why_meant behind a c s is = of_two (codes "why") behind a Why c (λ first second t. words.why t.spells t.hold) s is
+
+whynot_meant : (behind : List (List ℕ)) (a : Asking) (c : Command) → Stands behind a.operands a.input a.trace a.steps
+    → whynot a ≡ Some c → Asks (codes "whynot" ∷ behind) c
+unfolding whynot
+whynot_meant behind a c s is = of_two (codes "whynot") behind a WhyNot c (λ first second t. words.whynot t.spells t.hold) s is
 
 -- a command by its name
 by_name : (name front : List ℕ) (behind : List (List ℕ)) (c : Command) → bytes_eq name front ≡ true → Asks (front ∷ behind) c → Asks (name ∷ behind) c
@@ -141,18 +196,20 @@ command_meant : (name : List ℕ) (behind : List (List ℕ)) (a : Asking) (c : C
     → command_named name a ≡ Some c → Asks (name ∷ behind) c
 unfolding command_named
 command_meant name behind a c s is =
-    go (bytes_eq name (codes "run")) (bytes_eq name (codes "record")) (bytes_eq name (codes "output")) (bytes_eq name (codes "why")) (bytes_eq name (codes "audit"))
-    refl refl refl refl refl is
+    go (bytes_eq name (codes "run")) (bytes_eq name (codes "record")) (bytes_eq name (codes "output")) (bytes_eq name (codes "why")) (bytes_eq name (codes "whynot")) (bytes_eq name (codes "questions")) (bytes_eq name (codes "audit"))
+    refl refl refl refl refl refl refl is
   where
-    go : (r d o y u : Bool) → bytes_eq name (codes "run") ≡ r → bytes_eq name (codes "record") ≡ d → bytes_eq name (codes "output") ≡ o → bytes_eq name (codes "why") ≡ y → bytes_eq name (codes "audit") ≡ u
-        → (if r then run a else (if d then recording a.trace a else (if o then output a else (if y then why a.operands a else (if u then audit a else None))))) ≡ Some c
+    go : (r d o y w q u : Bool) → bytes_eq name (codes "run") ≡ r → bytes_eq name (codes "record") ≡ d → bytes_eq name (codes "output") ≡ o → bytes_eq name (codes "why") ≡ y → bytes_eq name (codes "whynot") ≡ w → bytes_eq name (codes "questions") ≡ q → bytes_eq name (codes "audit") ≡ u
+        → (if r then run a else (if d then recording a.trace a else (if o then output a else (if y then why a else (if w then whynot a else (if q then questions a else (if u then audit a else None))))))) ≡ Some c
         → Asks (name ∷ behind) c
-    go true d o y u er ed eo ey eu e = by_name name (codes "run") behind c er (run_meant behind a.operands a.awaited a.input a.trace a.steps c s e)
-    go false true o y u er ed eo ey eu e = by_name name (codes "record") behind c ed (recording_meant behind a.operands a.awaited a.input a.trace a.steps c s e)
-    go false false true y u er ed eo ey eu e = by_name name (codes "output") behind c eo (output_meant behind a.operands a.awaited a.input a.trace a.steps c s e)
-    go false false false true u er ed eo ey eu e = by_name name (codes "why") behind c ey (why_meant behind a.operands a.awaited a.input a.trace a.steps c s e)
-    go false false false false true er ed eo ey eu e = by_name name (codes "audit") behind c eu (audit_meant behind a.operands a.awaited a.input a.trace a.steps c s e)
-    go false false false false false er ed eo ey eu e = absurd (none-some c e)
+    go true d o y w q u er ed eo ey ew eq eu e = by_name name (codes "run") behind c er (run_meant behind a.operands a.awaited a.input a.trace a.steps c s e)
+    go false true o y w q u er ed eo ey ew eq eu e = by_name name (codes "record") behind c ed (recording_meant behind a.operands a.awaited a.input a.trace a.steps c s e)
+    go false false true y w q u er ed eo ey ew eq eu e = by_name name (codes "output") behind c eo (output_meant behind a c s e)
+    go false false false true w q u er ed eo ey ew eq eu e = by_name name (codes "why") behind c ey (why_meant behind a c s e)
+    go false false false false true q u er ed eo ey ew eq eu e = by_name name (codes "whynot") behind c ew (whynot_meant behind a c s e)
+    go false false false false false true u er ed eo ey ew eq eu e = by_name name (codes "questions") behind c eq (questions_meant behind a c s e)
+    go false false false false false false true er ed eo ey ew eq eu e = by_name name (codes "audit") behind c eu (audit_meant behind a c s e)
+    go false false false false false false false er ed eo ey ew eq eu e = absurd (none-some c e)
 
 pub read_asked : (words : List (List ℕ)) (c : Command) → read_as words ≡ Some c → Asks words c
 read_asked [] c is = absurd (none-some c is)

@@ -1,7 +1,7 @@
 -- What stands in the words that are read so far, as the calls of this crate find it. No definition of a command rests on it.
 use Rattle.std.specs.Prelude.{ℕ, length, List, [], ◌∷◌, ◌++◌, Bool, ◌&&◌, nat_eq, nat_lt, bytes_eq, if◌then◌else◌, Option, Some, None, is_none, option_and_then, option_map, codes, drop}
 use Rattle.std.specs.List.{starts_with}
-use Rattle.wy_words.specs.Words.{is_plain, budget, Part, Operand, Input, Trace, Steps, Asked, Command, Run, Record, Output, Why, Audit, asked}
+use Rattle.wy_words.specs.Words.{is_plain, budget, Part, Operand, Input, Trace, Steps, Asked, Command, Run, Record, Output, Why, WhyNot, Questions, Audit, asked}
 use Rattle.wy_words.specs.declared.asking.Awaited.{Awaited}
 use Rattle.wy_words.specs.declared.asking.Awaited.TheVariants as awaited
 
@@ -89,11 +89,21 @@ recording (Some trace) a = option_map (λ r. Record r trace) (run_of a.operands 
 unfoldable pub output : Asking → Option Command
 output a = option_map Output (only_operand a.operands a)
 
-unfoldable pub why : List (List ℕ) → Asking → Option Command
-why [] a = None
-why (trace ∷ []) a = None
-why (trace ∷ (question ∷ [])) a = if is_bare a then Some (Why trace question) else None
-why (trace ∷ (question ∷ (third ∷ more))) a = None
+-- the two operands, where nothing else stands
+unfoldable pub two_operands : List (List ℕ) → Asking → Option (List ℕ × List ℕ)
+two_operands [] a = None
+two_operands (first ∷ []) a = None
+two_operands (first ∷ (second ∷ [])) a = if is_bare a then Some (first, second) else None
+two_operands (first ∷ (second ∷ (third ∷ more))) a = None
+
+unfoldable pub why : Asking → Option Command
+why a = option_map (λ w. Why w.0 w.1) (two_operands a.operands a)
+
+unfoldable pub whynot : Asking → Option Command
+whynot a = option_map (λ w. WhyNot w.0 w.1) (two_operands a.operands a)
+
+unfoldable pub questions : Asking → Option Command
+questions a = option_map Questions (only_operand a.operands a)
 
 unfoldable pub audit : Asking → Option Command
 audit a = option_map Audit (only_operand a.operands a)
@@ -104,5 +114,7 @@ command_named name a =
     if bytes_eq name (codes "run") then run a
     else (if bytes_eq name (codes "record") then recording a.trace a
     else (if bytes_eq name (codes "output") then output a
-    else (if bytes_eq name (codes "why") then why a.operands a
-    else (if bytes_eq name (codes "audit") then audit a else None))))
+    else (if bytes_eq name (codes "why") then why a
+    else (if bytes_eq name (codes "whynot") then whynot a
+    else (if bytes_eq name (codes "questions") then questions a
+    else (if bytes_eq name (codes "audit") then audit a else None))))))

@@ -1,4 +1,5 @@
 -- What is asked, in memory, as contracts see it.
+use Rattle.std.specs.Borrow.{Bor}
 use Rattle.std.specs.Prelude.{ℕ, List, [], ◌∷◌, option_map}
 use Rattle.wy_words.specs.Words as words
 use Rattle.wy_words.specs.Reading as reading
@@ -7,12 +8,15 @@ use Rattle.wy_words.specs.declared.asking.Operands.TheVariants.{Nothing, One, Tw
 use Rattle.wy_words.specs.declared.asking.Asking.{Asking}
 use Rattle.wy_words.specs.declared.commands.Asked.{Asked}
 use Rattle.wy_words.specs.declared.commands.Command.{Command}
-use Rattle.wy_words.specs.declared.commands.Command.TheVariants.{Run, Record, Output, Why, Audit}
+use Rattle.wy_words.specs.declared.commands.Command.TheVariants.{Run, Record, Output, Why, WhyNot, Questions, Audit}
 
 abbrev pub operands_of : Operands → List (List ℕ)
 operands_of Nothing = []
 operands_of (One word) = word.now ∷ []
 operands_of (Two first second) = first.now ∷ (second.now ∷ [])
+
+abbrev pub pair_of : Bor (List ℕ) × Bor (List ℕ) → List ℕ × List ℕ
+pair_of x = (x.0.now, x.1.now)
 
 abbrev pub asking_of : Asking → reading.Asking
 asking_of a = record {
@@ -31,4 +35,6 @@ command_of (Run asked) = words.Run (asked_of asked)
 command_of (Record asked trace) = words.Record (asked_of asked) trace.now
 command_of (Output trace) = words.Output trace.now
 command_of (Why trace question) = words.Why trace.now question.now
+command_of (WhyNot trace statement) = words.WhyNot trace.now statement.now
+command_of (Questions trace) = words.Questions trace.now
 command_of (Audit trace) = words.Audit trace.now

@@ -80,6 +80,8 @@ pub data Command : Type 0 where
   Record : (asked : Asked) (trace : List ℕ) → Command
   Output : (trace : List ℕ) → Command
   Why : (trace question : List ℕ) → Command
+  WhyNot : (trace statement : List ℕ) → Command
+  Questions : (trace : List ℕ) → Command
   Audit : (trace : List ℕ) → Command
 
 -- the steps that are run where none are asked
@@ -99,6 +101,10 @@ pub data Asks : List (List ℕ) → Command → Type 0 where
       → Holds parts (trace ∷ []) None None None → Asks (codes "output" ∷ words) (Output trace)
   why : {words : List (List ℕ)} {parts : List Part} {trace question : List ℕ} → Spells words parts
       → Holds parts (trace ∷ (question ∷ [])) None None None → Asks (codes "why" ∷ words) (Why trace question)
+  whynot : {words : List (List ℕ)} {parts : List Part} {trace statement : List ℕ} → Spells words parts
+      → Holds parts (trace ∷ (statement ∷ [])) None None None → Asks (codes "whynot" ∷ words) (WhyNot trace statement)
+  questions : {words : List (List ℕ)} {parts : List Part} {trace : List ℕ} → Spells words parts
+      → Holds parts (trace ∷ []) None None None → Asks (codes "questions" ∷ words) (Questions trace)
   audit : {words : List (List ℕ)} {parts : List Part} {trace : List ℕ} → Spells words parts
       → Holds parts (trace ∷ []) None None None → Asks (codes "audit" ∷ words) (Audit trace)
 

@@ -1,10 +1,11 @@
 //! Which command a name and what is named behind it are.
 ghost use Rattle.std.specs.Prelude.{◌≡◌, option_map};
-ghost use Rattle.wy_words.specs.Views.{asking_of, asked_of, command_of};
+ghost use Rattle.wy_words.specs.Views.{asking_of, asked_of, command_of, pair_of};
 ghost use Rattle.wy_words.specs.Reading.{audit as audit_asked, command_named as named_so};
 ghost use Rattle.wy_words.specs.Reading.{is_bare as bare, only_operand as alone, output as output_asked};
 ghost use Rattle.wy_words.specs.Reading.{recording as recording_asked, run as run_asked, run_of};
-ghost use Rattle.wy_words.specs.Reading.{why as why_asked};
+ghost use Rattle.wy_words.specs.Reading.{questions as questions_asked, two_operands as both};
+ghost use Rattle.wy_words.specs.Reading.{why as why_asked, whynot as whynot_asked};
 
 use crate::asking::{Asking, Operands};
 
@@ -26,6 +27,8 @@ pub enum Command<'a> {
     Record { asked: Asked<'a>, trace: &'a str },
     Output { trace: &'a str },
     Why { trace: &'a str, question: &'a str },
+    WhyNot { trace: &'a str, statement: &'a str },
+    Questions { trace: &'a str },
     Audit { trace: &'a str },
 }
 
@@ -45,6 +48,12 @@ pub fn command_named<'a>(name: &str, asking: Asking<'a>) -> Option<Command<'a>>
     }
     if name == "why" {
         return why(asking);
+    }
+    if name == "whynot" {
+        return whynot(asking);
+    }
+    if name == "questions" {
+        return questions(asking);
     }
     if name == "audit" {
         return audit(asking);
@@ -91,15 +100,31 @@ fn output(asking: Asking<'_>) -> Option<Command<'_>>
 
 #[tactic(auto, unfolding(crate::specs::Reading::why))]
 fn why(asking: Asking<'_>) -> Option<Command<'_>>
-    ensures { option_map command_of result
-        ≡ why_asked (asking_of asking.entry).operands (asking_of asking.entry) }
+    ensures { option_map command_of result ≡ why_asked (asking_of asking.entry) }
 {
-    match asking.operands {
-        Operands::Two(trace, question) if is_bare(&asking) => Some(Command::Why {
-            trace,
-            question,
-        }),
-        _ => None,
+    match two_operands(asking) {
+        Some((trace, question)) => Some(Command::Why { trace, question }),
+        None => None,
+    }
+}
+
+#[tactic(auto, unfolding(crate::specs::Reading::whynot))]
+fn whynot(asking: Asking<'_>) -> Option<Command<'_>>
+    ensures { option_map command_of result ≡ whynot_asked (asking_of asking.entry) }
+{
+    match two_operands(asking) {
+        Some((trace, statement)) => Some(Command::WhyNot { trace, statement }),
+        None => None,
+    }
+}
+
+#[tactic(auto, unfolding(crate::specs::Reading::questions))]
+fn questions(asking: Asking<'_>) -> Option<Command<'_>>
+    ensures { option_map command_of result ≡ questions_asked (asking_of asking.entry) }
+{
+    match only_operand(asking) {
+        Some(trace) => Some(Command::Questions { trace }),
+        None => None,
     }
 }
 
@@ -137,6 +162,18 @@ fn only_operand(asking: Asking<'_>) -> Option<&str>
 {
     match asking.operands {
         Operands::One(word) if is_bare(&asking) => Some(word),
+        _ => None,
+    }
+}
+
+/// The two operands, where they stand and no option.
+#[tactic(auto, unfolding(crate::specs::Reading::two_operands))]
+fn two_operands(asking: Asking<'_>) -> Option<(&str, &str)>
+    ensures { option_map pair_of result
+        ≡ both (asking_of asking.entry).operands (asking_of asking.entry) }
+{
+    match asking.operands {
+        Operands::Two(first, second) if is_bare(&asking) => Some((first, second)),
         _ => None,
     }
 }

@@ -1,9 +1,9 @@
 //! A run of one event, put together and read back.
 
-use crate::record::{Cover, Coverage, Event, Head, Kind, Slot, Tail, Thrown, Trace, Use};
-use crate::sequence::Sequence;
 use std::alloc::{AllocError, Global};
 use std::test::Fail;
+use wy_event::record::{Cover, Coverage, Event, Head, Kind, Slot, Tail, Thrown, Trace, Use};
+use wy_event::sequence::Sequence;
 use wy_kernel::types::NONE;
 use wy_value::Value;
 

@@ -2,14 +2,12 @@
 
 ghost use Rattle.std.specs.Prelude.{◌≡◌};
 
-use crate::memory::MemoryRecorder;
-use crate::quiet::QuietRecorder;
-use crate::recorder::{Phase, RecordError, Recorder};
 use std::alloc::Global;
 use std::test::Fail;
 use wy_event::record::{Coverage, Event, Head, Kind, Slot, Tail};
 use wy_event::sequence::Sequence;
 use wy_kernel::types::NONE;
+use wy_record::{MemoryRecorder, Phase, QuietRecorder, RecordError, Recorder};
 use wy_value::Value;
 
 fn throwing(alloc: Global) -> Event {

@@ -1,10 +1,8 @@
 //! A few calls in one another, and a method that a class above declares anew.
 
-use crate::calls::Calls;
-use crate::error::CallError;
-use crate::lookup::Dispatcher;
 use std::alloc::{AllocError, Global};
 use std::test::Fail;
+use wy_calls::{CallError, Calls, Dispatcher};
 use wy_kernel::builtin;
 use wy_kernel::program::Program;
 use wy_kernel::types::{Base, Class, Method, MethodForm, NONE, Ty};

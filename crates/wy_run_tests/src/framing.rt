@@ -1,11 +1,11 @@
 //! A run without an event, written to two mirrors.
 ghost use Rattle.std.specs.Prelude.{◌≡◌, IfOk};
 
-use crate::recorder::FrameRecorder;
 use std::alloc::{AllocError, Global};
 use std::test::Fail;
 use wy_event::record::{Coverage, Head, Tail};
 use wy_event::sequence::Sequence;
+use wy_framing::FrameRecorder;
 use wy_record::{Phase, RecordError, Recorder};
 use wy_sinks::MemoryTraceSink;
 

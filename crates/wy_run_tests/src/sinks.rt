@@ -1,11 +1,9 @@
 //! A trace through a box, in memory and in a file.
-use crate::file::FileTraceSink;
-use crate::memory::MemoryTraceSink;
-use crate::sink::TraceSink;
 use std::alloc::Global;
 use std::fs;
 use std::test::Fail;
 use wy_outside::sink::SinkError;
+use wy_sinks::{FileTraceSink, MemoryTraceSink, TraceSink};
 
 const PATH: &str = "a_trace_sink_wrote_this.bin";
 

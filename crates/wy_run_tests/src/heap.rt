@@ -1,9 +1,9 @@
 //! A heap of a small program, through each of its calls.
 
-use crate::heap::{Heap, HeapError};
 use std::alloc::{AllocError, Global};
 use std::test::Fail;
 use wy_event::record::Slot;
+use wy_heap::{Heap, HeapError};
 use wy_kernel::operator::Primitive;
 use wy_kernel::program::Program;
 use wy_kernel::types::{Base, Class, Field, NONE, Ty};
