@@ -9,7 +9,7 @@ use std::marker::Brand;
 use std::process::Abort;
 use std::sync::ledger::{Blank, Ledger};
 use std::test::Fail;
-use wy_ask::{AskError, read_question, resolve, statement};
+use wy_ask::{AskError, NamedStatement, read_question, resolve, statement};
 use wy_index::Index;
 use wy_kernel::builtin;
 use wy_kernel::form::{Body, Stmt, StmtForm};
@@ -177,9 +177,14 @@ fn a_statement_is_named_by_its_line_and_place(rt: HostRuntime) -> Result<(), Fai
     let mut program = program(rt.alloc())?;
     program.bodies.push(Some(three_statements(rt.alloc())?))?;
     program.lines = vec![in rt.alloc(); 4, 5, 5, 6, 6]?;
-    for (word, number) in [("5", 1), ("5.1", 1), ("05.02", 2)] {
+    for (word, number, place) in [("5", 1, 1), ("5.1", 1, 1), ("05.02", 2, 2)] {
         let found = statement(rt.alloc(), &program, word);
-        assert_eq!(rt; found.ok(), Some(number), "{word}");
+        let named = NamedStatement {
+            number,
+            line: 5,
+            place,
+        };
+        assert_eq!(rt; found.ok(), Some(named), "{word}");
     }
     for (word, line) in [("5.3", 5), ("6", 6), ("7.1", 7)] {
         let found = statement(rt.alloc(), &program, word);

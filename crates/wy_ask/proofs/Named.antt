@@ -54,8 +54,8 @@ pub unread : (text : List ℕ) → word_in text ≡ None → (l k : ℕ) → Spe
 unread text e l k s = none-some (l, k) (sym e ∙ read l k text s)
 
 pub found : (lines : List ℕ) (all : List Statement) (text : List ℕ) (l k : ℕ) (rising : List ℕ) (n : ℕ) → word_in text ≡ Some (l, k) → Rises (numbers_on lines l all) rising
-    → slice_get rising (k - 1) ≡ Some n → Finds lines all text (Ok n)
-found lines all text l k rising n e rises there = (l, k, names text l k e, record { rising = rising; rises = rises; there = there })
+    → slice_get rising (k - 1) ≡ Some n → Finds lines all text (Ok (record { number = n; line = l; place = k }))
+found lines all text l k rising n e rises there = (names text l k e, record { rising = rising; rises = rises; there = there })
 
 place_is_positive : (l k : ℕ) (text : List ℕ) → SpellsStatement l k text → 0 < k
 place_is_positive _ _ _ (placed l k v w e f some more) = more

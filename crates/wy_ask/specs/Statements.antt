@@ -3,6 +3,7 @@ use Rattle.std.specs.Prelude.{◌≡◌, ℕ, ◌-◌, ◌<◌, ◌&&◌, nat_lt
 use Rattle.std.specs.Ordering.{nat_cmp}
 use Rattle.std.specs.List.Sorted.{IsSorted}
 use Rattle.wy_kernel.specs.Form.{Statement}
+use Rattle.wy_ask.specs.declared.naming.NamedStatement.{NamedStatement}
 use Rattle.wy_ask.specs.declared.question.AskError.{AskError}
 use Rattle.wy_ask.specs.declared.question.AskError.TheVariants as errors
 use Rattle.wy_ask.specs.Words.{number_of}
@@ -32,8 +33,9 @@ pub record IsPlaced (numbers : List ℕ) (place n : ℕ) : Type 0 where
   pub there : slice_get rising (place - 1) ≡ Some n
 
 -- the statement of a text among all of a program, and a refusal exactly where it has none
-abbrev pub Finds : List ℕ → List Statement → List ℕ → Result ℕ AskError → Type 0
-Finds lines all text (Ok n) = (line : ℕ) × (place : ℕ) × Names text line place × IsPlaced (numbers_on lines line all) place n
+abbrev pub Finds : List ℕ → List Statement → List ℕ → Result NamedStatement AskError → Type 0
+Finds lines all text (Ok s) =
+    Names text s.line s.place × IsPlaced (numbers_on lines s.line all) s.place s.number
 Finds lines all text (Err (errors.NoSuch line)) = (place : ℕ) × Names text line place × length (numbers_on lines line all) < place
 Finds lines all text (Err errors.BadQuestion) = (line place : ℕ) → ¬ SpellsStatement line place text
 Finds lines all text (Err errors.NoMemory) = Unit {0}

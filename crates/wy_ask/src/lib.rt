@@ -10,6 +10,6 @@ mod parts;
 pub mod question;
 pub mod resolving;
 
-pub use naming::statement;
+pub use naming::{NamedStatement, statement};
 pub use question::{AskError, Question, read_question};
 pub use resolving::resolve;

@@ -13,8 +13,16 @@ use crate::question::AskError;
 use std::alloc::{AllocError, Global};
 use wy_kernel::program::Program;
 
+/// A statement by its number, and the line and the place in it that name it.
+#[derive(Clone, Copy, Debug, PartialEq, Eq)]
+pub struct NamedStatement {
+    pub number: u32,
+    pub line: u32,
+    pub place: u32,
+}
+
 /// The askable statement that a text names by its line and its place in it.
-pub fn statement(alloc: Global, program: &Program, text: &str) -> Result<u32, AskError>
+pub fn statement(alloc: Global, program: &Program, text: &str) -> Result<NamedStatement, AskError>
     ensures { Finds program.now.lines.items (statements_of (program_of program.now)) text.now
         result }
 {
@@ -23,7 +31,11 @@ pub fn statement(alloc: Global, program: &Program, text: &str) -> Result<u32, As
     };
     let numbers = rising(alloc, program, line)?;
     match at_place(numbers.as_slice(), place) {
-        Some(number) => Ok(number),
+        Some(number) => Ok(NamedStatement {
+            number,
+            line,
+            place,
+        }),
         None => Err(AskError::NoSuch(line)),
     }
 }
