@@ -11,4 +11,5 @@ mod source;
 mod value;
 
 pub use line::event_line;
+pub use name::method_name;
 pub use source::source_line;

@@ -21,7 +21,7 @@ const CLASSES: u32 = 16;
 
 /// A method's name behind that of its class, and nothing where there is no method.
 #[tactic(auto, unfolding(crate::specs::Names::method_name, wy_event::specs::Record::present))]
-pub(crate) fn method_name(
+pub fn method_name(
     alloc: Global,
     program: &Program,
     number: u32,

@@ -16,7 +16,11 @@ use Rattle.wy_reply.specs.declared.answer.Answer.{Answer}
 use Rattle.wy_reply.specs.declared.status.Status.{Status}
 use Rattle.wy_reply.specs.declared.status.Status.TheVariants as status
 use Rattle.wy_reply.specs.Statuses.{code_of}
-use Rattle.wy_reply.specs.Tellings.{IsTraceLine, RefusesTrace, Wanted, Why, Audit, Tells, DueUnder, why_status, why_answer, audit_status, audit_line, why, audit, cut, damaged, bad_seal, refused, told}
+use Rattle.wy_absence.specs.Whynot.{WhynotIs, Denied, TellsWhynot}
+use Rattle.wy_absence.specs.Whynot as denied_as
+use Rattle.wy_absence.specs.declared.whynot.Unanswered.{Unanswered}
+use Rattle.wy_absence.specs.declared.whynot.Unanswered.TheVariants as unanswered
+use Rattle.wy_reply.specs.Tellings.{IsTraceLine, RefusesTrace, Wanted, Why, WhyNot, Audit, Tells, DeniesAs, DueUnder, covers_of, why_status, why_answer, audit_status, audit_line, why, whynot, audit, cut, damaged, bad_seal, refused, told}
 
 -- the status and the text of a refusal, where it was made
 abbrev pub Refuses : Status → List ℕ → Result Answer AllocError → Type 0
@@ -34,6 +38,17 @@ pub told_why : (p : Program) (t : Trace) (question : List ℕ) (a : Result (List
     code_of s ≡ why_status a → Refuses s (why_answer a) r → IfOk r (Told p t (Why question))
 told_why p t question a s (Ok answer) is same h = rw (h.0, h.1, same) (why question a is)
 told_why p t question a s (Err x) is same h = tt
+
+-- what is denied of a word is told
+pub denied : (p : Program) (t : Trace) (word : List ℕ) (e : Unanswered) (r : Result Answer AllocError)
+    → TellsWhynot (program_of p) p.lines.items (map recorded t.events) (covers_of t) word (Err e)
+    → IfOk r (DeniesAs e) → IfOk r (Told p t (WhyNot word))
+denied p t word e (Err x) is h = tt
+denied p t word unanswered.NotRead (Ok answer) is h = rw (h.0, h.1) (whynot word (Err denied_as.NotRead) is)
+denied p t word (unanswered.NoSuch line) (Ok answer) is h = rw (h.0, h.1) (whynot word (Err (denied_as.NoSuch line)) is)
+denied p t word (unanswered.Ran line place count first) (Ok answer) is h =
+    rw (h.0, h.1) (whynot word (Err (denied_as.Ran line place count first)) is)
+denied p t word unanswered.NoMemory (Ok answer) is h = absurd h
 
 pub told_audit : (p : Program) (t : Trace) (v : Verdict) (s : Status) (r : Result Answer AllocError) → AuditIs (program_of p) t.head (map recorded t.events) (kept_tail t.tail) v →
     code_of s ≡ audit_status v → Refuses s (audit_line v) r → IfOk r (Told p t Audit)

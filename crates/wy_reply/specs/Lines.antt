@@ -8,7 +8,7 @@ abbrev pub line_of : List ℕ → List ℕ
 line_of text = text ++ 10 ∷ []
 
 abbrev pub usage_line : List ℕ
-usage_line = line_of (codes "usage: whyline run, record, output, why or audit")
+usage_line = line_of (codes "usage: whyline run, record, output, questions, why, whynot or audit")
 
 abbrev pub absent_line : List ℕ → List ℕ
 absent_line name = line_of (codes "absent: " ++ name)
@@ -55,6 +55,12 @@ not_read_line = line_of (codes "question: not read")
 
 abbrev pub no_such_line : ℕ → List ℕ
 no_such_line number = line_of (codes "question: no such " ++ decimal number)
+
+-- a statement by its line and its place in it, and how often it began
+abbrev pub ran_line : ℕ → ℕ → ℕ → ℕ → List ℕ
+ran_line line place count first =
+    line_of (codes "question: line " ++ (decimal line ++ (codes "." ++ (decimal place
+    ++ (codes " ran " ++ (decimal count ++ (codes " times, first before #" ++ decimal first)))))))
 
 -- ---- faults and limits
 

@@ -3,6 +3,7 @@ use Rattle.std.specs.Prelude.{◌≡◌, ℕ, List, map, Result, Ok, Err}
 use Rattle.wy_kernel.specs.declared.program.Program.{Program}
 use Rattle.wy_kernel.specs.Parts.{program_of}
 use Rattle.wy_event.specs.Record.{recorded}
+use Rattle.wy_event.specs.declared.record.Cover.{Cover}
 use Rattle.wy_event.specs.declared.record.Trace.{Trace}
 use Rattle.wy_payload.specs.declared.fault.DamageRule.{DamageRule}
 use Rattle.wy_frames.specs.declared.error.TraceError.{TraceError}
@@ -14,7 +15,12 @@ use Rattle.wy_machine.specs.declared.auditing.Verdict.{Verdict}
 use Rattle.wy_machine.specs.declared.auditing.Verdict.TheVariants as verdict
 use Rattle.wy_telling.specs.Output.{output_text}
 use Rattle.wy_telling.specs.Why.{WhyIs, Refused, NotRead, NoSuch}
-use Rattle.wy_reply.specs.Lines.{cut_line, damaged_line, bad_seal_line, not_read_line, no_such_line, equal_line, differs_line, tail_differs_line}
+use Rattle.wy_telling.specs.Questions.{questions_text}
+use Rattle.wy_absence.specs.Whynot.{WhynotIs, Denied}
+use Rattle.wy_absence.specs.Whynot as whynot
+use Rattle.wy_absence.specs.declared.whynot.Unanswered.{Unanswered}
+use Rattle.wy_absence.specs.declared.whynot.Unanswered.TheVariants as unanswered
+use Rattle.wy_reply.specs.Lines.{cut_line, damaged_line, bad_seal_line, not_read_line, no_such_line, ran_line, equal_line, differs_line, tail_differs_line}
 use Rattle.wy_reply.specs.declared.answer.Answer.{Answer}
 use Rattle.wy_reply.specs.declared.status.Status.TheVariants as status
 use Rattle.wy_reply.specs.declared.telling.Wanted.{Wanted as Asked}
@@ -30,10 +36,17 @@ pub data IsTraceLine : TraceError → List ℕ → Type 0 where
 abbrev pub RefusesTrace : TraceError → Answer → Type 0
 RefusesTrace error answer = (answer.status ≡ status.Trace) × IsTraceLine error answer.text.items
 
--- what a trace is to tell: what its run wrote, why a question's event is as it is, or whether it is the trace of that run
+-- a refusal of a question with this line
+abbrev pub Refuses : List ℕ → Answer → Type 0
+Refuses line answer = (answer.status ≡ status.Question) × (answer.text.items ≡ line)
+
+-- what a trace is to tell: what its run wrote, what can be asked, why a question's event is as it is,
+-- why a statement never began, or whether it is the trace of that run
 pub data Wanted : Type 0 where
   Output : Wanted
+  Questions : Wanted
   Why : List ℕ → Wanted
+  WhyNot : List ℕ → Wanted
   Audit : Wanted
 
 abbrev pub why_status : Result (List ℕ) Refused → ℕ
@@ -45,6 +58,16 @@ why_answer (Ok text) = text
 why_answer (Err NotRead) = not_read_line
 why_answer (Err (NoSuch number)) = no_such_line number
 
+abbrev pub whynot_status : Result (List ℕ) Denied → ℕ
+whynot_status (Ok text) = 0
+whynot_status (Err e) = 6
+
+abbrev pub whynot_answer : Result (List ℕ) Denied → List ℕ
+whynot_answer (Ok text) = text
+whynot_answer (Err whynot.NotRead) = not_read_line
+whynot_answer (Err (whynot.NoSuch line)) = no_such_line line
+whynot_answer (Err (whynot.Ran line place count first)) = ran_line line place count first
+
 abbrev pub audit_status : Verdict → ℕ
 audit_status verdict.Equal = 0
 audit_status (verdict.Event event) = 10
@@ -55,11 +78,20 @@ audit_line verdict.Equal = equal_line
 audit_line (verdict.Event event) = differs_line event
 audit_line verdict.Tail = tail_differs_line
 
+-- what a trace tells of its statements
+abbrev pub covers_of : Trace → List Cover
+covers_of t = t.tail.coverage.statements
+
 -- the status and the text of what a trace tells
 pub data Tells (p : Program) (t : Trace) : Wanted → ℕ → List ℕ → Type 0 where
   output : Tells p t Output 0 (output_text (program_of p) p.lines.items (map recorded t.events) t.tail)
   why : (question : List ℕ) (answer : Result (List ℕ) Refused) → WhyIs (program_of p) p.lines.items (map recorded t.events) question answer
       → Tells p t (Why question) (why_status answer) (why_answer answer)
+  questions : Tells p t Questions 0
+      (questions_text (program_of p) p.lines.items (map recorded t.events) (covers_of t))
+  whynot : (word : List ℕ) (answer : Result (List ℕ) Denied)
+      → WhynotIs (program_of p) p.lines.items (map recorded t.events) (covers_of t) word answer
+      → Tells p t (WhyNot word) (whynot_status answer) (whynot_answer answer)
   audit : (v : Verdict) → AuditIs (program_of p) t.head (map recorded t.events) (kept_tail t.tail) v → Tells p t Audit (audit_status v) (audit_line v)
 
 -- the status and the text that are due for bytes: what is wrong with them first, or what the trace tells that they are read as
@@ -72,4 +104,16 @@ pub data DueUnder (p : Program) (bytes : List ℕ) (w : Wanted) : ℕ → List �
 abbrev pub wanted_of : Asked → Wanted
 wanted_of asked.Output = Output
 wanted_of (asked.Why question) = Why question.now
+wanted_of asked.Questions = Questions
+wanted_of (asked.WhyNot statement) = WhyNot statement.now
 wanted_of asked.Audit = Audit
+
+-- ---- a word that has no answer, in memory
+
+-- a refusal with the line of why a statement has no answer
+abbrev pub DeniesAs : Unanswered → Answer → Type 0
+DeniesAs unanswered.NotRead answer = Refuses not_read_line answer
+DeniesAs (unanswered.NoSuch line) answer = Refuses (no_such_line line) answer
+DeniesAs (unanswered.Ran line place count first) answer =
+    Refuses (ran_line line place count first) answer
+DeniesAs unanswered.NoMemory answer = ⊥

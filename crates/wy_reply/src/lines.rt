@@ -1,7 +1,7 @@
 //! The lines of refusals.
 ghost use Rattle.std.specs.Prelude.{◌≡◌, ◌++◌, IfOk};
 ghost use Rattle.std.specs.Fmt.{decimal};
-ghost use Rattle.wy_reply.specs.Lines.{line_of, at_byte, at_token, damage_name, damaged_as, recorded_line};
+ghost use Rattle.wy_reply.specs.Lines.{line_of, at_byte, at_token, damage_name, damaged_as, ran_line, recorded_line};
 ghost use Rattle.wy_reply.specs.Refusals.{refusal_text};
 
 use std::alloc::{AllocError, Global};
@@ -52,6 +52,13 @@ pub enum Refusal<'a> {
     NoSuch {
         number: u32,
     },
+    /// The statement at that place of the line began so often, first at that moment.
+    Ran {
+        line: u32,
+        place: u32,
+        count: u32,
+        first: u32,
+    },
     FaultShelf,
     FaultRecorder,
     LongFile {
@@ -71,7 +78,7 @@ pub fn refusal_line(alloc: Global, refusal: Refusal<'_>) -> Result<Vec<u8>, Allo
     match refusal {
         Refusal::Usage => line(
             alloc,
-            "usage: whyline run, record, output, why or audit",
+            "usage: whyline run, record, output, questions, why, whynot or audit",
             "",
         ),
         Refusal::Absent { name } => line(alloc, "absent: ", name),
@@ -84,6 +91,12 @@ pub fn refusal_line(alloc: Global, refusal: Refusal<'_>) -> Result<Vec<u8>, Allo
         Refusal::TraceToken { rule, line, token } => at_token(alloc, "trace: ", rule, line, token),
         Refusal::NotRead => line(alloc, "question: not read", ""),
         Refusal::NoSuch { number } => numbered(alloc, "question: no such ", number),
+        Refusal::Ran {
+            line,
+            place,
+            count,
+            first,
+        } => ran(alloc, line, place, count, first),
         Refusal::FaultShelf => line(alloc, "fault: shelf", ""),
         Refusal::FaultRecorder => line(alloc, "fault: recorder", ""),
         Refusal::LongFile { name } => line(alloc, "too long: ", name),
@@ -132,6 +145,22 @@ fn at_token(
 {
     let line = format!(in alloc; "{of}program: {rule} at line {line} token {token}\n")?;
     Ok(line.into_bytes())
+}
+
+fn ran(
+    alloc: Global,
+    line: u32,
+    place: u32,
+    count: u32,
+    first: u32,
+) -> Result<Vec<u8>, AllocError>
+    ensures { IfOk result (λ text. text.items ≡ ran_line line place count first) }
+{
+    let text = format!(
+        in alloc;
+        "question: line {line}.{place} ran {count} times, first before #{first}\n"
+    )?;
+    Ok(text.into_bytes())
 }
 
 /// A line that ends with a number.

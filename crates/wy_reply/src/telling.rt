@@ -5,7 +5,7 @@ ghost use Rattle.wy_spelling.specs.Spelling.{trace_limit};
 ghost use Rattle.wy_reply.specs.declared.status.Status.TheVariants.{Done};
 ghost use Rattle.wy_reply.specs.Carried.{CarriesBy, HasSource};
 ghost use Rattle.wy_reply.specs.Statuses.{code_of, is_of_files};
-ghost use Rattle.wy_reply.specs.Tellings.{DueUnder, RefusesTrace, Tells, wanted_of};
+ghost use Rattle.wy_reply.specs.Tellings.{DeniesAs, DueUnder, RefusesTrace, Tells, wanted_of};
 ghost use Rattle.wy_reply.specs.Tellings as wanted;
 ghost use Rattle.wy_view.specs.References.{AllRefersBelow};
 
@@ -13,6 +13,7 @@ use crate::answer::Answer;
 use crate::lines::{Refusal, line};
 use crate::status::Status;
 use std::alloc::{AllocError, Global};
+use wy_absence::{Unanswered, whynot_text};
 use wy_ask::AskError;
 use wy_backward::backward_is_forward;
 use wy_carriers::carrying_changes_nothing;
@@ -24,7 +25,7 @@ use wy_machine::{Verdict, audit};
 use wy_referring::{decoded_events_refer_below, few_events_are_decoded};
 use wy_shaped::references_point_below;
 use wy_spelled::{recorded_heads_are_read_back, recorded_traces_are_read_back};
-use wy_telling::{output_text, why_text};
+use wy_telling::{output_text, questions_text, why_text};
 
 /// What a trace is to tell.
 #[derive(Clone, Copy)]
@@ -33,6 +34,10 @@ pub enum Wanted<'a> {
     Output,
     /// What the event comes from that a question asks about.
     Why { question: &'a str },
+    /// What can be asked of it.
+    Questions,
+    /// Why the statement never began that a word names.
+    WhyNot { statement: &'a str },
     /// Whether it is the trace of the run of its head.
     Audit,
 }
@@ -84,6 +89,70 @@ fn answer_to_question(
     }
 }
 
+fn answer_to_questions(
+    alloc: Global,
+    program: &Program,
+    trace: Trace,
+) -> Result<Answer, AllocError>
+    requires few { length trace.events < 2 ^ 32 }
+    requires refer_below { AllRefersBelow trace.events }
+    ensures due { IfOk result (λ answer. Tells program.now trace wanted.Questions
+        (code_of answer.status) answer.text.items) }
+    ensures settled { IfOk result (λ answer. is_of_files answer.status ≡ false) }
+{
+    let Trace { events, tail, .. } = trace;
+    let covers = tail.coverage.statements.as_slice();
+    let text = questions_text(alloc, program, events.into_vec(), covers)?;
+    Ok(Answer::done(text))
+}
+
+fn answer_to_statement(
+    alloc: Global,
+    program: &Program,
+    trace: Trace,
+    statement: &str,
+) -> Result<Answer, AllocError>
+    requires few { length trace.events < 2 ^ 32 }
+    requires refer_below { AllRefersBelow trace.events }
+    ensures due { IfOk result (λ answer. Tells program.now trace (wanted.WhyNot statement.now)
+        (code_of answer.status) answer.text.items) }
+    ensures settled { IfOk result (λ answer. is_of_files answer.status ≡ false) }
+{
+    let Trace { events, tail, .. } = trace;
+    let covers = tail.coverage.statements.as_slice();
+    match whynot_text(alloc, program, events.into_vec(), covers, statement) {
+        Ok(text) => Ok(Answer::done(text)),
+        Err(error) => answer_to_unanswered(alloc, error),
+    }
+}
+
+/// The answer to a word that names no statement, or one that ran.
+fn answer_to_unanswered(alloc: Global, error: Unanswered) -> Result<Answer, AllocError>
+    ensures { IfOk result (DeniesAs error) }
+{
+    match error {
+        Unanswered::NotRead => Answer::refused(alloc, Status::Question, Refusal::NotRead),
+        Unanswered::NoSuch(number) => {
+            Answer::refused(alloc, Status::Question, Refusal::NoSuch { number })
+        }
+        Unanswered::Ran {
+            line,
+            place,
+            count,
+            first,
+        } => {
+            let ran = Refusal::Ran {
+                line,
+                place,
+                count,
+                first,
+            };
+            Answer::refused(alloc, Status::Question, ran)
+        }
+        Unanswered::NoMemory => Err(AllocError),
+    }
+}
+
 fn answer_to_audit(alloc: Global, program: &Program, trace: Trace) -> Result<Answer, AllocError>
     ensures due { IfOk result (λ answer. Tells program.now trace wanted.Audit
         (code_of answer.status) answer.text.items) }
@@ -115,6 +184,8 @@ fn tell(
     match wanted {
         Wanted::Output => answer_to_output(alloc, program, &trace),
         Wanted::Why { question } => answer_to_question(alloc, program, trace, question),
+        Wanted::Questions => answer_to_questions(alloc, program, trace),
+        Wanted::WhyNot { statement } => answer_to_statement(alloc, program, trace, statement),
         Wanted::Audit => answer_to_audit(alloc, program, trace),
     }
 }

@@ -29,7 +29,9 @@ use Rattle.wy_telling.specs.Output.{output_text}
 use Rattle.wy_telling.specs.Why.{OneAnswerToWhy, WhyIs, Refused as Unanswered}
 use Rattle.wy_tree.specs.Tokens.{Placed, Tokens}
 use Rattle.wy_reply.specs.Lines.{of_trace}
-use Rattle.wy_reply.specs.Tellings.{IsTraceLine, Wanted, Why, Audit, Tells, DueUnder, cut, damaged, bad_seal, output, why, audit, refused, told, why_status, why_answer, audit_status, audit_line}
+use Rattle.wy_telling.specs.Questions.{questions_text}
+use Rattle.wy_absence.specs.Whynot.{OneAnswerToWhynot, WhynotIs}
+use Rattle.wy_reply.specs.Tellings.{IsTraceLine, Wanted, Why, Audit, Tells, DueUnder, covers_of, cut, damaged, bad_seal, output, questions, why, whynot, audit, refused, told, why_status, why_answer, whynot_status, whynot_answer, audit_status, audit_line}
 use Rattle.wy_top.specs.Causes.{IsNoProgram, IsSyntaxLine}
 use Rattle.wy_top.specs.Due.{DueForBytes, no_head, no_program, program}
 use Rattle.wy_top.specs.Programs.{IsProgramOf}
@@ -39,6 +41,7 @@ use Rattle.wy_top.proofs.OneText.{Known, SameLines, one_cause, one_program, prog
 pub record Traces : Type 0 where
   pub reading : ReadsInOneWay
   pub answers : OneAnswerToWhy
+  pub statements : OneAnswerToWhynot
   pub audits : OneAuditIsDue
 
 -- ---- the ranges of a program are those of its parts and lines
@@ -141,6 +144,11 @@ one_telling known p q t _ _ _ _ _ parts lines (why question a first) (why asked 
     let e : a ≡ b = known.answers (program_of p) p.lines.items (map recorded t.events) question a b first
     (subst (λ (l : List ℕ). WhyIs (program_of p) l (map recorded t.events) question b) (sym lines) (subst (λ (z : Program). WhyIs z q.lines.items (map recorded t.events) question b) (sym parts) second)) in
     (ap why_status e, ap why_answer e)
+one_telling known p q t _ _ _ _ _ parts lines questions questions = (refl, λ i. questions_text (parts i) (lines i) (map recorded t.events) (covers_of t))
+one_telling known p q t _ _ _ _ _ parts lines (whynot word a first) (whynot asked b second) =
+    let e : a ≡ b = known.statements (program_of p) p.lines.items (map recorded t.events) (covers_of t) word a b first
+    (subst (λ (l : List ℕ). WhynotIs (program_of p) l (map recorded t.events) (covers_of t) word b) (sym lines) (subst (λ (z : Program). WhynotIs z q.lines.items (map recorded t.events) (covers_of t) word b) (sym parts) second)) in
+    (ap whynot_status e, ap whynot_answer e)
 one_telling known p q t _ _ _ _ _ parts lines (audit v first) (audit w second) =
     let e : v ≡ w = known.audits (program_of p) t.head (map recorded t.events) (kept_tail t.tail) v w first (rw (parts) second) in
     (ap audit_status e, ap audit_line e)

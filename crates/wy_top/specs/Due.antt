@@ -7,7 +7,7 @@ use Rattle.wy_outside.specs.Shelf.{Files}
 use Rattle.wy_tree.specs.Tokens.{Placed, Tokens}
 use Rattle.wy_frames.specs.Heads.{head_of}
 use Rattle.wy_frames.specs.declared.error.TraceError.{TraceError}
-use Rattle.wy_words.specs.Words.{Asked, Asks, Command, Run, Record, Output, Why, Audit, IsNoCommand}
+use Rattle.wy_words.specs.Words.{Asked, Asks, Command, Run, Record, Output, Questions, Why, WhyNot, Audit, IsNoCommand}
 use Rattle.wy_reply.specs.Lines.{usage_line, of_trace}
 use Rattle.wy_reply.specs.Report.{report, recorded_report}
 use Rattle.wy_reply.specs.Tellings.{DueUnder, IsTraceLine, Wanted}
@@ -44,6 +44,9 @@ DueTo files (Run a) status text = DueForRun files a (λ input p lines. report p 
 DueTo files (Record a trace) status text = DueForRun files a (λ input p lines. recorded_report p lines input a.steps) status text
 DueTo files (Output trace) status text = DueForTrace files trace wanted.Output status text
 DueTo files (Why trace question) status text = DueForTrace files trace (wanted.Why question) status text
+DueTo files (Questions trace) status text = DueForTrace files trace wanted.Questions status text
+DueTo files (WhyNot trace statement) status text =
+    DueForTrace files trace (wanted.WhyNot statement) status text
 DueTo files (Audit trace) status text = DueForTrace files trace wanted.Audit status text
 
 -- the status and the text that are due
@@ -62,6 +65,8 @@ run_of _ = None
 abbrev pub trace_of : Command → Option (List ℕ)
 trace_of (Output trace) = Some trace
 trace_of (Why trace question) = Some trace
+trace_of (Questions trace) = Some trace
+trace_of (WhyNot trace statement) = Some trace
 trace_of (Audit trace) = Some trace
 trace_of _ = None
 

@@ -158,6 +158,10 @@ pub fn answer_to<S: Shelf, R: Recorder>(
         Some(Command::Why { trace, question }) => {
             answer_from(alloc, shelf, trace, Wanted::Why { question })
         }
+        Some(Command::Questions { trace }) => answer_from(alloc, shelf, trace, Wanted::Questions),
+        Some(Command::WhyNot { trace, statement }) => {
+            answer_from(alloc, shelf, trace, Wanted::WhyNot { statement })
+        }
         Some(Command::Audit { trace }) => answer_from(alloc, shelf, trace, Wanted::Audit),
     }
 }

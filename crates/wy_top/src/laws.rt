@@ -4,6 +4,7 @@ ghost use Rattle.std.specs.Prelude.{◌≡◌, ◌⊎◌, ℕ, List, Option};
 ghost use Rattle.wy_outside.specs.Shelf.{Files};
 ghost use Rattle.wy_top.specs.Due.{Due, AreSyntaxLines};
 
+use wy_absence::laws::one_answer_to_whynot;
 use wy_elab_stmt::laws::a_text_has_one_program;
 use wy_machine::one_audit_is_due;
 use wy_one_reading::bytes_are_read_in_one_way;
@@ -25,6 +26,7 @@ pub fn one_answer_is_due()
     a_text_has_one_program();
     bytes_are_read_in_one_way();
     one_answer_to_why();
+    one_answer_to_whynot();
     one_audit_is_due();
     words_ask_one_command();
 }

@@ -1,5 +1,5 @@
 use Rattle.wy_words.specs.Views.{asked_of}
-use Rattle.wy_words.specs.Words.{Run, Record, Output, Why, Audit}
+use Rattle.wy_words.specs.Words.{Run, Record, Output, Questions, Why, WhyNot, Audit}
 use Rattle.wy_top.proofs.CarriedLemmas.{no_command_carries, other_command_carries, why_carries}
 use Rattle.wy_top.proofs.AnswerLemmas.{usage_due, command_due, fault_named, traces_due}
 use Rattle.wy_top.proofs.answer.answer_to.Goals as goal
@@ -40,6 +40,20 @@ returns-in-Some-Why-clause-due g c =
 pub returns-in-Some-Why-clause-fault : goal.returns-in-Some-Why-clause-fault
 returns-in-Some-Why-clause-fault g c = fault_named _ (Why c.in-Some-Why.trace.now c.in-Some-Why.question.now) _ _ c.answer_from-in-Some-Why.result (c.answer_from-in-Some-Why.ensures.due _)
 
+pub returns-in-Some-Questions-clause-due : goal.returns-in-Some-Questions-clause-due
+returns-in-Some-Questions-clause-due g c =
+    command_due _ _ (Questions c.in-Some-Questions.trace.now) _ _ c.answer_from-in-Some-Questions.result (rw (c.in-Some-Questions.field-0-is) at c.in-Some-Questions.ensures.asked) (c.answer_from-in-Some-Questions.ensures.due _)
+
+pub returns-in-Some-Questions-clause-fault : goal.returns-in-Some-Questions-clause-fault
+returns-in-Some-Questions-clause-fault g c = fault_named _ (Questions c.in-Some-Questions.trace.now) _ _ c.answer_from-in-Some-Questions.result (c.answer_from-in-Some-Questions.ensures.due _)
+
+pub returns-in-Some-WhyNot-clause-due : goal.returns-in-Some-WhyNot-clause-due
+returns-in-Some-WhyNot-clause-due g c =
+    command_due _ _ (WhyNot c.in-Some-WhyNot.trace.now c.in-Some-WhyNot.statement.now) _ _ c.answer_from-in-Some-WhyNot.result (rw (c.in-Some-WhyNot.field-0-is) at c.in-Some-WhyNot.ensures.asked) (c.answer_from-in-Some-WhyNot.ensures.due _)
+
+pub returns-in-Some-WhyNot-clause-fault : goal.returns-in-Some-WhyNot-clause-fault
+returns-in-Some-WhyNot-clause-fault g c = fault_named _ (WhyNot c.in-Some-WhyNot.trace.now c.in-Some-WhyNot.statement.now) _ _ c.answer_from-in-Some-WhyNot.result (c.answer_from-in-Some-WhyNot.ensures.due _)
+
 pub returns-in-Some-Audit-clause-due : goal.returns-in-Some-Audit-clause-due
 returns-in-Some-Audit-clause-due g c =
     command_due _ _ (Audit c.in-Some-Audit.trace.now) _ _ c.answer_from-in-Some-Audit.result (rw (c.in-Some-Audit.field-0-is) at c.in-Some-Audit.ensures.asked) (c.answer_from-in-Some-Audit.ensures.due _)
@@ -58,6 +72,12 @@ returns-in-Some-Record-clause-carried g c = other_command_carries c.words_ask_on
 
 pub returns-in-Some-Output-clause-carried : goal.returns-in-Some-Output-clause-carried
 returns-in-Some-Output-clause-carried g c = other_command_carries c.words_ask_one_command.ensures _ _ (Output c.in-Some-Output.trace.now) c.answer_from.result (rw (c.in-Some-Output.field-0-is) at c.in-Some-Output.ensures.asked) (λ trace question e. cc)
+
+pub returns-in-Some-Questions-clause-carried : goal.returns-in-Some-Questions-clause-carried
+returns-in-Some-Questions-clause-carried g c = other_command_carries c.words_ask_one_command.ensures _ _ (Questions c.in-Some-Questions.trace.now) c.answer_from-in-Some-Questions.result (rw (c.in-Some-Questions.field-0-is) at c.in-Some-Questions.ensures.asked) (λ trace question e. cc)
+
+pub returns-in-Some-WhyNot-clause-carried : goal.returns-in-Some-WhyNot-clause-carried
+returns-in-Some-WhyNot-clause-carried g c = other_command_carries c.words_ask_one_command.ensures _ _ (WhyNot c.in-Some-WhyNot.trace.now c.in-Some-WhyNot.statement.now) c.answer_from-in-Some-WhyNot.result (rw (c.in-Some-WhyNot.field-0-is) at c.in-Some-WhyNot.ensures.asked) (λ trace question e. cc)
 
 pub returns-in-Some-Audit-clause-carried : goal.returns-in-Some-Audit-clause-carried
 returns-in-Some-Audit-clause-carried g c = other_command_carries c.words_ask_one_command.ensures _ _ (Audit c.in-Some-Audit.trace.now) c.answer_from-in-Some-Audit.result (rw (c.in-Some-Audit.field-0-is) at c.in-Some-Audit.ensures.asked) (λ trace question e. cc)

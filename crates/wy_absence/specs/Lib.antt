@@ -1,0 +1,3 @@
+pub mod Caught
+pub mod Items
+pub mod Whynot
