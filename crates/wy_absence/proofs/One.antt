@@ -33,8 +33,8 @@ module _ (one : ItemsAreOne) (p : Program) (lines : List ℕ) (rs : List Recorde
   same_statement l k n m j o a b =
       let same = a.names.only m j b.names.spelled in
       let moved : IsPlaced (numbers_on lines l (statements_of p)) k o =
-          subst (λ z. IsPlaced (numbers_on lines l (statements_of p)) z o) same.1
-          (subst (λ z. IsPlaced (numbers_on lines z (statements_of p)) j o) same.0 b.placed) in
+      subst (λ z. IsPlaced (numbers_on lines l (statements_of p)) z o) same.1
+      (subst (λ z. IsPlaced (numbers_on lines z (statements_of p)) j o) same.0 b.placed) in
       record { line = same.0; place = same.1; statement = same_placed (numbers_on lines l (statements_of p)) k n o a.placed moved }
 
   placed_within : (numbers : List ℕ) (k n : ℕ) → IsPlaced numbers k n → length numbers < k → ⊥

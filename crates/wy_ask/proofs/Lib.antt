@@ -3,5 +3,5 @@ pub mod Numerals
 pub mod Spellings
 pub mod Fields
 pub mod Stores
-pub mod Listings
+pub mod Askables
 pub mod Named

@@ -4,3 +4,4 @@ pub mod Reading
 pub mod Asked
 pub mod Lines
 pub mod Statements
+pub mod Listing
