@@ -12,6 +12,8 @@ ghost use Rattle.wy_absence.specs.Items.{reason, stopped_text, tested, tests_tex
 ghost use Rattle.wy_event.specs.Record.{present};
 ghost use Rattle.wy_kernel.specs.Parts.{program_of};
 ghost use Rattle.wy_kernel.specs.Statements.{statements_of as all_statements};
+ghost use Rattle.wy_lines.specs.Names.{method_name as name_of_method};
+ghost use Rattle.wy_text.specs.Lines.{name_of};
 ghost use Rattle.wy_whynot.specs.Evidence.{evidence_in};
 
 use crate::caught::classes_caught;
@@ -19,8 +21,8 @@ use std::alloc::{AllocError, Global};
 use std::collections::BTreeMap;
 use wy_kernel::program::Program;
 use wy_kernel::types::NONE;
-use wy_lines::put_method_name;
-use wy_text::{put_class_name, put_decimal, put_place};
+use wy_lines::method_name;
+use wy_text::{class_name, place_name};
 use wy_ways::point::{LinkKind, Point};
 use wy_whynot::{Item, Made};
 
@@ -30,23 +32,52 @@ const GOING_ON: u32 = 0xffff_fffe;
 fn put_text(out: &mut Vec<u8>, text: &str) -> Result<(), AllocError>
     ensures { OnOk result (out.new.items ≡ out.old.items ++ text.now) }
 {
-    out.extend_from_slice(text.as_bytes())
+    out.extend_from_slice(text.as_bytes())?;
+    Ok(())
 }
 
 /// A text, and a number behind it.
-fn put_number(out: &mut Vec<u8>, text: &str, number: u32) -> Result<(), AllocError>
+fn put_number(alloc: Global, out: &mut Vec<u8>, text: &str, number: u32) -> Result<(), AllocError>
     ensures { OnOk result (out.new.items ≡ out.old.items ++ (text.now ++ decimal number)) }
 {
-    put_text(out, text)?;
-    put_decimal(out, number)
+    let both = format!(in alloc; "{text}{number}")?;
+    put_text(out, &both)
+}
+
+fn put_method(
+    alloc: Global,
+    out: &mut Vec<u8>,
+    program: &Program,
+    method: u32,
+) -> Result<(), AllocError>
+    ensures { OnOk result (out.new.items
+        ≡ out.old.items ++ name_of_method (program_of program.now) (present method)) }
+{
+    let name = method_name(alloc, program, method)?;
+    out.extend_from_slice(name.as_slice())?;
+    Ok(())
+}
+
+fn put_class(
+    alloc: Global,
+    out: &mut Vec<u8>,
+    program: &Program,
+    class: u32,
+) -> Result<(), AllocError>
+    ensures { OnOk result (out.new.items
+        ≡ out.old.items ++ name_of (program_of program.now) (present class)) }
+{
+    let name = class_name(alloc, program, class)?;
+    out.extend_from_slice(name.as_slice())?;
+    Ok(())
 }
 
 #[tactic(auto, unfolding(crate::specs::Items::cause_text))]
-fn put_cause(out: &mut Vec<u8>, cause: u32) -> Result<(), AllocError>
+fn put_cause(alloc: Global, out: &mut Vec<u8>, cause: u32) -> Result<(), AllocError>
     ensures { OnOk result (out.new.items ≡ out.old.items ++ cause_text cause) }
 {
     if cause < GOING_ON {
-        put_number(out, "left by #", cause)
+        put_number(alloc, out, "left by #", cause)
     } else {
         put_text(out, "run ended")
     }
@@ -106,7 +137,7 @@ fn put_tests(
             let last = last_from(*first, rest);
             put_tested(alloc, out, value, tests.len(), *first, last)
         }
-        None => put_cause(out, cause),
+        None => put_cause(alloc, out, cause),
     }
 }
 
@@ -127,38 +158,49 @@ fn put_arm(
 }
 
 #[tactic(auto, unfolding(crate::specs::Items::one_made))]
-fn put_made(out: &mut Vec<u8>, program: &Program, made: Made) -> Result<(), AllocError>
+fn put_made(
+    alloc: Global,
+    out: &mut Vec<u8>,
+    program: &Program,
+    made: Made,
+) -> Result<(), AllocError>
     ensures { OnOk result (out.new.items ≡ out.old.items ++ one_made (program_of program.now) made) }
 {
-    put_method_name(out, program, made.method)?;
-    put_number(out, " at #", made.event)
+    put_method(alloc, out, program, made.method)?;
+    put_number(alloc, out, " at #", made.event)
 }
 
 #[tactic(auto, unfolding(crate::specs::Items::more_made))]
-fn put_more(out: &mut Vec<u8>, program: &Program, made: &[Made]) -> Result<(), AllocError>
+fn put_more(
+    alloc: Global,
+    out: &mut Vec<u8>,
+    program: &Program,
+    made: &[Made],
+) -> Result<(), AllocError>
     ensures { OnOk result (out.new.items
         ≡ out.old.items ++ more_made (program_of program.now) made.now) }
 {
     for one in made {
         put_text(out, ", ")?;
-        put_made(out, program, *one)?;
+        put_made(alloc, out, program, *one)?;
     }
     Ok(())
 }
 
 #[tactic(auto, unfolding(crate::specs::Items::no_call_text))]
-fn put_no_call(out: &mut Vec<u8>, cause: u32) -> Result<(), AllocError>
+fn put_no_call(alloc: Global, out: &mut Vec<u8>, cause: u32) -> Result<(), AllocError>
     ensures { OnOk result (out.new.items ≡ out.old.items ++ no_call_text cause) }
 {
     if cause == NONE {
         put_text(out, "no call there")
     } else {
-        put_cause(out, cause)
+        put_cause(alloc, out, cause)
     }
 }
 
 #[tactic(auto, unfolding(crate::specs::Items::calls_text))]
 fn put_calls(
+    alloc: Global,
     out: &mut Vec<u8>,
     program: &Program,
     made: &[Made],
@@ -169,15 +211,16 @@ fn put_calls(
 {
     match made.split_first() {
         Some((first, rest)) => {
-            put_made(out, program, *first)?;
-            put_more(out, program, rest)
+            put_made(alloc, out, program, *first)?;
+            put_more(alloc, out, program, rest)
         }
-        None => put_no_call(out, cause),
+        None => put_no_call(alloc, out, cause),
     }
 }
 
 #[tactic(auto, unfolding(crate::specs::Items::call_text))]
 fn put_call(
+    alloc: Global,
     out: &mut Vec<u8>,
     program: &Program,
     method: u32,
@@ -188,13 +231,14 @@ fn put_call(
         ≡ out.old.items ++ call_text (program_of program.now) method made.now cause) }
 {
     put_text(out, "call ")?;
-    put_method_name(out, program, method)?;
+    put_method(alloc, out, program, method)?;
     put_text(out, " not made: ")?;
-    put_calls(out, program, made, cause)
+    put_calls(alloc, out, program, made, cause)
 }
 
 #[tactic(auto, unfolding(crate::specs::Items::class_text))]
 fn put_uninitialized(
+    alloc: Global,
     out: &mut Vec<u8>,
     program: &Program,
     class: u32,
@@ -204,21 +248,22 @@ fn put_uninitialized(
         ≡ out.old.items ++ class_text (program_of program.now) class cause) }
 {
     put_text(out, "class ")?;
-    put_class_name(out, program, class)?;
+    put_class(alloc, out, program, class)?;
     put_text(out, " not initialized: ")?;
-    put_cause(out, cause)
+    put_cause(alloc, out, cause)
 }
 
 #[tactic(auto, unfolding(crate::specs::Items::stopped_text))]
-fn put_stopped(out: &mut Vec<u8>, cause: u32) -> Result<(), AllocError>
+fn put_stopped(alloc: Global, out: &mut Vec<u8>, cause: u32) -> Result<(), AllocError>
     ensures { OnOk result (out.new.items ≡ out.old.items ++ stopped_text cause) }
 {
     put_text(out, "did not go on: ")?;
-    put_cause(out, cause)
+    put_cause(alloc, out, cause)
 }
 
 #[tactic(auto, unfolding(crate::specs::Items::call_to))]
 fn put_call_to(
+    alloc: Global,
     out: &mut Vec<u8>,
     program: &Program,
     to: Point,
@@ -229,9 +274,9 @@ fn put_call_to(
         ≡ out.old.items ++ call_to (program_of program.now) to made.now cause) }
 {
     match to {
-        Point::Entry(method) => put_call(out, program, method, made, cause),
-        Point::Init(class) => put_uninitialized(out, program, class, cause),
-        _ => put_stopped(out, cause),
+        Point::Entry(method) => put_call(alloc, out, program, method, made, cause),
+        Point::Init(class) => put_uninitialized(alloc, out, program, class, cause),
+        _ => put_stopped(alloc, out, cause),
     }
 }
 
@@ -244,6 +289,7 @@ fn class_at(classes: &BTreeMap<u32, u32>, site: u32) -> u32
 
 #[tactic(auto, unfolding(crate::specs::Items::catch_text))]
 fn put_catch(
+    alloc: Global,
     out: &mut Vec<u8>,
     program: &Program,
     classes: &BTreeMap<u32, u32>,
@@ -253,12 +299,13 @@ fn put_catch(
         → OnOk result (out.new.items ≡ out.old.items ++ catch_text (program_of program.now) site) }
 {
     put_text(out, "catch ")?;
-    put_class_name(out, program, class_at(classes, site))?;
+    put_class(alloc, out, program, class_at(classes, site))?;
     put_text(out, " not reached")
 }
 
 #[tactic(auto, unfolding(crate::specs::Items::catch_at))]
 fn put_catch_at(
+    alloc: Global,
     out: &mut Vec<u8>,
     program: &Program,
     classes: &BTreeMap<u32, u32>,
@@ -270,8 +317,8 @@ fn put_catch_at(
         ≡ out.old.items ++ catch_at (program_of program.now) to cause) }
 {
     match to {
-        Point::Catch(site) => put_catch(out, program, classes, site),
-        _ => put_stopped(out, cause),
+        Point::Catch(site) => put_catch(alloc, out, program, classes, site),
+        _ => put_stopped(alloc, out, cause),
     }
 }
 
@@ -299,8 +346,8 @@ fn put_reason(
                 item.cause,
             )
         }
-        LinkKind::Catch => put_catch_at(out, program, classes, item.link.to, item.cause),
-        LinkKind::Into | LinkKind::Next => put_stopped(out, item.cause),
+        LinkKind::Catch => put_catch_at(alloc, out, program, classes, item.link.to, item.cause),
+        LinkKind::Into | LinkKind::Next => put_stopped(alloc, out, item.cause),
     }
 }
 
@@ -316,7 +363,8 @@ fn put_item(
         → OnOk result (out.new.items ≡ out.old.items
         ++ item_line (program_of program.now) program.now.lines.items (evidence_in item.now)) }
 {
-    put_place(out, program, item.link.site)?;
+    let place = place_name(alloc, program, item.link.site)?;
+    put_text(out, &place)?;
     put_text(out, " ")?;
     put_reason(alloc, out, program, classes, item)?;
     put_text(out, "\n")

@@ -2,4 +2,3 @@ pub mod Printed
 pub mod Thrown
 pub mod Output
 pub mod Why
-pub mod Questions
