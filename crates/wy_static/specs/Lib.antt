@@ -1,0 +1,4 @@
+pub mod Order
+pub mod Links
+pub mod Rows
+pub mod Answers
