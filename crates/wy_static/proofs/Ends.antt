@@ -15,7 +15,7 @@ use Rattle.wy_ways.specs.declared.point.Link.{Link}
 use Rattle.wy_kernel.specs.Program.{Program}
 use Rattle.wy_static.specs.Links.{AreLinks, AreLinksInto}
 use Rattle.wy_static.specs.Order.{point_cmp, link_cmp}
-use Rattle.wy_static.proofs.Orders.{point_total, link_total, same_point, itself}
+use Rattle.wy_static.proofs.Orders.{point_total, link_total, same_points, itself}
 
 -- ---- targets don't fall
 
@@ -85,7 +85,7 @@ ends_there q links first many part k d h =
     let place : first + k < length links = omega (arith, h, part.many_within, length-drop first links) in
     let above = part.below.1 (first + k) d (omega arith) place in
     let upto : is_upto q (get_or links (first + k) d) ≡ true = rw (← get_or-drop first links k d) (part.upto.0 k d (omega arith) h) in
-    same_point _ _ (neither _ above upto)
+    same_points _ _ (neither _ above upto)
 
 at_itself : (q r : Point) → q ≡ r → point_cmp q r ≡ Equal
 at_itself q r e = rw e (itself r)

@@ -1,12 +1,13 @@
 //! What is asked of the links of a program.
 
 ghost use Rattle.std.specs.Prelude.{◌≡◌};
+ghost use Rattle.std.specs.Option.{option_map_or};
 ghost use Rattle.wy_kernel.specs.Program as kernel;
 ghost use Rattle.wy_ways.specs.Standings.{standings_of};
-ghost use Rattle.wy_static.specs.Answers.{AreLinksOf, AreTargetsAt, IsAround, IsMethod, IsStandingAt, IsTold};
+ghost use Rattle.wy_static.specs.Answers.{AreLinksOf, AreTargetsAt, around_of, method_of, standing_at};
 ghost use Rattle.wy_static.specs.Links.{AreLinks, AreLinksInto};
 
-use crate::order::compare_points;
+use crate::order::{compare_points, point_key};
 use crate::rows::kept;
 use std::collections::BTreeMap;
 use wy_kernel::types::NONE;
@@ -20,8 +21,8 @@ pub struct Links {
     pub(crate) items: Vec<Link>,
     /// The methods to which the calls at each site lead.
     pub(crate) targets: BTreeMap<u32, Vec<u32>>,
-    /// In the order of the points.
-    pub(crate) standings: Vec<Standing>,
+    /// Where each point first stands.
+    pub(crate) standings: BTreeMap<(u8, u32, u32), Standing>,
 }
 
 impl Links {
@@ -54,7 +55,7 @@ impl Links {
     /// The method in whose body a point stands, for an entry its own, and for an initialization its number behind the methods.
     /// Start has NONE.
     pub fn method(&self, point: Point) -> u32
-        ensures { (p : kernel.Program) → AreLinksOf self.now p → IsMethod p point result }
+        ensures { (p : kernel.Program) → AreLinksOf self.now p → result ≡ method_of p point }
     {
         match point {
             Point::Start => NONE,
@@ -66,7 +67,7 @@ impl Links {
 
     /// The statement that a point is, or for an arm the one around it, else NONE.
     pub fn around(&self, point: Point) -> u32
-        ensures { (p : kernel.Program) → AreLinksOf self.now p → IsAround p point result }
+        ensures { (p : kernel.Program) → AreLinksOf self.now p → result ≡ around_of p point }
     {
         match self.standing(point) {
             Some(standing) => standing.around,
@@ -75,8 +76,8 @@ impl Links {
     }
 
     fn method_around(&self, point: Point) -> u32
-        ensures { (p : kernel.Program) → AreLinksOf self.now p
-            → IsTold (standings_of p) (λ x. x.method) point result }
+        ensures { (p : kernel.Program) → AreLinksOf self.now p → result
+            ≡ option_map_or (λ x. x.method) (standing_at (standings_of p) point) NONE }
     {
         match self.standing(point) {
             Some(standing) => standing.method,
@@ -86,14 +87,8 @@ impl Links {
 
     fn standing(&self, point: Point) -> Option<Standing>
         ensures { (p : kernel.Program) → AreLinksOf self.now p
-            → IsStandingAt self.now.standings.items point result }
+            → result ≡ standing_at (standings_of p) point }
     {
-        let found = self
-            .standings
-            .binary_search_by(|x| compare_points(x.point, point));
-        match found {
-            Ok(i) => Some(self.standings[i]),
-            Err(_) => None,
-        }
+        self.standings.get(&point_key(point)).copied()
     }
 }

@@ -1,13 +1,26 @@
-use Rattle.std.proofs.Common.{⊎_elim}
-use Rattle.wy_static.proofs.Told.{of_statement, of_arm, of_clause}
+-- A statement, an arm and a clause have the method in whose body they stand.
+use Rattle.std.proofs.Common.{◌≡◌, ℕ, refl, sym, ◌∙◌, subst, ⊎_elim}
+use Rattle.std.specs.Option.{option_map_or}
+use Rattle.wy_kernel.specs.Program.{Program}
+use Rattle.wy_kernel.specs.View.{NONE}
+use Rattle.wy_ways.specs.declared.point.Point.{Point}
+use Rattle.wy_ways.specs.Standings.{standings_of}
+use Rattle.wy_static.specs.Answers.{method_of, standing_at}
 use Rattle.wy_static.proofs.answer.Links.method.Goals as goal
+
+abbrev in_body : Program → Point → ℕ
+in_body p q = option_map_or (λ x. x.method) (standing_at (standings_of p) q) NONE
+
+abbrev StandsInBody : Program → Point → Type 0
+StandsInBody p q = in_body p q ≡ method_of p q
 
 pub returns-in-Statement : goal.returns-in-Statement
 returns-in-Statement c = λ p all.
-    let q = c.args.point in
-    let n = c.method_around.result in
     let told = c.method_around.ensures p all in
     ⊎_elim
-    (λ s. of_statement p q n s.0 s.1 told)
-    (λ r. ⊎_elim (λ a. of_arm p q n a.0 a.1 a.2 told) (λ k. of_clause p q n k.0 k.1 told) r)
+    (λ s. told ∙ subst (StandsInBody p) (sym s.1) refl)
+    (λ r. ⊎_elim
+    (λ a. told ∙ subst (StandsInBody p) (sym a.2) refl)
+    (λ k. told ∙ subst (StandsInBody p) (sym k.1) refl)
+    r)
     c.in-Statement.is
