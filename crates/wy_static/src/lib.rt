@@ -3,6 +3,7 @@
 #![tactic(auto)]
 
 mod answer;
+mod class;
 pub mod links;
 mod order;
 mod rows;
