@@ -5,3 +5,7 @@ pub mod Fields
 pub mod Stores
 pub mod Askables
 pub mod Named
+pub mod Sorting
+pub mod Placing
+pub mod Storing
+pub mod Listings

@@ -5,3 +5,5 @@ pub mod Asked
 pub mod Lines
 pub mod Statements
 pub mod Listing
+pub mod Held
+pub mod Counted

@@ -1,5 +1,5 @@
 -- What can be asked about a trace: its prints, what was stored in its fields, and the statements that never began.
-use Rattle.std.specs.Prelude.{ℕ, ◌+◌, Bool, true, false, not, ◌&&◌, ◌==◌, nat_le, nat_lt, if◌then◌else◌, List, [], ◌∷◌, ◌++◌, Option, Some, count_by, filter, find, length, map, reverse, slice_get}
+use Rattle.std.specs.Prelude.{ℕ, ◌+◌, ◌<◌, Bool, true, false, not, ◌&&◌, ◌==◌, nat_le, nat_lt, if◌then◌else◌, List, [], ◌∷◌, ◌++◌, Option, Some, count_by, filter, find, length, map, option_map, reverse, slice_get, unwrap_or}
 use Rattle.std.specs.Prelude.{None as Absent}
 use Rattle.std.specs.List.{enumerate_from}
 use Rattle.wy_kernel.specs.Program.{Program}
@@ -13,6 +13,7 @@ use Rattle.wy_event.specs.declared.record.Kind.TheVariants.{Set}
 use Rattle.wy_event.specs.declared.record.Slot.{Slot}
 use Rattle.wy_event.specs.declared.record.Slot.TheVariants.{Static, Field}
 use Rattle.wy_event.specs.Record.{Recorded, same_slot}
+use Rattle.wy_view.specs.References.{ValueBelow}
 use Rattle.wy_index.specs.Found.{prints_in}
 use Rattle.wy_ask.specs.declared.askable.Askable.{Askable}
 use Rattle.wy_ask.specs.declared.never.Placed.{Placed}
@@ -46,13 +47,12 @@ abbrev pub each_once : List Slot → List Slot
 each_once [] = []
 each_once (x ∷ slots) = x ∷ filter (λ y. not (same_slot x y)) (each_once slots)
 
-abbrev pub value_in : Option Recorded → Value
-value_in Absent = value_of.None
-value_in (Some r) = r.value
+abbrev pub last_set : List Recorded → Slot → Option Recorded
+last_set sets x = find (λ r. same_slot r.slot x) (reverse sets)
 
 -- the value of the last of these that is of the slot
 abbrev pub last_value : List Recorded → Slot → Value
-last_value sets x = value_in (find (λ r. same_slot x r.slot) (reverse sets))
+last_value sets x = unwrap_or (option_map (λ r. r.value) (last_set sets x)) value_of.None
 
 -- the fields that these wrote, each as it is when so many events stand
 abbrev pub stored_by : List Recorded → ℕ → List Listed
@@ -72,12 +72,12 @@ abbrev pub in_order : {X : Type 0} → (X → ℕ) → List X → List X
 in_order key [] = []
 in_order key (x ∷ rest) = inserted key x (in_order key rest)
 
--- each with its place in its line, counted from 1, where those of these lines stand before it
+-- each with its place in its line, counted from 1, behind those of these lines
 abbrev pub placed : List ℕ → List Askable → List Placed
 placed before [] = []
 placed before (s ∷ rest) =
     record { statement = s; place = 1 + count_by (λ line. line == s.line) before }
-    ∷ placed (s.line ∷ before) rest
+    ∷ placed (before ++ s.line ∷ []) rest
 
 abbrev pub has_begun : Option Cover → Bool
 has_begun Absent = false
@@ -99,6 +99,12 @@ abbrev pub never : List Placed → List Listed
 never all = map (λ s. Never s.statement.line s.place) all
 
 -- ---- all of it
+
+-- what is listed refers below a number of events
+abbrev pub IsListedBelow : ℕ → Listed → Type 0
+IsListedBelow n (Printed piece event) = event < n
+IsListedBelow n (Stored slot moment value) = ValueBelow n value
+IsListedBelow n (Never line place) = Unit {0}
 
 -- by the lines of the program's tokens
 unfoldable pub listing : Program → List ℕ → List Recorded → List Cover → List Listed

@@ -66,11 +66,7 @@ fn put_in(out: &mut Vec<Askable>, lines: &[u32], s: &Stmt) -> Result<(), AllocEr
 }
 
 #[cycle(askable)]
-fn put_within(
-    out: &mut Vec<Askable>,
-    lines: &[u32],
-    form: &StmtForm,
-) -> Result<(), AllocError>
+fn put_within(out: &mut Vec<Askable>, lines: &[u32], form: &StmtForm) -> Result<(), AllocError>
     ensures { OnOk result (out.new.items
         ≡ out.old.items ++ askable_in lines.now (statements_within (act form.now))) }
 {
@@ -112,11 +108,7 @@ fn put_within(
 }
 
 #[cycle(askable)]
-fn put_other(
-    out: &mut Vec<Askable>,
-    lines: &[u32],
-    s: &Option<Box<Stmt>>,
-) -> Result<(), AllocError>
+fn put_other(out: &mut Vec<Askable>, lines: &[u32], s: &Option<Box<Stmt>>) -> Result<(), AllocError>
     ensures { OnOk result (out.new.items
         ≡ out.old.items ++ askable_in lines.now (statements_of_other (other s.now))) }
 {
@@ -138,11 +130,7 @@ fn put_all(out: &mut Vec<Askable>, lines: &[u32], parts: &[Stmt]) -> Result<(), 
 }
 
 #[cycle(askable)]
-fn put_catches(
-    out: &mut Vec<Askable>,
-    lines: &[u32],
-    clauses: &[Catch],
-) -> Result<(), AllocError>
+fn put_catches(out: &mut Vec<Askable>, lines: &[u32], clauses: &[Catch]) -> Result<(), AllocError>
     ensures { OnOk result (out.new.items ≡ out.old.items
         ++ askable_in lines.now (statements_of_catches (clauses_of (map clause clauses.now)))) }
 {
@@ -152,11 +140,7 @@ fn put_catches(
     Ok(())
 }
 
-fn put_body(
-    out: &mut Vec<Askable>,
-    lines: &[u32],
-    body: &Option<Body>,
-) -> Result<(), AllocError>
+fn put_body(out: &mut Vec<Askable>, lines: &[u32], body: &Option<Body>) -> Result<(), AllocError>
     ensures { OnOk result (out.new.items ≡ out.old.items
         ++ askable_in lines.now (statements_of_body (option_map body_of body.now))) }
 {

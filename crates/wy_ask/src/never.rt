@@ -1,9 +1,10 @@
 //! The askable statements that never began, by their sites, each with its place in its line.
 
-ghost use Rattle.std.specs.Prelude.{◌≡◌, ◌+◌, ℕ, IfOk, OnOk, filter, length, map, take};
+ghost use Rattle.std.specs.Prelude.{◌≡◌, ◌+◌, ◌==◌, ℕ, [], IfOk, OnOk, filter, if◌then◌else◌};
 ghost use Rattle.wy_kernel.specs.Parts.{program_of};
 ghost use Rattle.wy_kernel.specs.Statements.{statements_of};
-ghost use Rattle.wy_ask.specs.Listing.{in_order, never_began, placed, places_in, unbegun_in};
+ghost use Rattle.wy_ask.specs.Counted.{count_at};
+ghost use Rattle.wy_ask.specs.Listing.{never_began, placed, places_in, unbegun_in};
 
 use crate::askable::{Askable, askable_in};
 use std::alloc::{AllocError, Global};
@@ -24,8 +25,11 @@ fn one_more(n: u32) -> Result<u32, AllocError>
     n.checked_add(1).ok_or(AllocError)
 }
 
-/// The next place of a line, by how many statements had one.
+/// The next place of a line, by how many of its statements had one.
 fn next_place(counts: &mut BTreeMap<u32, u32>, line: u32) -> Result<u32, AllocError>
+    ensures place { IfOk result (λ place. place ≡ 1 + count_at counts.old line) }
+    ensures counts { OnOk result ((q : ℕ)
+        → count_at counts.new q ≡ count_at counts.old q + (if line == q then 1 else 0)) }
 {
     let place = one_more(counts.get(&line).copied().unwrap_or(0))?;
     counts.insert(line, place)?;
@@ -33,7 +37,7 @@ fn next_place(counts: &mut BTreeMap<u32, u32>, line: u32) -> Result<u32, AllocEr
 }
 
 /// Statements in the order of their numbers, with their places.
-fn placed(alloc: Global, statements: &[Askable]) -> Result<Vec<Placed>, AllocError>
+fn with_places(alloc: Global, statements: &[Askable]) -> Result<Vec<Placed>, AllocError>
     ensures { IfOk result (λ all. all.items ≡ placed [] statements.now) }
 {
     let mut counts = BTreeMap::new(alloc);
@@ -54,7 +58,7 @@ fn places_in(alloc: Global, program: &Program) -> Result<Vec<Placed>, AllocError
 {
     let mut statements = askable_in(alloc, program)?;
     statements.sort_by_key(|s| s.number)?;
-    placed(alloc, statements.as_slice())
+    with_places(alloc, statements.as_slice())
 }
 
 fn never_began(coverage: &[Cover], s: &Placed) -> bool
@@ -66,6 +70,16 @@ fn never_began(coverage: &[Cover], s: &Placed) -> bool
     }
 }
 
+fn unbegun(alloc: Global, places: &[Placed], coverage: &[Cover]) -> Result<Vec<Placed>, AllocError>
+    ensures { IfOk result (λ all. all.items ≡ filter (never_began coverage.now) places.now) }
+{
+    places
+        .iter()
+        .filter(|s| never_began(coverage, s))
+        .copied()
+        .collect(alloc)
+}
+
 /// The statements that never began, by their sites.
 pub fn unbegun_in(
     alloc: Global,
@@ -75,8 +89,8 @@ pub fn unbegun_in(
     ensures { IfOk result (λ all. all.items ≡ unbegun_in program.now.lines.items
         (statements_of (program_of program.now)) coverage.now) }
 {
-    let mut all = places_in(alloc, program)?;
-    all.retain(|s| never_began(coverage, s));
+    let places = places_in(alloc, program)?;
+    let mut all = unbegun(alloc, places.as_slice(), coverage)?;
     all.sort_by_key(|s| s.statement.site)?;
     Ok(all)
 }
