@@ -1,0 +1,9 @@
+pub mod Orders
+pub mod Ends
+pub mod Contained
+pub mod Naming
+pub mod Receiving
+pub mod Along
+pub mod Called
+pub mod Settling
+pub mod Whole

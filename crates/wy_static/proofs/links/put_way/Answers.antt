@@ -1,0 +1,8 @@
+use Rattle.wy_ways.specs.Seen.{seen_by}
+use Rattle.wy_static.proofs.Along.{chosen, on_ok}
+use Rattle.wy_static.proofs.links.put_way.Goals as goal
+
+pub returns-in_ok-find-in-Chosen-clause-added : goal.returns-in_ok-find-in-Chosen-clause-added
+returns-in_ok-find-in-Chosen-clause-added c =
+    let p = seen_by c.args.dispatcher.now in
+    on_ok c.put_to_each.result (λ grown. chosen p c.args.way c.in-Chosen.method c.in-Chosen.class c.of.result.now c.args.out.now.items c.put_to_each.new.out.items c.in-Chosen.is (c.of.ensures p c.in_ok-find-in-Chosen.ensures.targets) grown) c.put_to_each.ensures
