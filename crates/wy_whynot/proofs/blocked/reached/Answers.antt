@@ -1,0 +1,14 @@
+use Rattle.std.proofs.Common.{◌≡◌, List, ℕ, Bool, length, replicate, true, subst, rules}
+use Rattle.wy_ways.specs.declared.point.Point.TheVariants as point
+use Rattle.wy_whynot.specs.declared.graph.Edge.{Edge}
+use Rattle.wy_whynot.specs.Graph.{IsSpread}
+use Rattle.wy_whynot.specs.Numbers.{place_of}
+use Rattle.wy_whynot.proofs.blocked.reached.Goals as goal
+
+pub returns : goal.returns
+returns c =
+    let open' : c.deref.result.now ≡ replicate (length c.args.points.now) true = search rules in
+    let start : c.number.result ≡ place_of c.args.points.now point.Start = c.number.ensures.place in
+    subst (λ (es : List Edge). IsSpread es (replicate (length c.args.points.now) true) (place_of c.args.points.now point.Start) c.in_ok-marks.marks.items) c.in_ok-edges.ensures.edges
+    (subst (λ (o : List Bool). IsSpread c.in_ok-edges.edges.items o (place_of c.args.points.now point.Start) c.in_ok-marks.marks.items) open'
+    (subst (λ (s : ℕ). IsSpread c.in_ok-edges.edges.items c.deref.result.now s c.in_ok-marks.marks.items) start c.in_ok-marks.ensures))

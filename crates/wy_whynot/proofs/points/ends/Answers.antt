@@ -1,0 +1,29 @@
+use Rattle.std.proofs.Common.{◌≡◌, ◌∙◌, ◌++◌, ◌∷◌, [], get_or, take, sym, ap, subst, arith}
+use Rattle.std.proofs.lemmas.Grind.{common_steps}
+use Rattle.std.proofs.lemmas.List.{take_more}
+use Rattle.wy_ways.specs.declared.point.Point.TheVariants as point
+use Rattle.wy_whynot.specs.Numbers.{HasEnds}
+use Rattle.wy_whynot.proofs.Bridging.{some_link}
+use Rattle.wy_whynot.proofs.Numbering.{more_ends, no_ends}
+use Rattle.wy_whynot.proofs.points.ends.Goals as goal
+
+pub loop-link-init : goal.loop-link-init
+loop-link-init c =
+    let items : c.push-2.new.self.items ≡ point.Start ∷ point.Statement c.args.statement ∷ [] =
+    c.in_ok-push-2.ensures.items ∙ ap (λ l. l ++ point.Statement c.args.statement ∷ []) (c.in_ok-push.ensures.items ∙ ap (λ l. l ++ point.Start ∷ []) c.new-points.ensures.items) in
+    subst (HasEnds [] c.args.statement) (sym items) (no_ends c.args.statement)
+
+pub loop-link-preserved : goal.loop-link-preserved
+loop-link-preserved c =
+    let i = c.loop-link.link-index in
+    let links = c.args.links.now in
+    let l = get_or links i some_link in
+    let items : c.push-in-loop-link-2.new.self.items ≡ (c.loop-link.points.items ++ l.from ∷ []) ++ l.to ∷ [] =
+    c.in_ok-push-4.ensures.items ∙ ap (λ ps. ps ++ l.to ∷ []) c.in_ok-push-3.ensures.items in
+    subst (λ ls. HasEnds ls c.args.statement c.push-in-loop-link-2.new.self.items) (sym (take_more links i some_link c.loop-link-test.true))
+    (subst (HasEnds (take i links ++ l ∷ []) c.args.statement) (sym items) (more_ends (take i links) c.args.statement c.loop-link.points.items l c.loop-link.invariant))
+
+pub returns : goal.returns
+returns c =
+    let whole : take c.loop-link.link-index c.args.links.now ≡ c.args.links.now = grind (arith, common_steps) in
+    subst (λ ls. HasEnds ls c.args.statement c.loop-link.points.items) whole c.loop-link.invariant

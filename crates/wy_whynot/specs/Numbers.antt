@@ -1,0 +1,77 @@
+-- Points by their numbers, and links between numbers.
+use Rattle.std.specs.Prelude.{◌≡◌, ℕ, zero, suc, Bool, true, false, not, ◌&&◌, if◌then◌else◌, List, [], ◌∷◌, length, map, replicate, slice_index_or}
+use Rattle.std.specs.List.{Contains}
+use Rattle.std.specs.List.Sorted.{IsStrictlySortedBy}
+use Rattle.std.specs.Ordering.{is_eq}
+use Rattle.wy_ways.specs.declared.point.Point.{Point}
+use Rattle.wy_ways.specs.declared.point.Point.TheVariants as point
+use Rattle.wy_ways.specs.declared.point.Link.{Link}
+use Rattle.wy_event.specs.declared.record.Cover.{Cover}
+use Rattle.wy_event.specs.Record.{Recorded}
+use Rattle.wy_index.specs.declared.index.Index.{Index}
+use Rattle.wy_index.specs.Index.{IsIndexOf}
+use Rattle.wy_static.specs.Order.{point_cmp}
+use Rattle.wy_whynot.specs.declared.blocked.Found.{Found}
+use Rattle.wy_whynot.specs.declared.graph.Edge.{Edge}
+use Rattle.wy_whynot.specs.Executed.{executed}
+use Rattle.wy_whynot.specs.Graph.{edge, IsSpread}
+
+-- all ends of links, Start and a statement are there
+pub record HasEnds (links : List Link) (n : ℕ) (points : List Point) : Type 0 where
+  pub start : Contains points point.Start
+  pub statement : Contains points (point.Statement n)
+  pub ends : (l : Link) → Contains links l → Contains points l.from × Contains points l.to
+
+abbrev pub IsInOrder : List Point → Type 0
+IsInOrder points = IsStrictlySortedBy point_cmp points
+
+-- in order, and each once
+pub record ArePoints (links : List Link) (n : ℕ) (points : List Point) : Type 0 where
+  pub there : HasEnds links n points
+  pub in_order : IsInOrder points
+
+-- where a point stands among points
+unfoldable pub place_of : List Point → Point → ℕ
+place_of [] q = zero
+place_of (x ∷ xs) q = if is_eq (point_cmp x q) then zero else suc (place_of xs q)
+
+abbrev pub edge_of : List Point → Link → Edge
+edge_of points l = edge (place_of points l.from) (place_of points l.to)
+
+abbrev pub turned : Edge → Edge
+turned e = edge e.to e.from
+
+-- ---- what was found
+
+abbrev pub told : List Point → List Bool → Point → Bool
+told points marks q = slice_index_or marks (place_of points q) false
+
+-- a link from a point that was executed and reached to one that leads on
+abbrev pub is_picked : Found → Link → Bool
+is_picked found l =
+    let points = found.points.items in
+    told points found.begun.items l.from
+    && (told points found.reached.items l.from && told points found.leading.items l.to)
+
+-- the ends of a link have numbers
+pub record IsPlaced (found : Found) (l : Link) : Type 0 where
+  pub in_order : IsInOrder found.points.items
+  pub from : Contains found.points.items l.from
+  pub to : Contains found.points.items l.to
+  pub begun : length found.begun.items ≡ length found.points.items
+  pub reached : length found.reached.items ≡ length found.points.items
+  pub leading : length found.leading.items ≡ length found.points.items
+
+-- what was found of the ends of links, by an index of the records
+pub record IsFound (links : List Link) (covers : List Cover) (index : Index) (n : ℕ) (found : Found)
+    : Type 0 where
+  pub points : ArePoints links n found.points.items
+  pub sized : length found.begun.items ≡ length found.points.items
+  pub begun : (rs : List Recorded) → IsIndexOf index rs
+      → found.begun.items ≡ map (executed rs covers) found.points.items
+  pub reached : IsSpread (map (edge_of found.points.items) links)
+      (replicate (length found.points.items) true)
+      (place_of found.points.items point.Start) found.reached.items
+  pub leading : IsSpread (map turned (map (edge_of found.points.items) links))
+      (map not found.begun.items)
+      (place_of found.points.items (point.Statement n)) found.leading.items

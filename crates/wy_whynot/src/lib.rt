@@ -1,0 +1,16 @@
+//! Why a statement never began: the links that a run reached and did not cross on the ways to it,
+//! with their evidence. Nothing here runs a program.
+#![tactic(auto)]
+
+pub mod answer;
+mod blocked;
+mod evidence;
+mod executed;
+mod graph;
+pub mod item;
+pub mod laws;
+mod order;
+mod points;
+
+pub use answer::whynot;
+pub use item::{Item, Made, WhynotError};
