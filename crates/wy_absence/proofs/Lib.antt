@@ -1,2 +1,4 @@
+mod Clauses
 mod Rising
+mod Named
 mod One

@@ -1,6 +1,6 @@
 -- A word names one statement, which has one answer.
 use Rattle.std.proofs.Common.{◌≡◌, ◌∙◌, ℕ, ◌-◌, ◌<◌, List, length, refl, sym, ap, subst, arith}
-use Rattle.std.specs.Prelude.{slice_get, Result, Ok, Err, Some}
+use Rattle.std.specs.Prelude.{slice_get, Result, Ok, Err}
 use Rattle.std.proofs.lemmas.List.Sorted.{length_permutation}
 use Rattle.std.proofs.lemmas.Option.{same_Some, slice_get_within}
 use Rattle.wy_kernel.specs.Program.{Program}

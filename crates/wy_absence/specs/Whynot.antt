@@ -1,5 +1,5 @@
 -- The answer to why a statement never began.
-use Rattle.std.specs.Prelude.{◌≡◌, ◌<◌, ℕ, List, length, map, Result, Ok, Err, Vec}
+use Rattle.std.specs.Prelude.{◌≡◌, ◌<◌, ℕ, List, length, Result, Ok, Err, Vec}
 use Rattle.std.specs.declared.alloc.Global.{Global}
 use Rattle.wy_kernel.specs.Program.{Program}
 use Rattle.wy_kernel.specs.Statements.{statements_of}

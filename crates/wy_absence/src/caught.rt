@@ -1,74 +1,90 @@
 //! What the catch clauses of a program catch, by their sites.
 
-ghost use Rattle.std.specs.Prelude.{◌≡◌, ℕ, IfOk, OnOk, None, Some, if◌then◌else◌, map, nat_eq};
-ghost use Rattle.std.specs.BTreeMap.{get};
-ghost use Rattle.std.specs.Ordering.{nat_cmp};
-ghost use Rattle.wy_absence.specs.Caught.{AreCaught, class_caught, class_in, class_of_clause};
-ghost use Rattle.wy_event.specs.Sources.{or_else};
+ghost use Rattle.std.specs.Prelude.{◌≡◌, ◌++◌, IfOk, OnOk, map};
+ghost use Rattle.std.specs.List.{flat_map};
+ghost use Rattle.wy_absence.specs.Caught.{AreClauses, class_at, clauses_in};
+ghost use Rattle.wy_absence.specs.Caught.{clauses_of as clauses_of_try};
 ghost use Rattle.wy_kernel.specs.Parts.{program_of};
 ghost use Rattle.wy_kernel.specs.Statements.{statements_of as all_statements};
 ghost use Rattle.wy_kernel.specs.View.{clause, clauses_of, statement};
 ghost use Rattle.wy_ways.specs.Seen.{statements_seen};
 
 use std::alloc::{AllocError, Global};
-use std::collections::BTreeMap;
 use wy_kernel::form::{Catch, Stmt, StmtForm};
 use wy_kernel::program::Program;
 use wy_ways::statement::put_bodies;
 
-/// Keeps the class of a clause, unless its site has one.
-fn note(classes: &mut BTreeMap<u32, u32>, site: u32, class: u32) -> Result<(), AllocError>
-    ensures { OnOk result ((q : ℕ) → get nat_cmp classes.new q
-        ≡ or_else (get nat_cmp classes.old q) (if nat_eq site q then Some class else None)) }
+/// Where a catch clause is, and the class that it catches.
+#[derive(Clone, Copy)]
+pub(crate) struct Clause {
+    pub(crate) site: u32,
+    pub(crate) class: u32,
+}
+
+fn put_clauses(out: &mut Vec<Clause>, catches: &[Catch]) -> Result<(), AllocError>
+    ensures { OnOk result (out.new.items
+        ≡ out.old.items ++ clauses_of_try (clauses_of (map clause catches.now))) }
 {
-    if !classes.contains_key(&site) {
-        classes.insert(site, class)?;
+    for catch in catches {
+        out.push(Clause {
+            site: catch.site,
+            class: catch.class,
+        })?;
     }
     Ok(())
 }
 
-fn note_clauses(classes: &mut BTreeMap<u32, u32>, clauses: &[Catch]) -> Result<(), AllocError>
-    ensures { OnOk result ((q : ℕ) → get nat_cmp classes.new q
-        ≡ or_else (get nat_cmp classes.old q)
-        (class_of_clause q (clauses_of (map clause clauses.now)))) }
-{
-    for clause in clauses {
-        note(classes, clause.site, clause.class)?;
-    }
-    Ok(())
-}
-
-fn note_statement(classes: &mut BTreeMap<u32, u32>, s: &Stmt) -> Result<(), AllocError>
-    ensures { OnOk result ((q : ℕ) → get nat_cmp classes.new q
-        ≡ or_else (get nat_cmp classes.old q) (class_in q (statement s.now))) }
+fn put_statement(out: &mut Vec<Clause>, s: &Stmt) -> Result<(), AllocError>
+    ensures { OnOk result (out.new.items ≡ out.old.items ++ clauses_in (statement s.now)) }
 {
     match &s.form {
-        StmtForm::Try { catches, .. } => note_clauses(classes, catches),
-        _ => Ok(()),
+        StmtForm::Try { catches, .. } => put_clauses(out, catches),
+        StmtForm::Block { .. }
+        | StmtForm::Eval { .. }
+        | StmtForm::Declare { .. }
+        | StmtForm::If { .. }
+        | StmtForm::While { .. }
+        | StmtForm::Do { .. }
+        | StmtForm::For { .. }
+        | StmtForm::Labelled { .. }
+        | StmtForm::Jump { .. }
+        | StmtForm::Return { .. }
+        | StmtForm::Throw { .. }
+        | StmtForm::Print { .. } => Ok(()),
     }
 }
 
-fn note_all(classes: &mut BTreeMap<u32, u32>, all: &[&Stmt]) -> Result<(), AllocError>
-    ensures { OnOk result ((q : ℕ) → get nat_cmp classes.new q
-        ≡ or_else (get nat_cmp classes.old q) (class_caught (statements_seen all.now) q)) }
+fn put_all(out: &mut Vec<Clause>, all: &[&Stmt]) -> Result<(), AllocError>
+    ensures { OnOk result (out.new.items
+        ≡ out.old.items ++ flat_map clauses_in (statements_seen all.now)) }
 {
     for s in all {
-        note_statement(classes, s)?;
+        put_statement(out, s)?;
     }
     Ok(())
 }
 
-/// The class that the clause at each site catches.
-pub(crate) fn classes_caught(
-    alloc: Global,
-    program: &Program,
-) -> Result<BTreeMap<u32, u32>, AllocError>
-    ensures { IfOk result (AreCaught (all_statements (program_of program.now))) }
+/// The clauses of a program.
+pub(crate) fn clauses(alloc: Global, program: &Program) -> Result<Vec<Clause>, AllocError>
+    ensures { IfOk result (λ found. AreClauses
+        (all_statements (program_of program.now)) found.items) }
 {
     let mut all = Vec::new(alloc);
     put_bodies(&mut all, &program.bodies)?;
     put_bodies(&mut all, &program.init_bodies)?;
-    let mut classes = BTreeMap::new(alloc);
-    note_all(&mut classes, &all)?;
-    Ok(classes)
+    let mut found = Vec::new(alloc);
+    put_all(&mut found, &all)?;
+    Ok(found)
+}
+
+/// The class that the first clause at a site catches.
+pub(crate) fn class_at(clauses: &[Clause], site: u32) -> Option<u32>
+    ensures { result ≡ class_at clauses.now site }
+{
+    for clause in clauses {
+        if clause.site == site {
+            return Some(clause.class);
+        }
+    }
+    None
 }

@@ -1,11 +1,9 @@
 //! The lines of items.
 
 ghost use Rattle.std.specs.Prelude.{◌≡◌, ◌++◌, OnOk, IfOk, map};
-ghost use Rattle.std.specs.BTreeMap.{get};
 ghost use Rattle.std.specs.Fmt.{decimal};
-ghost use Rattle.std.specs.Ordering.{nat_cmp};
 ghost use Rattle.std.specs.List.{flat_map};
-ghost use Rattle.wy_absence.specs.Caught.{AreCaught};
+ghost use Rattle.wy_absence.specs.Caught.{AreClauses};
 ghost use Rattle.wy_absence.specs.Items.{arm_text, call_text, call_to, calls_text, catch_at, catch_text, cause_text, class_text};
 ghost use Rattle.wy_absence.specs.Items.{item_line, items_text, last_from, more_made, no_call_text, one_made, other_truth};
 ghost use Rattle.wy_absence.specs.Items.{reason, stopped_text, tested, tests_text, truth};
@@ -16,13 +14,12 @@ ghost use Rattle.wy_lines.specs.Names.{method_name as name_of_method};
 ghost use Rattle.wy_text.specs.Lines.{name_of};
 ghost use Rattle.wy_whynot.specs.Evidence.{evidence_in};
 
-use crate::caught::classes_caught;
+use crate::caught::{Clause, class_at, clauses};
 use std::alloc::{AllocError, Global};
-use std::collections::BTreeMap;
 use wy_kernel::program::Program;
 use wy_kernel::types::NONE;
 use wy_lines::method_name;
-use wy_text::{class_name, place_name};
+use wy_text::{class_name, full_name, place_name};
 use wy_ways::point::{LinkKind, Point};
 use wy_whynot::{Item, Made};
 
@@ -280,11 +277,24 @@ fn put_call_to(
     }
 }
 
-/// The class of a site, and NONE where it has none.
-fn class_at(classes: &BTreeMap<u32, u32>, site: u32) -> u32
-    ensures { present result ≡ get nat_cmp classes.now site }
+#[tactic(auto, unfolding(wy_text::specs::Lines::name_of))]
+fn put_caught(
+    alloc: Global,
+    out: &mut Vec<u8>,
+    program: &Program,
+    class: Option<u32>,
+) -> Result<(), AllocError>
+    ensures { OnOk result (out.new.items
+        ≡ out.old.items ++ name_of (program_of program.now) class) }
 {
-    classes.get(&site).copied().unwrap_or(NONE)
+    match class {
+        Some(class) => {
+            let name = full_name(alloc, program, class)?;
+            out.extend_from_slice(name.as_slice())?;
+            Ok(())
+        }
+        None => Ok(()),
+    }
 }
 
 #[tactic(auto, unfolding(crate::specs::Items::catch_text))]
@@ -292,14 +302,15 @@ fn put_catch(
     alloc: Global,
     out: &mut Vec<u8>,
     program: &Program,
-    classes: &BTreeMap<u32, u32>,
+    clauses: &[Clause],
     site: u32,
 ) -> Result<(), AllocError>
-    ensures { AreCaught (all_statements (program_of program.now)) classes.now
+    ensures { AreClauses (all_statements (program_of program.now)) clauses.now
         → OnOk result (out.new.items ≡ out.old.items ++ catch_text (program_of program.now) site) }
 {
+    let class = class_at(clauses, site);
     put_text(out, "catch ")?;
-    put_class(alloc, out, program, class_at(classes, site))?;
+    put_caught(alloc, out, program, class)?;
     put_text(out, " not reached")
 }
 
@@ -308,16 +319,16 @@ fn put_catch_at(
     alloc: Global,
     out: &mut Vec<u8>,
     program: &Program,
-    classes: &BTreeMap<u32, u32>,
+    clauses: &[Clause],
     to: Point,
     cause: u32,
 ) -> Result<(), AllocError>
-    ensures { AreCaught (all_statements (program_of program.now)) classes.now
+    ensures { AreClauses (all_statements (program_of program.now)) clauses.now
         → OnOk result (out.new.items
         ≡ out.old.items ++ catch_at (program_of program.now) to cause) }
 {
     match to {
-        Point::Catch(site) => put_catch(alloc, out, program, classes, site),
+        Point::Catch(site) => put_catch(alloc, out, program, clauses, site),
         _ => put_stopped(alloc, out, cause),
     }
 }
@@ -327,10 +338,10 @@ fn put_reason(
     alloc: Global,
     out: &mut Vec<u8>,
     program: &Program,
-    classes: &BTreeMap<u32, u32>,
+    clauses: &[Clause],
     item: &Item,
 ) -> Result<(), AllocError>
-    ensures { AreCaught (all_statements (program_of program.now)) classes.now
+    ensures { AreClauses (all_statements (program_of program.now)) clauses.now
         → OnOk result (out.new.items ≡ out.old.items
         ++ reason (program_of program.now) item.now.link.kind (evidence_in item.now)) }
 {
@@ -346,7 +357,7 @@ fn put_reason(
                 item.cause,
             )
         }
-        LinkKind::Catch => put_catch_at(alloc, out, program, classes, item.link.to, item.cause),
+        LinkKind::Catch => put_catch_at(alloc, out, program, clauses, item.link.to, item.cause),
         LinkKind::Into | LinkKind::Next => put_stopped(alloc, out, item.cause),
     }
 }
@@ -356,17 +367,17 @@ fn put_item(
     alloc: Global,
     out: &mut Vec<u8>,
     program: &Program,
-    classes: &BTreeMap<u32, u32>,
+    clauses: &[Clause],
     item: &Item,
 ) -> Result<(), AllocError>
-    ensures { AreCaught (all_statements (program_of program.now)) classes.now
+    ensures { AreClauses (all_statements (program_of program.now)) clauses.now
         → OnOk result (out.new.items ≡ out.old.items
         ++ item_line (program_of program.now) program.now.lines.items (evidence_in item.now)) }
 {
     let place = place_name(alloc, program, item.link.site)?;
     put_text(out, &place)?;
     put_text(out, " ")?;
-    put_reason(alloc, out, program, classes, item)?;
+    put_reason(alloc, out, program, clauses, item)?;
     put_text(out, "\n")
 }
 
@@ -374,16 +385,16 @@ fn put_items(
     alloc: Global,
     out: &mut Vec<u8>,
     program: &Program,
-    classes: &BTreeMap<u32, u32>,
+    clauses: &[Clause],
     items: &[Item],
 ) -> Result<(), AllocError>
-    ensures { AreCaught (all_statements (program_of program.now)) classes.now
+    ensures { AreClauses (all_statements (program_of program.now)) clauses.now
         → OnOk result (out.new.items ≡ out.old.items
         ++ flat_map (item_line (program_of program.now) program.now.lines.items)
         (map evidence_in items.now)) }
 {
     for item in items {
-        put_item(alloc, out, program, classes, item)?;
+        put_item(alloc, out, program, clauses, item)?;
     }
     Ok(())
 }
@@ -402,8 +413,8 @@ pub(crate) fn items_text(
     if items.is_empty() {
         put_text(&mut text, "no call leads here\n")?;
     } else {
-        let classes = classes_caught(alloc, program)?;
-        put_items(alloc, &mut text, program, &classes, items)?;
+        let clauses = clauses(alloc, program)?;
+        put_items(alloc, &mut text, program, &clauses, items)?;
     }
     Ok(text)
 }
