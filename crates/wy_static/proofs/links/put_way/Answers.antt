@@ -1,6 +1,9 @@
 use Rattle.wy_ways.specs.Seen.{seen_by}
-use Rattle.wy_static.proofs.Along.{chosen, on_ok}
+use Rattle.wy_static.proofs.Along.{chosen, known, on_ok}
 use Rattle.wy_static.proofs.links.put_way.Goals as goal
+
+pub returns-in-Known-clause-added : goal.returns-in-Known-clause-added
+returns-in-Known-clause-added c = on_ok c.put_along.result (λ grown. known (seen_by c.args.dispatcher.now) c.args.way c.in-Known.point c.args.out.now.items c.put_along.new.out.items c.in-Known.is grown) c.put_along.ensures
 
 pub returns-in_ok-find-in-Chosen-clause-added : goal.returns-in_ok-find-in-Chosen-clause-added
 returns-in_ok-find-in-Chosen-clause-added c =
