@@ -3,5 +3,9 @@ pub mod Numerals
 pub mod Spellings
 pub mod Fields
 pub mod Stores
-pub mod Listings
+pub mod Askables
 pub mod Named
+pub mod Sorting
+pub mod Placing
+pub mod Storing
+pub mod Listings

@@ -1,82 +1,66 @@
--- The askable statements of a line, one list behind another.
-use Rattle.std.proofs.Common.{length, take, ◌≤◌, ◌⊎◌, ⊎_elim, ◌≡◌, ℕ, Bool, refl, sym, ap, ◌∙◌, List, [], ◌++◌, ◌∷◌, map, Option, Result, Ok, Err, OnOk, append_assoc}
-use Rattle.std.specs.Prelude.{option_map}
-use Rattle.std.specs.List.{flat_map}
-use Rattle.std.proofs.lemmas.List.{append-nil, take_all}
-use Rattle.std.proofs.lemmas.List.Concat.{flat_map-append}
-use Rattle.wy_kernel.specs.declared.types.Ty.{Ty}
-use Rattle.wy_kernel.specs.declared.form.Stmt.{Stmt}
-use Rattle.wy_kernel.specs.declared.form.StmtForm.{StmtForm}
-use Rattle.wy_kernel.specs.declared.form.Catch.{Catch}
-use Rattle.wy_kernel.specs.declared.form.Body.{Body}
-use Rattle.wy_kernel.specs.Form as plain
-use Rattle.wy_kernel.specs.Statements.{statements, statements_within, statements_of_all, statements_of_catches, statements_of_body, statements_of_bodies}
-use Rattle.wy_kernel.specs.View.{act, body_of, clause, clauses_of, statement, statements_of}
-use Rattle.wy_kernel.specs.declared.form.Expr.{Expr}
-use Rattle.wy_kernel.specs.declared.form.StmtForm.TheVariants as form
-use Rattle.wy_kernel.proofs.Views.{view_statement, view_clause, view_eval, view_declare, view_jump, view_return, view_throw, view_print}
-use Rattle.wy_ask.specs.Lines.{number_on, numbers_on, own_number}
+-- What is listed, one part behind another.
+use Rattle.std.proofs.Common.{◌≡◌, ◌∙◌, ℕ, zero, suc, ◌+◌, ◌<◌, ◌≤◌, ◌^◌, Bool, true, false, List, [], ◌∷◌, ◌++◌, length, map, get_or, refl, sym, ap, ap₂, subst, append_assoc, length-append, arith}
+use Rattle.std.specs.Prelude.{All, Some, slice_get}
+use Rattle.std.specs.List.{enumerate_from}
+use Rattle.std.proofs.lemmas.List.Elements.{All-append, All-cons, All-head, All-map, All-nil, All-same, All-tail}
+use Rattle.wy_kernel.specs.Program.{Program}
+use Rattle.wy_kernel.specs.Statements.{statements_of}
+use Rattle.wy_event.specs.declared.record.Cover.{Cover}
+use Rattle.wy_event.specs.Record.{Recorded}
+use Rattle.wy_index.specs.Found.{gathered, is_print, one_if, print_of, prints_in}
+use Rattle.wy_ask.specs.declared.asking.Listed.{Listed}
+use Rattle.wy_ask.specs.declared.asking.Listed.TheVariants.{Printed, Never}
+use Rattle.wy_ask.specs.declared.never.Placed.{Placed}
+use Rattle.wy_ask.specs.Listing.{IsListedBelow, field_sets, listing, never, printed, stored_by, unbegun_in}
 
-pub all_of : {X : Type 0} (f : X → List ℕ) (xs : List X) (i : ℕ) → length xs ≤ i → flat_map f (take i xs) ≡ flat_map f xs
-all_of f xs i le = ap (flat_map f) (take_all i xs le)
+pub all_parts : (p : Program) (lines : List ℕ) (rs : List Recorded) (covers : List Cover) (first second third : List Listed) (prints : List ℕ) (count : ℕ) (unbegun : List Placed)
+    → first ≡ printed prints → second ≡ first ++ stored_by (field_sets rs) count → third ≡ second ++ never unbegun → prints ≡ prints_in rs → length rs ≡ count → unbegun ≡ unbegun_in lines (statements_of p) covers
+    → third ≡ listing p lines rs covers
+unfolding listing
+all_parts p lines rs covers first second third prints count unbegun a b c prints_is all unbegun_is =
+    c ∙ ap (λ l. l ++ never unbegun) (b ∙ ap₂ (λ (l : List Listed) (n : ℕ). l ++ stored_by (field_sets rs) n) (a ∙ ap printed prints_is) (sym all))
+    ∙ append_assoc (printed (prints_in rs)) (stored_by (field_sets rs) (length rs)) (never unbegun)
+    ∙ ap (λ (l : List Placed). printed (prints_in rs) ++ (stored_by (field_sets rs) (length rs) ++ never l)) unbegun_is
 
-module _ (lines : List ℕ) (line : ℕ) where
-  -- those of a statement are its own and those within it
-  pub of_statement : (s : Stmt) → numbers_on lines line (statements (statement s)) ≡ own_number lines line s.number s.site s.askable ++ numbers_on lines line (statements_within (act s.form))
-  of_statement s = ap (λ x. numbers_on lines line (statements x)) (view_statement s)
+-- ---- below the end
 
-  -- one list behind another
-  pub behind : (old mid new : List ℕ) (xs ys : List plain.Statement) → mid ≡ old ++ numbers_on lines line xs → new ≡ mid ++ numbers_on lines line ys → new ≡ old ++ numbers_on lines line (xs ++ ys)
-  behind old mid new xs ys e f = f ∙ ap (λ (l : List ℕ). l ++ numbers_on lines line ys) e ∙ append_assoc old (numbers_on lines line xs) (numbers_on lines line ys) ∙ ap (λ (l : List ℕ). old ++ l) (sym (flat_map-append (number_on lines line) xs ys))
+module _ (n : ℕ) where
+  enumerated_below : (k : ℕ) (xs : List ℕ) → All (λ e. e < n) xs → All (λ (x : ℕ × ℕ). x.1 < n) (enumerate_from k xs)
+  enumerated_below k [] all = All-nil (λ (x : ℕ × ℕ). x.1 < n)
+  enumerated_below k (x ∷ xs) all = All-cons (λ (y : ℕ × ℕ). y.1 < n) (k, x) (enumerate_from (k + 1) xs) (All-head (λ e. e < n) x xs all) (enumerated_below (k + 1) xs (All-tail (λ e. e < n) x xs all))
 
-  pub behind_on : {E : Type 0} (r : Result Unit E) (old mid new : List ℕ) (xs ys : List plain.Statement) → mid ≡ old ++ numbers_on lines line xs → OnOk r (new ≡ mid ++ numbers_on lines line ys) → OnOk r (new ≡ old ++ numbers_on lines line (xs ++ ys))
-  behind_on (Ok u) old mid new xs ys e f = behind old mid new xs ys e f
-  behind_on (Err x) old mid new xs ys e f = f
+  printed_below : (xs : List ℕ) → All (λ e. e < n) xs → All (IsListedBelow n) (printed xs)
+  printed_below xs all = All-map (IsListedBelow n) (λ (x : ℕ × ℕ). Printed x.0 x.1) (enumerate_from 0 xs) (enumerated_below 0 xs all)
 
-  pub in_form : {E : Type 0} (r : Result Unit E) (old new : List ℕ) (s : StmtForm) (f : plain.Act) → act s ≡ f → OnOk r (new ≡ old ++ numbers_on lines line (statements_within f)) → OnOk r (new ≡ old ++ numbers_on lines line (statements_within (act s)))
-  in_form (Ok u) old new s f is e = e ∙ ap (λ x. old ++ numbers_on lines line (statements_within x)) (sym is)
-  in_form (Err x) old new s f is e = e
+  never_below : (all : List Placed) → All (IsListedBelow n) (never all)
+  never_below all = All-map (IsListedBelow n) (λ s. Never s.statement.line s.place) all (λ k d lt. tt)
 
-  pub leaf : (old : List ℕ) (s : StmtForm) (f : plain.Act) → act s ≡ f → statements_within f ≡ [] → old ≡ old ++ numbers_on lines line (statements_within (act s))
-  leaf old s f is none = sym (append-nil old) ∙ ap (λ l. old ++ numbers_on lines line l) (sym (ap statements_within is ∙ none))
+  pub first_below : (listed : List Listed) (xs : List ℕ) → listed ≡ printed xs → All (λ e. e < n) xs → All (IsListedBelow n) listed
+  first_below listed xs is all = All-same (IsListedBelow n) listed (printed xs) is (printed_below xs all)
 
-  pub in_statement : {E : Type 0} (r : Result Unit E) (old mid new : List ℕ) (s : Stmt) → mid ≡ old ++ own_number lines line s.number s.site s.askable → OnOk r (new ≡ mid ++ numbers_on lines line (statements_within (act s.form))) → OnOk r (new ≡ old ++ numbers_on lines line (statements (statement s)))
-  in_statement (Ok u) old mid new s e f = f ∙ ap (λ (l : List ℕ). l ++ numbers_on lines line (statements_within (act s.form))) e ∙ append_assoc old (own_number lines line s.number s.site s.askable) (numbers_on lines line (statements_within (act s.form))) ∙ ap (λ (l : List ℕ). old ++ l) (sym (of_statement s))
-  in_statement (Err x) old mid new s e f = f
+  pub last_below : (listed new : List Listed) (unbegun : List Placed) → new ≡ listed ++ never unbegun → All (IsListedBelow n) listed → All (IsListedBelow n) new
+  last_below listed new unbegun is all = All-same (IsListedBelow n) new (listed ++ never unbegun) is (All-append (IsListedBelow n) listed (never unbegun) all (never_below unbegun))
 
-  -- ---- rows
+-- ---- prints
 
-  abbrev pub of_part : Stmt → List ℕ
-  of_part s = numbers_on lines line (statements (statement s))
+few_if : (b : Bool) (n : ℕ) → length (one_if b n) ≤ 1
+few_if true n = omega arith
+few_if false n = omega arith
 
-  pub of_parts : (parts : List Stmt) → flat_map of_part parts ≡ numbers_on lines line (statements_of_all (statements_of (map statement parts)))
-  of_parts [] = refl
-  of_parts (s ∷ rest) = ap (λ l. of_part s ++ l) (of_parts rest) ∙ sym (flat_map-append (number_on lines line) (statements (statement s)) (statements_of_all (statements_of (map statement rest))))
+few_from : (n : ℕ) (rs : List Recorded) → length (gathered print_of n rs) ≤ length rs
+few_from n [] = omega arith
+few_from n (r ∷ rs) = omega (arith, length-append (print_of n r) (gathered print_of (suc n) rs), few_if (is_print r.kind) n, few_from (suc n) rs)
 
-  abbrev pub of_clause : Catch → List ℕ
-  of_clause c = numbers_on lines line (statements (statement c.block))
+pub few_prints : (rs : List Recorded) (prints : List ℕ) (count : ℕ) → prints ≡ prints_in rs → length rs ≡ count → length prints ≤ count
+few_prints rs prints count is all = omega (arith, ap length is, few_from 0 rs, all)
 
-  pub of_clauses : (clauses : List Catch) → flat_map of_clause clauses ≡ numbers_on lines line (statements_of_catches (clauses_of (map clause clauses)))
-  of_clauses [] = refl
-  of_clauses (c ∷ rest) = ap (λ l. of_clause c ++ l) (of_clauses rest) ∙ sym (flat_map-append (number_on lines line) (statements (statement c.block)) (statements_of_catches (clauses_of (map clause rest)))) ∙ sym (ap (λ x. numbers_on lines line (statements_of_catches x)) (view_clause c (clauses_of (map clause rest))))
+below_from : (n end : ℕ) (rs : List Recorded) → n + length rs ≤ end → All (λ e. e < end) (gathered print_of n rs)
+below_from n end [] le = All-nil (λ e. e < end)
+below_from n end (r ∷ rs) le = go (is_print r.kind) (below_from (suc n) end rs (omega (arith, le)))
+  where
+    go : (b : Bool) → All (λ e. e < end) (gathered print_of (suc n) rs) → All (λ e. e < end) (one_if b n ++ gathered print_of (suc n) rs)
+    go true more = All-cons (λ e. e < end) n (gathered print_of (suc n) rs) (omega (arith, le)) more
+    go false more = more
 
-  abbrev pub of_body : Option Body → List ℕ
-  of_body b = numbers_on lines line (statements_of_body (option_map body_of b))
-
-  pub of_bodies : (bodies : List (Option Body)) → flat_map of_body bodies ≡ numbers_on lines line (statements_of_bodies (map (option_map body_of) bodies))
-  of_bodies [] = refl
-  of_bodies (b ∷ rest) = ap (λ l. of_body b ++ l) (of_bodies rest) ∙ sym (flat_map-append (number_on lines line) (statements_of_body (option_map body_of b)) (statements_of_bodies (map (option_map body_of) rest)))
-
-  -- a form in which no statement stands
-  abbrev pub IsLeaf : StmtForm → Type 0
-  IsLeaf s = ((value : Expr) × (s ≡ form.Eval value)) ⊎ (((local : ℕ) × (s ≡ form.Declare local)) ⊎ (((target : ℕ) × (s ≡ form.Jump target)) ⊎ (((value : Option Expr) × (s ≡ form.Return value))
-      ⊎ (((value : Expr) × (s ≡ form.Throw value)) ⊎ ((operand : Option Expr) × (ty : Ty) × (ends_line : Bool) × (site : ℕ) × (s ≡ form.Print operand ty ends_line site))))))
-
-  pub leaf_has_none : (old : List ℕ) (s : StmtForm) → IsLeaf s → old ≡ old ++ numbers_on lines line (statements_within (act s))
-  leaf_has_none old s =
-      ⊎_elim (λ h. leaf old s _ (ap act h.1 ∙ view_eval _) refl)
-      (⊎_elim (λ h. leaf old s _ (ap act h.1 ∙ view_declare _) refl)
-      (⊎_elim (λ h. leaf old s _ (ap act h.1 ∙ view_jump _) refl)
-      (⊎_elim (λ h. leaf old s _ (ap act h.1 ∙ view_return _) refl)
-      (⊎_elim (λ h. leaf old s _ (ap act h.1 ∙ view_throw _) refl)
-      (λ h. leaf old s _ (ap act h.4 ∙ view_print _ _ _ _) refl)))))
+pub prints_below : (rs : List Recorded) (prints : List ℕ) (count : ℕ) → prints ≡ prints_in rs → length rs ≡ count → All (λ e. e < count) prints
+prints_below rs prints count is all = All-same (λ e. e < count) prints (prints_in rs) is (below_from 0 count rs (omega (arith, all)))

@@ -4,3 +4,6 @@ pub mod Reading
 pub mod Asked
 pub mod Lines
 pub mod Statements
+pub mod Listing
+pub mod Held
+pub mod Counted

@@ -1,15 +1,20 @@
-//! The words of questions about a trace, the event that each asks about, and the words of statements.
+//! The words of questions about a trace, the event that each asks about, the words of statements, and what can be
+//! asked about a trace.
 //! Nothing here works out an answer.
 #![tactic(auto)]
 
+pub mod askable;
+pub mod asking;
 mod field;
-mod listing;
 mod names;
 pub mod naming;
+pub mod never;
 mod parts;
 pub mod question;
 pub mod resolving;
+mod stored;
 
+pub use asking::{Listed, questions};
 pub use naming::{NamedStatement, statement};
 pub use question::{AskError, Question, read_question};
 pub use resolving::resolve;

@@ -6,7 +6,7 @@ ghost use Rattle.wy_kernel.specs.Statements.{statements_of};
 ghost use Rattle.wy_ask.specs.Lines.{numbers_on};
 ghost use Rattle.wy_ask.specs.Statements.{Finds, Rises, positive, word_in};
 
-use crate::listing::put_bodies;
+use crate::askable::askable_in;
 use crate::names::number;
 use crate::parts::cut;
 use crate::question::AskError;
@@ -67,23 +67,23 @@ fn word(text: &str) -> Option<(u32, u32)>
     }
 }
 
-/// The askable statements of a line.
-fn askable(alloc: Global, program: &Program, line: u32) -> Result<Vec<u32>, AllocError>
+/// The numbers of the askable statements of a line.
+fn numbers_on(alloc: Global, program: &Program, line: u32) -> Result<Vec<u32>, AllocError>
     ensures { IfOk result (λ numbers. numbers.items ≡ numbers_on program.now.lines.items line
         (statements_of (program_of program.now))) }
 {
-    let mut numbers = Vec::new(alloc);
-    let lines = program.lines.as_slice();
-    put_bodies(&mut numbers, lines, line, program.bodies.as_slice())?;
-    put_bodies(&mut numbers, lines, line, program.init_bodies.as_slice())?;
-    Ok(numbers)
+    let all = askable_in(alloc, program)?;
+    all.iter()
+        .filter(|s| s.line == line)
+        .map(|s| s.number)
+        .collect(alloc)
 }
 
 fn rising(alloc: Global, program: &Program, line: u32) -> Result<Vec<u32>, AllocError>
     ensures { IfOk result (λ numbers. Rises (numbers_on program.now.lines.items line
         (statements_of (program_of program.now))) numbers.items) }
 {
-    let mut numbers = askable(alloc, program, line)?;
+    let mut numbers = numbers_on(alloc, program, line)?;
     numbers.sort()?;
     Ok(numbers)
 }

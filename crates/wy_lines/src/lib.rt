@@ -1,5 +1,5 @@
-//! The lines of events, and of what an event comes from. Each looks up in the trace what its record
-//! refers to.
+//! The lines of events, and of what an event comes from, and the texts of values and fields. Each looks up in the
+//! trace what its record refers to.
 #![tactic(auto)]
 
 mod line;
@@ -11,4 +11,6 @@ mod source;
 mod value;
 
 pub use line::event_line;
+pub use name::field_name;
 pub use source::source_line;
+pub use value::value_text;

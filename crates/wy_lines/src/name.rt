@@ -41,11 +41,7 @@ pub(crate) fn method_name(
 
 /// A field's name behind that of its class.
 #[tactic(auto, unfolding(crate::specs::Names::field_name))]
-pub(crate) fn field_name(
-    alloc: Global,
-    program: &Program,
-    number: u32,
-) -> Result<Vec<u8>, AllocError>
+pub fn field_name(alloc: Global, program: &Program, number: u32) -> Result<Vec<u8>, AllocError>
     ensures { IfOk result (λ name. name.items ≡ field_name (program_of program.now) number) }
 {
     if number as usize >= program.fields.len() {

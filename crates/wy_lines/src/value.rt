@@ -21,7 +21,7 @@ use wy_view::{EventView, Steps, ViewError};
 
 /// The text of a value, and nothing where there is none.
 #[tactic(auto, unfolding(crate::specs::Values::value_text))]
-pub(crate) fn value_text<V: EventView, L: Ledger>(
+pub fn value_text<V: EventView, L: Ledger>(
     alloc: Global,
     program: &Program,
     view: &mut V,
