@@ -1,5 +1,5 @@
 -- One line after another.
-use Rattle.std.proofs.Common.{◌≡◌, ◌∙◌, refl}
+use Rattle.std.proofs.Common.{◌∙◌, refl}
 use Rattle.wy_kernel.specs.Parts.{program_of}
 use Rattle.wy_view.proofs.Views.{keeps_itself, keeps_on}
 use Rattle.wy_telling.specs.Questions.{listed_line}
