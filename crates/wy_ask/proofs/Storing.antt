@@ -2,9 +2,8 @@
 use Rattle.std.specs.HashMap.{HashMap}
 use Rattle.std.specs.declared.hash.BuildHasherDefault.{BuildHasherDefault}
 use Rattle.std.specs.declared.hash.FoldHasher.{FoldHasher}
-use Rattle.wy_event.specs.declared.record.Kind.{Kind}
 use Rattle.wy_view.specs.References.{ValueBelow}
-use Rattle.std.proofs.Common.{◌≡◌, ◌∙◌, ℕ, Bool, true, false, not, ◌&&◌, ◌||◌, cond, List, [], ◌∷◌, ◌++◌, map, filter, reverse, length, take, get_or, ◌+◌, ◌<◌, ◌≤◌, Option, Some, None, refl, sym, ap, ap₂, subst, append_assoc, append-nil, arith}
+use Rattle.std.proofs.Common.{◌≡◌, ◌∙◌, ℕ, Bool, true, false, not, ◌&&◌, ◌||◌, cond, List, [], ◌∷◌, ◌++◌, map, filter, reverse, length, take, get_or, ◌+◌, ◌<◌, ◌≤◌, Option, Some, None, refl, sym, ap, ap₂, subst, append_assoc, arith}
 use Rattle.std.specs.Prelude.{All, IfSome, ◌==◌, nat_eq, if◌then◌else◌, find, option_map, unwrap_or}
 use Rattle.std.specs.List.{list_any}
 use Rattle.std.specs.Option.{is_some, option_eq}

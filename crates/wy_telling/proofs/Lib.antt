@@ -3,4 +3,5 @@ pub mod LineEnds
 pub mod Values
 pub mod Merging
 pub mod Answering
+pub mod Asked
 mod Rows

@@ -2,3 +2,4 @@ pub mod Printed
 pub mod Thrown
 pub mod Output
 pub mod Why
+pub mod Questions

@@ -1,4 +1,4 @@
-use Rattle.std.proofs.Common.{OnOk, ◌≡◌, map, ap, ◌∙◌, ⊎_elim, ◌++◌, List, ℕ}
+use Rattle.std.proofs.Common.{OnOk, ◌≡◌, map, ap, ◌∙◌, ⊎_elim, ◌++◌, List}
 use Rattle.wy_kernel.specs.Statements.{statements, statements_of_all, statements_of_catches, statements_of_other}
 use Rattle.wy_kernel.specs.View.{act, clause, clauses_of, other, statement, statements_of}
 use Rattle.wy_kernel.proofs.Views.{view_block, view_if, view_while, view_do, view_for, view_labelled, view_try}

@@ -1,4 +1,4 @@
-use Rattle.std.proofs.Common.{List, ℕ, ap, ◌∙◌, ◌++◌}
+use Rattle.std.proofs.Common.{List, ap, ◌∙◌, ◌++◌}
 use Rattle.wy_ask.specs.declared.askable.Askable.{Askable}
 use Rattle.wy_ask.proofs.Askables.{all_of, of_body, of_bodies}
 use Rattle.wy_ask.proofs.askable.put_bodies.Goals as goal

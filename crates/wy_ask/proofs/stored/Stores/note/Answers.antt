@@ -1,8 +1,7 @@
-use Rattle.std.proofs.Common.{◌≡◌, ◌∙◌, ◌++◌, List, append-nil, refl, sym, ap, subst}
+use Rattle.std.proofs.Common.{◌∙◌, ◌++◌, List, append-nil, refl, sym, ap, subst}
 use Rattle.std.specs.Prelude.{OnOk}
 use Rattle.wy_event.specs.Record.{Recorded, recorded}
 use Rattle.wy_ask.specs.Held.{HasStored}
-use Rattle.wy_ask.specs.Listing.{field_sets}
 use Rattle.wy_ask.proofs.Storing.{passed, passed_by, taken}
 use Rattle.wy_ask.proofs.stored.Stores.note.Goals as goal
 

@@ -1,4 +1,4 @@
-use Rattle.std.proofs.Common.{◌∙◌, ◌++◌, ◌<◌, length, map, take, ap, subst, ◌≤◌}
+use Rattle.std.proofs.Common.{◌∙◌, ◌++◌, length, map, take, ap, subst, ◌≤◌}
 use Rattle.wy_ask.proofs.Storing.{all_stored, push_below, push_stored, stored_at}
 use Rattle.wy_ask.proofs.stored.Stores.put.Goals as goal
 
