@@ -1,5 +1,5 @@
 -- What why tells over the trace of a run is what the run carried.
-use Rattle.std.proofs.Common.{◌≡◌, ◌∙◌, sym, ap, subst, refl, inl, inr, ℕ, zero, suc, ◌<◌, ◌≤◌, ◌^◌, Bool, true, false, cond, List, [], ◌∷◌, length, map, drop, Option, Some, None, Result, Ok, Err, IfOk, arith}
+use Rattle.std.proofs.Common.{◌≡◌, ◌∙◌, sym, ap, subst, refl, ℕ, zero, suc, ◌<◌, ◌≤◌, ◌^◌, Bool, true, false, cond, List, [], ◌∷◌, length, map, drop, Option, Some, None, Result, Ok, Err, IfOk, arith}
 use Rattle.std.specs.Prelude.{All, MatchResult, slice_get, nat_le, nat_lt}
 use Rattle.std.specs.declared.alloc.AllocError.{AllocError}
 use Rattle.std.proofs.lemmas.Bool.{leb-true, ltb-true}
@@ -9,7 +9,6 @@ use Rattle.wy_kernel.specs.Program.{Program}
 use Rattle.wy_kernel.specs.Parts.{program_of}
 use Rattle.wy_value.specs.declared.value.Value.{Value}
 use Rattle.wy_value.specs.declared.value.Value.TheVariants as val
-use Rattle.wy_event.specs.Numbers.{Numbers}
 use Rattle.wy_event.specs.Record.{Recorded, recorded}
 use Rattle.wy_event.specs.Sources.{Owners, closure, data_closure, last_write, written, creation, is_so, or_else, writes, creates}
 use Rattle.wy_event.specs.declared.record.Kind.{Kind}
@@ -41,7 +40,7 @@ use Rattle.wy_reply.specs.declared.answer.Answer.{Answer}
 use Rattle.wy_reply.specs.declared.status.Status.TheVariants.{Done}
 use Rattle.wy_reply.specs.Statuses.{code_of}
 use Rattle.wy_reply.specs.Recordings.{IsTraceOf, trace_spelling}
-use Rattle.wy_reply.specs.Tellings.{Wanted, Why, Audit, Output, RefusesTrace, Tells, why, whynot, questions, audit, output}
+use Rattle.wy_reply.specs.Tellings.{Wanted, Why, RefusesTrace, Tells, why, whynot, questions, audit, output}
 use Rattle.wy_reply.specs.Carried.{CarriedAnswer, CarriesBy, HasSource, Means, SameSets, static, field, element, local}
 
 -- ---- bytes tell all of a run's records

@@ -1,5 +1,5 @@
 -- What the machine leaves is reported as the definition has it.
-use Rattle.std.proofs.Common.{◌≡◌, ◌∙◌, refl, ap, inr, ◌++◌, ◌<◌, ◌^◌, ℕ, List, map, option_map}
+use Rattle.std.proofs.Common.{◌≡◌, ◌∙◌, refl, ap, inr, ◌++◌, ◌<◌, ◌^◌, ℕ, List, map}
 use Rattle.std.specs.List.{concat}
 use Rattle.wy_kernel.specs.declared.program.Program as memory
 use Rattle.wy_kernel.specs.Program.{Program}
@@ -19,7 +19,7 @@ use Rattle.wy_telling.specs.Output.{whole_lines}
 use Rattle.wy_reply.specs.declared.answer.Answer.{Answer}
 use Rattle.wy_reply.specs.declared.status.Status.TheVariants.{Done}
 use Rattle.wy_reply.specs.Lines.{recorded_line}
-use Rattle.wy_reply.specs.Recordings.{Spelling, HoldTrace, IsTraceOf, RecordsAs}
+use Rattle.wy_reply.specs.Recordings.{Spelling, IsTraceOf, RecordsAs}
 use Rattle.wy_reply.specs.Report.{report, recorded_report, report_of_end, recorded_of_end}
 
 pub reported : (p : Program) (lines input : List ℕ) (steps : ℕ) (e : Ended) → IsEndOf p input steps e → report_of_end p lines e ≡ report p lines input steps

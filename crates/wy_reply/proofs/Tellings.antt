@@ -1,5 +1,5 @@
 -- What a trace tells is due.
-use Rattle.std.proofs.Common.{◌≡◌, ◌∙◌, sym, subst, refl, ℕ, List, map, Result, Ok, Err, IfOk}
+use Rattle.std.proofs.Common.{◌≡◌, sym, subst, ℕ, List, map, Result, Ok, Err, IfOk}
 use Rattle.std.specs.declared.alloc.AllocError.{AllocError}
 use Rattle.wy_kernel.specs.declared.program.Program.{Program}
 use Rattle.wy_kernel.specs.Parts.{program_of}
@@ -7,7 +7,7 @@ use Rattle.wy_event.specs.Record.{recorded}
 use Rattle.wy_event.specs.declared.record.Trace.{Trace}
 use Rattle.wy_meaning.specs.Kept.{kept_tail}
 use Rattle.wy_frames.specs.declared.error.TraceError.{TraceError}
-use Rattle.wy_frames.specs.declared.error.TraceError.TheVariants.{Cut, Damaged, BadSeal, NoMemory}
+use Rattle.wy_frames.specs.declared.error.TraceError.TheVariants.{Cut, Damaged, BadSeal}
 use Rattle.wy_frames.specs.Traces.{IsReadAs, ReadsAs}
 use Rattle.wy_machine.specs.Audits.{AuditIs}
 use Rattle.wy_machine.specs.declared.auditing.Verdict.{Verdict}

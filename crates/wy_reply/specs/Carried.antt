@@ -1,5 +1,5 @@
 -- What a run carried to the event that a question asks about.
-use Rattle.std.specs.Prelude.{◌≡◌, ℕ, List, Option, Some, Ok, slice_get}
+use Rattle.std.specs.Prelude.{◌≡◌, ℕ, List, Some, Ok, slice_get}
 use Rattle.wy_kernel.specs.Program.{Program}
 use Rattle.wy_kernel.specs.declared.program.Program as memory
 use Rattle.wy_kernel.specs.Parts.{program_of}

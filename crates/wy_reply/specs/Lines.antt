@@ -57,7 +57,7 @@ abbrev pub no_such_line : ℕ → List ℕ
 no_such_line number = line_of (codes "question: no such " ++ decimal number)
 
 -- a statement by its line and its place in it, and how often it began
-abbrev pub ran_line : ℕ → ℕ → ℕ → ℕ → List ℕ
+unfoldable pub ran_line : ℕ → ℕ → ℕ → ℕ → List ℕ
 ran_line line place count first =
     line_of (codes "question: line " ++ (decimal line ++ (codes "." ++ (decimal place
     ++ (codes " ran " ++ (decimal count ++ (codes " times, first before #" ++ decimal first)))))))

@@ -17,7 +17,7 @@ use Rattle.wy_telling.specs.Output.{output_text}
 use Rattle.wy_telling.specs.Why.{WhyIs, Refused, NotRead, NoSuch}
 use Rattle.wy_telling.specs.Questions.{questions_text}
 use Rattle.wy_absence.specs.Whynot.{WhynotIs, Denied}
-use Rattle.wy_absence.specs.Whynot as whynot
+use Rattle.wy_absence.specs.Whynot as denial
 use Rattle.wy_absence.specs.declared.whynot.Unanswered.{Unanswered}
 use Rattle.wy_absence.specs.declared.whynot.Unanswered.TheVariants as unanswered
 use Rattle.wy_reply.specs.Lines.{cut_line, damaged_line, bad_seal_line, not_read_line, no_such_line, ran_line, equal_line, differs_line, tail_differs_line}
@@ -64,9 +64,9 @@ whynot_status (Err e) = 6
 
 abbrev pub whynot_answer : Result (List ℕ) Denied → List ℕ
 whynot_answer (Ok text) = text
-whynot_answer (Err whynot.NotRead) = not_read_line
-whynot_answer (Err (whynot.NoSuch line)) = no_such_line line
-whynot_answer (Err (whynot.Ran line place count first)) = ran_line line place count first
+whynot_answer (Err denial.NotRead) = not_read_line
+whynot_answer (Err (denial.NoSuch line)) = no_such_line line
+whynot_answer (Err (denial.Ran line place count first)) = ran_line line place count first
 
 abbrev pub audit_status : Verdict → ℕ
 audit_status verdict.Equal = 0

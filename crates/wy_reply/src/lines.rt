@@ -147,20 +147,12 @@ fn at_token(
     Ok(line.into_bytes())
 }
 
-fn ran(
-    alloc: Global,
-    line: u32,
-    place: u32,
-    count: u32,
-    first: u32,
-) -> Result<Vec<u8>, AllocError>
-    ensures { IfOk result (λ text. text.items ≡ ran_line line place count first) }
+#[tactic(auto, unfolding(crate::specs::Lines::ran_line))]
+fn ran(alloc: Global, at: u32, place: u32, count: u32, first: u32) -> Result<Vec<u8>, AllocError>
+    ensures { IfOk result (λ text. text.items ≡ ran_line at place count first) }
 {
-    let text = format!(
-        in alloc;
-        "question: line {line}.{place} ran {count} times, first before #{first}\n"
-    )?;
-    Ok(text.into_bytes())
+    let what = format!(in alloc; "{at}.{place} ran {count} times, first before #{first}")?;
+    line(alloc, "question: line ", &what)
 }
 
 /// A line that ends with a number.

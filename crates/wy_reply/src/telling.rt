@@ -89,11 +89,7 @@ fn answer_to_question(
     }
 }
 
-fn answer_to_questions(
-    alloc: Global,
-    program: &Program,
-    trace: Trace,
-) -> Result<Answer, AllocError>
+fn answer_to_questions(alloc: Global, program: &Program, trace: Trace) -> Result<Answer, AllocError>
     requires few { length trace.events < 2 ^ 32 }
     requires refer_below { AllRefersBelow trace.events }
     ensures due { IfOk result (λ answer. Tells program.now trace wanted.Questions
