@@ -42,7 +42,7 @@ head -c 1048577 /dev/zero | tr '\0' ' ' >"$scratch/long.java"
 head -c 16777216 /dev/zero | tr '\0' 'x' >"$scratch/full"
 head -c 16777217 /dev/zero | tr '\0' 'x' >"$scratch/over"
 
-usage='usage: whyline run, record, output, why or audit'
+usage='usage: whyline run, record, output, questions, why, whynot or audit'
 
 expect_line "the step limit" 0 '-- step limit' run "$scratch/endless.java"
 expect_line "a step too few" 0 '-- step limit' run --steps 19 examples/first.java
@@ -93,6 +93,20 @@ expect_line "why" 0 $'#2 line 2 call Main.main\n#4 line 3 set x = 2 *' why "$tra
 expect_line "a word that is no question" 6 'question: not read' why "$trace" x4
 expect_line "an event that isn't there" 6 'question: no such 10' why "$trace" e10
 expect_line "a print that isn't there" 6 'question: no such 1' why "$trace" p1
+expect_line "what can be asked" 0 'p0 #8 line 8 print 5' questions "$trace"
+expect_line "a statement that ran" 6 'question: line 8.1 ran 1 times, first before #8' whynot "$trace" 8
+expect_line "a line without a statement" 6 'question: no such 99' whynot "$trace" 99
+expect_line "a word that is no statement" 6 'question: not read' whynot "$trace" 0.1
+expect_line "whynot without a statement" 2 "$usage" whynot "$trace"
+expect_line "questions with a word too many" 2 "$usage" questions "$trace" p0
+printf 'class Main {\n  public static void main(String[] a) {\n    int n = 1;\n    if (n > 3) {\n      System.out.println(n);\n    }\n  }\n  void alone() {\n    alone();\n  }\n}\n' >"$scratch/never.java"
+expect_line "a recording of a test that is false" 0 $'-- finished\n-- recorded 7 events' record "$scratch/never.java" -o "$scratch/never.trace"
+expect_line "what never began" 0 $'whynot 5.1\nwhynot 9.1' questions "$scratch/never.trace"
+expect_line "an arm that was not taken" 0 'line 4 arm true not taken: 1 tested false, first #5, last #5' whynot "$scratch/never.trace" 5
+expect_line "a method that nothing calls" 0 'no call leads here' whynot "$scratch/never.trace" 9
+printf 'class Main {\n  public static void main(String[] a) {\n    int i = 0;\n    while (i < 9) {\n      System.out.print(i);\n      i = i + 1;\n    }\n    System.out.println();\n  }\n}\n' >"$scratch/stopped.java"
+expect_line "a loop that the step limit stops" 0 $'0\n-- step limit\n-- recorded 8 events' record "$scratch/stopped.java" -o "$scratch/stopped.trace" --steps 18
+expect_line "a line behind it" 0 'line 4 did not go on: run ended' whynot "$scratch/stopped.trace" 8
 expect_line "a recording that the step limit stops" 0 $'-- step limit\n-- recorded 5 events' record examples/first.java -o "$scratch/short.trace" --steps 5
 expect_line "its output" 0 '-- step limit' output "$scratch/short.trace"
 expect_line "no such trace" 3 "absent: $scratch/none" why "$scratch/none" p0
