@@ -7,10 +7,10 @@
 #   body   the statements of a method
 #   world  the statements of a method beside the classes below; the answer is the rule alone
 #   lines  a source with a token on each line; the answer is how many there are, and Syntax names one of them with its line
-# WHYLINE names another program than ./whyline.
+# WHYLINE names another program than that of tools/program.
 set -u
 source "$(dirname "$0")/counting.bash"
-program=$(readlink -f "${WHYLINE:-./whyline}")
+program=$(readlink -f "${WHYLINE:-$(tools/program)}")
 rows=$PWD/tools/checks/answers.tsv
 cd "$scratch" || exit 1
 

@@ -1,9 +1,9 @@
 #!/usr/bin/env bash
 # Runs each example and compares what it writes and its status with the stored ones, and then one call for each other
-# status. Ends with a failure if one differs. WHYLINE names another program than ./whyline.
+# status. Ends with a failure if one differs. WHYLINE names another program than that of tools/program.
 set -u
 source "$(dirname "$0")/counting.bash"
-program=$(readlink -f "${WHYLINE:-./whyline}")
+program=$(readlink -f "${WHYLINE:-$(tools/program)}")
 
 expect() { # NAME STATUS FILE WORD..: the call writes what the file holds, and has this status
   local name=$1 status=$2 wanted=$3 same=1

@@ -1,10 +1,10 @@
 #!/usr/bin/env bash
 # Runs each command that README.md and docs/tour.md show, in their order, in a folder that has the examples, and compares
 # what it writes with the lines below it. A line that begins with "$ ./whyline " is a command; what it writes ends where the
-# next line begins with "$ " or the block ends. WHYLINE names another program than ./whyline.
+# next line begins with "$ " or the block ends. WHYLINE names another program than that of tools/program.
 set -u
 source "$(dirname "$0")/counting.bash"
-program=$(readlink -f "${WHYLINE:-./whyline}")
+program=$(readlink -f "${WHYLINE:-$(tools/program)}")
 home=$PWD
 
 check() { # NAME WORDS: compares with the file `wanted`
