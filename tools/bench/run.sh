@@ -2,10 +2,10 @@
 # Times `./whyline run` on each program of tools/bench, and `javac` and `java -Xint` together on the same file where they are
 # installed; then the loop of 3,900,000 events at a quarter, a half and all of its steps; then its recording beside the run alone
 # and `sha256sum` of the trace, and what is asked of the trace. Prints times, the greatest memory and ratios. Nothing rests on
-# them. WHYLINE names another program than ./whyline.
+# them. WHYLINE names another program than that of tools/program.
 set -u
 cd "$(dirname "$0")/../.." || exit 1
-program=$(readlink -f "${WHYLINE:-./whyline}")
+program=$(readlink -f "${WHYLINE:-$(tools/program)}")
 scratch=$(mktemp -d) || exit 1
 trap 'rm -rf "$scratch"' EXIT
 steps=50000000
