@@ -42,7 +42,7 @@ head -c 1048577 /dev/zero | tr '\0' ' ' >"$scratch/long.java"
 head -c 16777216 /dev/zero | tr '\0' 'x' >"$scratch/full"
 head -c 16777217 /dev/zero | tr '\0' 'x' >"$scratch/over"
 
-usage='usage: whyline run, record, output, questions, why, whynot or audit'
+usage='usage: whyline run, record, output, questions, why, whynot, explore, audit or gen'
 
 expect_line "the step limit" 0 '-- step limit' run "$scratch/endless.java"
 expect_line "a step too few" 0 '-- step limit' run --steps 19 examples/first.java

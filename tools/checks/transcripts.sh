@@ -1,7 +1,8 @@
 #!/usr/bin/env bash
 # Runs each command that README.md and docs/tour.md show, in their order, in a folder that has the examples, and compares
 # what it writes with the lines below it. A line that begins with "$ ./whyline " is a command; what it writes ends where the
-# next line begins with "$ " or the block ends. WHYLINE names another program than that of tools/program.
+# next line begins with "$ " or the block ends. Below explore stands a session as a terminal shows it, and terminal.py plays it.
+# WHYLINE names another program than that of tools/program.
 set -u
 source "$(dirname "$0")/counting.bash"
 program=$(readlink -f "${WHYLINE:-$(tools/program)}")
@@ -10,8 +11,12 @@ home=$PWD
 check() { # NAME WORDS: compares with the file `wanted`
   local words same=1
   read -r -a words <<<"$2"
-  "$program" "${words[@]}" >"$scratch/out" 2>/dev/null
-  cmp -s "$scratch/wanted" "$scratch/out" || same=0
+  if [ "${words[0]}" = explore ]; then
+    python3 "$home/tools/checks/terminal.py" "$program" "${words[@]}" <"$scratch/wanted" || same=0
+  else
+    "$program" "${words[@]}" >"$scratch/out" 2>/dev/null
+    cmp -s "$scratch/wanted" "$scratch/out" || same=0
+  fi
   report "$1: $2" "$same"
 }
 

@@ -1,4 +1,3 @@
 mod Clauses
-mod Rising
 mod Named
 mod One

@@ -1,21 +1,21 @@
 -- A word names one statement, which has one answer.
 use Rattle.std.proofs.Common.{◌≡◌, ◌∙◌, ℕ, ◌-◌, ◌<◌, List, length, refl, sym, ap, subst, arith}
-use Rattle.std.specs.Prelude.{slice_get, Result, Ok, Err}
+use Rattle.std.specs.Prelude.{Result, Ok, Err}
 use Rattle.std.proofs.lemmas.List.Sorted.{length_permutation}
-use Rattle.std.proofs.lemmas.Option.{same_Some, slice_get_within}
+use Rattle.std.proofs.lemmas.Option.{slice_get_within}
 use Rattle.wy_kernel.specs.Program.{Program}
 use Rattle.wy_kernel.specs.Statements.{statements_of}
 use Rattle.wy_event.specs.declared.record.Cover.{Cover}
 use Rattle.wy_event.specs.Record.{Recorded}
 use Rattle.wy_ask.specs.Lines.{numbers_on}
 use Rattle.wy_ask.specs.Statements.{IsPlaced, Names}
+use Rattle.wy_ask.proofs.Rising.{one_place}
 use Rattle.wy_whynot.specs.Evidence.{Evidence}
 use Rattle.wy_whynot.specs.Executed.{cover_of}
 use Rattle.wy_whynot.specs.Items.{AreItems, HasRun}
 use Rattle.wy_whynot.specs.Laws.{ItemsAreOne}
 use Rattle.wy_absence.specs.Items.{items_text}
 use Rattle.wy_absence.specs.Whynot.{Denied, NamesStatement, NoSuch, OneAnswerToWhynot, Ran, WhynotIs, answered, not_read, not_there, ran}
-use Rattle.wy_absence.proofs.Rising.{one_rising}
 
 -- the same place in the same numbers, with the same statement
 record Same (l k n m j o : ℕ) : Type 0 where
@@ -24,18 +24,13 @@ record Same (l k n m j o : ℕ) : Type 0 where
   statement : o ≡ n
 
 module _ (one : ItemsAreOne) (p : Program) (lines : List ℕ) (rs : List Recorded) (covers : List Cover) (word : List ℕ) where
-  same_placed : (numbers : List ℕ) (k n o : ℕ) → IsPlaced numbers k n → IsPlaced numbers k o → o ≡ n
-  same_placed numbers k n o a b =
-      let rising : b.rising ≡ a.rising = one_rising numbers b.rising a.rising b.rises.same a.rises.same b.rises.sorted a.rises.sorted in
-      same_Some o n (sym b.there ∙ ap (λ r. slice_get r (k - 1)) rising ∙ a.there)
-
   same_statement : (l k n m j o : ℕ) → NamesStatement p lines word l k n → NamesStatement p lines word m j o → Same l k n m j o
   same_statement l k n m j o a b =
       let same = a.names.only m j b.names.spelled in
       let moved : IsPlaced (numbers_on lines l (statements_of p)) k o =
       subst (λ z. IsPlaced (numbers_on lines l (statements_of p)) z o) same.1
       (subst (λ z. IsPlaced (numbers_on lines z (statements_of p)) j o) same.0 b.placed) in
-      record { line = same.0; place = same.1; statement = same_placed (numbers_on lines l (statements_of p)) k n o a.placed moved }
+      record { line = same.0; place = same.1; statement = one_place (numbers_on lines l (statements_of p)) k n o a.placed moved }
 
   placed_within : (numbers : List ℕ) (k n : ℕ) → IsPlaced numbers k n → length numbers < k → ⊥
   placed_within numbers k n a short =

@@ -1,16 +1,14 @@
 //! The lines of items.
 
-ghost use Rattle.std.specs.Prelude.{◌≡◌, ◌++◌, OnOk, IfOk, map};
+ghost use Rattle.std.specs.Prelude.{◌≡◌, ◌++◌, OnOk, codes, map};
 ghost use Rattle.std.specs.Fmt.{decimal};
 ghost use Rattle.std.specs.List.{flat_map};
 ghost use Rattle.wy_absence.specs.Caught.{AreClauses};
 ghost use Rattle.wy_absence.specs.Items.{arm_text, call_text, call_to, calls_text, catch_at, catch_text, cause_text, class_text};
 ghost use Rattle.wy_absence.specs.Items.{item_line, items_text, last_from, more_made, no_call_text, one_made, other_truth};
 ghost use Rattle.wy_absence.specs.Items.{reason, stopped_text, tested, tests_text, truth};
-ghost use Rattle.wy_event.specs.Record.{present};
 ghost use Rattle.wy_kernel.specs.Parts.{program_of};
 ghost use Rattle.wy_kernel.specs.Statements.{statements_of as all_statements};
-ghost use Rattle.wy_lines.specs.Names.{method_name as name_of_method};
 ghost use Rattle.wy_text.specs.Lines.{name_of};
 ghost use Rattle.wy_whynot.specs.Evidence.{evidence_in};
 
@@ -18,8 +16,8 @@ use crate::caught::{Clause, class_at, clauses};
 use std::alloc::{AllocError, Global};
 use wy_kernel::program::Program;
 use wy_kernel::types::NONE;
-use wy_lines::method_name;
-use wy_text::{class_name, full_name, place_name};
+use wy_lines::put_method_name;
+use wy_text::{put_class_name, put_count, put_decimal, put_full_name, put_place};
 use wy_ways::point::{LinkKind, Point};
 use wy_whynot::{Item, Made};
 
@@ -29,52 +27,23 @@ const GOING_ON: u32 = 0xffff_fffe;
 fn put_text(out: &mut Vec<u8>, text: &str) -> Result<(), AllocError>
     ensures { OnOk result (out.new.items ≡ out.old.items ++ text.now) }
 {
-    out.extend_from_slice(text.as_bytes())?;
-    Ok(())
+    out.extend_from_slice(text.as_bytes())
 }
 
-/// A text, and a number behind it.
-fn put_number(alloc: Global, out: &mut Vec<u8>, text: &str, number: u32) -> Result<(), AllocError>
+/// Puts a text, and a number behind it.
+fn put_numbered(out: &mut Vec<u8>, text: &str, number: u32) -> Result<(), AllocError>
     ensures { OnOk result (out.new.items ≡ out.old.items ++ (text.now ++ decimal number)) }
 {
-    let both = format!(in alloc; "{text}{number}")?;
-    put_text(out, &both)
-}
-
-fn put_method(
-    alloc: Global,
-    out: &mut Vec<u8>,
-    program: &Program,
-    method: u32,
-) -> Result<(), AllocError>
-    ensures { OnOk result (out.new.items
-        ≡ out.old.items ++ name_of_method (program_of program.now) (present method)) }
-{
-    let name = method_name(alloc, program, method)?;
-    out.extend_from_slice(name.as_slice())?;
-    Ok(())
-}
-
-fn put_class(
-    alloc: Global,
-    out: &mut Vec<u8>,
-    program: &Program,
-    class: u32,
-) -> Result<(), AllocError>
-    ensures { OnOk result (out.new.items
-        ≡ out.old.items ++ name_of (program_of program.now) (present class)) }
-{
-    let name = class_name(alloc, program, class)?;
-    out.extend_from_slice(name.as_slice())?;
-    Ok(())
+    put_text(out, text)?;
+    put_decimal(out, number)
 }
 
 #[tactic(auto, unfolding(crate::specs::Items::cause_text))]
-fn put_cause(alloc: Global, out: &mut Vec<u8>, cause: u32) -> Result<(), AllocError>
+fn put_cause(out: &mut Vec<u8>, cause: u32) -> Result<(), AllocError>
     ensures { OnOk result (out.new.items ≡ out.old.items ++ cause_text cause) }
 {
     if cause < GOING_ON {
-        put_number(alloc, out, "left by #", cause)
+        put_numbered(out, "left by #", cause)
     } else {
         put_text(out, "run ended")
     }
@@ -94,7 +63,6 @@ fn other_truth(value: u32) -> &'static str
 
 #[tactic(auto, unfolding(crate::specs::Items::tested))]
 fn put_tested(
-    alloc: Global,
     out: &mut Vec<u8>,
     value: u32,
     count: usize,
@@ -103,9 +71,19 @@ fn put_tested(
 ) -> Result<(), AllocError>
     ensures { OnOk result (out.new.items ≡ out.old.items ++ tested value count first last) }
 {
-    let other = other_truth(value);
-    let text = format!(in alloc; "{count} tested {other}, first #{first}, last #{last}")?;
-    put_text(out, &text)
+    put_count(out, count)?;
+    put_text(out, " tested ")?;
+    put_text(out, other_truth(value))?;
+    put_span(out, first, last)
+}
+
+/// Puts the first number of some and the last.
+fn put_span(out: &mut Vec<u8>, first: u32, last: u32) -> Result<(), AllocError>
+    ensures { OnOk result (out.new.items ≡ out.old.items
+        ++ (codes ", first #" ++ (decimal first ++ (codes ", last #" ++ decimal last)))) }
+{
+    put_numbered(out, ", first #", first)?;
+    put_numbered(out, ", last #", last)
 }
 
 /// The last number of some.
@@ -120,84 +98,61 @@ fn last_from(first: u32, rest: &[u32]) -> u32
 }
 
 #[tactic(auto, unfolding(crate::specs::Items::tests_text))]
-fn put_tests(
-    alloc: Global,
-    out: &mut Vec<u8>,
-    value: u32,
-    tests: &[u32],
-    cause: u32,
-) -> Result<(), AllocError>
+fn put_tests(out: &mut Vec<u8>, value: u32, tests: &[u32], cause: u32) -> Result<(), AllocError>
     ensures { OnOk result (out.new.items ≡ out.old.items ++ tests_text value tests.now cause) }
 {
     match tests.split_first() {
         Some((first, rest)) => {
             let last = last_from(*first, rest);
-            put_tested(alloc, out, value, tests.len(), *first, last)
+            put_tested(out, value, tests.len(), *first, last)
         }
-        None => put_cause(alloc, out, cause),
+        None => put_cause(out, cause),
     }
 }
 
 #[tactic(auto, unfolding(crate::specs::Items::arm_text))]
-fn put_arm(
-    alloc: Global,
-    out: &mut Vec<u8>,
-    value: u32,
-    tests: &[u32],
-    cause: u32,
-) -> Result<(), AllocError>
+fn put_arm(out: &mut Vec<u8>, value: u32, tests: &[u32], cause: u32) -> Result<(), AllocError>
     ensures { OnOk result (out.new.items ≡ out.old.items ++ arm_text value tests.now cause) }
 {
     put_text(out, "arm ")?;
     put_text(out, truth(value))?;
     put_text(out, " not taken: ")?;
-    put_tests(alloc, out, value, tests, cause)
+    put_tests(out, value, tests, cause)
 }
 
 #[tactic(auto, unfolding(crate::specs::Items::one_made))]
-fn put_made(
-    alloc: Global,
-    out: &mut Vec<u8>,
-    program: &Program,
-    made: Made,
-) -> Result<(), AllocError>
+fn put_made(out: &mut Vec<u8>, program: &Program, made: Made) -> Result<(), AllocError>
     ensures { OnOk result (out.new.items ≡ out.old.items ++ one_made (program_of program.now) made) }
 {
-    put_method(alloc, out, program, made.method)?;
-    put_number(alloc, out, " at #", made.event)
+    put_method_name(out, program, made.method)?;
+    put_numbered(out, " at #", made.event)
 }
 
 #[tactic(auto, unfolding(crate::specs::Items::more_made))]
-fn put_more(
-    alloc: Global,
-    out: &mut Vec<u8>,
-    program: &Program,
-    made: &[Made],
-) -> Result<(), AllocError>
+fn put_more(out: &mut Vec<u8>, program: &Program, made: &[Made]) -> Result<(), AllocError>
     ensures { OnOk result (out.new.items
         ≡ out.old.items ++ more_made (program_of program.now) made.now) }
 {
     for one in made {
         put_text(out, ", ")?;
-        put_made(alloc, out, program, *one)?;
+        put_made(out, program, *one)?;
     }
     Ok(())
 }
 
 #[tactic(auto, unfolding(crate::specs::Items::no_call_text))]
-fn put_no_call(alloc: Global, out: &mut Vec<u8>, cause: u32) -> Result<(), AllocError>
+fn put_no_call(out: &mut Vec<u8>, cause: u32) -> Result<(), AllocError>
     ensures { OnOk result (out.new.items ≡ out.old.items ++ no_call_text cause) }
 {
     if cause == NONE {
         put_text(out, "no call there")
     } else {
-        put_cause(alloc, out, cause)
+        put_cause(out, cause)
     }
 }
 
 #[tactic(auto, unfolding(crate::specs::Items::calls_text))]
 fn put_calls(
-    alloc: Global,
     out: &mut Vec<u8>,
     program: &Program,
     made: &[Made],
@@ -208,16 +163,15 @@ fn put_calls(
 {
     match made.split_first() {
         Some((first, rest)) => {
-            put_made(alloc, out, program, *first)?;
-            put_more(alloc, out, program, rest)
+            put_made(out, program, *first)?;
+            put_more(out, program, rest)
         }
-        None => put_no_call(alloc, out, cause),
+        None => put_no_call(out, cause),
     }
 }
 
 #[tactic(auto, unfolding(crate::specs::Items::call_text))]
 fn put_call(
-    alloc: Global,
     out: &mut Vec<u8>,
     program: &Program,
     method: u32,
@@ -228,14 +182,13 @@ fn put_call(
         ≡ out.old.items ++ call_text (program_of program.now) method made.now cause) }
 {
     put_text(out, "call ")?;
-    put_method(alloc, out, program, method)?;
+    put_method_name(out, program, method)?;
     put_text(out, " not made: ")?;
-    put_calls(alloc, out, program, made, cause)
+    put_calls(out, program, made, cause)
 }
 
 #[tactic(auto, unfolding(crate::specs::Items::class_text))]
 fn put_uninitialized(
-    alloc: Global,
     out: &mut Vec<u8>,
     program: &Program,
     class: u32,
@@ -245,22 +198,21 @@ fn put_uninitialized(
         ≡ out.old.items ++ class_text (program_of program.now) class cause) }
 {
     put_text(out, "class ")?;
-    put_class(alloc, out, program, class)?;
+    put_class_name(out, program, class)?;
     put_text(out, " not initialized: ")?;
-    put_cause(alloc, out, cause)
+    put_cause(out, cause)
 }
 
 #[tactic(auto, unfolding(crate::specs::Items::stopped_text))]
-fn put_stopped(alloc: Global, out: &mut Vec<u8>, cause: u32) -> Result<(), AllocError>
+fn put_stopped(out: &mut Vec<u8>, cause: u32) -> Result<(), AllocError>
     ensures { OnOk result (out.new.items ≡ out.old.items ++ stopped_text cause) }
 {
     put_text(out, "did not go on: ")?;
-    put_cause(alloc, out, cause)
+    put_cause(out, cause)
 }
 
 #[tactic(auto, unfolding(crate::specs::Items::call_to))]
 fn put_call_to(
-    alloc: Global,
     out: &mut Vec<u8>,
     program: &Program,
     to: Point,
@@ -271,35 +223,25 @@ fn put_call_to(
         ≡ out.old.items ++ call_to (program_of program.now) to made.now cause) }
 {
     match to {
-        Point::Entry(method) => put_call(alloc, out, program, method, made, cause),
-        Point::Init(class) => put_uninitialized(alloc, out, program, class, cause),
-        _ => put_stopped(alloc, out, cause),
+        Point::Entry(method) => put_call(out, program, method, made, cause),
+        Point::Init(class) => put_uninitialized(out, program, class, cause),
+        _ => put_stopped(out, cause),
     }
 }
 
 #[tactic(auto, unfolding(wy_text::specs::Lines::name_of))]
-fn put_caught(
-    alloc: Global,
-    out: &mut Vec<u8>,
-    program: &Program,
-    class: Option<u32>,
-) -> Result<(), AllocError>
+fn put_caught(out: &mut Vec<u8>, program: &Program, class: Option<u32>) -> Result<(), AllocError>
     ensures { OnOk result (out.new.items
         ≡ out.old.items ++ name_of (program_of program.now) class) }
 {
     match class {
-        Some(class) => {
-            let name = full_name(alloc, program, class)?;
-            out.extend_from_slice(name.as_slice())?;
-            Ok(())
-        }
+        Some(class) => put_full_name(out, program, class),
         None => Ok(()),
     }
 }
 
 #[tactic(auto, unfolding(crate::specs::Items::catch_text))]
 fn put_catch(
-    alloc: Global,
     out: &mut Vec<u8>,
     program: &Program,
     clauses: &[Clause],
@@ -310,13 +252,12 @@ fn put_catch(
 {
     let class = class_at(clauses, site);
     put_text(out, "catch ")?;
-    put_caught(alloc, out, program, class)?;
+    put_caught(out, program, class)?;
     put_text(out, " not reached")
 }
 
 #[tactic(auto, unfolding(crate::specs::Items::catch_at))]
 fn put_catch_at(
-    alloc: Global,
     out: &mut Vec<u8>,
     program: &Program,
     clauses: &[Clause],
@@ -328,14 +269,13 @@ fn put_catch_at(
         ≡ out.old.items ++ catch_at (program_of program.now) to cause) }
 {
     match to {
-        Point::Catch(site) => put_catch(alloc, out, program, clauses, site),
-        _ => put_stopped(alloc, out, cause),
+        Point::Catch(site) => put_catch(out, program, clauses, site),
+        _ => put_stopped(out, cause),
     }
 }
 
 #[tactic(auto, unfolding(crate::specs::Items::reason))]
 fn put_reason(
-    alloc: Global,
     out: &mut Vec<u8>,
     program: &Program,
     clauses: &[Clause],
@@ -346,25 +286,17 @@ fn put_reason(
         ++ reason (program_of program.now) item.now.link.kind (evidence_in item.now)) }
 {
     match item.link.kind {
-        LinkKind::Arm(value) => put_arm(alloc, out, value, item.tests.as_slice(), item.cause),
+        LinkKind::Arm(value) => put_arm(out, value, item.tests.as_slice(), item.cause),
         LinkKind::Call => {
-            put_call_to(
-                alloc,
-                out,
-                program,
-                item.link.to,
-                item.made.as_slice(),
-                item.cause,
-            )
+            put_call_to(out, program, item.link.to, item.made.as_slice(), item.cause)
         }
-        LinkKind::Catch => put_catch_at(alloc, out, program, clauses, item.link.to, item.cause),
-        LinkKind::Into | LinkKind::Next => put_stopped(alloc, out, item.cause),
+        LinkKind::Catch => put_catch_at(out, program, clauses, item.link.to, item.cause),
+        LinkKind::Into | LinkKind::Next => put_stopped(out, item.cause),
     }
 }
 
 #[tactic(auto, unfolding(crate::specs::Items::item_line))]
 fn put_item(
-    alloc: Global,
     out: &mut Vec<u8>,
     program: &Program,
     clauses: &[Clause],
@@ -374,15 +306,13 @@ fn put_item(
         → OnOk result (out.new.items ≡ out.old.items
         ++ item_line (program_of program.now) program.now.lines.items (evidence_in item.now)) }
 {
-    let place = place_name(alloc, program, item.link.site)?;
-    put_text(out, &place)?;
+    put_place(out, program, item.link.site)?;
     put_text(out, " ")?;
-    put_reason(alloc, out, program, clauses, item)?;
+    put_reason(out, program, clauses, item)?;
     put_text(out, "\n")
 }
 
-fn put_items(
-    alloc: Global,
+fn put_each(
     out: &mut Vec<u8>,
     program: &Program,
     clauses: &[Clause],
@@ -394,27 +324,26 @@ fn put_items(
         (map evidence_in items.now)) }
 {
     for item in items {
-        put_item(alloc, out, program, clauses, item)?;
+        put_item(out, program, clauses, item)?;
     }
     Ok(())
 }
 
-/// A line an item, or that no call leads to the statement.
+/// Puts a line an item behind a text, or that no call leads to the statement where there are none.
 #[tactic(auto, unfolding(crate::specs::Items::items_text, crate::specs::Items::no_call_line))]
-pub(crate) fn items_text(
+pub fn put_items(
     alloc: Global,
+    out: &mut Vec<u8>,
     program: &Program,
     items: &[Item],
-) -> Result<Vec<u8>, AllocError>
-    ensures { IfOk result (λ text. text.items
-        ≡ items_text (program_of program.now) program.now.lines.items (map evidence_in items.now)) }
+) -> Result<(), AllocError>
+    ensures { OnOk result (out.new.items ≡ out.old.items
+        ++ items_text (program_of program.now) program.now.lines.items
+        (map evidence_in items.now)) }
 {
-    let mut text = Vec::new(alloc);
     if items.is_empty() {
-        put_text(&mut text, "no call leads here\n")?;
-    } else {
-        let clauses = clauses(alloc, program)?;
-        put_items(alloc, &mut text, program, &clauses, items)?;
+        return put_text(out, "no call leads here\n");
     }
-    Ok(text)
+    let clauses = clauses(alloc, program)?;
+    put_each(out, program, &clauses, items)
 }

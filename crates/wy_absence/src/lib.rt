@@ -7,4 +7,5 @@ mod item;
 pub mod laws;
 mod whynot;
 
-pub use whynot::{Unanswered, whynot_text};
+pub use item::put_items;
+pub use whynot::{Unanswered, whynot_lines, whynot_text};

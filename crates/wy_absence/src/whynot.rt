@@ -1,12 +1,14 @@
 //! Why a statement never began, line by line.
 
-ghost use Rattle.std.specs.Prelude.{◌≡◌, ◌<◌, ◌^◌, length, map};
+ghost use Rattle.std.specs.Prelude.{◌≡◌, ◌<◌, ◌^◌, List, length, map};
 ghost use Rattle.wy_absence.specs.Whynot.{TellsNamed, TellsWhynot};
-ghost use Rattle.wy_event.specs.Record.{recorded};
+ghost use Rattle.wy_event.specs.Record.{Recorded, recorded};
+ghost use Rattle.wy_index.specs.Index.{IsIndexOf};
 ghost use Rattle.wy_kernel.specs.Parts.{program_of};
+ghost use Rattle.wy_static.specs.Answers.{AreLinksOf};
 ghost use Rattle.wy_view.specs.References.{AllRefersBelow};
 
-use crate::item::items_text;
+use crate::item::put_items;
 use std::alloc::{AllocError, Global};
 use std::marker::Brand;
 use std::sync::ledger::{Blank, Ledger};
@@ -14,6 +16,7 @@ use wy_ask::{AskError, NamedStatement, statement};
 use wy_event::record::{Cover, Event};
 use wy_index::Index;
 use wy_kernel::program::Program;
+use wy_static::Links;
 use wy_static::links::links;
 use wy_view::{MemoryView, Steps};
 use wy_whynot::{WhynotError, whynot};
@@ -91,8 +94,29 @@ fn whynot_named<L: Ledger>(
         return Err(Unanswered::NoMemory);
     };
     let links = links(alloc, program)?;
-    match whynot(alloc, &links, covers, &index, named.number) {
-        Ok(items) => Ok(items_text(alloc, program, items.as_slice())?),
+    whynot_lines(alloc, program, &links, covers, &index, named)
+}
+
+/// Why a statement never began, from the links of its program and an index of its trace, which serve
+/// any number of statements.
+pub fn whynot_lines(
+    alloc: Global,
+    program: &Program,
+    links: &Links,
+    covers: &[Cover],
+    index: &Index,
+    named: NamedStatement,
+) -> Result<Vec<u8>, Unanswered>
+    ensures { (rs : List Recorded) → AreLinksOf links.now (program_of program.now)
+        → IsIndexOf index.now rs
+        → TellsNamed (program_of program.now) program.now.lines.items rs covers.now named result }
+{
+    match whynot(alloc, links, covers, index, named.number) {
+        Ok(items) => {
+            let mut text = Vec::new(alloc);
+            put_items(alloc, &mut text, program, &items)?;
+            Ok(text)
+        }
         Err(WhynotError::Ran { count, first }) => Err(Unanswered::Ran {
             line: named.line,
             place: named.place,

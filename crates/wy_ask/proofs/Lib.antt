@@ -5,6 +5,7 @@ pub mod Fields
 pub mod Stores
 pub mod Askables
 pub mod Named
+pub mod Rising
 pub mod Sorting
 pub mod Placing
 pub mod Storing

@@ -17,7 +17,7 @@ are_positive : (l k : ℕ) → 0 < l → 0 < k → positive l k ≡ Some (l, k)
 are_positive l k some more = ap (λ b. if b then Some (l, k) else None) (and_from (nat_lt 0 l) (nat_lt 0 k) (lt-ltb 0 l some) (lt-ltb 0 k more))
 
 -- a word is read as what it spells
-read : (l k : ℕ) (text : List ℕ) → SpellsStatement l k text → word_in text ≡ Some (l, k)
+pub read : (l k : ℕ) (text : List ℕ) → SpellsStatement l k text → word_in text ≡ Some (l, k)
 read _ _ _ (placed l k v w e f some more) =
     ap (λ o. by_dot o (v ++ (46 ∷ w))) (cut_there 46 v w (number_lacks 46 refl l v e))
     ∙ ap (λ o. and_then o (λ line. and_then (number_of w) (λ place. positive line place))) e

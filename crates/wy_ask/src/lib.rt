@@ -15,6 +15,7 @@ pub mod resolving;
 mod stored;
 
 pub use asking::{Listed, questions};
+pub use names::number;
 pub use naming::{NamedStatement, statement};
 pub use question::{AskError, Question, read_question};
 pub use resolving::resolve;

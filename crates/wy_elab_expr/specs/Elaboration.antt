@@ -272,6 +272,12 @@ stepped is_before is_up (Some p) token = stepped_in (number_type p.ty) (if is_up
 abbrev pub read : Spot → Meaning
 read p = Formed (kernel.Read p.place) p.ty
 
+-- a field of the class above, read
+abbrev pub super_read : Table → Scope → List ℕ → ℕ → Gets Meaning
+super_read t s name token = do
+  p ← super_spot t s name token
+  give (read p)
+
 abbrev pub is_an_array : Ty → Bool
 is_an_array ty = is_some (element_of ty)
 

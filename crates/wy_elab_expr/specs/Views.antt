@@ -1,5 +1,5 @@
 -- What the code of this crate gives, as the definitions see it.
-use Rattle.std.specs.Prelude.{◌≡◌, ℕ, List, [], ◌∷◌, ◌++◌, map, Option, Some, None, if◌then◌else◌, Result, Ok, Err}
+use Rattle.std.specs.Prelude.{◌≡◌, ℕ, List, [], ◌∷◌, ◌++◌, map, Option, Some, None, option_map, if◌then◌else◌, Result, Ok, Err}
 use Rattle.std.specs.declared.alloc.Global.{Global}
 use Rattle.std.specs.declared.boxed.Box.{Box}
 use Rattle.std.specs.declared.vec.Vec.{Vec}
@@ -12,7 +12,7 @@ use Rattle.wy_constant.specs.declared.rule.TypeError.{TypeError}
 use Rattle.wy_constant.specs.declared.rule.Rule.TheVariants.{BadOperand}
 use Rattle.wy_syntax.specs.Syntax as source
 use Rattle.wy_constant.specs.Refusal.{Refusal, Fails}
-use Rattle.wy_constant.specs.Scope.{FixedText}
+use Rattle.wy_constant.specs.Scope.{Scope, FixedText}
 use Rattle.wy_elab_expr.specs.declared.meaning.Meaning as memory
 use Rattle.wy_elab_expr.specs.declared.meaning.Meaning.TheVariants as meanings
 use Rattle.wy_elab_expr.specs.declared.spot.Spot as memory_spot
@@ -28,7 +28,7 @@ use Rattle.wy_elab_expr.specs.declared.typed.Typed as memory_typed
 use Rattle.wy_elab_expr.specs.declared.operand.OperandTypes as memory_operands
 use Rattle.wy_elab_expr.specs.Meaning.{Meaning, Known, Formed, Gets, brought, refuse, type_of}
 use Rattle.wy_elab_expr.specs.Members.{Spot, spot, front, int_type, LibraryMethod, Through, Nothing, Object, OfClass, Super}
-use Rattle.wy_elab_expr.specs.Elaboration.{ClassName, Listing, listing, Printed, Typed, Stream, Input, Output, is_index}
+use Rattle.wy_elab_expr.specs.Elaboration.{ClassName, Listing, listing, Printed, Typed, Stream, Input, Output, elaborated, is_index, target}
 use Rattle.wy_elab_expr.specs.Operators.{Judgement, Settles, OperandTypes}
 
 -- a form that stands in another
@@ -116,6 +116,14 @@ listing_of l = listing (row_seen l.forms) l.sites.items
 -- for each judgement that the table settles
 abbrev pub Judged : Table → (Judgement → Type 0) → Type 0
 Judged t P = (j : Judgement) → Settles t j → P j
+
+-- what an expression is found to be, with the texts before and after
+abbrev pub IsFound : Table → Scope → source.Expression → Result memory.Meaning TypeError → List FixedText → List FixedText → Type 0
+IsFound t s e result before later = Judged t (λ j. GetsTo meaning_of result later (elaborated j t s e before))
+
+-- the variable that an expression is, if it is one
+abbrev pub IsTarget : Table → Scope → source.Expression → Result (Option memory_spot.Spot) TypeError → List FixedText → List FixedText → Type 0
+IsTarget t s e result before later = Judged t (λ j. GetsTo (λ p. option_map spot_of p) result later (target j t s e before))
 
 abbrev pub operands_of : memory_operands.OperandTypes → OperandTypes
 operands_of o = record { left = o.left; right = o.right; outcome = o.outcome }

@@ -1,12 +1,16 @@
 //! Expressions become forms: one rule a form, operands from left to right before the form's own rules (JLS 15.7).
 
-ghost use Rattle.std.specs.Prelude.{◌≡◌, map, option_map};
+ghost use Rattle.std.specs.Prelude.{◌≡◌, if◌then◌else◌, map, option_map};
 ghost use Rattle.wy_kernel.specs.ClassTable.{table_of};
 ghost use Rattle.wy_kernel.specs.View.{expression};
-ghost use Rattle.wy_syntax.specs.View.{expression_of, initial_of, row_of};
+ghost use Rattle.wy_kernel.specs.Subtyping.{class_type};
+ghost use Rattle.wy_syntax.specs.Syntax as source;
+ghost use Rattle.wy_syntax.specs.View.{base_seen, expression_of, initial_of, named_of, row_of, type_seen};
 ghost use Rattle.wy_syntax.specs.View.{element_of as element_seen, elements_of as elements_seen};
-ghost use Rattle.wy_elab_expr.specs.Elaboration.{elaborated, elaborated_all, elements_of, initialized, target};
-ghost use Rattle.wy_elab_expr.specs.Views.{GetsTo, Judged, listing_of, meaning_of, spot_of};
+ghost use Rattle.wy_elab_expr.specs.Meaning.{Formed, give, refuse};
+ghost use Rattle.wy_elab_expr.specs.Members.{this_form};
+ghost use Rattle.wy_elab_expr.specs.Elaboration.{elaborated, elaborated_all, elements_of, initialized, super_read, target};
+ghost use Rattle.wy_elab_expr.specs.Views.{GetsTo, GivesAlways, IsFound, IsTarget, Judged, listing_of, meaning_of, spot_of};
 
 use crate::array::{Listing, how_many, listed_form, new_array, or_type};
 use crate::assignment::{
@@ -32,13 +36,15 @@ use crate::texts::Texts;
 use std::alloc::Global;
 use wy_constant::{Rule, Scope, TypeError};
 use wy_kernel::form::Expr;
+use wy_kernel::operator::{BinOp, UnOp};
 use wy_kernel::table::ClassTable;
 use wy_kernel::types::Ty;
 use wy_syntax::expression::{Element, Expression, Initial};
+use wy_syntax::name::{Named, WrittenBase, WrittenType};
 
 /// What an expression is found to be.
 #[cycle(elaboration)]
-#[tactic(auto, using(crate::proofs::Arms::of_literal, crate::proofs::Arms::of_name, crate::proofs::Arms::of_this, crate::proofs::Arms::of_group, crate::proofs::Arms::of_invoke, crate::proofs::Arms::of_super_field, crate::proofs::Arms::of_super_invoke, crate::proofs::Arms::of_element, crate::proofs::Arms::of_new_object, crate::proofs::Arms::of_new_array, crate::proofs::Arms::of_new_list, crate::proofs::Arms::of_unary, crate::proofs::Arms::of_step, crate::proofs::Arms::of_binary, crate::proofs::Arms::of_both, crate::proofs::Arms::of_either, crate::proofs::Arms::of_instance_of, crate::proofs::Arms::of_cast, crate::proofs::Arms::of_choice, crate::proofs::Arms::of_assign, crate::proofs::Arms::of_update, crate::proofs::Arms::of_wrong, crate::proofs::Arms::of_field_of_class, crate::proofs::Arms::of_field_of_object, crate::proofs::Arms::of_call_on_stream, crate::proofs::Arms::of_call_on_class, crate::proofs::Arms::of_call_on_object))]
+#[tactic(auto, using(crate::proofs::Arms::of_literal, crate::proofs::Arms::of_name, crate::proofs::Arms::of_this, crate::proofs::Arms::of_group, crate::proofs::Arms::of_super_field, crate::proofs::Arms::of_wrong, wy_syntax::proofs::ExpressionViews::view_invoke, wy_syntax::proofs::ExpressionViews::view_field, wy_syntax::proofs::ExpressionViews::view_invoke_on, wy_syntax::proofs::ExpressionViews::view_super_invoke, wy_syntax::proofs::ExpressionViews::view_element, wy_syntax::proofs::ExpressionViews::view_new_object, wy_syntax::proofs::ExpressionViews::view_new_array, wy_syntax::proofs::ExpressionViews::view_new_list, wy_syntax::proofs::ExpressionViews::view_unary, wy_syntax::proofs::ExpressionViews::view_step, wy_syntax::proofs::ExpressionViews::view_binary, wy_syntax::proofs::ExpressionViews::view_both, wy_syntax::proofs::ExpressionViews::view_either, wy_syntax::proofs::ExpressionViews::view_instance_of, wy_syntax::proofs::ExpressionViews::view_cast, wy_syntax::proofs::ExpressionViews::view_choice, wy_syntax::proofs::ExpressionViews::view_assign, wy_syntax::proofs::ExpressionViews::view_update))]
 pub fn elaborated(
     alloc: Global,
     table: &ClassTable,
@@ -51,106 +57,64 @@ pub fn elaborated(
     match e {
         Expression::Literal { value, token } => literal_meaning(alloc, value, *token),
         Expression::Name { name, token } => named(alloc, table, scope, name.as_str(), *token),
-        Expression::This { token } => {
-            if scope.has_this() {
-                Ok(of_form(alloc, build::this(), class(scope.class()))?)
-            } else {
-                Err(refused(Rule::NotInStatic, *token))
-            }
-        }
+        Expression::This { token } => read_this(alloc, scope, *token),
         Expression::Group { inner, token: _ } => elaborated(alloc, table, scope, texts, inner),
         Expression::Invoke { name, args, token } => {
-            let args = elaborated_all(alloc, table, scope, texts, args)?;
-            let ty = class(scope.class());
-            let through = Through::Nothing;
-            let name = name.as_str();
-            called(alloc, table, scope, texts, through, ty, name, args, *token)
+            invoked(alloc, table, scope, texts, name.as_str(), args, *token)
         }
         Expression::Field {
             object,
             name,
             token,
-        } => match class_in(table, scope, object) {
-            Some(c) => qualified_name(alloc, table, scope, c.name, name.as_str(), c.token, *token),
-            None => {
-                let m = elaborated(alloc, table, scope, texts, object)?;
-                field_read(alloc, table, scope, texts, m, name.as_str(), *token)
-            }
-        },
+        } => read_field(alloc, table, scope, texts, object, name.as_str(), *token),
         Expression::InvokeOn {
             object,
             name,
             args,
             token,
-        } => match stream_in(table, scope, object) {
-            Some(stream) => {
-                let args = elaborated_all(alloc, table, scope, texts, args)?;
-                called_on_stream(alloc, texts, stream, name.as_str(), args, *token)
-            }
-            None => match class_in(table, scope, object) {
-                Some(c) => {
-                    let args = elaborated_all(alloc, table, scope, texts, args)?;
-                    called_on_class(alloc, table, scope, texts, c, name.as_str(), args, *token)
-                }
-                None => {
-                    let m = elaborated(alloc, table, scope, texts, object)?;
-                    let args = elaborated_all(alloc, table, scope, texts, args)?;
-                    called_on(alloc, table, scope, texts, m, name.as_str(), args, *token)
-                }
-            },
-        },
+        } => invoked_on(
+            alloc,
+            table,
+            scope,
+            texts,
+            object,
+            name.as_str(),
+            args,
+            *token,
+        ),
         Expression::SuperField { name, token } => {
-            let p = super_spot(alloc, table, scope, name.as_str(), *token)?;
-            Ok(read(alloc, p)?)
+            read_super(alloc, table, scope, name.as_str(), *token)
         }
         Expression::SuperInvoke { name, args, token } => {
-            let args = elaborated_all(alloc, table, scope, texts, args)?;
-            let ty = class(above(table, scope));
-            let name = name.as_str();
-            called(
-                alloc,
-                table,
-                scope,
-                texts,
-                Through::Super,
-                ty,
-                name,
-                args,
-                *token,
-            )
+            invoked_super(alloc, table, scope, texts, name.as_str(), args, *token)
         }
         Expression::Element {
             array,
             index,
             token,
-        } => {
-            let a = elaborated(alloc, table, scope, texts, array)?;
-            let i = elaborated(alloc, table, scope, texts, index)?;
-            let p = element_spot(alloc, texts, a, i, *token)?;
-            Ok(read(alloc, p)?)
-        }
+        } => read_element(alloc, table, scope, texts, array, index, *token),
         Expression::NewObject {
             class: of,
             args,
             token,
-        } => {
-            let c = class_for_new(table, of.name.as_str(), of.token)?;
-            let args = elaborated_all(alloc, table, scope, texts, args)?;
-            created(alloc, table, scope, texts, c, args, *token)
-        }
+        } => new_object(alloc, table, scope, texts, of, args, *token),
         Expression::NewArray {
             base,
             base_token,
             sizes,
             brackets,
             token,
-        } => {
-            let ty = type_with(table, base, 0, *base_token)?;
-            let ms = elaborated_all(alloc, table, scope, texts, sizes)?;
-            let many = how_many(ms.as_slice());
-            let dims = sizes_of(alloc, texts, ms, *token)?;
-            new_array(alloc, ty, many, *brackets, dims, *token)
-        }
+        } => new_sized(
+            alloc,
+            table,
+            scope,
+            texts,
+            base,
+            *base_token,
+            sizes,
+            *brackets,
+            *token,
+        ),
         Expression::NewList {
             base,
             base_token,
@@ -158,87 +122,484 @@ pub fn elaborated(
             elements,
             brace,
             token,
-        } => {
-            let ty = type_with(table, base, *brackets, *base_token)?;
-            let inner = or_type(element_of(ty), *brace)?;
-            let all = elements_of(alloc, table, scope, texts, inner, elements)?;
-            Ok(of_form(alloc, listed_form(alloc, ty, all, *token), ty)?)
-        }
+        } => new_listed(
+            alloc,
+            table,
+            scope,
+            texts,
+            base,
+            *base_token,
+            *brackets,
+            elements,
+            *brace,
+            *token,
+        ),
         Expression::Unary { op, operand, token } => {
-            let m = elaborated(alloc, table, scope, texts, operand)?;
-            unary_of(alloc, texts, *op, m, *token)
+            unary(alloc, table, scope, texts, *op, operand, *token)
         }
         Expression::Step {
             is_before,
             is_up,
             operand,
             token,
-        } => {
-            if is_place(operand) {
-                let p = target(alloc, table, scope, texts, operand)?;
-                return stepped(alloc, *is_before, *is_up, p, *token);
-            }
-            let _m = elaborated(alloc, table, scope, texts, operand)?;
-            stepped(alloc, *is_before, *is_up, None, *token)
-        }
+        } => step_of(
+            alloc, table, scope, texts, *is_before, *is_up, operand, *token,
+        ),
         Expression::Binary {
             op,
             left,
             right,
             token,
-        } => {
-            let a = elaborated(alloc, table, scope, texts, left)?;
-            let b = elaborated(alloc, table, scope, texts, right)?;
-            binary_of(alloc, table, texts, *op, a, b, *token)
-        }
+        } => binary(alloc, table, scope, texts, *op, left, right, *token),
         Expression::Both { left, right, token } => {
-            let a = elaborated(alloc, table, scope, texts, left)?;
-            let b = elaborated(alloc, table, scope, texts, right)?;
-            both_of(alloc, texts, a, b, *token)
+            both(alloc, table, scope, texts, left, right, *token)
         }
         Expression::Either { left, right, token } => {
-            let a = elaborated(alloc, table, scope, texts, left)?;
-            let b = elaborated(alloc, table, scope, texts, right)?;
-            either_of(alloc, texts, a, b, *token)
+            either(alloc, table, scope, texts, left, right, *token)
         }
         Expression::InstanceOf { left, ty, token } => {
-            let m = elaborated(alloc, table, scope, texts, left)?;
-            let to = type_written(table, ty)?;
-            instance_of(alloc, table, texts, to, m, *token)
+            type_test(alloc, table, scope, texts, left, ty, *token)
         }
         Expression::Cast { ty, operand, token } => {
-            let to = type_written(table, ty)?;
-            let m = elaborated(alloc, table, scope, texts, operand)?;
-            cast_of(alloc, table, texts, to, m, *token)
+            cast_to(alloc, table, scope, texts, ty, operand, *token)
         }
         Expression::Choice {
             test,
             main,
             other,
             token,
-        } => {
-            let z = elaborated(alloc, table, scope, texts, test)?;
-            let a = elaborated(alloc, table, scope, texts, main)?;
-            let b = elaborated(alloc, table, scope, texts, other)?;
-            choice_of(alloc, table, texts, z, a, b, *token)
-        }
+        } => choice_between(alloc, table, scope, texts, test, main, other, *token),
         Expression::Assign { left, value, token } => {
-            let p = target(alloc, table, scope, texts, left)?;
-            let m = elaborated(alloc, table, scope, texts, value)?;
-            assigned(alloc, table, texts, p, m, *token)
+            assignment_to(alloc, table, scope, texts, left, value, *token)
         }
         Expression::Update {
             op,
             left,
             value,
             token,
-        } => {
-            let p = target(alloc, table, scope, texts, left)?;
-            let m = elaborated(alloc, table, scope, texts, value)?;
-            updated(alloc, table, texts, *op, p, m, *token)
-        }
+        } => update_of(alloc, table, scope, texts, *op, left, value, *token),
         Expression::Wrong => Err(refused(Rule::BadOperand, 0)),
     }
+}
+
+// `this`
+fn read_this(alloc: Global, scope: &Scope, token: u32) -> Result<Meaning, TypeError>
+    ensures { GivesAlways meaning_of result (if scope.now.has_this then give (Formed this_form (class_type scope.now.class)) else refuse Rule.NotInStatic token) }
+{
+    if scope.has_this() {
+        Ok(of_form(alloc, build::this(), class(scope.class()))?)
+    } else {
+        Err(refused(Rule::NotInStatic, token))
+    }
+}
+
+// `super.name`
+fn read_super(
+    alloc: Global,
+    table: &ClassTable,
+    scope: &Scope,
+    name: &str,
+    token: u32,
+) -> Result<Meaning, TypeError>
+    ensures { GivesAlways meaning_of result (super_read (table_of table.now) scope.now name.now token) }
+{
+    let p = super_spot(alloc, table, scope, name, token)?;
+    Ok(read(alloc, p)?)
+}
+
+// `name(..)`
+#[cycle(elaboration)]
+#[tactic(auto, unfolding(crate::specs::Elaboration::elaborated))]
+fn invoked(
+    alloc: Global,
+    table: &ClassTable,
+    scope: &Scope,
+    texts: &mut Texts,
+    name: &str,
+    args: &[Expression],
+    token: u32,
+) -> Result<Meaning, TypeError>
+    ensures { IsFound (table_of table.now) scope.now (source.Invoke name.now (row_of (map expression_of args.now)) token) result texts.old texts.new }
+{
+    let args = elaborated_all(alloc, table, scope, texts, args)?;
+    let ty = class(scope.class());
+    called(
+        alloc,
+        table,
+        scope,
+        texts,
+        Through::Nothing,
+        ty,
+        name,
+        args,
+        token,
+    )
+}
+
+// `object.name`
+#[cycle(elaboration)]
+fn read_field(
+    alloc: Global,
+    table: &ClassTable,
+    scope: &Scope,
+    texts: &mut Texts,
+    object: &Expression,
+    name: &str,
+    token: u32,
+) -> Result<Meaning, TypeError>
+    ensures { IsFound (table_of table.now) scope.now (source.Field (expression_of object.now) name.now token) result texts.old texts.new }
+{
+    match class_in(table, scope, object) {
+        Some(c) => qualified_name(alloc, table, scope, c.name, name, c.token, token),
+        None => {
+            let m = elaborated(alloc, table, scope, texts, object)?;
+            field_read(alloc, table, scope, texts, m, name, token)
+        }
+    }
+}
+
+// `object.name(..)`
+#[cycle(elaboration)]
+fn invoked_on(
+    alloc: Global,
+    table: &ClassTable,
+    scope: &Scope,
+    texts: &mut Texts,
+    object: &Expression,
+    name: &str,
+    args: &[Expression],
+    token: u32,
+) -> Result<Meaning, TypeError>
+    ensures { IsFound (table_of table.now) scope.now (source.InvokeOn (expression_of object.now) name.now (row_of (map expression_of args.now)) token) result texts.old texts.new }
+{
+    match stream_in(table, scope, object) {
+        Some(stream) => {
+            let args = elaborated_all(alloc, table, scope, texts, args)?;
+            called_on_stream(alloc, texts, stream, name, args, token)
+        }
+        None => match class_in(table, scope, object) {
+            Some(c) => {
+                let args = elaborated_all(alloc, table, scope, texts, args)?;
+                called_on_class(alloc, table, scope, texts, c, name, args, token)
+            }
+            None => {
+                let m = elaborated(alloc, table, scope, texts, object)?;
+                let args = elaborated_all(alloc, table, scope, texts, args)?;
+                called_on(alloc, table, scope, texts, m, name, args, token)
+            }
+        },
+    }
+}
+
+// `super.name(..)`
+#[cycle(elaboration)]
+#[tactic(auto, unfolding(crate::specs::Elaboration::elaborated))]
+fn invoked_super(
+    alloc: Global,
+    table: &ClassTable,
+    scope: &Scope,
+    texts: &mut Texts,
+    name: &str,
+    args: &[Expression],
+    token: u32,
+) -> Result<Meaning, TypeError>
+    ensures { IsFound (table_of table.now) scope.now (source.SuperInvoke name.now (row_of (map expression_of args.now)) token) result texts.old texts.new }
+{
+    let args = elaborated_all(alloc, table, scope, texts, args)?;
+    let ty = class(above(table, scope));
+    called(
+        alloc,
+        table,
+        scope,
+        texts,
+        Through::Super,
+        ty,
+        name,
+        args,
+        token,
+    )
+}
+
+// `array[index]`
+#[cycle(elaboration)]
+#[tactic(auto, unfolding(crate::specs::Elaboration::elaborated))]
+fn read_element(
+    alloc: Global,
+    table: &ClassTable,
+    scope: &Scope,
+    texts: &mut Texts,
+    array: &Expression,
+    index: &Expression,
+    token: u32,
+) -> Result<Meaning, TypeError>
+    ensures { IsFound (table_of table.now) scope.now (source.Element (expression_of array.now) (expression_of index.now) token) result texts.old texts.new }
+{
+    let a = elaborated(alloc, table, scope, texts, array)?;
+    let i = elaborated(alloc, table, scope, texts, index)?;
+    let p = element_spot(alloc, texts, a, i, token)?;
+    Ok(read(alloc, p)?)
+}
+
+// `new class(..)`
+#[cycle(elaboration)]
+#[tactic(auto, unfolding(crate::specs::Elaboration::elaborated))]
+fn new_object(
+    alloc: Global,
+    table: &ClassTable,
+    scope: &Scope,
+    texts: &mut Texts,
+    of: &Named,
+    args: &[Expression],
+    token: u32,
+) -> Result<Meaning, TypeError>
+    ensures { IsFound (table_of table.now) scope.now (source.NewObject (named_of of.now) (row_of (map expression_of args.now)) token) result texts.old texts.new }
+{
+    let c = class_for_new(table, of.name.as_str(), of.token)?;
+    let args = elaborated_all(alloc, table, scope, texts, args)?;
+    created(alloc, table, scope, texts, c, args, token)
+}
+
+// `new base[..]..[]..`
+#[cycle(elaboration)]
+#[tactic(auto, unfolding(crate::specs::Elaboration::elaborated))]
+fn new_sized(
+    alloc: Global,
+    table: &ClassTable,
+    scope: &Scope,
+    texts: &mut Texts,
+    base: &WrittenBase,
+    base_token: u32,
+    sizes: &[Expression],
+    brackets: u32,
+    token: u32,
+) -> Result<Meaning, TypeError>
+    ensures { IsFound (table_of table.now) scope.now (source.NewArray (base_seen base.now) base_token (row_of (map expression_of sizes.now)) brackets token) result texts.old texts.new }
+{
+    let ty = type_with(table, base, 0, base_token)?;
+    let ms = elaborated_all(alloc, table, scope, texts, sizes)?;
+    let many = how_many(ms.as_slice());
+    let dims = sizes_of(alloc, texts, ms, token)?;
+    new_array(alloc, ty, many, brackets, dims, token)
+}
+
+// `new base[]..{ .. }`
+#[cycle(elaboration)]
+#[tactic(auto, unfolding(crate::specs::Elaboration::elaborated))]
+fn new_listed(
+    alloc: Global,
+    table: &ClassTable,
+    scope: &Scope,
+    texts: &mut Texts,
+    base: &WrittenBase,
+    base_token: u32,
+    brackets: u32,
+    elements: &[Element],
+    brace: u32,
+    token: u32,
+) -> Result<Meaning, TypeError>
+    ensures { IsFound (table_of table.now) scope.now (source.NewList (base_seen base.now) base_token brackets (elements_seen (map element_seen elements.now)) brace token) result texts.old texts.new }
+{
+    let ty = type_with(table, base, brackets, base_token)?;
+    let inner = or_type(element_of(ty), brace)?;
+    let all = elements_of(alloc, table, scope, texts, inner, elements)?;
+    Ok(of_form(alloc, listed_form(alloc, ty, all, token), ty)?)
+}
+
+// An operator before an operand.
+#[cycle(elaboration)]
+#[tactic(auto, unfolding(crate::specs::Elaboration::elaborated))]
+fn unary(
+    alloc: Global,
+    table: &ClassTable,
+    scope: &Scope,
+    texts: &mut Texts,
+    op: UnOp,
+    operand: &Expression,
+    token: u32,
+) -> Result<Meaning, TypeError>
+    ensures { IsFound (table_of table.now) scope.now (source.Unary op (expression_of operand.now) token) result texts.old texts.new }
+{
+    let m = elaborated(alloc, table, scope, texts, operand)?;
+    unary_of(alloc, texts, op, m, token)
+}
+
+// `++` and `--`
+#[cycle(elaboration)]
+#[tactic(auto, unfolding(crate::specs::Elaboration::elaborated))]
+fn step_of(
+    alloc: Global,
+    table: &ClassTable,
+    scope: &Scope,
+    texts: &mut Texts,
+    is_before: bool,
+    is_up: bool,
+    operand: &Expression,
+    token: u32,
+) -> Result<Meaning, TypeError>
+    ensures { IsFound (table_of table.now) scope.now (source.Step is_before is_up (expression_of operand.now) token) result texts.old texts.new }
+{
+    if is_place(operand) {
+        let p = target(alloc, table, scope, texts, operand)?;
+        return stepped(alloc, is_before, is_up, p, token);
+    }
+    let _m = elaborated(alloc, table, scope, texts, operand)?;
+    stepped(alloc, is_before, is_up, None, token)
+}
+
+// An operator between two operands.
+#[cycle(elaboration)]
+#[tactic(auto, unfolding(crate::specs::Elaboration::elaborated))]
+fn binary(
+    alloc: Global,
+    table: &ClassTable,
+    scope: &Scope,
+    texts: &mut Texts,
+    op: BinOp,
+    left: &Expression,
+    right: &Expression,
+    token: u32,
+) -> Result<Meaning, TypeError>
+    ensures { IsFound (table_of table.now) scope.now (source.Binary op (expression_of left.now) (expression_of right.now) token) result texts.old texts.new }
+{
+    let a = elaborated(alloc, table, scope, texts, left)?;
+    let b = elaborated(alloc, table, scope, texts, right)?;
+    binary_of(alloc, table, texts, op, a, b, token)
+}
+
+// `left && right`
+#[cycle(elaboration)]
+#[tactic(auto, unfolding(crate::specs::Elaboration::elaborated))]
+fn both(
+    alloc: Global,
+    table: &ClassTable,
+    scope: &Scope,
+    texts: &mut Texts,
+    left: &Expression,
+    right: &Expression,
+    token: u32,
+) -> Result<Meaning, TypeError>
+    ensures { IsFound (table_of table.now) scope.now (source.Both (expression_of left.now) (expression_of right.now) token) result texts.old texts.new }
+{
+    let a = elaborated(alloc, table, scope, texts, left)?;
+    let b = elaborated(alloc, table, scope, texts, right)?;
+    both_of(alloc, texts, a, b, token)
+}
+
+// `left || right`
+#[cycle(elaboration)]
+#[tactic(auto, unfolding(crate::specs::Elaboration::elaborated))]
+fn either(
+    alloc: Global,
+    table: &ClassTable,
+    scope: &Scope,
+    texts: &mut Texts,
+    left: &Expression,
+    right: &Expression,
+    token: u32,
+) -> Result<Meaning, TypeError>
+    ensures { IsFound (table_of table.now) scope.now (source.Either (expression_of left.now) (expression_of right.now) token) result texts.old texts.new }
+{
+    let a = elaborated(alloc, table, scope, texts, left)?;
+    let b = elaborated(alloc, table, scope, texts, right)?;
+    either_of(alloc, texts, a, b, token)
+}
+
+// `left instanceof ty`
+#[cycle(elaboration)]
+#[tactic(auto, unfolding(crate::specs::Elaboration::elaborated))]
+fn type_test(
+    alloc: Global,
+    table: &ClassTable,
+    scope: &Scope,
+    texts: &mut Texts,
+    left: &Expression,
+    ty: &WrittenType,
+    token: u32,
+) -> Result<Meaning, TypeError>
+    ensures { IsFound (table_of table.now) scope.now (source.InstanceOf (expression_of left.now) (type_seen ty.now) token) result texts.old texts.new }
+{
+    let m = elaborated(alloc, table, scope, texts, left)?;
+    let to = type_written(table, ty)?;
+    instance_of(alloc, table, texts, to, m, token)
+}
+
+// `(ty) operand`
+#[cycle(elaboration)]
+#[tactic(auto, unfolding(crate::specs::Elaboration::elaborated))]
+fn cast_to(
+    alloc: Global,
+    table: &ClassTable,
+    scope: &Scope,
+    texts: &mut Texts,
+    ty: &WrittenType,
+    operand: &Expression,
+    token: u32,
+) -> Result<Meaning, TypeError>
+    ensures { IsFound (table_of table.now) scope.now (source.Cast (type_seen ty.now) (expression_of operand.now) token) result texts.old texts.new }
+{
+    let to = type_written(table, ty)?;
+    let m = elaborated(alloc, table, scope, texts, operand)?;
+    cast_of(alloc, table, texts, to, m, token)
+}
+
+// `test ? main : other`
+#[cycle(elaboration)]
+#[tactic(auto, unfolding(crate::specs::Elaboration::elaborated))]
+fn choice_between(
+    alloc: Global,
+    table: &ClassTable,
+    scope: &Scope,
+    texts: &mut Texts,
+    test: &Expression,
+    main: &Expression,
+    other: &Expression,
+    token: u32,
+) -> Result<Meaning, TypeError>
+    ensures { IsFound (table_of table.now) scope.now (source.Choice (expression_of test.now) (expression_of main.now) (expression_of other.now) token) result texts.old texts.new }
+{
+    let z = elaborated(alloc, table, scope, texts, test)?;
+    let a = elaborated(alloc, table, scope, texts, main)?;
+    let b = elaborated(alloc, table, scope, texts, other)?;
+    choice_of(alloc, table, texts, z, a, b, token)
+}
+
+// `left = value`
+#[cycle(elaboration)]
+#[tactic(auto, unfolding(crate::specs::Elaboration::elaborated))]
+fn assignment_to(
+    alloc: Global,
+    table: &ClassTable,
+    scope: &Scope,
+    texts: &mut Texts,
+    left: &Expression,
+    value: &Expression,
+    token: u32,
+) -> Result<Meaning, TypeError>
+    ensures { IsFound (table_of table.now) scope.now (source.Assign (expression_of left.now) (expression_of value.now) token) result texts.old texts.new }
+{
+    let p = target(alloc, table, scope, texts, left)?;
+    let m = elaborated(alloc, table, scope, texts, value)?;
+    assigned(alloc, table, texts, p, m, token)
+}
+
+// An operator and `=`.
+#[cycle(elaboration)]
+#[tactic(auto, unfolding(crate::specs::Elaboration::elaborated))]
+fn update_of(
+    alloc: Global,
+    table: &ClassTable,
+    scope: &Scope,
+    texts: &mut Texts,
+    op: BinOp,
+    left: &Expression,
+    value: &Expression,
+    token: u32,
+) -> Result<Meaning, TypeError>
+    ensures { IsFound (table_of table.now) scope.now (source.Update op (expression_of left.now) (expression_of value.now) token) result texts.old texts.new }
+{
+    let p = target(alloc, table, scope, texts, left)?;
+    let m = elaborated(alloc, table, scope, texts, value)?;
+    updated(alloc, table, texts, op, p, m, token)
 }
 
 /// Expressions one after another.
@@ -262,7 +623,7 @@ pub fn elaborated_all(
 
 /// The variable that an expression is, if it is one.
 #[cycle(elaboration)]
-#[tactic(auto, using(crate::proofs::Arms::at_field_of_class, crate::proofs::Arms::at_field_of_object, crate::proofs::Arms::at_name, crate::proofs::Arms::at_group, crate::proofs::Arms::at_super_field, crate::proofs::Arms::at_element))]
+#[tactic(auto, using(crate::proofs::Arms::at_name, crate::proofs::Arms::at_group, crate::proofs::Arms::at_super_field, wy_syntax::proofs::ExpressionViews::view_field, wy_syntax::proofs::ExpressionViews::view_element))]
 pub fn target(
     alloc: Global,
     table: &ClassTable,
@@ -282,13 +643,7 @@ pub fn target(
             object,
             name,
             token,
-        } => match class_in(table, scope, object) {
-            Some(c) => class_target(table, scope, c, name.as_str(), *token),
-            None => {
-                let m = elaborated(alloc, table, scope, texts, object)?;
-                field_target(alloc, table, scope, texts, m, name.as_str(), *token)
-            }
-        },
+        } => field_place(alloc, table, scope, texts, object, name.as_str(), *token),
         Expression::SuperField { name, token } => {
             let p = super_spot(alloc, table, scope, name.as_str(), *token)?;
             Ok(Some(p))
@@ -297,14 +652,51 @@ pub fn target(
             array,
             index,
             token,
-        } => {
-            let a = elaborated(alloc, table, scope, texts, array)?;
-            let i = elaborated(alloc, table, scope, texts, index)?;
-            let p = element_spot(alloc, texts, a, i, *token)?;
-            Ok(Some(p))
-        }
+        } => element_place(alloc, table, scope, texts, array, index, *token),
         _ => Ok(None),
     }
+}
+
+// The variable that `object.name` is.
+#[cycle(elaboration)]
+fn field_place(
+    alloc: Global,
+    table: &ClassTable,
+    scope: &Scope,
+    texts: &mut Texts,
+    object: &Expression,
+    name: &str,
+    token: u32,
+) -> Result<Option<Spot>, TypeError>
+    ensures { IsTarget (table_of table.now) scope.now (source.Field (expression_of object.now) name.now token) result texts.old texts.new }
+{
+    match class_in(table, scope, object) {
+        Some(c) => class_target(table, scope, c, name, token),
+        None => {
+            let m = elaborated(alloc, table, scope, texts, object)?;
+            field_target(alloc, table, scope, texts, m, name, token)
+        }
+    }
+}
+
+// The variable that `array[index]` is.
+#[cycle(elaboration)]
+#[tactic(auto, unfolding(crate::specs::Elaboration::target))]
+fn element_place(
+    alloc: Global,
+    table: &ClassTable,
+    scope: &Scope,
+    texts: &mut Texts,
+    array: &Expression,
+    index: &Expression,
+    token: u32,
+) -> Result<Option<Spot>, TypeError>
+    ensures { IsTarget (table_of table.now) scope.now (source.Element (expression_of array.now) (expression_of index.now) token) result texts.old texts.new }
+{
+    let a = elaborated(alloc, table, scope, texts, array)?;
+    let i = elaborated(alloc, table, scope, texts, index)?;
+    let p = element_spot(alloc, texts, a, i, token)?;
+    Ok(Some(p))
 }
 
 /// The elements of an array initializer, each of a type.

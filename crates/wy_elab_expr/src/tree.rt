@@ -34,7 +34,7 @@ pub fn expr(
     ensures texts { scope.new ≡ with_texts scope.old scope.new.texts }
     ensures err { OnErr result (scope.new ≡ scope.old) }
 {
-    let e = expression(alloc, tree, first)?;
+    let e = Box::new(alloc, expression(alloc, tree, first)?)?;
     typed_expression(alloc, table, scope, &e)
 }
 
@@ -48,6 +48,6 @@ pub fn constant(
     requires { width (view tree.now) ≤ 1048576 }
     ensures { IfOk result (λ c. option_map constant_value c ≡ constant (table_of table.now) scope.now (expression 0 (view tree.now))) }
 {
-    let e = expression(alloc, tree, 0)?;
+    let e = Box::new(alloc, expression(alloc, tree, 0)?)?;
     constant_of(alloc, table, scope, &e)
 }

@@ -1,7 +1,7 @@
 //! The classes of java.lang that a program may use, with their methods and their one field, in the order of their numbers.
 //! Their bodies are no part of this.
 
-ghost use Rattle.std.specs.Prelude.{◌≡◌, ◌<◌, IfOk, map};
+ghost use Rattle.std.specs.Prelude.{◌≡◌, ◌<◌, IfOk, OnOk, [], ◌∷◌, ◌++◌, drop, map, take};
 ghost use Rattle.std.specs.Option.{option_to_list};
 ghost use Rattle.wy_kernel.specs.Builtin as builtin;
 ghost use Rattle.wy_kernel.specs.View.{class_of, field_of, method_of, present};
@@ -40,41 +40,79 @@ const BOOLEAN: Ty = Ty::Of {
 };
 
 /// The 18 classes.
-#[tactic(auto, unfolding(crate::specs::Builtin::classes, crate::specs::View::present))]
+#[tactic(auto, using(crate::proofs::Builtins::by_six))]
 pub fn classes(alloc: Global) -> Result<Vec<Class>, AllocError>
     ensures { IfOk result (λ v. map class_of v.items ≡ builtin.classes) }
 {
-    Ok(vec![in alloc;
-        class(alloc, "Object", NONE)?,
-        Class {
-            is_final: true,
-            ..class(alloc, "String", OBJECT)?
-        },
-        class(alloc, "Throwable", OBJECT)?,
-        class(alloc, "Exception", THROWABLE)?,
-        class(alloc, "Error", THROWABLE)?,
-        class(alloc, "RuntimeException", EXCEPTION)?,
-        class(alloc, "ArithmeticException", RUNTIME_EXCEPTION)?,
-        class(alloc, "ArrayStoreException", RUNTIME_EXCEPTION)?,
-        class(alloc, "ClassCastException", RUNTIME_EXCEPTION)?,
-        class(alloc, "IllegalArgumentException", RUNTIME_EXCEPTION)?,
-        class(alloc, "NumberFormatException", ILLEGAL_ARGUMENT_EXCEPTION)?,
-        class(alloc, "IllegalStateException", RUNTIME_EXCEPTION)?,
-        class(alloc, "IndexOutOfBoundsException", RUNTIME_EXCEPTION)?,
-        class(
-            alloc,
-            "ArrayIndexOutOfBoundsException",
-            INDEX_OUT_OF_BOUNDS_EXCEPTION
-        )?,
-        class(
-            alloc,
-            "StringIndexOutOfBoundsException",
-            INDEX_OUT_OF_BOUNDS_EXCEPTION
-        )?,
-        class(alloc, "NegativeArraySizeException", RUNTIME_EXCEPTION)?,
-        class(alloc, "NullPointerException", RUNTIME_EXCEPTION)?,
-        class(alloc, "UnsupportedOperationException", RUNTIME_EXCEPTION)?,
-    ]?)
+    let mut all = Vec::new(alloc);
+    put_first_classes(alloc, &mut all)?;
+    put_next_classes(alloc, &mut all)?;
+    put_last_classes(alloc, &mut all)?;
+    Ok(all)
+}
+
+fn put_first_classes(alloc: Global, all: &mut Vec<Class>) -> Result<(), AllocError>
+    ensures { OnOk result (map class_of all.new.items ≡ map class_of all.old.items ++ take 6 builtin.classes) }
+{
+    put(alloc, all, "Object", NONE)?;
+    put_string(alloc, all)?;
+    put(alloc, all, "Throwable", OBJECT)?;
+    put(alloc, all, "Exception", THROWABLE)?;
+    put(alloc, all, "Error", THROWABLE)?;
+    put(alloc, all, "RuntimeException", EXCEPTION)
+}
+
+fn put_next_classes(alloc: Global, all: &mut Vec<Class>) -> Result<(), AllocError>
+    ensures { OnOk result (map class_of all.new.items ≡ map class_of all.old.items ++ take 6 (drop 6 builtin.classes)) }
+{
+    put(alloc, all, "ArithmeticException", RUNTIME_EXCEPTION)?;
+    put(alloc, all, "ArrayStoreException", RUNTIME_EXCEPTION)?;
+    put(alloc, all, "ClassCastException", RUNTIME_EXCEPTION)?;
+    put(alloc, all, "IllegalArgumentException", RUNTIME_EXCEPTION)?;
+    put(
+        alloc,
+        all,
+        "NumberFormatException",
+        ILLEGAL_ARGUMENT_EXCEPTION,
+    )?;
+    put(alloc, all, "IllegalStateException", RUNTIME_EXCEPTION)
+}
+
+fn put_last_classes(alloc: Global, all: &mut Vec<Class>) -> Result<(), AllocError>
+    ensures { OnOk result (map class_of all.new.items ≡ map class_of all.old.items ++ drop 12 builtin.classes) }
+{
+    let bounds = INDEX_OUT_OF_BOUNDS_EXCEPTION;
+    put(alloc, all, "IndexOutOfBoundsException", RUNTIME_EXCEPTION)?;
+    put(alloc, all, "ArrayIndexOutOfBoundsException", bounds)?;
+    put(alloc, all, "StringIndexOutOfBoundsException", bounds)?;
+    put(alloc, all, "NegativeArraySizeException", RUNTIME_EXCEPTION)?;
+    put(alloc, all, "NullPointerException", RUNTIME_EXCEPTION)?;
+    put(
+        alloc,
+        all,
+        "UnsupportedOperationException",
+        RUNTIME_EXCEPTION,
+    )
+}
+
+// Puts a class behind the others.
+#[tactic(auto, using(crate::proofs::Builtins::class_behind))]
+fn put(alloc: Global, all: &mut Vec<Class>, name: &str, above: u32) -> Result<(), AllocError>
+    ensures { OnOk result (map class_of all.new.items ≡ map class_of all.old.items ++ builtin.extending (present above) name.now ∷ []) }
+{
+    all.push(class(alloc, name, above)?)?;
+    Ok(())
+}
+
+fn put_string(alloc: Global, all: &mut Vec<Class>) -> Result<(), AllocError>
+    ensures { OnOk result (map class_of all.new.items ≡ map class_of all.old.items ++ builtin.string ∷ []) }
+{
+    let class = class(alloc, "String", OBJECT)?;
+    all.push(Class {
+        is_final: true,
+        ..class
+    })?;
+    Ok(())
 }
 
 fn class(alloc: Global, name: &str, above: u32) -> Result<Class, AllocError>

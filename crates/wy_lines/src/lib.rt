@@ -10,7 +10,7 @@ mod quote;
 mod source;
 mod value;
 
-pub use line::event_line;
-pub use name::{field_name, method_name};
-pub use source::source_line;
-pub use value::value_text;
+pub use line::put_event_line;
+pub use name::{put_field_name, put_method_name};
+pub use source::put_source_line;
+pub use value::put_value;

@@ -1,23 +1,25 @@
 //! The line of an event.
 
-ghost use Rattle.std.specs.Prelude.{◌≡◌, ◌++◌, ◌+◌, ◌<◌, ◌≤◌, ℕ, Bool, List, Some, IfOk, codes, slice_get, string_bytes};
-ghost use Rattle.wy_event.specs.Record.{Recorded, present, recorded};
+ghost use Rattle.std.specs.Prelude.{◌≡◌, ◌++◌, ◌+◌, ◌<◌, ◌≤◌, ℕ, Bool, List, Some, IfOk, OnOk, codes, length};
+ghost use Rattle.wy_event.specs.Record.{Recorded, present};
 ghost use Rattle.wy_kernel.specs.Parts.{program_of};
 ghost use Rattle.wy_kernel.specs.Program as parts;
-ghost use Rattle.wy_lines.specs.Lines.{deed, equation, event_line, given, led, line_with, made_text, star, subject, verb};
+ghost use Rattle.wy_lines.specs.Lines.{deed, equation, event_line, given, led, line_with, made_text, star, subject, verb, where_at};
+ghost use Rattle.wy_lines.specs.Names.{numbered};
 ghost use Rattle.wy_lines.specs.Places.{slot_text};
 ghost use Rattle.wy_lines.specs.Values.{value_text};
+ghost use Rattle.wy_text.specs.Lines.{line_of};
 ghost use Rattle.wy_view.specs.References.{SlotBelow, ValueBelow};
 ghost use Rattle.wy_view.specs.View.{Answers, Keeps};
 
-use crate::name::{made_name, method_name};
-use crate::place::slot_text;
-use crate::value::value_text;
-use std::alloc::{AllocError, Global};
+use crate::name::{put_made_name, put_method_name, put_number};
+use crate::place::put_slot;
+use crate::value::put_value;
+use std::alloc::AllocError;
 use std::sync::ledger::Ledger;
 use wy_event::record::{Kind, Slot};
 use wy_kernel::program::Program;
-use wy_text::{class_name, place_name};
+use wy_text::{put_class_name, put_place};
 use wy_value::Value;
 use wy_view::{EventView, Steps, ViewError};
 
@@ -31,27 +33,28 @@ struct Facts {
     value: Value,
 }
 
-/// The line of an event, with a star where it is marked.
-pub fn event_line<V: EventView, L: Ledger>(
-    alloc: Global,
+/// Puts the line of an event, with a star where it is marked.
+pub fn put_event_line<V: EventView, L: Ledger>(
+    out: &mut Vec<u8>,
     program: &Program,
     view: &mut V,
     event: u32,
     marked: bool,
     steps: &mut Steps<L>,
-) -> Result<Vec<u8>, ViewError>
+) -> Result<(), ViewError>
     requires there { event < (V.tells view.old).count }
     ensures line { (rs : List Recorded) → (V.tells view.old).records ≡ Some rs
-        → IfOk result (λ line. line.items
-        ≡ event_line (program_of program.now) program.now.lines.items rs event marked) }
+        → OnOk result (out.new.items ≡ out.old.items
+        ++ event_line (program_of program.now) program.now.lines.items rs event marked) }
     ensures keeps { Keeps (V.tells view.old) (V.tells view.new) }
     ensures answers { Answers result (V.tells view.old) (V.tells view.new) }
     ensures steps { steps.new ≤ steps.old + 3 }
 {
     let facts = facts_at(view, event, steps)?;
-    let deed = deed_at(alloc, program, view, facts, steps)?;
-    let line = line_with(alloc, program, event, facts.site, deed, marked)?;
-    Ok(line)
+    put_front(out, program, event, facts.site)?;
+    put_deed(out, program, view, facts, steps)?;
+    put_end(out, marked)?;
+    Ok(())
 }
 
 /// What the line of event n says.
@@ -93,47 +96,44 @@ fn given(kind: Kind, n: u32, value: Value) -> Value
     }
 }
 
-/// What an event did.
-fn deed_at<V: EventView, L: Ledger>(
-    alloc: Global,
+/// Puts what an event did.
+#[tactic(auto, unfolding(crate::specs::Lines::deed))]
+fn put_deed<V: EventView, L: Ledger>(
+    out: &mut Vec<u8>,
     program: &Program,
     view: &mut V,
     facts: Facts,
     steps: &mut Steps<L>,
-) -> Result<Vec<u8>, ViewError>
+) -> Result<(), ViewError>
     requires slot { SlotBelow (V.tells view.old).count facts.slot }
     requires value { ValueBelow (V.tells view.old).count facts.value }
     ensures deed { (rs : List Recorded) → (V.tells view.old).records ≡ Some rs
-        → IfOk result (λ text. text.items
-        ≡ deed (program_of program.now) facts.kind (present facts.what)
+        → OnOk result (out.new.items ≡ out.old.items
+        ++ deed (program_of program.now) facts.kind (present facts.what)
         (slot_text (program_of program.now) rs facts.slot)
         (value_text (program_of program.now) rs facts.value)) }
     ensures keeps { Keeps (V.tells view.old) (V.tells view.new) }
     ensures answers { Answers result (V.tells view.old) (V.tells view.new) }
     ensures steps { steps.new ≤ steps.old + 2 }
 {
-    let place = slot_text(alloc, program, view, facts.slot, steps)?;
-    let value = value_text(alloc, program, view, facts.value, steps)?;
-    let deed = deed(alloc, program, facts, place, value)?;
-    Ok(deed)
+    out.extend_from_slice(verb(facts.kind).as_bytes())?;
+    let end = out.len();
+    out.extend_from_slice(" ".as_bytes())?;
+    put_subject(out, program, view, facts, steps)?;
+    lead(out, end, " ");
+    Ok(())
 }
 
-#[tactic(auto, unfolding(crate::specs::Lines::deed))]
-fn deed(
-    alloc: Global,
-    program: &Program,
-    facts: Facts,
-    place: Vec<u8>,
-    value: Vec<u8>,
-) -> Result<Vec<u8>, AllocError>
-    ensures { IfOk result (λ text. text.items
-        ≡ deed (program_of program.now) facts.kind (present facts.what) place.items value.items) }
+/// Takes away what leads to a text behind so many bytes, where no text came.
+#[tactic(auto, using(crate::proofs::Leading::taken_away, crate::proofs::Leading::left_there))]
+fn lead(out: &mut Vec<u8>, end: usize, before: &str)
+    ensures { (front text : List ℕ) → length front ≡ end
+        → out.old.items ≡ front ++ (before.now ++ text)
+        → out.new.items ≡ front ++ led before.now text }
 {
-    let subject = subject(alloc, program, facts, place, value)?;
-    let mut text = Vec::from_slice(alloc, verb(facts.kind).as_bytes())?;
-    let led = led(alloc, " ", subject)?;
-    text.extend_from_slice(led.as_slice())?;
-    Ok(text)
+    if out.len().saturating_sub(end) == before.len() {
+        out.truncate(end);
+    }
 }
 
 #[tactic(auto, unfolding(crate::specs::Lines::verb))]
@@ -157,89 +157,114 @@ fn verb(kind: Kind) -> &'static str
     }
 }
 
-/// What an event is about.
+/// Puts what an event is about.
 #[tactic(auto, unfolding(crate::specs::Lines::subject))]
-fn subject(
-    alloc: Global,
+fn put_subject<V: EventView, L: Ledger>(
+    out: &mut Vec<u8>,
     program: &Program,
+    view: &mut V,
     facts: Facts,
-    place: Vec<u8>,
-    value: Vec<u8>,
-) -> Result<Vec<u8>, AllocError>
-    ensures { IfOk result (λ text. text.items
-        ≡ subject (program_of program.now) facts.kind (present facts.what)
-        place.items value.items) }
+    steps: &mut Steps<L>,
+) -> Result<(), ViewError>
+    requires slot { SlotBelow (V.tells view.old).count facts.slot }
+    requires value { ValueBelow (V.tells view.old).count facts.value }
+    ensures subject { (rs : List Recorded) → (V.tells view.old).records ≡ Some rs
+        → OnOk result (out.new.items ≡ out.old.items
+        ++ subject (program_of program.now) facts.kind (present facts.what)
+        (slot_text (program_of program.now) rs facts.slot)
+        (value_text (program_of program.now) rs facts.value)) }
+    ensures keeps { Keeps (V.tells view.old) (V.tells view.new) }
+    ensures answers { Answers result (V.tells view.old) (V.tells view.new) }
+    ensures steps { steps.new ≤ steps.old + 2 }
 {
     match facts.kind {
-        Kind::Init => class_name(alloc, program, facts.what),
-        Kind::New => made_text(alloc, program, facts.what, value),
-        Kind::Call => method_name(alloc, program, facts.what),
-        Kind::Bind => equation(place, value),
-        Kind::Set => equation(place, value),
-        Kind::Catch => equation(place, value),
-        _ => Ok(value),
+        Kind::Init => {
+            put_class_name(out, program, facts.what)?;
+            Ok(())
+        }
+        Kind::New => put_made(out, program, view, facts, steps),
+        Kind::Call => {
+            put_method_name(out, program, facts.what)?;
+            Ok(())
+        }
+        Kind::Bind => put_equation(out, program, view, facts, steps),
+        Kind::Set => put_equation(out, program, view, facts, steps),
+        Kind::Catch => put_equation(out, program, view, facts, steps),
+        _ => put_value(out, program, view, facts.value, steps),
     }
 }
 
-/// The type that a New made, and an array's length.
+/// Puts the type that a New made, and an array's length.
 #[tactic(auto, unfolding(crate::specs::Lines::made_text))]
-fn made_text(
-    alloc: Global,
+fn put_made<V: EventView, L: Ledger>(
+    out: &mut Vec<u8>,
     program: &Program,
-    code: u32,
-    length: Vec<u8>,
-) -> Result<Vec<u8>, AllocError>
-    ensures { IfOk result (λ text. text.items
-        ≡ made_text (program_of program.now) (present code) length.items) }
+    view: &mut V,
+    facts: Facts,
+    steps: &mut Steps<L>,
+) -> Result<(), ViewError>
+    requires value { ValueBelow (V.tells view.old).count facts.value }
+    ensures made { (rs : List Recorded) → (V.tells view.old).records ≡ Some rs
+        → OnOk result (out.new.items ≡ out.old.items
+        ++ made_text (program_of program.now) (present facts.what)
+        (value_text (program_of program.now) rs facts.value)) }
+    ensures keeps { Keeps (V.tells view.old) (V.tells view.new) }
+    ensures answers { Answers result (V.tells view.old) (V.tells view.new) }
+    ensures steps { steps.new ≤ steps.old + 2 }
 {
-    let mut text = made_name(alloc, program, code)?;
-    let led = led(alloc, " length ", length)?;
-    text.extend_from_slice(led.as_slice())?;
-    Ok(text)
+    put_made_name(out, program, facts.what)?;
+    let end = out.len();
+    out.extend_from_slice(" length ".as_bytes())?;
+    put_value(out, program, view, facts.value, steps)?;
+    lead(out, end, " length ");
+    Ok(())
 }
 
+/// Puts a place and the value that it got.
 #[tactic(auto, unfolding(crate::specs::Lines::equation))]
-fn equation(place: Vec<u8>, value: Vec<u8>) -> Result<Vec<u8>, AllocError>
-    ensures { IfOk result (λ text. text.items ≡ equation place.items value.items) }
-{
-    let mut text = place;
-    text.extend_from_slice(" = ".as_bytes())?;
-    text.extend_from_slice(value.as_slice())?;
-    Ok(text)
-}
-
-/// A text behind what leads to it, and nothing where there is none.
-#[tactic(auto, using(crate::proofs::Leading::led_none, crate::proofs::Leading::led_some))]
-fn led(alloc: Global, before: &str, text: Vec<u8>) -> Result<Vec<u8>, AllocError>
-    ensures { IfOk result (λ all. all.items ≡ led before.now text.items) }
-{
-    if text.is_empty() {
-        return Ok(text);
-    }
-    let mut all = Vec::from_slice(alloc, before.as_bytes())?;
-    all.extend_from_slice(text.as_slice())?;
-    Ok(all)
-}
-
-/// The line of an event that did this at a site.
-#[tactic(auto, unfolding(crate::specs::Lines::line_with, crate::specs::Lines::where_at, crate::specs::Names::numbered))]
-fn line_with(
-    alloc: Global,
+fn put_equation<V: EventView, L: Ledger>(
+    out: &mut Vec<u8>,
     program: &Program,
-    event: u32,
-    site: u32,
-    deed: Vec<u8>,
-    marked: bool,
-) -> Result<Vec<u8>, AllocError>
-    ensures { IfOk result (λ line. line.items
-        ≡ line_with program.now.lines.items event site deed.items marked) }
+    view: &mut V,
+    facts: Facts,
+    steps: &mut Steps<L>,
+) -> Result<(), ViewError>
+    requires slot { SlotBelow (V.tells view.old).count facts.slot }
+    requires value { ValueBelow (V.tells view.old).count facts.value }
+    ensures equation { (rs : List Recorded) → (V.tells view.old).records ≡ Some rs
+        → OnOk result (out.new.items ≡ out.old.items
+        ++ equation (slot_text (program_of program.now) rs facts.slot)
+        (value_text (program_of program.now) rs facts.value)) }
+    ensures keeps { Keeps (V.tells view.old) (V.tells view.new) }
+    ensures answers { Answers result (V.tells view.old) (V.tells view.new) }
+    ensures steps { steps.new ≤ steps.old + 2 }
 {
-    let place = place_name(alloc, program, site)?;
-    let mut line = format!(in alloc; "#{event} {place} ")?.into_bytes();
-    line.extend_from_slice(deed.as_slice())?;
-    line.extend_from_slice(star(marked).as_bytes())?;
-    line.push(b'\n')?;
-    Ok(line)
+    put_slot(out, program, view, facts.slot, steps)?;
+    out.extend_from_slice(" = ".as_bytes())?;
+    put_value(out, program, view, facts.value, steps)?;
+    Ok(())
+}
+
+/// Puts the number of an event, and where it is in the text.
+#[tactic(auto, unfolding(crate::specs::Lines::where_at))]
+fn put_front(out: &mut Vec<u8>, program: &Program, event: u32, site: u32) -> Result<(), AllocError>
+    ensures { OnOk result (out.new.items ≡ out.old.items ++ (numbered event
+        ++ (codes " " ++ (where_at program.now.lines.items site ++ codes " ")))) }
+{
+    put_number(out, event)?;
+    out.push(b' ')?;
+    put_place(out, program, site)?;
+    out.push(b' ')?;
+    Ok(())
+}
+
+/// Ends a line.
+fn put_end(out: &mut Vec<u8>, marked: bool) -> Result<(), AllocError>
+    ensures { OnOk result (out.new.items ≡ out.old.items ++ line_of (star marked)) }
+{
+    out.extend_from_slice(star(marked).as_bytes())?;
+    out.push(b'\n')?;
+    Ok(())
 }
 
 #[tactic(auto, unfolding(crate::specs::Lines::star))]

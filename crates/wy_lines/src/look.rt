@@ -1,12 +1,11 @@
 //! What is read of one record of a trace.
 
-ghost use Rattle.std.specs.Prelude.{◌≡◌, ◌+◌, ◌<◌, ℕ, List, Some, IfOk, slice_get, string_bytes};
+ghost use Rattle.std.specs.Prelude.{◌≡◌, ◌+◌, ◌++◌, ◌<◌, ℕ, List, Some, IfOk, OnOk, slice_get};
 ghost use Rattle.wy_event.specs.Record.{Recorded, present, recorded};
 ghost use Rattle.wy_lines.specs.Values.{quoted, units_of, what_of};
 ghost use Rattle.wy_view.specs.View.{Answers, IsRecordOf, Keeps};
 
-use crate::quote::quoted;
-use std::alloc::Global;
+use crate::quote::put_quoted;
 use std::sync::ledger::Ledger;
 use wy_event::record::Kind;
 use wy_view::{EventView, Steps, ViewError};
@@ -39,21 +38,21 @@ pub(crate) fn begun_at<V: EventView, L: Ledger>(
     })
 }
 
-/// The text that event n made, between its quotes.
-pub(crate) fn quoted_at<V: EventView, L: Ledger>(
-    alloc: Global,
+/// Puts the text that event n made, between its quotes.
+pub(crate) fn put_quoted_at<V: EventView, L: Ledger>(
+    out: &mut Vec<u8>,
     view: &mut V,
     n: u32,
     steps: &mut Steps<L>,
-) -> Result<Vec<u8>, ViewError>
+) -> Result<(), ViewError>
     requires there { n < (V.tells view.old).count }
     ensures text { (rs : List Recorded) → (V.tells view.old).records ≡ Some rs
-        → IfOk result (λ text. text.items ≡ quoted (units_of (slice_get rs n))) }
+        → OnOk result (out.new.items ≡ out.old.items ++ quoted (units_of (slice_get rs n))) }
     ensures keeps { Keeps (V.tells view.old) (V.tells view.new) }
     ensures answers { Answers result (V.tells view.old) (V.tells view.new) }
     ensures step { steps.new ≡ steps.old + 1 }
 {
     let event = view.event(n, steps)?;
-    let text = quoted(alloc, event.units.as_slice())?;
-    Ok(text)
+    put_quoted(out, event.units.as_slice())?;
+    Ok(())
 }

@@ -1,6 +1,6 @@
 //! Places, by the names that the program has for them.
 
-ghost use Rattle.std.specs.Prelude.{◌≡◌, ◌++◌, ◌+◌, ◌<◌, ◌≤◌, ℕ, List, Some, IfOk, codes, option_map, string_bytes};
+ghost use Rattle.std.specs.Prelude.{◌≡◌, ◌++◌, ◌+◌, ◌<◌, ◌≤◌, ℕ, List, Some, OnOk, codes, option_map};
 ghost use Rattle.std.specs.Fmt.{decimal};
 ghost use Rattle.wy_event.specs.Record.{Recorded, present};
 ghost use Rattle.wy_kernel.specs.Parts.{program_of};
@@ -12,27 +12,29 @@ ghost use Rattle.wy_view.specs.References.{SlotBelow};
 ghost use Rattle.wy_view.specs.View.{Answers, Keeps};
 
 use crate::look::{Begun, begun_at};
-use crate::name::field_name;
-use std::alloc::{AllocError, Global};
+use crate::name::{put_field_name, put_number};
+use std::alloc::AllocError;
 use std::sync::ledger::Ledger;
 use wy_event::record::{Kind, Slot};
 use wy_kernel::form::Body;
 use wy_kernel::program::Program;
 use wy_kernel::types::NONE;
+use wy_text::put_decimal;
 use wy_view::{EventView, Steps, ViewError};
 
-/// The text of a place, and nothing where there is none.
+/// Puts the text of a place, and nothing where there is none.
 #[tactic(auto, unfolding(crate::specs::Places::slot_text))]
-pub(crate) fn slot_text<V: EventView, L: Ledger>(
-    alloc: Global,
+pub(crate) fn put_slot<V: EventView, L: Ledger>(
+    out: &mut Vec<u8>,
     program: &Program,
     view: &mut V,
     slot: Slot,
     steps: &mut Steps<L>,
-) -> Result<Vec<u8>, ViewError>
+) -> Result<(), ViewError>
     requires there { SlotBelow (V.tells view.old).count slot }
     ensures text { (rs : List Recorded) → (V.tells view.old).records ≡ Some rs
-        → IfOk result (λ text. text.items ≡ slot_text (program_of program.now) rs slot) }
+        → OnOk result (out.new.items
+        ≡ out.old.items ++ slot_text (program_of program.now) rs slot) }
     ensures keeps { Keeps (V.tells view.old) (V.tells view.new) }
     ensures answers { Answers result (V.tells view.old) (V.tells view.new) }
     ensures steps { steps.new ≤ steps.old + 1 }
@@ -40,39 +42,48 @@ pub(crate) fn slot_text<V: EventView, L: Ledger>(
     match slot {
         Slot::Local { frame, index } => {
             let begun = begun_at(view, frame, steps)?;
-            let name = local_name(program, begun, index);
-            Ok(Vec::from_slice(alloc, name.as_bytes())?)
+            out.extend_from_slice(local_name(program, begun, index).as_bytes())?;
+            Ok(())
         }
-        Slot::Static { field } => Ok(field_name(alloc, program, field)?),
-        Slot::Field { object, field } => Ok(member_text(alloc, program, object, field)?),
-        Slot::Elem { array, index } => Ok(element_text(alloc, array, index)?),
-        Slot::None => Ok(Vec::new(alloc)),
+        Slot::Static { field } => {
+            put_field_name(out, program, field)?;
+            Ok(())
+        }
+        Slot::Field { object, field } => {
+            put_member(out, program, object, field)?;
+            Ok(())
+        }
+        Slot::Elem { array, index } => {
+            put_element(out, array, index)?;
+            Ok(())
+        }
+        Slot::None => Ok(()),
     }
 }
 
-#[tactic(auto, unfolding(crate::specs::Names::numbered))]
-fn member_text(
-    alloc: Global,
+fn put_member(
+    out: &mut Vec<u8>,
     program: &Program,
     object: u32,
     field: u32,
-) -> Result<Vec<u8>, AllocError>
-    ensures { IfOk result (λ text. text.items
-        ≡ numbered object ++ (codes "." ++ field_name (program_of program.now) field)) }
+) -> Result<(), AllocError>
+    ensures { OnOk result (out.new.items ≡ out.old.items
+        ++ (numbered object ++ (codes "." ++ field_name (program_of program.now) field))) }
 {
-    let name = field_name(alloc, program, field)?;
-    let mut text = format!(in alloc; "#{object}.")?.into_bytes();
-    text.extend_from_slice(name.as_slice())?;
-    Ok(text)
+    put_number(out, object)?;
+    out.push(b'.')?;
+    put_field_name(out, program, field)
 }
 
-#[tactic(auto, unfolding(crate::specs::Names::numbered))]
-fn element_text(alloc: Global, array: u32, index: u32) -> Result<Vec<u8>, AllocError>
-    ensures { IfOk result (λ text. text.items
-        ≡ numbered array ++ (codes "[" ++ (decimal index ++ codes "]"))) }
+fn put_element(out: &mut Vec<u8>, array: u32, index: u32) -> Result<(), AllocError>
+    ensures { OnOk result (out.new.items ≡ out.old.items
+        ++ (numbered array ++ (codes "[" ++ (decimal index ++ codes "]")))) }
 {
-    let text = format!(in alloc; "#{array}[{index}]")?;
-    Ok(text.into_bytes())
+    put_number(out, array)?;
+    out.push(b'[')?;
+    put_decimal(out, index)?;
+    out.push(b']')?;
+    Ok(())
 }
 
 /// The name of a local of the body that an event began.

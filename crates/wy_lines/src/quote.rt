@@ -1,33 +1,31 @@
 //! Texts and chars between their quotes.
 
-ghost use Rattle.std.specs.Prelude.{◌≡◌, ◌++◌, ◌<◌, IfOk, IsTrue, OnOk};
+ghost use Rattle.std.specs.Prelude.{◌≡◌, ◌++◌, ◌<◌, IsTrue, OnOk};
 ghost use Rattle.std.specs.List.{flat_map};
 ghost use Rattle.wy_lines.specs.Values.{escaped, hex_digit, is_plain, letter, quoted, shown};
 
-use std::alloc::{AllocError, Global};
+use std::alloc::AllocError;
 
-/// A text between its quotes.
+/// Puts a text between its quotes.
 #[tactic(auto, unfolding(crate::specs::Values::quoted))]
-pub(crate) fn quoted(alloc: Global, units: &[u16]) -> Result<Vec<u8>, AllocError>
-    ensures { IfOk result (λ text. text.items ≡ quoted units.now) }
+pub(crate) fn put_quoted(text: &mut Vec<u8>, units: &[u16]) -> Result<(), AllocError>
+    ensures { OnOk result (text.new.items ≡ text.old.items ++ quoted units.now) }
 {
-    let mut text = Vec::new(alloc);
     text.push(b'"')?;
-    put_units(&mut text, units)?;
+    put_units(text, units)?;
     text.push(b'"')?;
-    Ok(text)
+    Ok(())
 }
 
-/// A char between its quotes.
+/// Puts a char between its quotes.
 #[tactic(auto, unfolding(crate::specs::Values::letter))]
-pub(crate) fn letter(alloc: Global, unit: u16) -> Result<Vec<u8>, AllocError>
-    ensures { IfOk result (λ text. text.items ≡ letter unit) }
+pub(crate) fn put_letter(text: &mut Vec<u8>, unit: u16) -> Result<(), AllocError>
+    ensures { OnOk result (text.new.items ≡ text.old.items ++ letter unit) }
 {
-    let mut text = Vec::new(alloc);
     text.push(b'\'')?;
-    put_unit(&mut text, unit)?;
+    put_unit(text, unit)?;
     text.push(b'\'')?;
-    Ok(text)
+    Ok(())
 }
 
 fn put_units(text: &mut Vec<u8>, units: &[u16]) -> Result<(), AllocError>

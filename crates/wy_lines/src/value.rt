@@ -1,7 +1,6 @@
 //! Values, objects with their types and texts with their units.
 
-ghost use Rattle.std.specs.Prelude.{◌≡◌, ◌++◌, ◌+◌, ◌<◌, ◌≤◌, ℕ, List, Some, IfOk, string_bytes};
-ghost use Rattle.std.specs.Fmt.{signed_decimal};
+ghost use Rattle.std.specs.Prelude.{◌≡◌, ◌++◌, ◌+◌, ◌<◌, ◌≤◌, ℕ, List, Some, OnOk};
 ghost use Rattle.wy_event.specs.Record.{Recorded, present};
 ghost use Rattle.wy_kernel.specs.Parts.{program_of};
 ghost use Rattle.wy_kernel.specs.Program.{fixed_text};
@@ -10,27 +9,29 @@ ghost use Rattle.wy_lines.specs.Values.{own_text, plain_text, value_text};
 ghost use Rattle.wy_view.specs.References.{ValueBelow};
 ghost use Rattle.wy_view.specs.View.{Answers, Keeps};
 
-use crate::look::{begun_at, quoted_at};
-use crate::name::made_name;
-use crate::quote::{letter, quoted};
-use std::alloc::{AllocError, Global};
+use crate::look::{begun_at, put_quoted_at};
+use crate::name::{put_made_name, put_number};
+use crate::quote::{put_letter, put_quoted};
+use std::alloc::AllocError;
 use std::sync::ledger::Ledger;
 use wy_kernel::program::Program;
+use wy_text::put_signed;
 use wy_value::Value;
 use wy_view::{EventView, Steps, ViewError};
 
-/// The text of a value, and nothing where there is none.
+/// Puts the text of a value, and nothing where there is none.
 #[tactic(auto, unfolding(crate::specs::Values::value_text))]
-pub fn value_text<V: EventView, L: Ledger>(
-    alloc: Global,
+pub fn put_value<V: EventView, L: Ledger>(
+    out: &mut Vec<u8>,
     program: &Program,
     view: &mut V,
     value: Value,
     steps: &mut Steps<L>,
-) -> Result<Vec<u8>, ViewError>
+) -> Result<(), ViewError>
     requires there { ValueBelow (V.tells view.old).count value }
     ensures text { (rs : List Recorded) → (V.tells view.old).records ≡ Some rs
-        → IfOk result (λ text. text.items ≡ value_text (program_of program.now) rs value) }
+        → OnOk result (out.new.items
+        ≡ out.old.items ++ value_text (program_of program.now) rs value) }
     ensures keeps { Keeps (V.tells view.old) (V.tells view.new) }
     ensures answers { Answers result (V.tells view.old) (V.tells view.new) }
     ensures steps { steps.new ≤ steps.old + 1 }
@@ -38,39 +39,41 @@ pub fn value_text<V: EventView, L: Ledger>(
     match value {
         Value::Object(number) => {
             let made = begun_at(view, number, steps)?;
-            Ok(object_text(alloc, program, made.what, number)?)
+            put_object(out, program, made.what, number)?;
+            Ok(())
         }
-        Value::Text(number) => quoted_at(alloc, view, number, steps),
-        _ => Ok(own_text(alloc, program, value)?),
+        Value::Text(number) => put_quoted_at(out, view, number, steps),
+        _ => {
+            put_own(out, program, value)?;
+            Ok(())
+        }
     }
 }
 
-/// An object by its type and its number.
-#[tactic(auto, unfolding(crate::specs::Names::numbered))]
-fn object_text(
-    alloc: Global,
+/// Puts an object by its type and its number.
+fn put_object(
+    out: &mut Vec<u8>,
     program: &Program,
     code: u32,
     number: u32,
-) -> Result<Vec<u8>, AllocError>
-    ensures { IfOk result (λ text. text.items
-        ≡ made_name (program_of program.now) (present code) ++ numbered number) }
+) -> Result<(), AllocError>
+    ensures { OnOk result (out.new.items ≡ out.old.items
+        ++ (made_name (program_of program.now) (present code) ++ numbered number)) }
 {
-    let mut text = made_name(alloc, program, code)?;
-    let own = format!(in alloc; "#{number}")?;
-    text.extend_from_slice(own.as_bytes())?;
-    Ok(text)
+    put_made_name(out, program, code)?;
+    put_number(out, number)
 }
 
-/// The text of a value that no record has a part in.
+/// Puts the text of a value that no record has a part in.
 #[tactic(auto, unfolding(crate::specs::Values::own_text))]
-fn own_text(alloc: Global, program: &Program, value: Value) -> Result<Vec<u8>, AllocError>
-    ensures { IfOk result (λ text. text.items ≡ own_text (program_of program.now) value) }
+fn put_own(out: &mut Vec<u8>, program: &Program, value: Value) -> Result<(), AllocError>
+    ensures { OnOk result (out.new.items
+        ≡ out.old.items ++ own_text (program_of program.now) value) }
 {
     match value {
-        Value::Char(unit) => letter(alloc, unit),
-        Value::Fixed(number) => quoted(alloc, fixed_text(program, number)),
-        _ => plain_text(alloc, value),
+        Value::Char(unit) => put_letter(out, unit),
+        Value::Fixed(number) => put_quoted(out, fixed_text(program, number)),
+        _ => put_plain(out, value),
     }
 }
 
@@ -84,26 +87,19 @@ fn fixed_text(program: &Program, number: u32) -> &[u16]
     program.fixed_text(number)
 }
 
-/// Numbers, booleans and null.
+/// Puts numbers, booleans and null.
 #[tactic(auto, unfolding(crate::specs::Values::plain_text))]
-fn plain_text(alloc: Global, value: Value) -> Result<Vec<u8>, AllocError>
-    ensures { IfOk result (λ text. text.items ≡ plain_text value) }
+fn put_plain(out: &mut Vec<u8>, value: Value) -> Result<(), AllocError>
+    ensures { OnOk result (out.new.items ≡ out.old.items ++ plain_text value) }
 {
     match value {
-        Value::Bool(true) => Vec::from_slice(alloc, "true".as_bytes()),
-        Value::Bool(false) => Vec::from_slice(alloc, "false".as_bytes()),
-        Value::Null => Vec::from_slice(alloc, "null".as_bytes()),
-        Value::Byte(n) => decimal(alloc, i64::from(n)),
-        Value::Short(n) => decimal(alloc, i64::from(n)),
-        Value::Int(n) => decimal(alloc, i64::from(n)),
-        Value::Long(n) => decimal(alloc, n),
-        _ => Ok(Vec::new(alloc)),
+        Value::Bool(true) => out.extend_from_slice("true".as_bytes()),
+        Value::Bool(false) => out.extend_from_slice("false".as_bytes()),
+        Value::Null => out.extend_from_slice("null".as_bytes()),
+        Value::Byte(n) => put_signed(out, i64::from(n)),
+        Value::Short(n) => put_signed(out, i64::from(n)),
+        Value::Int(n) => put_signed(out, i64::from(n)),
+        Value::Long(n) => put_signed(out, n),
+        _ => Ok(()),
     }
-}
-
-fn decimal(alloc: Global, n: i64) -> Result<Vec<u8>, AllocError>
-    ensures { IfOk result (λ text. text.items ≡ signed_decimal n) }
-{
-    let text = format!(in alloc; "{n}")?;
-    Ok(text.into_bytes())
 }

@@ -40,7 +40,7 @@ use Rattle.wy_reply.specs.declared.answer.Answer.{Answer}
 use Rattle.wy_reply.specs.declared.status.Status.TheVariants.{Done}
 use Rattle.wy_reply.specs.Statuses.{code_of}
 use Rattle.wy_reply.specs.Recordings.{IsTraceOf, trace_spelling}
-use Rattle.wy_reply.specs.Tellings.{Wanted, Why, RefusesTrace, Tells, why, whynot, questions, audit, output}
+use Rattle.wy_reply.specs.Tellings.{Wanted, Why, RefusesTrace, Tells, why, whynot, questions, explore, audit, output}
 use Rattle.wy_reply.specs.Carried.{CarriedAnswer, CarriesBy, HasSource, Means, SameSets, static, field, element, local}
 
 -- ---- bytes tell all of a run's records
@@ -278,6 +278,7 @@ tells_why p t _ _ _ (why question (Err NotRead) is) asks same zero_is = absurd (
 tells_why p t _ _ _ (why question (Err (NoSuch n)) is) asks same zero_is = absurd (omega (arith, zero_is))
 tells_why p t _ _ _ questions asks same zero_is = absurd (cc)
 tells_why p t _ _ _ (whynot word answer is) asks same zero_is = absurd (cc)
+tells_why p t _ _ _ (explore input status text is) asks same zero_is = absurd (cc)
 tells_why p t _ _ _ (audit v is) asks same zero_is = absurd (cc)
 
 pub told_carried : (p : memory.Program) (t : Trace) (w : Wanted) (s : ℕ) (x : List ℕ) (input : List ℕ) (steps : ℕ) → Runs (program_of p) input steps → map recorded t.events ≡ events nothing (program_of p) input steps →

@@ -1,3 +1,4 @@
 pub mod Reports
 pub mod Tellings
 pub mod Carrying
+mod Sizes

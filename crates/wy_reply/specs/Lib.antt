@@ -5,3 +5,4 @@ pub mod Report
 pub mod Tellings
 pub mod Recordings
 pub mod Carried
+pub mod Generated

@@ -20,6 +20,8 @@ use Rattle.wy_absence.specs.Whynot.{WhynotIs, Denied}
 use Rattle.wy_absence.specs.Whynot as denial
 use Rattle.wy_absence.specs.declared.whynot.Unanswered.{Unanswered}
 use Rattle.wy_absence.specs.declared.whynot.Unanswered.TheVariants as unanswered
+use Rattle.wy_session.specs.Desk.{scene_of}
+use Rattle.wy_session.specs.Talk.{Talks}
 use Rattle.wy_reply.specs.Lines.{cut_line, damaged_line, bad_seal_line, not_read_line, no_such_line, ran_line, equal_line, differs_line, tail_differs_line}
 use Rattle.wy_reply.specs.declared.answer.Answer.{Answer}
 use Rattle.wy_reply.specs.declared.status.Status.TheVariants as status
@@ -41,9 +43,10 @@ abbrev pub Refuses : List ℕ → Answer → Type 0
 Refuses line answer = (answer.status ≡ status.Question) × (answer.text.items ≡ line)
 
 -- what a trace is to tell: what its run wrote, what can be asked, why a question's event is as it is,
--- why a statement never began, or whether it is the trace of that run
+-- why a statement never began, whether it is the trace of that run, or what a session over it answers
 pub data Wanted : Type 0 where
   Output : Wanted
+  Explore : (input : List ℕ) → Wanted
   Questions : Wanted
   Why : List ℕ → Wanted
   WhyNot : List ℕ → Wanted
@@ -92,6 +95,8 @@ pub data Tells (p : Program) (t : Trace) : Wanted → ℕ → List ℕ → Type 
   whynot : (word : List ℕ) (answer : Result (List ℕ) Denied)
       → WhynotIs (program_of p) p.lines.items (map recorded t.events) (covers_of t) word answer
       → Tells p t (WhyNot word) (whynot_status answer) (whynot_answer answer)
+  explore : (input : List ℕ) (status : ℕ) (text : List ℕ)
+      → Talks (scene_of p t.events (covers_of t)) input status text → Tells p t (Explore input) status text
   audit : (v : Verdict) → AuditIs (program_of p) t.head (map recorded t.events) (kept_tail t.tail) v → Tells p t Audit (audit_status v) (audit_line v)
 
 -- the status and the text that are due for bytes: what is wrong with them first, or what the trace tells that they are read as

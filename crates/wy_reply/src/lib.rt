@@ -2,6 +2,7 @@
 #![tactic(auto)]
 
 pub mod answer;
+pub mod generating;
 pub mod lines;
 pub mod recording;
 pub mod running;
@@ -9,6 +10,7 @@ pub mod status;
 pub mod telling;
 
 pub use answer::Answer;
+pub use generating::answer_to_generated;
 pub use lines::Refusal;
 pub use recording::answer_to_recording;
 pub use running::answer_to_program;

@@ -78,7 +78,7 @@ pub fn refusal_line(alloc: Global, refusal: Refusal<'_>) -> Result<Vec<u8>, Allo
     match refusal {
         Refusal::Usage => line(
             alloc,
-            "usage: whyline run, record, output, questions, why, whynot or audit",
+            "usage: whyline run, record, output, questions, why, whynot, explore, audit or gen",
             "",
         ),
         Refusal::Absent { name } => line(alloc, "absent: ", name),

@@ -17,7 +17,7 @@ use wy_ask::{Listed, questions};
 use wy_event::record::{Cover, Event, Slot};
 use wy_index::Index;
 use wy_kernel::program::Program;
-use wy_lines::{event_line, field_name, value_text};
+use wy_lines::{put_event_line, put_field_name, put_value};
 use wy_view::{EventView, MemoryView, Steps, ViewError};
 
 /// What can be asked about a trace: a line for each.
@@ -141,7 +141,8 @@ pub fn listed_line<V: EventView, L: Ledger>(
 {
     match *listed {
         Listed::Printed { piece, event } => {
-            let line = event_line(alloc, program, view, event, false, steps)?;
+            let mut line = Vec::new(alloc);
+            put_event_line(&mut line, program, view, event, false, steps)?;
             Ok(piece_line(alloc, piece, line.as_slice())?)
         }
         Listed::Stored {
@@ -149,8 +150,9 @@ pub fn listed_line<V: EventView, L: Ledger>(
             moment,
             value,
         } => {
-            let value = value_text(alloc, program, view, value, steps)?;
-            Ok(stored_line(alloc, program, slot, moment, value.as_slice())?)
+            let mut text = Vec::new(alloc);
+            put_value(&mut text, program, view, value, steps)?;
+            Ok(stored_line(alloc, program, slot, moment, text.as_slice())?)
         }
         Listed::Never { line, place } => Ok(never_line(alloc, line, place)?),
     }
@@ -220,7 +222,8 @@ fn field_at(
 ) -> Result<Vec<u8>, AllocError>
     ensures { IfOk result (λ text. text.items ≡ field_at (program_of program.now) field moment) }
 {
-    let mut text = field_name(alloc, program, field)?;
+    let mut text = Vec::new(alloc);
+    put_field_name(&mut text, program, field)?;
     let at = format!(in alloc; "@{moment}")?;
     text.extend_from_slice(at.as_bytes())?;
     Ok(text)

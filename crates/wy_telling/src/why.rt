@@ -1,12 +1,11 @@
 //! All that an event comes from, line by line.
 
-ghost use Rattle.std.specs.Prelude.{◌≡◌, ◌++◌, ◌∷◌, ◌<◌, ◌^◌, ℕ, List, Some, IfOk, OnOk, filter, length, map};
+ghost use Rattle.std.specs.Prelude.{◌≡◌, ◌++◌, ◌∷◌, ◌<◌, ◌^◌, ℕ, List, Some, IfOk, filter, length, map};
 ghost use Rattle.wy_ask.specs.Questions.{asked};
 ghost use Rattle.wy_event.specs.Numbers.{Numbers};
 ghost use Rattle.wy_event.specs.Record.{Recorded, recorded};
 ghost use Rattle.wy_index.specs.Index.{IsIndexOfView};
 ghost use Rattle.wy_kernel.specs.Parts.{program_of};
-ghost use Rattle.wy_lines.specs.Lines.{event_line};
 ghost use Rattle.wy_telling.specs.Why.{IsOfProgram, TellsOf, TellsWhy, marked_lines, why_text};
 ghost use Rattle.wy_view.specs.References.{AllRefersBelow};
 ghost use Rattle.wy_view.specs.View.{Answers, Keeps};
@@ -19,7 +18,7 @@ use wy_ask::{AskError, Question, read_question, resolve};
 use wy_event::record::Event;
 use wy_index::Index;
 use wy_kernel::program::Program;
-use wy_lines::event_line;
+use wy_lines::put_event_line;
 use wy_view::{EventView, MemoryView, Steps, ViewError};
 use wy_why::{Answer, why};
 
@@ -112,7 +111,7 @@ pub fn answer_lines<V: EventView, L: Ledger>(
     for event in answer.all.as_slice() {
         let (marked, rest) = taken(flow, *event);
         flow = rest;
-        put_line(alloc, &mut text, program, view, *event, marked, steps)?;
+        put_event_line(&mut text, program, view, *event, marked, steps)?;
     }
     Ok(text)
 }
@@ -131,25 +130,4 @@ fn taken(flow: &[u32], event: u32) -> (bool, &[u32])
     } else {
         (false, flow)
     }
-}
-
-fn put_line<V: EventView, L: Ledger>(
-    alloc: Global,
-    text: &mut Vec<u8>,
-    program: &Program,
-    view: &mut V,
-    event: u32,
-    marked: bool,
-    steps: &mut Steps<L>,
-) -> Result<(), ViewError>
-    requires there { event < (V.tells view.old).count }
-    ensures line { (rs : List Recorded) → (V.tells view.old).records ≡ Some rs
-        → OnOk result (text.new.items ≡ text.old.items
-        ++ event_line (program_of program.now) program.now.lines.items rs event marked) }
-    ensures keeps { Keeps (V.tells view.old) (V.tells view.new) }
-    ensures answers { Answers result (V.tells view.old) (V.tells view.new) }
-{
-    let line = event_line(alloc, program, view, event, marked, steps)?;
-    text.extend_from_slice(line.as_slice())?;
-    Ok(())
 }

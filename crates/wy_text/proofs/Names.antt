@@ -1,5 +1,5 @@
 -- The names of classes.
-use Rattle.std.proofs.Common.{◌≡◌, ◌≤◌, ◌<◌, ℕ, suc, [], ◌++◌, length, map, true, false, refl, sym, ap, arith}
+use Rattle.std.proofs.Common.{◌≡◌, ◌∙◌, ap₂, append_assoc, List, ◌≤◌, ◌<◌, ℕ, suc, [], ◌++◌, length, map, true, false, refl, sym, ap, arith}
 use Rattle.std.specs.Prelude.{codes, nat_lt}
 use Rattle.std.proofs.lemmas.Bool.{le-leb, lt-leb}
 use Rattle.std.proofs.lemmas.List.{get_or_past, length-map}
@@ -24,3 +24,8 @@ unfolding full_name is_source
 of_source p c high =
     let is : nat_lt c 18 ≡ false = lt-leb (suc c) 18 (omega (arith, high)) in
     rw is refl
+
+-- a class of the library behind a text
+pub built_in_behind : (p : Program) (c : ℕ) (old mid new library own : List ℕ) → c < 18 → library ≡ codes "java.lang." → own ≡ (class p c).name → mid ≡ old ++ library → new ≡ mid ++ own → new ≡ old ++ full_name p c
+built_in_behind p c old mid new library own low is named first second =
+    second ∙ ap₂ (λ (a b : List ℕ). a ++ b) (first ∙ ap (λ (l : List ℕ). old ++ l) is) named ∙ append_assoc old (codes "java.lang.") (class p c).name ∙ ap (λ (l : List ℕ). old ++ l) (built_in p c low)

@@ -1,10 +1,12 @@
-//! The line that tells how a run ended, and the names of its classes and places.
+//! The line that tells how a run ended, and what all lines have: numbers, and the names of classes and places.
 #![tactic(auto)]
 
 mod class;
 mod line;
+mod number;
 mod place;
 
-pub use class::{class_name, full_name};
+pub use class::{put_class_name, put_full_name};
 pub use line::stop_line;
-pub use place::place_name;
+pub use number::{put_count, put_decimal, put_signed};
+pub use place::put_place;

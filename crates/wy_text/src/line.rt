@@ -4,8 +4,8 @@ ghost use Rattle.wy_event.specs.Record.{present};
 ghost use Rattle.wy_kernel.specs.Parts.{program_of};
 ghost use Rattle.wy_text.specs.Lines.{plain_line as plain_line_of, stop_line as line_of_stop, uncaught_line as line_of_uncaught};
 
-use crate::class::class_name;
-use crate::place::place_name;
+use crate::class::put_class_name;
+use crate::place::put_place;
 use std::alloc::{AllocError, Global};
 use wy_event::record::Thrown;
 use wy_kernel::program::Program;
@@ -35,13 +35,10 @@ fn uncaught_line(alloc: Global, program: &Program, thrown: &Thrown) -> Result<Ve
     ensures { IfOk result (λ line. line.items ≡ line_of_uncaught (program_of program.now) program.now.lines.items
         (present thrown.now.class) (present thrown.now.site)) }
 {
-    let class = class_name(alloc, program, thrown.class)?;
-    let place = place_name(alloc, program, thrown.site)?;
-    let mut line = Vec::new(alloc);
-    line.extend_from_slice("-- uncaught ".as_bytes())?;
-    line.extend_from_slice(class.as_slice())?;
+    let mut line = Vec::from_slice(alloc, "-- uncaught ".as_bytes())?;
+    put_class_name(&mut line, program, thrown.class)?;
     line.extend_from_slice(", ".as_bytes())?;
-    line.extend_from_slice(place.as_bytes())?;
+    put_place(&mut line, program, thrown.site)?;
     line.push(b'\n')?;
     Ok(line)
 }

@@ -1,18 +1,20 @@
 //! Where in its text a program threw.
-ghost use Rattle.std.specs.Prelude.{◌≡◌, IfOk, string_bytes, option_and_then, slice_get};
+ghost use Rattle.std.specs.Prelude.{◌≡◌, ◌++◌, OnOk, option_and_then, slice_get};
 ghost use Rattle.wy_event.specs.Record.{present};
 ghost use Rattle.wy_text.specs.Lines.{place_of, place_on};
 
-use std::alloc::{AllocError, Global};
+use crate::number::put_decimal;
+use std::alloc::AllocError;
 use wy_kernel::program::Program;
 use wy_kernel::types::NONE;
 
-/// Where a site is.
+/// Puts where a site is behind a text.
 #[tactic(auto, unfolding(crate::specs::Lines::place_of))]
-pub fn place_name(alloc: Global, program: &Program, site: u32) -> Result<String, AllocError>
-    ensures { IfOk result (λ text. string_bytes text ≡ place_of program.now.lines.items (present site)) }
+pub fn put_place(out: &mut Vec<u8>, program: &Program, site: u32) -> Result<(), AllocError>
+    ensures { OnOk result (out.new.items
+        ≡ out.old.items ++ place_of program.now.lines.items (present site)) }
 {
-    place_text(alloc, line_at(program, site))
+    put_line(out, line_at(program, site))
 }
 
 /// The line of the token that a site is, and None where it is no token.
@@ -33,11 +35,14 @@ fn line_of(program: &Program, token: u32) -> Option<u32>
 }
 
 #[tactic(auto, unfolding(crate::specs::Lines::place_on))]
-fn place_text(alloc: Global, line: Option<u32>) -> Result<String, AllocError>
-    ensures { IfOk result (λ text. string_bytes text ≡ place_on line) }
+fn put_line(out: &mut Vec<u8>, line: Option<u32>) -> Result<(), AllocError>
+    ensures { OnOk result (out.new.items ≡ out.old.items ++ place_on line) }
 {
     match line {
-        Some(line) => format!(in alloc; "line {line}"),
-        None => format!(in alloc; "library"),
+        Some(line) => {
+            out.extend_from_slice("line ".as_bytes())?;
+            put_decimal(out, line)
+        }
+        None => out.extend_from_slice("library".as_bytes()),
     }
 }

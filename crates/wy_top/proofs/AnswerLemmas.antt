@@ -1,17 +1,19 @@
 -- What an answer is, from what the reading of the files gave.
-use Rattle.std.proofs.Common.{◌≡◌, ◌∙◌, sym, ap, subst, refl, inl, inr, ℕ, ◌<◌, Bool, true, false, List, map, Option, Some, None, Result, Ok, Err, IfOk, Bor, Vec, Global}
+use Rattle.std.proofs.Common.{◌≡◌, ◌∙◌, sym, ap, subst, refl, inl, inr, ℕ, true, false, List, Option, Some, None, Result, Ok, Err, IfOk, Vec, Global}
 use Rattle.std.specs.Prelude.{MatchBool}
 use Rattle.std.specs.declared.alloc.AllocError.{AllocError}
 use Rattle.wy_kernel.specs.Program.{Program}
 use Rattle.wy_outside.specs.Counts.{Rose}
 use Rattle.wy_outside.specs.Shelf.{Files}
 use Rattle.wy_record.specs.Answers.{Mirrors}
-use Rattle.wy_words.specs.Words.{Asked, Asks, Command, Record, IsNoCommand, AskOneCommand}
+use Rattle.wy_words.specs.Words.{Asked, Asks, Command, Gen, Record, IsNoCommand, AskOneCommand}
 use Rattle.wy_reply.specs.declared.answer.Answer.{Answer}
 use Rattle.wy_reply.specs.declared.status.Status.{Status}
-use Rattle.wy_reply.specs.declared.status.Status.TheVariants.{Usage, Absent, TooLong, Fault, Done}
-use Rattle.wy_reply.specs.Lines.{usage_line, shelf_fault_line, absent_line, too_long_line}
+use Rattle.wy_reply.specs.declared.status.Status.TheVariants.{Usage, Fault, Done}
+use Rattle.wy_reply.specs.Lines.{usage_line, absent_line, too_long_line}
 use Rattle.wy_reply.specs.Recordings.{Spelling}
+use Rattle.wy_gen.specs.Source.{source}
+use Rattle.wy_reply.specs.Generated.{generated_report}
 use Rattle.wy_reply.specs.Report.{recorded_report}
 use Rattle.wy_reply.specs.Statuses.{code_of, is_of_files}
 use Rattle.wy_reply.specs.Tellings.{Wanted}
@@ -22,7 +24,7 @@ use Rattle.wy_top.specs.Answers.{Counts, counts, IsAnswer, IsFault, Knows}
 use Rattle.wy_top.specs.Call.{Traced, Traces}
 use Rattle.wy_top.specs.Due.{Due, DueFor, DueForRun, DueForBytes, DueForTrace, DueTo}
 use Rattle.wy_top.specs.Due as due
-use Rattle.wy_top.specs.Held.{Lacks, trace_limit}
+use Rattle.wy_top.specs.Held.{trace_limit}
 use Rattle.wy_top.specs.Reads.{GivesBoth, GivesFile, LacksEither, Tells, is_fault}
 use Rattle.wy_top.specs.Replies.{AnswersBy, RecordsSource, TracesSource}
 use Rattle.wy_top.proofs.ErrorDues.{Refuses}
@@ -149,21 +151,33 @@ trace_lack held name w e n m k r gives rose tells = lack_due (λ files. DueForTr
 
 -- ---- the words
 
-pub usage_due : (words : List (List ℕ)) (held : Option Files) (n : Counts) (r : Result Answer AllocError) → IsNoCommand words → Refuses Usage usage_line r → IfOk r (λ answer. IsAnswer words held n n answer)
-usage_due words held n (Ok answer) unread h = inr (refl, λ _. rw (h.0, h.1) (due.usage unread))
-usage_due words held n (Err e) unread h = tt
+pub usage_due : (words : List (List ℕ)) (held : Option Files) (keys : Option (List ℕ)) (n : Counts) (r : Result Answer AllocError) → IsNoCommand words → Refuses Usage usage_line r → IfOk r (λ answer. IsAnswer words held keys n n answer)
+usage_due words held keys n (Ok answer) unread h = inr (refl, λ _. rw (h.0, h.1) (due.usage unread))
+usage_due words held keys n (Err e) unread h = tt
 
-asked_due : (words : List (List ℕ)) (held : Option Files) (c : Command) (before after : Counts) (answer : Answer) → Asks words c → AnswersBy (λ files. DueTo files c) held before after answer → IsAnswer words held before after answer
-asked_due words held c before after answer asks (inl fault) = inl fault
-asked_due words held c before after answer asks (inr (same, unfaulted, is)) = inr (same, knows) where
-  knows : Knows words held → Due words held (code_of answer.status) answer.text.items
+asked_due : AskOneCommand → (words : List (List ℕ)) (held : Option Files) (keys : Option (List ℕ)) (c : Command) (before after : Counts) (answer : Answer) → Asks words c → ((n : ℕ) → c ≡ Gen n → ⊥) →
+    AnswersBy (λ files. DueTo files c) held before after answer → IsAnswer words held keys before after answer
+asked_due one words held keys c before after answer asks other (inl fault) = inl fault
+asked_due one words held keys c before after answer asks other (inr (same, unfaulted, is)) = inr (same, knows) where
+  knows : Knows words held keys → Due words held keys (code_of answer.status) answer.text.items
   knows (inl none) = absurd (none c asks)
-  knows (inr (files, told)) = due.asked c files (code_of answer.status) answer.text.items asks told (is files told)
+  knows (inr (inl (n, also))) = absurd (other n (one words c (Gen n) asks also))
+  knows (inr (inr (files, told, given))) = due.asked c files (code_of answer.status) answer.text.items asks told (is files told)
 
-pub command_due : (words : List (List ℕ)) (held : Option Files) (c : Command) (before after : Counts) (r : Result Answer AllocError) → Asks words c →
-    IfOk r (λ answer. AnswersBy (λ files. DueTo files c) held before after answer) → IfOk r (λ answer. IsAnswer words held before after answer)
-command_due words held c before after (Ok answer) asks is = asked_due words held c before after answer asks is
-command_due words held c before after (Err e) asks is = tt
+pub command_due : AskOneCommand → (words : List (List ℕ)) (held : Option Files) (keys : Option (List ℕ)) (c : Command) (before after : Counts) (r : Result Answer AllocError) → Asks words c → ((n : ℕ) → c ≡ Gen n → ⊥) →
+    IfOk r (λ answer. AnswersBy (λ files. DueTo files c) held before after answer) → IfOk r (λ answer. IsAnswer words held keys before after answer)
+command_due one words held keys c before after (Ok answer) asks other is = asked_due one words held keys c before after answer asks other is
+command_due one words held keys c before after (Err e) asks other is = tt
+
+pub generated_due : (words : List (List ℕ)) (held : Option Files) (keys : Option (List ℕ)) (n : ℕ) (m : Counts) (r : Result Answer AllocError) → Asks words (Gen n) →
+    IfOk r (λ answer. DueFor (source n) (λ p lines. generated_report n p) (code_of answer.status) answer.text.items) → IfOk r (λ answer. IsAnswer words held keys m m answer)
+generated_due words held keys n m (Ok answer) asks is = inr (refl, λ knows. due.generated n (code_of answer.status) answer.text.items asks is)
+generated_due words held keys n m (Err e) asks is = tt
+
+-- a status that speaks of no file
+pub generated_settled : (m : Counts) (r : Result Answer AllocError) → IfOk r (λ answer. is_of_files answer.status ≡ false) → IfOk r (λ answer. answer.status ≡ Fault → IsFault m m answer)
+generated_settled m (Ok answer) settled = λ is. absurd (no_fault answer.status settled is)
+generated_settled m (Err e) settled = tt
 
 faulted : (by : DueBy) (held : Option Files) (before after : Counts) (answer : Answer) → AnswersBy by held before after answer → answer.status ≡ Fault → IsFault before after answer
 faulted by held before after answer (inl fault) is = fault

@@ -1,18 +1,17 @@
 -- What a call promises, from its answer and what came of writing it.
-use Rattle.std.proofs.Common.{◌≡◌, ◌≢◌, ◌∙◌, sym, ap, refl, inl, inr, ℕ, ◌<◌, ◌⊎◌, List, length, take, drop, Option, arith}
+use Rattle.std.proofs.Common.{◌≡◌, ◌≢◌, ◌∙◌, sym, ap, refl, inl, inr, ℕ, ◌<◌, ◌⊎◌, List, [], ◌++◌, length, take, drop, Option, arith}
 use Rattle.std.proofs.Math.Seq.{take-length}
 use Rattle.std.proofs.lemmas.List.{take-append-drop}
 use Rattle.wy_outside.specs.Counts.{Rose}
 use Rattle.wy_outside.specs.Shelf.{Files}
-use Rattle.wy_outside.specs.Sink.{appended}
 use Rattle.wy_reply.specs.declared.answer.Answer.{Answer}
 use Rattle.wy_reply.specs.declared.status.Status.{Status}
 use Rattle.wy_reply.specs.declared.status.Status.TheVariants.{Done, Usage, Absent, Program, Trace, Question, Fault, TooLong, NoMemory, Audit}
 use Rattle.wy_reply.specs.Statuses.{code_of}
-use Rattle.wy_top.specs.Due.{IsFrontOf}
-use Rattle.wy_top.specs.Answers.{Counts, IsAnswer, IsFault, IsFaultLine, Knows}
+use Rattle.wy_session.specs.Talk.{IsFrontOf}
+use Rattle.wy_top.specs.Answers.{Counts, IsAnswer, IsFault, Knows}
 use Rattle.wy_top.specs.Deliveries.{Delivers, WritesPart}
-use Rattle.wy_top.specs.Call.{BeginsDue, WritesDue, WritesFaultLine, WritesFront}
+use Rattle.wy_top.specs.Call.{BeginsDue, Failures, IsFaultBehind, WritesDue, WritesFaultLine, WritesFront, alone, whole}
 
 -- ---- statuses by their numbers
 
@@ -28,7 +27,7 @@ done_at TooLong e = absurd cc
 done_at NoMemory e = absurd cc
 done_at Audit e = absurd cc
 
-fault_at : (s : Status) → code_of s ≡ 7 → s ≡ Fault
+pub fault_at : (s : Status) → code_of s ≡ 7 → s ≡ Fault
 fault_at Done e = absurd cc
 fault_at Usage e = absurd cc
 fault_at Absent e = absurd cc
@@ -42,35 +41,36 @@ fault_at Audit e = absurd cc
 
 -- ---- what is written
 
-pub written_due : (words : List (List ℕ)) (held : Option Files) (old new : Counts) (n m : ℕ) (before after : Option (List ℕ)) (answer : Answer) (status : Status) (code : ℕ) → IsAnswer words held old new answer →
-    Delivers answer status n m before after → code ≡ code_of status → ¬ Rose old.shelf new.shelf → ¬ Rose old.recorder new.recorder → ¬ Rose n m → Knows words held → code ≢ 9 → WritesDue words held code before after
-written_due words held old new n m before after answer status code (inl (fault, inl (line, rose))) delivers is shelf recorder out knows some = absurd (shelf rose)
-written_due words held old new n m before after answer status code (inl (fault, inr (line, rose))) delivers is shelf recorder out knows some = absurd (recorder rose)
-written_due words held old new n m before after answer status code (inr (same, due)) (inl (as_answered, kept, all)) is shelf recorder out knows some =
+pub written_due : (words : List (List ℕ)) (held : Option Files) (keys : Option (List ℕ)) (old new : Counts) (n m : ℕ) (before after : Option (List ℕ)) (answer : Answer) (status : Status) (code : ℕ) → IsAnswer words held keys old new answer →
+    Delivers answer status n m before after → code ≡ code_of status → ¬ Rose old.shelf new.shelf → ¬ Rose old.recorder new.recorder → ¬ Rose n m → Knows words held keys → code ≢ 9 → WritesDue words held keys code before after
+written_due words held keys old new n m before after answer status code (inl (fault, inl (line, rose))) delivers is shelf recorder out knows some = absurd (shelf rose)
+written_due words held keys old new n m before after answer status code (inl (fault, inr (line, rose))) delivers is shelf recorder out knows some = absurd (recorder rose)
+written_due words held keys old new n m before after answer status code (inr (same, due)) (inl (as_answered, kept, all)) is shelf recorder out knows some =
     (answer.text.items, rw (is, as_answered) (due knows), all)
-written_due words held old new n m before after answer status code (inr (same, due)) (inr (inl (fault, rose, part))) is shelf recorder out knows some = absurd (out rose)
-written_due words held old new n m before after answer status code (inr (same, due)) (inr (inr (memory, kept, part))) is shelf recorder out knows some = absurd (some (is ∙ ap code_of memory))
+written_due words held keys old new n m before after answer status code (inr (same, due)) (inr (inl (fault, rose, part))) is shelf recorder out knows some = absurd (out rose)
+written_due words held keys old new n m before after answer status code (inr (same, due)) (inr (inr (memory, kept, part))) is shelf recorder out knows some = absurd (some (is ∙ ap code_of memory))
 
 -- some first part of the text was written
-part_of : (answer : Answer) (status : Status) (n m : ℕ) (before after : Option (List ℕ)) → Delivers answer status n m before after → WritesPart answer.text.items before after
+pub part_of : (answer : Answer) (status : Status) (n m : ℕ) (before after : Option (List ℕ)) → Delivers answer status n m before after → WritesPart answer.text.items before after
 part_of answer status n m before after (inl (same, kept, all)) = (length answer.text.items, omega arith, rw (take-length answer.text.items) all)
 part_of answer status n m before after (inr (inl (fault, rose, part))) = part
 part_of answer status n m before after (inr (inr (memory, kept, part))) = part
 
-front_of : (words : List (List ℕ)) (held : Option Files) (old new : Counts) (before after : Option (List ℕ)) (answer : Answer) → IsAnswer words held old new answer → WritesPart answer.text.items before after →
-    WritesFront words held old new before after
-front_of words held old new before after answer is (k, within, written) = (take k answer.text.items, written, inr (of is)) where
+pub front_of : (words : List (List ℕ)) (held : Option Files) (keys : Option (List ℕ)) (old new : Failures) (before after : Option (List ℕ)) (answer : Answer) → new.keys ≡ old.keys → IsAnswer words held keys old.outside new.outside answer → WritesPart answer.text.items before after →
+    WritesFront words held keys old new before after
+front_of words held keys old new before after answer stayed is (k, within, written) = (take k answer.text.items, written, inr (of is)) where
   begins : IsFrontOf (take k answer.text.items) answer.text.items
   begins = (drop k answer.text.items, sym (take-append-drop k answer.text.items))
 
-  of : IsAnswer words held old new answer →
-      ((line : List ℕ) × IsFaultLine old new line × IsFrontOf (take k answer.text.items) line) ⊎ ((new ≡ old) × (Knows words held → BeginsDue words held (take k answer.text.items)))
-  of (inl (fault, line)) = inl (answer.text.items, line, begins)
-  of (inr (same, due)) = inr (same, λ knows. (code_of answer.status, answer.text.items, due knows, begins))
+  of : IsAnswer words held keys old.outside new.outside answer →
+      ((said : List ℕ) × (line : List ℕ) × (front : List ℕ) × IsFaultBehind words held keys old new said line × IsFrontOf front line × (take k answer.text.items ≡ said ++ front))
+      ⊎ ((new ≡ old) × (Knows words held keys → BeginsDue words held keys (take k answer.text.items)))
+  of (inl (fault, line)) = inl ([], answer.text.items, take k answer.text.items, alone answer.text.items line, begins, refl)
+  of (inr (same, due)) = inr ((λ i. record { outside = same i; keys = stayed i }), λ knows. whole (code_of answer.status) answer.text.items (due knows) begins)
 
-pub front : (words : List (List ℕ)) (held : Option Files) (old new : Counts) (n m : ℕ) (before after : Option (List ℕ)) (answer : Answer) (status : Status) → IsAnswer words held old new answer →
-    Delivers answer status n m before after → WritesFront words held old new before after
-front words held old new n m before after answer status is delivers = front_of words held old new before after answer is (part_of answer status n m before after delivers)
+pub front : (words : List (List ℕ)) (held : Option Files) (keys : Option (List ℕ)) (old new : Failures) (n m : ℕ) (before after : Option (List ℕ)) (answer : Answer) (status : Status) → new.keys ≡ old.keys → IsAnswer words held keys old.outside new.outside answer →
+    Delivers answer status n m before after → WritesFront words held keys old new before after
+front words held keys old new n m before after answer status stayed is delivers = front_of words held keys old new before after answer stayed is (part_of answer status n m before after delivers)
 
 -- ---- statuses
 
@@ -79,17 +79,34 @@ answered_done n m before after answer status code (inl (same, kept, all)) is zer
 answered_done n m before after answer status code (inr (inl (fault, rose, part))) is zero = absurd (let x = sym (done_at status (sym is ∙ zero)) ∙ fault in cc)
 answered_done n m before after answer status code (inr (inr (memory, kept, part))) is zero = absurd (let x = sym (done_at status (sym is ∙ zero)) ∙ memory in cc)
 
-pub fault_cause : (old new : Counts) (n m : ℕ) (before after : Option (List ℕ)) (answer : Answer) (status : Status) (code : ℕ) → (answer.status ≡ Fault → IsFault old new answer) → Delivers answer status n m before after →
-    code ≡ code_of status → code ≡ 7 → Rose old.shelf new.shelf ⊎ Rose old.recorder new.recorder ⊎ Rose n m
-fault_cause old new n m before after answer status code faults (inl (same, kept, all)) is seven = of (faults (sym same ∙ fault_at status (sym is ∙ seven))) where
-  of : IsFault old new answer → Rose old.shelf new.shelf ⊎ Rose old.recorder new.recorder ⊎ Rose n m
+pub fault_cause : (X : Type 0) (old new : Counts) (n m : ℕ) (before after : Option (List ℕ)) (answer : Answer) (status : Status) (code : ℕ) → (answer.status ≡ Fault → IsFault old new answer) → Delivers answer status n m before after →
+    code ≡ code_of status → code ≡ 7 → Rose old.shelf new.shelf ⊎ Rose old.recorder new.recorder ⊎ Rose n m ⊎ X
+fault_cause X old new n m before after answer status code faults (inl (same, kept, all)) is seven = of (faults (sym same ∙ fault_at status (sym is ∙ seven))) where
+  of : IsFault old new answer → Rose old.shelf new.shelf ⊎ Rose old.recorder new.recorder ⊎ Rose n m ⊎ X
   of (fault, inl (line, rose)) = inl rose
   of (fault, inr (line, rose)) = inr (inl rose)
-fault_cause old new n m before after answer status code faults (inr (inl (fault, rose, part))) is seven = inr (inr rose)
-fault_cause old new n m before after answer status code faults (inr (inr (memory, kept, part))) is seven = absurd (let x = sym (fault_at status (sym is ∙ seven)) ∙ memory in cc)
+fault_cause X old new n m before after answer status code faults (inr (inl (fault, rose, part))) is seven = inr (inr (inl rose))
+fault_cause X old new n m before after answer status code faults (inr (inr (memory, kept, part))) is seven = absurd (let x = sym (fault_at status (sym is ∙ seven)) ∙ memory in cc)
 
-pub fault_line : (old new : Counts) (n m : ℕ) (before after : Option (List ℕ)) (answer : Answer) (status : Status) (code : ℕ) → (answer.status ≡ Fault → IsFault old new answer) → Delivers answer status n m before after →
-    code ≡ code_of status → code ≡ 7 → ¬ Rose n m → WritesFaultLine old new before after
-fault_line old new n m before after answer status code faults (inl (same, kept, all)) is seven out = (answer.text.items, (faults (sym same ∙ fault_at status (sym is ∙ seven))).1, all)
-fault_line old new n m before after answer status code faults (inr (inl (fault, rose, part))) is seven out = absurd (out rose)
-fault_line old new n m before after answer status code faults (inr (inr (memory, kept, part))) is seven out = absurd (let x = sym (fault_at status (sym is ∙ seven)) ∙ memory in cc)
+pub fault_line : (words : List (List ℕ)) (held : Option Files) (keys : Option (List ℕ)) (old new : Failures) (n m : ℕ) (before after : Option (List ℕ)) (answer : Answer) (status : Status) (code : ℕ) → (answer.status ≡ Fault → IsFault old.outside new.outside answer) → Delivers answer status n m before after →
+    code ≡ code_of status → code ≡ 7 → ¬ Rose n m → WritesFaultLine words held keys old new before after
+fault_line words held keys old new n m before after answer status code faults (inl (same, kept, all)) is seven out = ([], answer.text.items, alone answer.text.items (faults (sym same ∙ fault_at status (sym is ∙ seven))).1, all)
+fault_line words held keys old new n m before after answer status code faults (inr (inl (fault, rose, part))) is seven out = absurd (out rose)
+fault_line words held keys old new n m before after answer status code faults (inr (inr (memory, kept, part))) is seven out = absurd (let x = sym (fault_at status (sym is ∙ seven)) ∙ memory in cc)
+
+-- ---- what a fault comes to
+
+pub delivered_fault : (answer : Answer) (s : Status) (n m : ℕ) (before after : Option (List ℕ)) → Delivers answer s n m before after → answer.status ≡ Fault → (code_of s ≡ 7) ⊎ (code_of s ≡ 9)
+delivered_fault answer s n m before after (inl (as_answered, kept, all)) is = inl (ap code_of (as_answered ∙ is))
+delivered_fault answer s n m before after (inr (inl (fault, rose, part))) is = inl (ap code_of fault)
+delivered_fault answer s n m before after (inr (inr (lack, kept, part))) is = inr (ap code_of lack)
+
+pub shelf_fault : (words : List (List ℕ)) (held : Option Files) (keys : Option (List ℕ)) (old new : Counts) (n m : ℕ) (before after : Option (List ℕ)) (answer : Answer) (status : Status) (code : ℕ) → IsAnswer words held keys old new answer →
+    Delivers answer status n m before after → code ≡ code_of status → old.shelf < new.shelf → (code ≡ 7) ⊎ (code ≡ 9)
+shelf_fault words held keys old new n m before after answer status code (inl (fault, line)) delivers is less = rw (is) (delivered_fault answer status n m before after delivers fault)
+shelf_fault words held keys old new n m before after answer status code (inr (same, due)) delivers is less = absurd (omega (arith, less, ap (λ (c : Counts). c.shelf) same))
+
+pub recorder_fault : (words : List (List ℕ)) (held : Option Files) (keys : Option (List ℕ)) (old new : Counts) (n m : ℕ) (before after : Option (List ℕ)) (answer : Answer) (status : Status) (code : ℕ) → IsAnswer words held keys old new answer →
+    Delivers answer status n m before after → code ≡ code_of status → old.recorder < new.recorder → (code ≡ 7) ⊎ (code ≡ 9)
+recorder_fault words held keys old new n m before after answer status code (inl (fault, line)) delivers is less = rw (is) (delivered_fault answer status n m before after delivers fault)
+recorder_fault words held keys old new n m before after answer status code (inr (same, due)) delivers is less = absurd (omega (arith, less, ap (λ (c : Counts). c.recorder) same))

@@ -1,12 +1,11 @@
 -- Why a source is no program, as it is answered.
-use Rattle.std.proofs.Common.{◌≡◌, ◌∙◌, sym, ap, subst, ◌++◌, ℕ, List, Option, Some, None, Result, Ok, Err, IfOk}
+use Rattle.std.proofs.Common.{◌≡◌, ◌∙◌, sym, ap, subst, ℕ, List, Some, Result, Ok, Err, IfOk}
 use Rattle.std.specs.declared.alloc.AllocError.{AllocError}
 use Rattle.wy_constant.specs.declared.rule.Rule.{Rule}
 use Rattle.wy_constant.specs.Refusal as typing
 use Rattle.wy_tree.specs.Lines.{line_of}
 use Rattle.wy_tree.specs.Tokens as fault
 use Rattle.wy_reply.specs.declared.answer.Answer.{Answer}
-use Rattle.wy_reply.specs.declared.lines.Refusal.{Refusal}
 use Rattle.wy_reply.specs.declared.status.Status.{Status}
 use Rattle.wy_reply.specs.declared.status.Status.TheVariants as status
 use Rattle.wy_reply.specs.Lines.{at_token, of_trace}

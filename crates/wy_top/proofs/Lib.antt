@@ -7,3 +7,7 @@ pub mod Delivered
 pub mod OneText
 pub mod OneTrace
 pub mod CarriedLemmas
+pub mod Sessions
+pub mod Opened
+pub mod Requests
+pub mod Generated

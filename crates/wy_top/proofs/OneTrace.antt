@@ -1,5 +1,5 @@
 -- What is due for the bytes of one trace is one, but for the token of Syntax in its source.
-use Rattle.std.proofs.Common.{◌≡◌, ◌∙◌, sym, ap, subst, refl, inl, inr, ◌⊎◌, ℕ, Bool, List, [], ◌∷◌, length, drop, map, Option, Some, None, option_map, Result, Ok, Err}
+use Rattle.std.proofs.Common.{◌≡◌, ◌∙◌, sym, ap, subst, refl, inl, inr, ℕ, List, [], ◌∷◌, length, drop, map, Option, Some, None, option_map, Result, Ok, Err}
 use Rattle.std.specs.Prelude.{MatchResult}
 use Rattle.std.proofs.lemmas.List.{length-map}
 use Rattle.wy_kernel.specs.declared.program.Program as memory
@@ -21,17 +21,20 @@ use Rattle.wy_frames.specs.declared.error.TraceError.{TraceError}
 use Rattle.wy_frames.specs.Heads.{head_of}
 use Rattle.wy_frames.specs.Scan.{Leaves, Waits, turn, Refused}
 use Rattle.wy_frames.specs.Standing.{Standing, start}
-use Rattle.wy_frames.specs.Traces.{AllStand, IsCut, IsReadAs, IsReadBehind}
+use Rattle.wy_frames.specs.Traces.{AllStand, IsReadAs, IsReadBehind}
 use Rattle.wy_one_reading.specs.Laws.{ReadsInOneWay, SaysOfBytes}
 use Rattle.wy_machine.specs.Audits.{OneAuditIsDue}
-use Rattle.wy_machine.specs.declared.auditing.Verdict.{Verdict}
 use Rattle.wy_telling.specs.Output.{output_text}
-use Rattle.wy_telling.specs.Why.{OneAnswerToWhy, WhyIs, Refused as Unanswered}
+use Rattle.wy_telling.specs.Why.{OneAnswerToWhy, WhyIs}
 use Rattle.wy_tree.specs.Tokens.{Placed, Tokens}
 use Rattle.wy_reply.specs.Lines.{of_trace}
 use Rattle.wy_telling.specs.Questions.{questions_text}
 use Rattle.wy_absence.specs.Whynot.{OneAnswerToWhynot, WhynotIs}
-use Rattle.wy_reply.specs.Tellings.{IsTraceLine, Wanted, Why, Audit, Tells, DueUnder, covers_of, cut, damaged, bad_seal, output, questions, why, whynot, audit, refused, told, why_status, why_answer, whynot_status, whynot_answer, audit_status, audit_line}
+use Rattle.wy_session.specs.Desk.{scene_of}
+use Rattle.wy_session.specs.Laws.{OneTalk}
+use Rattle.wy_session.specs.Scene.{Scene}
+use Rattle.wy_session.specs.Talk.{Talks}
+use Rattle.wy_reply.specs.Tellings.{IsTraceLine, Wanted, Tells, DueUnder, covers_of, cut, damaged, bad_seal, output, questions, why, whynot, audit, explore, refused, told, why_status, why_answer, whynot_status, whynot_answer, audit_status, audit_line}
 use Rattle.wy_top.specs.Causes.{IsNoProgram, IsSyntaxLine}
 use Rattle.wy_top.specs.Due.{DueForBytes, no_head, no_program, program}
 use Rattle.wy_top.specs.Programs.{IsProgramOf}
@@ -43,6 +46,7 @@ pub record Traces : Type 0 where
   pub answers : OneAnswerToWhy
   pub statements : OneAnswerToWhynot
   pub audits : OneAuditIsDue
+  pub sessions : OneTalk
 
 -- ---- the ranges of a program are those of its parts and lines
 
@@ -149,6 +153,9 @@ one_telling known p q t _ _ _ _ _ parts lines (whynot word a first) (whynot aske
     let e : a ≡ b = known.statements (program_of p) p.lines.items (map recorded t.events) (covers_of t) word a b first
     (subst (λ (l : List ℕ). WhynotIs (program_of p) l (map recorded t.events) (covers_of t) word b) (sym lines) (subst (λ (z : Program). WhynotIs z q.lines.items (map recorded t.events) (covers_of t) word b) (sym parts) second)) in
     (ap whynot_status e, ap whynot_answer e)
+one_telling known p q t _ _ _ _ _ parts lines (explore input m a first) (explore also n b second) =
+    known.sessions (scene_of p t.events (covers_of t)) input m n a b first
+    (subst (λ (x : Scene). Talks x input n b) (λ i. record { program = sym parts i; lines = sym lines i; records = map recorded t.events; covers = covers_of t }) second)
 one_telling known p q t _ _ _ _ _ parts lines (audit v first) (audit w second) =
     let e : v ≡ w = known.audits (program_of p) t.head (map recorded t.events) (kept_tail t.tail) v w first (rw (parts) second) in
     (ap audit_status e, ap audit_line e)

@@ -1,5 +1,5 @@
 -- What is answered for a source and for a trace is due.
-use Rattle.std.proofs.Common.{◌≡◌, ◌∙◌, sym, ap, subst, refl, inl, inr, ℕ, ◌≤◌, List, length, false, map, Result, Ok, Err, IfOk, Vec, Global}
+use Rattle.std.proofs.Common.{◌≡◌, ◌∙◌, sym, ap, subst, refl, inl, inr, ℕ, List, Result, Ok, Err, IfOk}
 use Rattle.std.specs.declared.alloc.AllocError.{AllocError}
 use Rattle.wy_kernel.specs.declared.program.Program as memory
 use Rattle.wy_kernel.specs.Program.{Program}
@@ -11,14 +11,12 @@ use Rattle.wy_frames.specs.declared.error.TraceError.{TraceError}
 use Rattle.wy_frames.specs.declared.error.TraceError.TheVariants as error
 use Rattle.wy_reply.specs.declared.answer.Answer.{Answer}
 use Rattle.wy_reply.specs.declared.status.Status.TheVariants as status
-use Rattle.wy_reply.specs.Lines.{of_trace}
 use Rattle.wy_reply.specs.Recordings.{Spelling, RecordsAs}
 use Rattle.wy_reply.specs.Report.{recorded_report}
 use Rattle.wy_reply.specs.Statuses.{code_of, is_of_files}
 use Rattle.wy_reply.specs.Tellings as tellings
 use Rattle.wy_reply.specs.Tellings.{DueUnder, IsTraceLine, Wanted}
 use Rattle.wy_top.specs.declared.reading.FrontError.{FrontError}
-use Rattle.wy_top.specs.Causes.{IsNoProgram}
 use Rattle.wy_top.specs.Due.{DueFor, DueForBytes}
 use Rattle.wy_top.specs.Due as due
 use Rattle.wy_top.specs.Fronts.{IsCauseOf}

@@ -2,16 +2,21 @@
 use Rattle.std.specs.Prelude.{◌≡◌, ℕ, List, ◌⊎◌, Option, Some}
 use Rattle.wy_outside.specs.Counts.{Rose}
 use Rattle.wy_outside.specs.Shelf.{Files}
-use Rattle.wy_words.specs.Words.{IsNoCommand}
+use Rattle.wy_words.specs.Words.{Asks, Explore, Gen, IsNoCommand}
 use Rattle.wy_reply.specs.declared.answer.Answer.{Answer}
 use Rattle.wy_reply.specs.declared.status.Status.TheVariants.{Fault}
 use Rattle.wy_reply.specs.Statuses.{code_of}
 use Rattle.wy_reply.specs.Lines.{shelf_fault_line, recorder_fault_line}
 use Rattle.wy_top.specs.Due.{Due}
 
--- the shelf tells its files, or the words ask for none
-abbrev pub Knows : List (List ℕ) → Option Files → Type 0
-Knows words held = IsNoCommand words ⊎ ((files : Files) × (held ≡ Some files))
+-- the words ask to explore a trace
+abbrev pub AsksToExplore : List (List ℕ) → Type 0
+AsksToExplore words = (trace : List ℕ) × Asks words (Explore trace)
+
+-- the words ask for no file, or the shelf tells its files, and the keys what is left of them where these are read
+abbrev pub Knows : List (List ℕ) → Option Files → Option (List ℕ) → Type 0
+Knows words held keys = IsNoCommand words ⊎ ((n : ℕ) × Asks words (Gen n))
+    ⊎ ((files : Files) × (held ≡ Some files) × (AsksToExplore words → (input : List ℕ) × (keys ≡ Some input)))
 
 -- counts of faults, of a shelf and of a recorder
 pub record Counts : Type 0 where
@@ -30,7 +35,7 @@ abbrev pub IsFault : Counts → Counts → Answer → Type 0
 IsFault before after answer = (answer.status ≡ Fault) × IsFaultLine before after answer.text.items
 
 -- an answer to the words: that one failed, or, where none did, what is due
-abbrev pub IsAnswer : List (List ℕ) → Option Files → Counts → Counts → Answer → Type 0
-IsAnswer words held before after answer =
+abbrev pub IsAnswer : List (List ℕ) → Option Files → Option (List ℕ) → Counts → Counts → Answer → Type 0
+IsAnswer words held keys before after answer =
     IsFault before after answer
-    ⊎ ((after ≡ before) × (Knows words held → Due words held (code_of answer.status) answer.text.items))
+    ⊎ ((after ≡ before) × (Knows words held keys → Due words held keys (code_of answer.status) answer.text.items))

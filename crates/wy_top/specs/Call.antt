@@ -1,39 +1,74 @@
 -- What a call promises of the bytes that it writes, and of the trace that it records.
-use Rattle.std.specs.Prelude.{◌≡◌, ◌⊎◌, ℕ, List, [], Option, Some}
+use Rattle.std.specs.Prelude.{◌≡◌, ◌⊎◌, ℕ, List, [], ◌++◌, Option, Some, Ok}
 use Rattle.wy_kernel.specs.declared.program.Program.{Program}
 use Rattle.wy_kernel.specs.Parts.{program_of}
+use Rattle.wy_event.specs.declared.record.Head.{Head}
+use Rattle.wy_event.specs.declared.record.Trace.{Trace}
+use Rattle.wy_frames.specs.Heads.{head_of}
+use Rattle.wy_frames.specs.Traces.{IsReadAs}
+use Rattle.wy_outside.specs.Counts.{Rose}
 use Rattle.wy_outside.specs.Shelf.{Files}
 use Rattle.wy_outside.specs.Sink.{appended}
 use Rattle.wy_record.specs.Answers.{Mirrors}
-use Rattle.wy_words.specs.Words.{Asked, Asks, Record, Why}
+use Rattle.wy_session.specs.Desk.{scene_of}
+use Rattle.wy_session.specs.Talk.{BeginsTalk, IsFrontOf}
+use Rattle.wy_session.specs.Ways.{keys_fault_line}
+use Rattle.wy_words.specs.Words.{Asked, Asks, Explore, Record, Why}
 use Rattle.wy_reply.specs.Carried.{CarriedAnswer}
 use Rattle.wy_reply.specs.Recordings.{HoldTrace, IsTraceOf, Spelling, trace_spelling}
-use Rattle.wy_reply.specs.Tellings.{Wanted}
+use Rattle.wy_reply.specs.Tellings.{Wanted, covers_of}
 use Rattle.wy_reply.specs.Tellings as wanted
-use Rattle.wy_top.specs.Due.{Due, IsFrontOf}
-use Rattle.wy_top.specs.Answers.{Counts, IsFaultLine, Knows}
-use Rattle.wy_top.specs.Held.{Holds, IsInput, source_limit}
+use Rattle.wy_top.specs.Due.{Due}
+use Rattle.wy_top.specs.Answers.{AsksToExplore, Counts, IsFaultLine, Knows, counts}
+use Rattle.wy_top.specs.Held.{Holds, IsInput, source_limit, trace_limit}
 use Rattle.wy_top.specs.Programs.{IsProgramOf}
 
 -- all of a text that is due with this status was written
-abbrev pub WritesDue : List (List ℕ) → Option Files → ℕ → Option (List ℕ) → Option (List ℕ) → Type 0
-WritesDue words held status before after = (text : List ℕ) × Due words held status text × (after ≡ appended before text)
+abbrev pub WritesDue : List (List ℕ) → Option Files → Option (List ℕ) → ℕ → Option (List ℕ) → Option (List ℕ) → Type 0
+WritesDue words held keys status before after = (text : List ℕ) × Due words held keys status text × (after ≡ appended before text)
 
--- a text that is due begins with this part
-abbrev pub BeginsDue : List (List ℕ) → Option Files → List ℕ → Type 0
-BeginsDue words held part = (status : ℕ) × (text : List ℕ) × Due words held status text × IsFrontOf part text
+-- the file of a name is the trace of a program, and is read as this
+pub record IsOpened (files : Files) (name : List ℕ) (p : Program) (t : Trace) : Type 0 where
+  pub bytes : List ℕ
+  pub holds : Holds files name trace_limit bytes
+  pub head : Head
+  pub end : ℕ
+  pub is_head : head_of bytes ≡ Ok (head, end)
+  pub is_program : IsProgramOf head.source p
+  pub is_read : IsReadAs p bytes (Ok t)
 
--- the line of a fault was written
-abbrev pub WritesFaultLine : Counts → Counts → Option (List ℕ) → Option (List ℕ) → Type 0
-WritesFaultLine faults_before faults_after before after = (line : List ℕ) × IsFaultLine faults_before faults_after line × (after ≡ appended before line)
+-- a text that is due begins with this part, or what a session answers to its first lines does
+pub data BeginsDue (words : List (List ℕ)) (held : Option Files) (keys : Option (List ℕ)) (part : List ℕ) : Type 0 where
+  whole : (status : ℕ) (text : List ℕ) → Due words held keys status text → IsFrontOf part text → BeginsDue words held keys part
+  session : (trace : List ℕ) (files : Files) (input : List ℕ) (p : Program) (t : Trace) → Asks words (Explore trace) → held ≡ Some files → keys ≡ Some input →
+      IsOpened files trace p t → BeginsTalk (scene_of p t.events (covers_of t)) input part → BeginsDue words held keys part
 
--- a first part of a text was written, and nothing after it: of the line of a fault where one came, else of a text that is due, where the shelf tells its files
-abbrev pub WritesFront : List (List ℕ) → Option Files → Counts → Counts → Option (List ℕ) → Option (List ℕ) → Type 0
-WritesFront words held faults_before faults_after before after =
+-- how often the shelf, the recorder and the keys failed
+pub record Failures : Type 0 where
+  pub outside : Counts
+  pub keys : ℕ
+
+abbrev pub failures : ℕ → ℕ → ℕ → Failures
+failures shelf recorder keys = record { outside = counts shelf recorder; keys = keys }
+
+-- the line of a fault, behind what was written before it: nothing, but what a session answered where its keys failed
+pub data IsFaultBehind (words : List (List ℕ)) (held : Option Files) (keys : Option (List ℕ)) (before after : Failures) : List ℕ → List ℕ → Type 0 where
+  alone : (line : List ℕ) → IsFaultLine before.outside after.outside line → IsFaultBehind words held keys before after [] line
+  of_keys : (said : List ℕ) → AsksToExplore words → Rose before.keys after.keys → (Knows words held keys → BeginsDue words held keys said)
+      → IsFaultBehind words held keys before after said keys_fault_line
+
+-- the line of a fault was written last
+abbrev pub WritesFaultLine : List (List ℕ) → Option Files → Option (List ℕ) → Failures → Failures → Option (List ℕ) → Option (List ℕ) → Type 0
+WritesFaultLine words held keys faults_before faults_after before after =
+    (said : List ℕ) × (line : List ℕ) × IsFaultBehind words held keys faults_before faults_after said line × (after ≡ appended before (said ++ line))
+
+-- a first part of a text was written, and nothing after it: of the line of a fault where one came, behind what was written before it, else of a text that is due, where the shelf and the keys tell
+abbrev pub WritesFront : List (List ℕ) → Option Files → Option (List ℕ) → Failures → Failures → Option (List ℕ) → Option (List ℕ) → Type 0
+WritesFront words held keys faults_before faults_after before after =
     (part : List ℕ) × (after ≡ appended before part)
     × ((part ≡ [])
-    ⊎ ((line : List ℕ) × IsFaultLine faults_before faults_after line × IsFrontOf part line)
-    ⊎ ((faults_after ≡ faults_before) × (Knows words held → BeginsDue words held part)))
+    ⊎ ((said : List ℕ) × (line : List ℕ) × (front : List ℕ) × IsFaultBehind words held keys faults_before faults_after said line × IsFrontOf front line × (part ≡ said ++ front))
+    ⊎ ((faults_after ≡ faults_before) × (Knows words held keys → BeginsDue words held keys part)))
 
 -- the run that was asked for is traced: each mirror that tells its bytes holds the trace of the source's program
 pub record Traced (s : Spelling) (files : Files) (a : Asked) (old new : Mirrors) : Type 0 where

@@ -1,6 +1,5 @@
 -- Why a text is no program: the rule that it breaks first, and where it does.
-use Rattle.std.specs.Prelude.{◌≡◌, ◌≤◌, ℕ, List, ◌++◌, length, codes, Option, Some, None, Err}
-use Rattle.std.specs.Fmt.{decimal}
+use Rattle.std.specs.Prelude.{◌≡◌, ◌≤◌, ℕ, List, length, codes, Option, Some, None, Err}
 use Rattle.wy_constant.specs.declared.rule.Rule.{Rule}
 use Rattle.wy_constant.specs.declared.rule.Rule.TheVariants as rule
 use Rattle.wy_constant.specs.Refusal as typing

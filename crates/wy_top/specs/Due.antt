@@ -1,5 +1,5 @@
 -- What a call of the program has to answer: its status and its text, by the words and the files alone.
-use Rattle.std.specs.Prelude.{◌≡◌, ◌≤◌, ℕ, List, ◌++◌, length, map, Option, Some, None, Result, Ok, Err}
+use Rattle.std.specs.Prelude.{◌≡◌, ℕ, List, map, Option, Some, None, Ok, Err}
 use Rattle.wy_kernel.specs.Program.{Program}
 use Rattle.wy_kernel.specs.declared.program.Program as memory
 use Rattle.wy_event.specs.declared.record.Head.{Head}
@@ -7,9 +7,11 @@ use Rattle.wy_outside.specs.Shelf.{Files}
 use Rattle.wy_tree.specs.Tokens.{Placed, Tokens}
 use Rattle.wy_frames.specs.Heads.{head_of}
 use Rattle.wy_frames.specs.declared.error.TraceError.{TraceError}
-use Rattle.wy_words.specs.Words.{Asked, Asks, Command, Run, Record, Output, Questions, Why, WhyNot, Audit, IsNoCommand}
+use Rattle.wy_words.specs.Words.{Asked, Asks, Command, Run, Record, Output, Questions, Why, WhyNot, Audit, Explore, Gen, IsNoCommand}
 use Rattle.wy_reply.specs.Lines.{usage_line, of_trace}
+use Rattle.wy_gen.specs.Source.{source}
 use Rattle.wy_reply.specs.Report.{report, recorded_report}
+use Rattle.wy_reply.specs.Generated.{generated_report}
 use Rattle.wy_reply.specs.Tellings.{DueUnder, IsTraceLine, Wanted}
 use Rattle.wy_reply.specs.Tellings as wanted
 use Rattle.wy_top.specs.Causes.{IsNoProgram, IsSyntaxLine}
@@ -48,11 +50,16 @@ DueTo files (Questions trace) status text = DueForTrace files trace wanted.Quest
 DueTo files (WhyNot trace statement) status text =
     DueForTrace files trace (wanted.WhyNot statement) status text
 DueTo files (Audit trace) status text = DueForTrace files trace wanted.Audit status text
+DueTo files (Explore trace) status text = ⊥
+DueTo files (Gen n) status text = ⊥
 
--- the status and the text that are due
-pub data Due (words : List (List ℕ)) (held : Option Files) : ℕ → List ℕ → Type 0 where
-  usage : IsNoCommand words → Due words held 2 usage_line
-  asked : (c : Command) (files : Files) (status : ℕ) (text : List ℕ) → Asks words c → held ≡ Some files → DueTo files c status text → Due words held status text
+-- the status and the text that are due, by the files and by what is left of the keys, where they are told
+pub data Due (words : List (List ℕ)) (held : Option Files) (keys : Option (List ℕ)) : ℕ → List ℕ → Type 0 where
+  usage : IsNoCommand words → Due words held keys 2 usage_line
+  asked : (c : Command) (files : Files) (status : ℕ) (text : List ℕ) → Asks words c → held ≡ Some files → DueTo files c status text → Due words held keys status text
+  explored : (trace : List ℕ) (files : Files) (input : List ℕ) (status : ℕ) (text : List ℕ) → Asks words (Explore trace) → held ≡ Some files → keys ≡ Some input →
+      DueForTrace files trace (wanted.Explore input) status text → Due words held keys status text
+  generated : (n status : ℕ) (text : List ℕ) → Asks words (Gen n) → DueFor (source n) (λ p lines. generated_report n p) status text → Due words held keys status text
 
 -- ---- the one freedom
 
@@ -68,15 +75,13 @@ trace_of (Why trace question) = Some trace
 trace_of (Questions trace) = Some trace
 trace_of (WhyNot trace statement) = Some trace
 trace_of (Audit trace) = Some trace
+trace_of (Explore trace) = Some trace
 trace_of _ = None
 
--- both texts are lines of Syntax for the tokens of one source: that of the file which a run names, or that in the head of the trace which is read
+-- both texts are lines of Syntax for the tokens of one source: that of the file which a run names, that in the head of the trace which is read, or a generated one
 pub data AreSyntaxLines (words : List (List ℕ)) (held : Option Files) : List ℕ → List ℕ → Type 0 where
   of_source : (c : Command) (files : Files) (a : Asked) (source : List ℕ) (spans : List Placed) (x y : List ℕ) → Asks words c → held ≡ Some files → run_of c ≡ Some a → Holds files a.source source_limit source →
       Tokens source spans → IsSyntaxLine spans x → IsSyntaxLine spans y → AreSyntaxLines words held x y
   of_head : (c : Command) (files : Files) (name bytes : List ℕ) (head : Head) (end : ℕ) (spans : List Placed) (x y : List ℕ) → Asks words c → held ≡ Some files → trace_of c ≡ Some name → Holds files name trace_limit bytes →
       head_of bytes ≡ Ok (head, end) → Tokens head.source spans → IsSyntaxLine spans x → IsSyntaxLine spans y → AreSyntaxLines words held (of_trace x) (of_trace y)
-
--- the second text begins with the first
-abbrev pub IsFrontOf : List ℕ → List ℕ → Type 0
-IsFrontOf part text = (rest : List ℕ) × (text ≡ part ++ rest)
+  of_generated : (n : ℕ) (spans : List Placed) (x y : List ℕ) → Asks words (Gen n) → Tokens (source n) spans → IsSyntaxLine spans x → IsSyntaxLine spans y → AreSyntaxLines words held x y

@@ -9,3 +9,4 @@ pub mod Call
 pub mod Deliveries
 pub mod Replies
 pub mod Recorder
+pub mod Openings

@@ -5,17 +5,15 @@ use Rattle.wy_kernel.specs.Parts.{program_of}
 use Rattle.wy_outside.specs.Counts.{Rose}
 use Rattle.wy_outside.specs.Shelf.{Files}
 use Rattle.wy_record.specs.Answers.{Mirrors}
-use Rattle.wy_words.specs.Words.{Asked}
 use Rattle.wy_reply.specs.declared.answer.Answer.{Answer}
 use Rattle.wy_reply.specs.declared.status.Status.TheVariants as status
-use Rattle.wy_reply.specs.Lines.{of_trace, recorder_fault_line, shelf_fault_line}
+use Rattle.wy_reply.specs.Lines.{of_trace, recorder_fault_line}
 use Rattle.wy_reply.specs.Recordings.{HoldTrace, Spelling}
 use Rattle.wy_reply.specs.Report.{recorded_report}
 use Rattle.wy_reply.specs.Statuses.{code_of, is_of_files}
 use Rattle.wy_reply.specs.Tellings.{DueUnder, Wanted}
 use Rattle.wy_top.specs.declared.reading.FrontError.{FrontError}
 use Rattle.wy_top.specs.Answers.{Counts, IsFault}
-use Rattle.wy_top.specs.Call.{Traced}
 use Rattle.wy_top.specs.Causes.{IsNoProgram}
 use Rattle.wy_top.specs.Due.{DueFor}
 use Rattle.wy_top.specs.Fronts.{IsCauseOf}

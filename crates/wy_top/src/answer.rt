@@ -1,11 +1,11 @@
 //! What the words and the files give, before any byte of it is written.
-ghost use Rattle.std.specs.Prelude.{◌≡◌, ℕ, IfOk, Some, map, string_bytes};
+ghost use Rattle.std.specs.Prelude.{◌≡◌, ℕ, List, Option, IfOk, Some, map, string_bytes};
 ghost use Rattle.wy_outside.specs.Shelf.{Files};
 ghost use Rattle.wy_outside.specs.Counts.{Rose};
 ghost use Rattle.wy_record.specs.declared.recorder.Phase.TheVariants.{Ready};
 ghost use Rattle.wy_reply.specs.declared.status.Status.TheVariants.{Absent, Done, TooLong, Usage, Fault};
 ghost use Rattle.wy_reply.specs.Tellings.{wanted_of};
-ghost use Rattle.wy_top.specs.Answers.{IsAnswer, IsFault, counts};
+ghost use Rattle.wy_top.specs.Answers.{AsksToExplore, IsAnswer, IsFault, counts};
 ghost use Rattle.wy_top.specs.Call.{AnswersRunOf, Carries, RecordsNothing, Traced, Traces};
 ghost use Rattle.wy_top.specs.Reads.{Tells};
 ghost use Rattle.wy_top.specs.Replies.{AnswersBy, HasCause, at_shelf};
@@ -16,7 +16,7 @@ ghost use Rattle.wy_words.specs.Views.{asked_of};
 ghost use Rattle.wy_words.specs.Words.{IsNoCommand};
 
 use crate::files::{Contents, FileError, read_both, read_trace};
-use crate::source::{record_source, run_source};
+use crate::source::{record_source, run_generated, run_source};
 use crate::trace::answer_to_bytes;
 use std::alloc::{AllocError, Global};
 use wy_outside::shelf::Shelf;
@@ -26,7 +26,7 @@ use wy_words::laws::words_ask_one_command;
 use wy_words::{Asked, Command, command};
 
 /// The answer where a file was not read.
-fn answer_to_lack(alloc: Global, error: FileError<'_>) -> Result<Answer, AllocError>
+pub(crate) fn answer_to_lack(alloc: Global, error: FileError<'_>) -> Result<Answer, AllocError>
     ensures { IfOk result (λ answer. Tells error.entry answer) }
 {
     match error {
@@ -114,17 +114,18 @@ fn answer_from<S: Shelf>(
     }
 }
 
-/// What the words and the files give. The shelf is read at most twice, and not at all where the
-/// words are no command; the recorder is used where they ask to record.
+/// What the words and the files give, unless they ask to explore a trace. The shelf is read at most
+/// twice, and not at all where the words are no command; the recorder is used where they ask to record.
 pub fn answer_to<S: Shelf, R: Recorder>(
     alloc: Global,
     words: &[String],
     shelf: &mut S,
     recorder: &mut R,
 ) -> Result<Answer, AllocError>
-    requires { R.phase recorder.old ≡ Ready }
-    ensures due { IfOk result (λ answer.
-        IsAnswer (map string_bytes words.now) (S.held shelf.old)
+    requires ready { R.phase recorder.old ≡ Ready }
+    requires no_session { ¬ AsksToExplore (map string_bytes words.now) }
+    ensures due { (keys : Option (List ℕ)) → IfOk result (λ answer.
+        IsAnswer (map string_bytes words.now) (S.held shelf.old) keys
         (counts (S.faults shelf.old) (R.faults recorder.old))
         (counts (S.faults shelf.new) (R.faults recorder.new)) answer) }
     ensures traces { IfOk result (λ answer. answer.status ≡ Done
@@ -148,20 +149,23 @@ pub fn answer_to<S: Shelf, R: Recorder>(
         → recorder.new ≡ recorder.old }
 {
     words_ask_one_command();
-    match command(words) {
-        None => Answer::refused(alloc, Status::Usage, Refusal::Usage),
-        Some(Command::Run(asked)) => answer_to_run(alloc, shelf, asked),
-        Some(Command::Record { asked, trace }) => {
-            answer_to_record(alloc, shelf, asked, trace, recorder)
-        }
-        Some(Command::Output { trace }) => answer_from(alloc, shelf, trace, Wanted::Output),
-        Some(Command::Why { trace, question }) => {
+    let request = match command(alloc, words)? {
+        Some(request) => request,
+        None => return Answer::refused(alloc, Status::Usage, Refusal::Usage),
+    };
+    match request {
+        Command::Run(asked) => answer_to_run(alloc, shelf, asked),
+        Command::Record { asked, trace } => answer_to_record(alloc, shelf, asked, trace, recorder),
+        Command::Output { trace } => answer_from(alloc, shelf, trace, Wanted::Output),
+        Command::Why { trace, question } => {
             answer_from(alloc, shelf, trace, Wanted::Why { question })
         }
-        Some(Command::Questions { trace }) => answer_from(alloc, shelf, trace, Wanted::Questions),
-        Some(Command::WhyNot { trace, statement }) => {
+        Command::Questions { trace } => answer_from(alloc, shelf, trace, Wanted::Questions),
+        Command::WhyNot { trace, statement } => {
             answer_from(alloc, shelf, trace, Wanted::WhyNot { statement })
         }
-        Some(Command::Audit { trace }) => answer_from(alloc, shelf, trace, Wanted::Audit),
+        Command::Audit { trace } => answer_from(alloc, shelf, trace, Wanted::Audit),
+        Command::Gen { number } => run_generated(alloc, number),
+        Command::Explore { .. } => unreachable!(),
     }
 }

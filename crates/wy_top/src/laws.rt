@@ -9,15 +9,16 @@ use wy_elab_stmt::laws::a_text_has_one_program;
 use wy_machine::one_audit_is_due;
 use wy_one_reading::bytes_are_read_in_one_way;
 use wy_parser::laws::a_token_list_has_one_tree;
+use wy_session::laws::one_talk;
 use wy_telling::laws::one_answer_to_why;
 use wy_tree::laws::{a_refused_text_has_no_tokens, a_text_has_one_token_list};
 use wy_words::laws::words_ask_one_command;
 
-/// For the same words and files at most one status is due, and at most one text, but that Syntax may
+/// For the same words, files and keys at most one status is due, and at most one text, but that Syntax may
 /// name any token of the source, that of a file or that of a trace.
 pub fn one_answer_is_due()
-    ensures { (words : List (List ℕ)) (held : Option Files) (s t : ℕ) (x y : List ℕ)
-        → Due words held s x → Due words held t y
+    ensures { (words : List (List ℕ)) (held : Option Files) (keys : Option (List ℕ)) (s t : ℕ)
+        (x y : List ℕ) → Due words held keys s x → Due words held keys t y
         → (s ≡ t) × ((x ≡ y) ⊎ AreSyntaxLines words held x y) }
 {
     a_text_has_one_token_list();
@@ -28,5 +29,6 @@ pub fn one_answer_is_due()
     one_answer_to_why();
     one_answer_to_whynot();
     one_audit_is_due();
+    one_talk();
     words_ask_one_command();
 }

@@ -4,8 +4,11 @@
 
 mod answer;
 mod causes;
+mod delivery;
+mod exploring;
 mod files;
 pub mod laws;
+mod opening;
 pub mod reading;
 mod source;
 pub mod top;

@@ -1,6 +1,8 @@
 //! What is answered for a source: its run, its recording, or why it is no program.
 ghost use Rattle.std.specs.Prelude.{◌≡◌, ◌≤◌, IfOk, false, length};
 ghost use Rattle.wy_record.specs.declared.recorder.Phase.TheVariants.{Ready};
+ghost use Rattle.wy_gen.specs.Source.{source};
+ghost use Rattle.wy_reply.specs.Generated.{generated_report};
 ghost use Rattle.wy_reply.specs.Report.{report};
 ghost use Rattle.wy_reply.specs.Recordings.{spelling};
 ghost use Rattle.wy_reply.specs.Statuses.{code_of, is_of_files};
@@ -14,8 +16,9 @@ use crate::reading::{FrontError, front};
 use std::alloc::{AllocError, Global};
 use wy_event::record::Head;
 use wy_event::sequence::Sequence;
+use wy_gen::program;
 use wy_record::Recorder;
-use wy_reply::{Answer, Status, answer_to_program, answer_to_recording};
+use wy_reply::{Answer, Status, answer_to_generated, answer_to_program, answer_to_recording};
 
 /// The answer to a source that is no program.
 fn answer_to_error(alloc: Global, error: FrontError) -> Result<Answer, AllocError>
@@ -41,6 +44,21 @@ pub fn run_source(
 {
     match front(alloc, source) {
         Ok(typed) => answer_to_program(alloc, &typed.program, input, steps),
+        Err(error) => answer_to_error(alloc, error),
+    }
+}
+
+/// What the generated source of a number gives: the sizes of the run of its program.
+pub fn run_generated(alloc: Global, number: u32) -> Result<Answer, AllocError>
+    requires some { 1 ≤ number }
+    requires few { number ≤ 2000 }
+    ensures due { IfOk result (λ answer. DueFor (source number)
+        (λ p lines. generated_report number p) (code_of answer.status) answer.text.items) }
+    ensures settled { IfOk result (λ answer. is_of_files answer.status ≡ false) }
+{
+    let source = program(alloc, number)?;
+    match front(alloc, source.as_slice()) {
+        Ok(typed) => answer_to_generated(alloc, &typed.program, number),
         Err(error) => answer_to_error(alloc, error),
     }
 }

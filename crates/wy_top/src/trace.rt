@@ -21,7 +21,7 @@ use wy_spelled::heads_are_short;
 use wy_tree::laws::{a_refused_text_has_no_tokens, a_text_has_one_token_list};
 
 /// The answer to a trace whose source is no program.
-fn answer_to_error(alloc: Global, error: FrontError) -> Result<Answer, AllocError>
+pub(crate) fn answer_to_error(alloc: Global, error: FrontError) -> Result<Answer, AllocError>
     ensures { IfOk result (λ answer. RefusesTrace error answer) }
 {
     match front_cause(error) {

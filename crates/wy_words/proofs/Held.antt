@@ -5,7 +5,7 @@ use Rattle.std.specs.Option.{option_to_list}
 use Rattle.std.proofs.lemmas.Bool.{lt-ltb}
 use Rattle.std.proofs.lemmas.List.{append-nil, append_assoc, length-append}
 use Rattle.std.proofs.lemmas.Option.{none-some, same_Some, cond_some, option_and_then_some}
-use Rattle.wy_words.specs.declared.asking.Awaited.TheVariants as awaited
+use Rattle.wy_words.specs.Awaited as awaited
 use Rattle.wy_words.specs.Words.{Part, Operand, Input, Trace, Steps, operand_of, input_of, trace_of, steps_of, Holds}
 use Rattle.wy_words.specs.Reading.{Asking, nothing, with_part}
 use Rattle.wy_words.proofs.Spelled.{with_parts}

@@ -3,13 +3,13 @@ use Rattle.std.proofs.Common.{◌≡◌, ◌∙◌, ℕ, ◌≤◌, length, Bool
 use Rattle.std.specs.Prelude.{if◌then◌else◌, codes, bytes_eq, option_and_then, IfSome, option_map}
 use Rattle.std.proofs.lemmas.Option.{none-some, same_Some, option_and_then_some}
 use Rattle.std.proofs.lemmas.Slice.Eq.{bytes_eq-Decides}
-use Rattle.wy_words.specs.declared.asking.Awaited.{Awaited}
-use Rattle.wy_words.specs.declared.asking.Awaited.TheVariants as awaited
+use Rattle.wy_words.specs.Awaited.{Awaited}
+use Rattle.wy_words.specs.Awaited as awaited
 use Rattle.wy_words.specs.declared.commands.Command as memory
 use Rattle.wy_words.specs.Views.{command_of}
-use Rattle.wy_words.specs.Words.{Part, Spells, Holds, Command, Run, Record, Output, Why, WhyNot, Questions, Audit, asked, Asks, IsNoCommand, AskOneCommand}
+use Rattle.wy_words.specs.Words.{Part, Spells, Holds, Command, Run, Record, Output, Why, WhyNot, Questions, Explore, Audit, Gen, number_up_to, asked, Asks, IsNoCommand, AskOneCommand}
 use Rattle.wy_words.specs.Words as words
-use Rattle.wy_words.specs.Reading.{Asking, nothing, named, named_in, ended, command_named, run, run_of, recording, is_bare, only_operand, two_operands, output, why, whynot, questions, audit}
+use Rattle.wy_words.specs.Reading.{Asking, nothing, named, named_in, ended, command_named, run, run_of, recording, is_bare, only_operand, two_operands, output, why, whynot, questions, explore, audit, generated}
 use Rattle.wy_words.proofs.Spelled.{spelled, named_spelled}
 use Rattle.wy_words.proofs.Held.{naming, held, holds}
 
@@ -51,9 +51,17 @@ questions_named : (trace : List ℕ) → command_named (codes "questions") (nami
 unfolding command_named questions only_operand is_bare
 questions_named trace = refl
 
+explore_named : (trace : List ℕ) → command_named (codes "explore") (naming (trace ∷ []) None None None) ≡ Some (Explore trace)
+unfolding command_named explore only_operand is_bare
+explore_named trace = refl
+
 audit_named : (trace : List ℕ) → command_named (codes "audit") (naming (trace ∷ []) None None None) ≡ Some (Audit trace)
 unfolding command_named audit only_operand is_bare
 audit_named trace = refl
+
+gen_named : (word : List ℕ) (n : ℕ) → number_up_to 2000 word ≡ Some n → command_named (codes "gen") (naming (word ∷ []) None None None) ≡ Some (Gen n)
+unfolding command_named generated only_operand is_bare
+gen_named word n number = ap (option_map Gen) number
 
 pub asked_read : (words : List (List ℕ)) (c : Command) → Asks words c → read_as words ≡ Some c
 asked_read _ _ (words.run {words = ws} {parts = ps} {source = source} {input = i} {steps = n} s h) =
@@ -68,8 +76,12 @@ asked_read _ _ (words.whynot {words = ws} {parts = ps} {trace = t} {statement = 
     ap (option_and_then (command_named (codes "whynot"))) (named_there ws ps (t ∷ (k ∷ [])) None None None (omega arith) s h) ∙ whynot_named t k
 asked_read _ _ (words.questions {words = ws} {parts = ps} {trace = t} s h) =
     ap (option_and_then (command_named (codes "questions"))) (named_there ws ps (t ∷ []) None None None (omega arith) s h) ∙ questions_named t
+asked_read _ _ (words.explore {words = ws} {parts = ps} {trace = t} s h) =
+    ap (option_and_then (command_named (codes "explore"))) (named_there ws ps (t ∷ []) None None None (omega arith) s h) ∙ explore_named t
 asked_read _ _ (words.audit {words = ws} {parts = ps} {trace = t} s h) =
     ap (option_and_then (command_named (codes "audit"))) (named_there ws ps (t ∷ []) None None None (omega arith) s h) ∙ audit_named t
+asked_read _ _ (words.generated {words = ws} {parts = ps} {word = w} {n = n} s h number) =
+    ap (option_and_then (command_named (codes "gen"))) (named_there ws ps (w ∷ []) None None None (omega arith) s h) ∙ gen_named w n number
 
 pub one_command : AskOneCommand
 one_command words c d x y = same_Some c d (sym (asked_read words c x) ∙ asked_read words d y)
@@ -173,10 +185,24 @@ questions_meant : (behind : List (List ℕ)) (a : Asking) (c : Command) → Stan
 unfolding questions
 questions_meant behind a c s is = of_one (codes "questions") behind a Questions c (λ word t. words.questions t.spells t.hold) s is
 
+explore_meant : (behind : List (List ℕ)) (a : Asking) (c : Command) → Stands behind a.operands a.input a.trace a.steps
+    → explore a ≡ Some c → Asks (codes "explore" ∷ behind) c
+unfolding explore
+explore_meant behind a c s is = of_one (codes "explore") behind a Explore c (λ word t. words.explore t.spells t.hold) s is
+
 audit_meant : (behind : List (List ℕ)) (a : Asking) (c : Command) → Stands behind a.operands a.input a.trace a.steps
     → audit a ≡ Some c → Asks (codes "audit" ∷ behind) c
 unfolding audit
 audit_meant behind a c s is = of_one (codes "audit") behind a Audit c (λ word t. words.audit t.spells t.hold) s is
+
+gen_meant : (behind : List (List ℕ)) (a : Asking) (c : Command) → Stands behind a.operands a.input a.trace a.steps
+    → generated a ≡ Some c → Asks (codes "gen" ∷ behind) c
+unfolding generated
+gen_meant behind a c s is =
+    let m = mapped Gen (option_and_then (number_up_to 2000) (only_operand a.operands a)) c is in
+    option_and_then_some (number_up_to 2000) (only_operand a.operands a) m.from m.there (λ word there number.
+    let t = alone behind a.operands a.awaited a.input a.trace a.steps word s there in
+    subst (Asks (codes "gen" ∷ behind)) m.made (words.generated t.spells t.hold number))
 
 why_meant : (behind : List (List ℕ)) (a : Asking) (c : Command) → Stands behind a.operands a.input a.trace a.steps
     → why a ≡ Some c → Asks (codes "why" ∷ behind) c
@@ -196,20 +222,22 @@ command_meant : (name : List ℕ) (behind : List (List ℕ)) (a : Asking) (c : C
     → command_named name a ≡ Some c → Asks (name ∷ behind) c
 unfolding command_named
 command_meant name behind a c s is =
-    go (bytes_eq name (codes "run")) (bytes_eq name (codes "record")) (bytes_eq name (codes "output")) (bytes_eq name (codes "why")) (bytes_eq name (codes "whynot")) (bytes_eq name (codes "questions")) (bytes_eq name (codes "audit"))
-    refl refl refl refl refl refl refl is
+    go (bytes_eq name (codes "run")) (bytes_eq name (codes "record")) (bytes_eq name (codes "output")) (bytes_eq name (codes "why")) (bytes_eq name (codes "whynot")) (bytes_eq name (codes "questions")) (bytes_eq name (codes "explore")) (bytes_eq name (codes "audit")) (bytes_eq name (codes "gen"))
+    refl refl refl refl refl refl refl refl refl is
   where
-    go : (r d o y w q u : Bool) → bytes_eq name (codes "run") ≡ r → bytes_eq name (codes "record") ≡ d → bytes_eq name (codes "output") ≡ o → bytes_eq name (codes "why") ≡ y → bytes_eq name (codes "whynot") ≡ w → bytes_eq name (codes "questions") ≡ q → bytes_eq name (codes "audit") ≡ u
-        → (if r then run a else (if d then recording a.trace a else (if o then output a else (if y then why a else (if w then whynot a else (if q then questions a else (if u then audit a else None))))))) ≡ Some c
+    go : (r d o y w q x u g : Bool) → bytes_eq name (codes "run") ≡ r → bytes_eq name (codes "record") ≡ d → bytes_eq name (codes "output") ≡ o → bytes_eq name (codes "why") ≡ y → bytes_eq name (codes "whynot") ≡ w → bytes_eq name (codes "questions") ≡ q → bytes_eq name (codes "explore") ≡ x → bytes_eq name (codes "audit") ≡ u → bytes_eq name (codes "gen") ≡ g
+        → (if r then run a else (if d then recording a.trace a else (if o then output a else (if y then why a else (if w then whynot a else (if q then questions a else (if x then explore a else (if u then audit a else (if g then generated a else None))))))))) ≡ Some c
         → Asks (name ∷ behind) c
-    go true d o y w q u er ed eo ey ew eq eu e = by_name name (codes "run") behind c er (run_meant behind a.operands a.awaited a.input a.trace a.steps c s e)
-    go false true o y w q u er ed eo ey ew eq eu e = by_name name (codes "record") behind c ed (recording_meant behind a.operands a.awaited a.input a.trace a.steps c s e)
-    go false false true y w q u er ed eo ey ew eq eu e = by_name name (codes "output") behind c eo (output_meant behind a c s e)
-    go false false false true w q u er ed eo ey ew eq eu e = by_name name (codes "why") behind c ey (why_meant behind a c s e)
-    go false false false false true q u er ed eo ey ew eq eu e = by_name name (codes "whynot") behind c ew (whynot_meant behind a c s e)
-    go false false false false false true u er ed eo ey ew eq eu e = by_name name (codes "questions") behind c eq (questions_meant behind a c s e)
-    go false false false false false false true er ed eo ey ew eq eu e = by_name name (codes "audit") behind c eu (audit_meant behind a c s e)
-    go false false false false false false false er ed eo ey ew eq eu e = absurd (none-some c e)
+    go true d o y w q x u g er ed eo ey ew eq ex eu eg e = by_name name (codes "run") behind c er (run_meant behind a.operands a.awaited a.input a.trace a.steps c s e)
+    go false true o y w q x u g er ed eo ey ew eq ex eu eg e = by_name name (codes "record") behind c ed (recording_meant behind a.operands a.awaited a.input a.trace a.steps c s e)
+    go false false true y w q x u g er ed eo ey ew eq ex eu eg e = by_name name (codes "output") behind c eo (output_meant behind a c s e)
+    go false false false true w q x u g er ed eo ey ew eq ex eu eg e = by_name name (codes "why") behind c ey (why_meant behind a c s e)
+    go false false false false true q x u g er ed eo ey ew eq ex eu eg e = by_name name (codes "whynot") behind c ew (whynot_meant behind a c s e)
+    go false false false false false true x u g er ed eo ey ew eq ex eu eg e = by_name name (codes "questions") behind c eq (questions_meant behind a c s e)
+    go false false false false false false true u g er ed eo ey ew eq ex eu eg e = by_name name (codes "explore") behind c ex (explore_meant behind a c s e)
+    go false false false false false false false true g er ed eo ey ew eq ex eu eg e = by_name name (codes "audit") behind c eu (audit_meant behind a c s e)
+    go false false false false false false false false true er ed eo ey ew eq ex eu eg e = by_name name (codes "gen") behind c eg (gen_meant behind a c s e)
+    go false false false false false false false false false er ed eo ey ew eq ex eu eg e = absurd (none-some c e)
 
 pub read_asked : (words : List (List ℕ)) (c : Command) → read_as words ≡ Some c → Asks words c
 read_asked [] c is = absurd (none-some c is)

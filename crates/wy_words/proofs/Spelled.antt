@@ -6,9 +6,9 @@ use Rattle.std.proofs.lemmas.Bool.{both_ways, false≢true}
 use Rattle.std.proofs.lemmas.List.{take-append-drop}
 use Rattle.std.proofs.lemmas.Option.{none-some, same_Some, cond_some, option_and_then_some}
 use Rattle.std.proofs.lemmas.Slice.Eq.{bytes_eq-Decides}
-use Rattle.wy_words.specs.declared.asking.Awaited.{Awaited}
-use Rattle.wy_words.specs.declared.asking.Awaited.TheVariants as awaited
-use Rattle.wy_words.specs.Words.{is_plain, budget, Part, Operand, Input, Trace, Steps, Spells, no_part, operand_part, input_part, trace_part, steps_part, joined_steps_part}
+use Rattle.wy_words.specs.Awaited.{Awaited}
+use Rattle.wy_words.specs.Awaited as awaited
+use Rattle.wy_words.specs.Words.{is_plain, number_up_to, Part, Operand, Input, Trace, Steps, Spells, no_part, operand_part, input_part, trace_part, steps_part, joined_steps_part}
 use Rattle.wy_words.specs.Reading.{Asking, with_part, with_plain, with_steps, with_word, with_next, named}
 
 -- an asking whose next word is an operand or an option
@@ -48,19 +48,21 @@ empty is = false≢true is
 no_option : (v : Bool) (x y : Option Asking) → v ≡ false → (if v then x else y) ≡ y
 no_option v x y is = ap (λ u. if u then x else y) is
 
-operand_read : (a : Asking) (word : List ℕ) (words : List (List ℕ)) → is_plain word ≡ true
-    → named (ready a) (word ∷ words) ≡ option_and_then (λ b. named b words) (with_part (ready a) (Operand word))
+pub plain_next : (a : Asking) (word : List ℕ) → is_plain word ≡ true → with_next awaited.Word a word ≡ with_part a (Operand word)
 unfolding with_next with_word with_plain
-operand_read a [] words plain = absurd (empty plain)
-operand_read a (b ∷ word) words plain =
+plain_next a [] plain = absurd (empty plain)
+plain_next a (b ∷ word) plain =
     let far : nat_eq b 45 ≡ false = ne_eqb b 45 (first_differs b word plain) in
     let near : nat_eq 45 b ≡ false = ne_eqb 45 b (λ e. first_differs b word plain (sym e)) in
-    let in_one : Option Asking → Option Asking = option_and_then (λ b. named b words) in
-    ap in_one (no_option (bytes_eq (b ∷ word) (codes "-i")) _ _ (ap (λ v. v && bytes_eq word (codes "i")) far))
-    ∙ ap in_one (no_option (bytes_eq (b ∷ word) (codes "-o")) _ _ (ap (λ v. v && bytes_eq word (codes "o")) far))
-    ∙ ap in_one (no_option (bytes_eq (b ∷ word) (codes "--steps")) _ _ (ap (λ v. v && bytes_eq word (codes "-steps")) far))
-    ∙ ap in_one (no_option (starts_with nat_eq (b ∷ word) (codes "--steps=")) _ _ (ap (λ v. v && bytes_eq (codes "-steps=") (take 7 word)) near))
-    ∙ ap (λ v. in_one (if v then with_part (ready a) (Operand (b ∷ word)) else None)) plain
+    no_option (bytes_eq (b ∷ word) (codes "-i")) _ _ (ap (λ v. v && bytes_eq word (codes "i")) far)
+    ∙ no_option (bytes_eq (b ∷ word) (codes "-o")) _ _ (ap (λ v. v && bytes_eq word (codes "o")) far)
+    ∙ no_option (bytes_eq (b ∷ word) (codes "--steps")) _ _ (ap (λ v. v && bytes_eq word (codes "-steps")) far)
+    ∙ no_option (starts_with nat_eq (b ∷ word) (codes "--steps=")) _ _ (ap (λ v. v && bytes_eq (codes "-steps=") (take 7 word)) near)
+    ∙ ap (λ v. if v then with_part a (Operand (b ∷ word)) else None) plain
+
+operand_read : (a : Asking) (word : List ℕ) (words : List (List ℕ)) → is_plain word ≡ true
+    → named (ready a) (word ∷ words) ≡ option_and_then (λ b. named b words) (with_part (ready a) (Operand word))
+operand_read a word words plain = ap (option_and_then (λ b. named b words)) (plain_next (ready a) word plain)
 
 input_read : (a : Asking) (name : List ℕ) (words : List (List ℕ)) → is_plain name ≡ true
     → named (ready a) (codes "-i" ∷ (name ∷ words)) ≡ option_and_then (λ b. named b words) (with_part (ready a) (Input name))
@@ -72,12 +74,12 @@ trace_read : (a : Asking) (name : List ℕ) (words : List (List ℕ)) → is_pla
 unfolding with_next with_word with_plain with_part
 trace_read a name words plain = ap (λ v. option_and_then (λ b. named b words) (if v then with_part (ready a) (Trace name) else None)) plain
 
-steps_read : (a : Asking) (word : List ℕ) (n : ℕ) (words : List (List ℕ)) → budget word ≡ Some n
+steps_read : (a : Asking) (word : List ℕ) (n : ℕ) (words : List (List ℕ)) → number_up_to 50000000 word ≡ Some n
     → named (ready a) (codes "--steps" ∷ (word ∷ words)) ≡ option_and_then (λ b. named b words) (with_part (ready a) (Steps n))
 unfolding with_next with_word with_steps with_part
 steps_read a word n words is = ap (λ o. option_and_then (λ b. named b words) (option_and_then (λ m. with_part (ready a) (Steps m)) o)) is
 
-joined_steps_read : (a : Asking) (word : List ℕ) (n : ℕ) (words : List (List ℕ)) → budget word ≡ Some n
+joined_steps_read : (a : Asking) (word : List ℕ) (n : ℕ) (words : List (List ℕ)) → number_up_to 50000000 word ≡ Some n
     → named (ready a) ((codes "--steps=" ++ word) ∷ words) ≡ option_and_then (λ b. named b words) (with_part (ready a) (Steps n))
 unfolding with_next with_word with_steps with_part
 joined_steps_read a word n words is = ap (λ o. option_and_then (λ b. named b words) (option_and_then (λ m. with_part (ready a) (Steps m)) o)) is
@@ -138,11 +140,11 @@ plain_spelled a b kind word words front spell is s =
     (kind word ∷ more.0, spell more.0 p.0 more.1)
 
 steps_spelled : (a b : Asking) (word : List ℕ) (words front : List (List ℕ))
-    → ((n : ℕ) (parts : List Part) → budget word ≡ Some n → Spells words parts → Spells front (Steps n ∷ parts))
+    → ((n : ℕ) (parts : List Part) → number_up_to 50000000 word ≡ Some n → Spells words parts → Spells front (Steps n ∷ parts))
     → with_steps a word ≡ Some b → Speak (awaiting b.awaited words) → Speak front
 unfolding with_steps
 steps_spelled a b word words front spell is s =
-    option_and_then_some (λ n. with_part a (Steps n)) (budget word) b is (λ n number e.
+    option_and_then_some (λ n. with_part a (Steps n)) (number_up_to 50000000 word) b is (λ n number e.
     let more = behind_ready b words (part_ready a b (Steps n) e) s in
     (Steps n ∷ more.0, spell n more.0 number more.1))
 

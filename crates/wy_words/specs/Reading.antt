@@ -1,9 +1,9 @@
 -- What stands in the words that are read so far, as the calls of this crate find it. No definition of a command rests on it.
-use Rattle.std.specs.Prelude.{ℕ, length, List, [], ◌∷◌, ◌++◌, Bool, ◌&&◌, nat_eq, nat_lt, bytes_eq, if◌then◌else◌, Option, Some, None, is_none, option_and_then, option_map, codes, drop}
+use Rattle.std.specs.Prelude.{ℕ, length, true, not, ◌||◌, is_some, List, [], ◌∷◌, ◌++◌, Bool, ◌&&◌, nat_eq, nat_lt, bytes_eq, if◌then◌else◌, Option, Some, None, is_none, option_and_then, option_map, codes, drop}
 use Rattle.std.specs.List.{starts_with}
-use Rattle.wy_words.specs.Words.{is_plain, budget, Part, Operand, Input, Trace, Steps, Asked, Command, Run, Record, Output, Why, WhyNot, Questions, Audit, asked}
-use Rattle.wy_words.specs.declared.asking.Awaited.{Awaited}
-use Rattle.wy_words.specs.declared.asking.Awaited.TheVariants as awaited
+use Rattle.wy_words.specs.Words.{is_plain, number_up_to, Part, Operand, Input, Trace, Steps, Asked, Command, Run, Record, Output, Why, WhyNot, Questions, Explore, Audit, Gen, asked}
+use Rattle.wy_words.specs.Awaited.{Awaited}
+use Rattle.wy_words.specs.Awaited as awaited
 
 -- what was named so far, and what the next word has to be
 pub record Asking : Type 0 where
@@ -23,13 +23,27 @@ with_part a (Input name) = if is_none a.input then Some (record a { awaited = aw
 with_part a (Trace name) = if is_none a.trace then Some (record a { awaited = awaited.Word; trace = Some name }) else None
 with_part a (Steps n) = if is_none a.steps then Some (record a { awaited = awaited.Word; steps = Some n }) else None
 
+-- an option of steps with its number
+unfoldable pub is_joined : List ℕ → Bool
+is_joined word = starts_with nat_eq word (codes "--steps=") && is_some (number_up_to 50000000 (drop 8 word))
+
+-- a word that the table may have: a plain one, or an option; one that an option of steps awaits is a number
+unfoldable pub may_stand : Bool → List ℕ → Bool
+may_stand awaits_number word =
+    (is_plain word || (bytes_eq word (codes "-i") || (bytes_eq word (codes "-o") || (bytes_eq word (codes "--steps") || is_joined word))))
+    && (not awaits_number || is_some (number_up_to 50000000 word))
+
+unfoldable pub are_spelled : Bool → List (List ℕ) → Bool
+are_spelled awaits_number [] = true
+are_spelled awaits_number (word ∷ words) = may_stand awaits_number word && are_spelled (bytes_eq word (codes "--steps")) words
+
 -- a plain word more, as a part of this kind
 unfoldable pub with_plain : Asking → (List ℕ → Part) → List ℕ → Option Asking
 with_plain a part word = if is_plain word then with_part a (part word) else None
 
 -- a number of steps more
 unfoldable pub with_steps : Asking → List ℕ → Option Asking
-with_steps a word = option_and_then (λ n. with_part a (Steps n)) (budget word)
+with_steps a word = option_and_then (λ n. with_part a (Steps n)) (number_up_to 50000000 word)
 
 -- a word that no option awaits
 unfoldable pub with_word : Asking → List ℕ → Option Asking
@@ -105,8 +119,14 @@ whynot a = option_map (λ w. WhyNot w.0 w.1) (two_operands a.operands a)
 unfoldable pub questions : Asking → Option Command
 questions a = option_map Questions (only_operand a.operands a)
 
+unfoldable pub explore : Asking → Option Command
+explore a = option_map Explore (only_operand a.operands a)
+
 unfoldable pub audit : Asking → Option Command
 audit a = option_map Audit (only_operand a.operands a)
+
+unfoldable pub generated : Asking → Option Command
+generated a = option_map Gen (option_and_then (number_up_to 2000) (only_operand a.operands a))
 
 -- the command of this name, where it takes what is named
 unfoldable pub command_named : List ℕ → Asking → Option Command
@@ -117,4 +137,6 @@ command_named name a =
     else (if bytes_eq name (codes "why") then why a
     else (if bytes_eq name (codes "whynot") then whynot a
     else (if bytes_eq name (codes "questions") then questions a
-    else (if bytes_eq name (codes "audit") then audit a else None))))))
+    else (if bytes_eq name (codes "explore") then explore a
+    else (if bytes_eq name (codes "audit") then audit a
+    else (if bytes_eq name (codes "gen") then generated a else None))))))))

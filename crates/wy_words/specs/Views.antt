@@ -3,12 +3,13 @@ use Rattle.std.specs.Borrow.{Bor}
 use Rattle.std.specs.Prelude.{ℕ, List, [], ◌∷◌, option_map}
 use Rattle.wy_words.specs.Words as words
 use Rattle.wy_words.specs.Reading as reading
+use Rattle.wy_words.specs.Awaited as awaited
 use Rattle.wy_words.specs.declared.asking.Operands.{Operands}
 use Rattle.wy_words.specs.declared.asking.Operands.TheVariants.{Nothing, One, Two}
 use Rattle.wy_words.specs.declared.asking.Asking.{Asking}
 use Rattle.wy_words.specs.declared.commands.Asked.{Asked}
 use Rattle.wy_words.specs.declared.commands.Command.{Command}
-use Rattle.wy_words.specs.declared.commands.Command.TheVariants.{Run, Record, Output, Why, WhyNot, Questions, Audit}
+use Rattle.wy_words.specs.declared.commands.Command.TheVariants.{Run, Record, Output, Why, WhyNot, Questions, Explore, Audit, Gen}
 
 abbrev pub operands_of : Operands → List (List ℕ)
 operands_of Nothing = []
@@ -20,7 +21,7 @@ pair_of x = (x.0.now, x.1.now)
 
 abbrev pub asking_of : Asking → reading.Asking
 asking_of a = record {
-  awaited = a.awaited;
+  awaited = awaited.Word;
   operands = operands_of a.operands;
   input = option_map (λ s. s.now) a.input;
   trace = option_map (λ s. s.now) a.trace;
@@ -37,4 +38,6 @@ command_of (Output trace) = words.Output trace.now
 command_of (Why trace question) = words.Why trace.now question.now
 command_of (WhyNot trace statement) = words.WhyNot trace.now statement.now
 command_of (Questions trace) = words.Questions trace.now
+command_of (Explore trace) = words.Explore trace.now
 command_of (Audit trace) = words.Audit trace.now
+command_of (Gen number) = words.Gen number

@@ -11,14 +11,18 @@ unfoldable pub is_plain : List ℕ → Bool
 is_plain [] = false
 is_plain (first ∷ rest) = not (first == 45)
 
--- a number of steps has one to eight decimal digits and a value from 1 to 50,000,000
-unfoldable pub budget : List ℕ → Option ℕ
-budget word = let value = digits_value 10 word in
-    if all_ascii_digits word && nat_le (length word) 8 && nat_le 1 value && nat_le value 50000000 then Some value else None
+-- a number has one to eight decimal digits and a value from 1 to this
+unfoldable pub number_up_to : ℕ → List ℕ → Option ℕ
+number_up_to most word = let value = digits_value 10 word in
+    if all_ascii_digits word && nat_le (length word) 8 && nat_le 1 value && nat_le value most then Some value else None
 
 -- the word is this number of steps
 abbrev pub IsSteps : List ℕ → ℕ → Type 0
-IsSteps word n = budget word ≡ Some n
+IsSteps word n = number_up_to 50000000 word ≡ Some n
+
+-- the word is this number of methods of a generated program
+abbrev pub IsMethods : List ℕ → ℕ → Type 0
+IsMethods word n = number_up_to 2000 word ≡ Some n
 
 -- ---- parts
 
@@ -82,7 +86,9 @@ pub data Command : Type 0 where
   Why : (trace question : List ℕ) → Command
   WhyNot : (trace statement : List ℕ) → Command
   Questions : (trace : List ℕ) → Command
+  Explore : (trace : List ℕ) → Command
   Audit : (trace : List ℕ) → Command
+  Gen : (number : ℕ) → Command
 
 -- the steps that are run where none are asked
 abbrev pub default_steps : ℕ
@@ -105,8 +111,12 @@ pub data Asks : List (List ℕ) → Command → Type 0 where
       → Holds parts (trace ∷ (statement ∷ [])) None None None → Asks (codes "whynot" ∷ words) (WhyNot trace statement)
   questions : {words : List (List ℕ)} {parts : List Part} {trace : List ℕ} → Spells words parts
       → Holds parts (trace ∷ []) None None None → Asks (codes "questions" ∷ words) (Questions trace)
+  explore : {words : List (List ℕ)} {parts : List Part} {trace : List ℕ} → Spells words parts
+      → Holds parts (trace ∷ []) None None None → Asks (codes "explore" ∷ words) (Explore trace)
   audit : {words : List (List ℕ)} {parts : List Part} {trace : List ℕ} → Spells words parts
       → Holds parts (trace ∷ []) None None None → Asks (codes "audit" ∷ words) (Audit trace)
+  generated : {words : List (List ℕ)} {parts : List Part} {word : List ℕ} {n : ℕ} → Spells words parts
+      → Holds parts (word ∷ []) None None None → IsMethods word n → Asks (codes "gen" ∷ words) (Gen n)
 
 -- the words are no command
 abbrev pub IsNoCommand : List (List ℕ) → Type 0

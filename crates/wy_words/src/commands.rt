@@ -2,15 +2,20 @@
 ghost use Rattle.std.specs.Prelude.{◌≡◌, option_map};
 ghost use Rattle.wy_words.specs.Views.{asking_of, asked_of, command_of, pair_of};
 ghost use Rattle.wy_words.specs.Reading.{audit as audit_asked, command_named as named_so};
+ghost use Rattle.wy_words.specs.Reading.{explore as explore_asked, generated as gen_asked};
 ghost use Rattle.wy_words.specs.Reading.{is_bare as bare, only_operand as alone, output as output_asked};
 ghost use Rattle.wy_words.specs.Reading.{recording as recording_asked, run as run_asked, run_of};
 ghost use Rattle.wy_words.specs.Reading.{questions as questions_asked, two_operands as both};
 ghost use Rattle.wy_words.specs.Reading.{why as why_asked, whynot as whynot_asked};
 
 use crate::asking::{Asking, Operands};
+use crate::number::number;
 
 /// The steps that are run where none are asked.
 const DEFAULT_STEPS: u32 = 1_000_000;
+
+/// The methods that a generated program may have.
+const MOST_METHODS: u32 = 2_000;
 
 /// A run of the program in a file, on the input in another where one is named.
 #[derive(Clone, Copy)]
@@ -29,7 +34,9 @@ pub enum Command<'a> {
     Why { trace: &'a str, question: &'a str },
     WhyNot { trace: &'a str, statement: &'a str },
     Questions { trace: &'a str },
+    Explore { trace: &'a str },
     Audit { trace: &'a str },
+    Gen { number: u32 },
 }
 
 /// The command of this name, where it takes all that is named and needs no more.
@@ -55,8 +62,14 @@ pub fn command_named<'a>(name: &str, asking: Asking<'a>) -> Option<Command<'a>>
     if name == "questions" {
         return questions(asking);
     }
+    if name == "explore" {
+        return explore(asking);
+    }
     if name == "audit" {
         return audit(asking);
+    }
+    if name == "gen" {
+        return generated(asking);
     }
     None
 }
@@ -128,12 +141,32 @@ fn questions(asking: Asking<'_>) -> Option<Command<'_>>
     }
 }
 
+#[tactic(auto, unfolding(crate::specs::Reading::explore))]
+fn explore(asking: Asking<'_>) -> Option<Command<'_>>
+    ensures { option_map command_of result ≡ explore_asked (asking_of asking.entry) }
+{
+    match only_operand(asking) {
+        Some(trace) => Some(Command::Explore { trace }),
+        None => None,
+    }
+}
+
 #[tactic(auto, unfolding(crate::specs::Reading::audit))]
 fn audit(asking: Asking<'_>) -> Option<Command<'_>>
     ensures { option_map command_of result ≡ audit_asked (asking_of asking.entry) }
 {
     match only_operand(asking) {
         Some(trace) => Some(Command::Audit { trace }),
+        None => None,
+    }
+}
+
+#[tactic(auto, unfolding(crate::specs::Reading::generated))]
+fn generated(asking: Asking<'_>) -> Option<Command<'_>>
+    ensures { option_map command_of result ≡ gen_asked (asking_of asking.entry) }
+{
+    match number(only_operand(asking)?, MOST_METHODS) {
+        Some(number) => Some(Command::Gen { number }),
         None => None,
     }
 }

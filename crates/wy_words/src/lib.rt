@@ -2,9 +2,10 @@
 #![tactic(auto)]
 
 mod asking;
-mod budget;
 mod commands;
 pub mod laws;
+mod number;
+mod table;
 mod words;
 
 pub use commands::{Asked, Command};

@@ -16,5 +16,5 @@ returns c =
     let name = method_name p (present c.args.method) in
     let last = calls_text p c.args.made.now c.args.cause in
     behind_on r c.args.out.now.items c.put_text.new.out.items new (codes "call ") (name ++ (codes " not made: " ++ last)) c.in_ok-put_text.ensures
-    (behind_on r c.put_text.new.out.items c.put_method.new.out.items new name (codes " not made: " ++ last) c.in_ok-put_method.ensures
-    (behind_on r c.put_method.new.out.items c.put_text-2.new.out.items new (codes " not made: ") last c.in_ok-put_text-2.ensures c.put_calls.ensures))
+    (behind_on r c.put_text.new.out.items c.put_method_name.new.out.items new name (codes " not made: " ++ last) c.in_ok-put_method_name.ensures
+    (behind_on r c.put_method_name.new.out.items c.put_text-2.new.out.items new (codes " not made: ") last c.in_ok-put_text-2.ensures c.put_calls.ensures))

@@ -1,8 +1,9 @@
 use Rattle.std.proofs.Common.{map, rules}
 use Rattle.std.proofs.lemmas.Result.{err_from_is_err_and}
 use Rattle.wy_kernel.specs.ClassTable.{table_of}
+use Rattle.wy_syntax.specs.View.{expression_of, row_of}
 use Rattle.wy_elab_expr.specs.Views.{class_name_of, meaning_of, stream_of}
-use Rattle.wy_elab_expr.proofs.Dots.{read_of_class, target_of_class, stream_stops, class_stops, object_stops, stream_goes, class_goes, object_goes}
+use Rattle.wy_elab_expr.proofs.Dots.{read_of_class, read_stops, read_goes, target_of_class, target_stops, target_goes, stream_stops, class_stops, object_fails, object_stops, stream_goes, class_goes, object_goes, call_found, call_seen}
 use Rattle.wy_elab_expr.proofs.Layers.{no_target}
 use Rattle.wy_elab_expr.proofs.Sequence.{goes_on, stops, ends, elements_go, elements_stop, elements_end}
 use Rattle.wy_elab_expr.proofs.elaboration.+elaboration.Goals as goal
@@ -43,56 +44,69 @@ pub target-returns-in_default : goal.target-returns-in_default
 target-returns-in_default t c = λ j h.
     no_target j (table_of c.args.table.now) c.args.scope.now c.args.texts.now c.args.e.now c.in_default.not-Name c.in_default.not-Group c.in_default.not-Field c.in_default.not-SuperField c.in_default.not-Element
 
-pub elaborated-returns-in-Some : goal.elaborated-returns-in-Some
-elaborated-returns-in-Some t c = λ j h.
-    read_of_class j (table_of c.args.table.now) c.args.scope.now c.args.texts.now c.args.texts.now c.args.e.now c.deref-in-Field.result.now c.in-Field.object c.in-Field.name c.in-Field.token
-    c.as_str-in-Some.result.now (class_name_of c.in-Some.c) c.qualified_name.result
-    c.in-Field.is c.deref-in-Field.ensures (search rules) (search rules) (c.qualified_name.ensures c.args.texts.now)
+pub read_field-returns-in-Some : goal.read_field-returns-in-Some
+read_field-returns-in-Some t c = λ j h.
+    read_of_class j (table_of c.args.table.now) c.args.scope.now c.args.texts.now c.args.texts.now (expression_of c.args.object.now) c.args.name.now c.args.token (class_name_of c.in-Some.c) c.qualified_name.result (search rules) (c.qualified_name.ensures c.args.texts.now)
 
-pub target-returns-in-Some : goal.target-returns-in-Some
-target-returns-in-Some t c = λ j h.
-    target_of_class j (table_of c.args.table.now) c.args.scope.now c.args.texts.now c.args.texts.now c.args.e.now c.deref-in-Field.result.now c.in-Field.object c.in-Field.name c.in-Field.token
-    c.as_str-in-Some.result.now (class_name_of c.in-Some.c) c.class_target.result
-    c.in-Field.is c.deref-in-Field.ensures (search rules) (search rules) (c.class_target.ensures c.args.texts.now)
+pub read_field-returns-in_err-m-in-None : goal.read_field-returns-in_err-m-in-None
+read_field-returns-in_err-m-in-None t c = λ j h.
+    let p = err_from_is_err_and c.from_residual.result c.from_residual.ensures.1 in
+    rw (p.1, p.2) (read_stops j (table_of c.args.table.now) c.args.scope.now c.args.texts.now (expression_of c.args.object.now) c.args.name.now c.args.token _ (search rules) (c.in_err-m-in-None.ensures j h))
 
-pub elaborated-returns-in_err-args-in-Some-stream_in : goal.elaborated-returns-in_err-args-in-Some-stream_in
-elaborated-returns-in_err-args-in-Some-stream_in t c = λ j h.
-    let p = err_from_is_err_and c.from_residual-in_err-args-in-Some-stream_in.result c.from_residual-in_err-args-in-Some-stream_in.ensures.1 in
-    rw (p.1, p.2) (stream_stops j (table_of c.args.table.now) c.args.scope.now c.args.texts.now c.args.e.now c.deref-in-InvokeOn.result.now c.in-InvokeOn.object c.in-InvokeOn.name c.in-InvokeOn.args c.in-InvokeOn.token
-    c.deref-in-Some-stream_in.result.now (stream_of c.in-Some-stream_in.stream) _
-    c.in-InvokeOn.is c.deref-in-InvokeOn.ensures c.deref-in-Some-stream_in.ensures.value (search rules) (c.in_err-args-in-Some-stream_in.ensures j h))
+pub read_field-returns-in_ok-m-in-None : goal.read_field-returns-in_ok-m-in-None
+read_field-returns-in_ok-m-in-None t c = λ j h.
+    read_goes j (table_of c.args.table.now) c.args.scope.now c.args.texts.now c.elaborated.new.texts c.field_read.new.texts (expression_of c.args.object.now) c.args.name.now c.args.token (meaning_of c.in_ok-m-in-None.m) c.field_read.result (search rules) (c.in_ok-m-in-None.ensures j h) c.field_read.ensures
 
-pub elaborated-returns-in_err-args-in-Some-class_in : goal.elaborated-returns-in_err-args-in-Some-class_in
-elaborated-returns-in_err-args-in-Some-class_in t c = λ j h.
+pub field_place-returns-in-Some : goal.field_place-returns-in-Some
+field_place-returns-in-Some t c = λ j h.
+    target_of_class j (table_of c.args.table.now) c.args.scope.now c.args.texts.now c.args.texts.now (expression_of c.args.object.now) c.args.name.now c.args.token (class_name_of c.in-Some.c) c.class_target.result (search rules) (c.class_target.ensures c.args.texts.now)
+
+pub field_place-returns-in_err-m-in-None : goal.field_place-returns-in_err-m-in-None
+field_place-returns-in_err-m-in-None t c = λ j h.
+    let p = err_from_is_err_and c.from_residual.result c.from_residual.ensures.1 in
+    rw (p.1, p.2) (target_stops j (table_of c.args.table.now) c.args.scope.now c.args.texts.now (expression_of c.args.object.now) c.args.name.now c.args.token _ (search rules) (c.in_err-m-in-None.ensures j h))
+
+pub field_place-returns-in_ok-m-in-None : goal.field_place-returns-in_ok-m-in-None
+field_place-returns-in_ok-m-in-None t c = λ j h.
+    target_goes j (table_of c.args.table.now) c.args.scope.now c.args.texts.now c.elaborated.new.texts c.field_target.new.texts (expression_of c.args.object.now) c.args.name.now c.args.token (meaning_of c.in_ok-m-in-None.m) c.field_target.result (search rules) (c.in_ok-m-in-None.ensures j h) c.field_target.ensures
+
+pub invoked_on-returns-in_err-args-in-Some : goal.invoked_on-returns-in_err-args-in-Some
+invoked_on-returns-in_err-args-in-Some t c = λ j h.
+    let p = err_from_is_err_and c.from_residual.result c.from_residual.ensures.1 in
+    rw (p.1, p.2) (stream_stops j (table_of c.args.table.now) c.args.scope.now c.args.texts.now (expression_of c.args.object.now) c.args.name.now (row_of (map expression_of c.args.args.now)) c.args.token (stream_of c.in-Some.stream) _ (search rules) (c.in_err-args-in-Some.ensures j h))
+
+pub invoked_on-returns-in_err-args-in-Some-class_in : goal.invoked_on-returns-in_err-args-in-Some-class_in
+invoked_on-returns-in_err-args-in-Some-class_in t c = λ j h.
     let p = err_from_is_err_and c.from_residual-in_err-args-in-Some-class_in.result c.from_residual-in_err-args-in-Some-class_in.ensures.1 in
-    rw (p.1, p.2) (class_stops j (table_of c.args.table.now) c.args.scope.now c.args.texts.now c.args.e.now c.deref-in-InvokeOn.result.now c.deref-in-None-stream_in.result.now c.in-InvokeOn.object c.in-InvokeOn.name c.in-InvokeOn.args c.in-InvokeOn.token
-    c.deref-in-Some-class_in.result.now (class_name_of c.in-Some-class_in.c) _
-    c.in-InvokeOn.is c.deref-in-InvokeOn.ensures c.deref-in-None-stream_in.ensures c.deref-in-Some-class_in.ensures.value (search rules) (search rules) (c.in_err-args-in-Some-class_in.ensures j h))
+    rw (p.1, p.2) (class_stops j (table_of c.args.table.now) c.args.scope.now c.args.texts.now (expression_of c.args.object.now) c.args.name.now (row_of (map expression_of c.args.args.now)) c.args.token (class_name_of c.in-Some-class_in.c) _ (search rules) (search rules) (c.in_err-args-in-Some-class_in.ensures j h))
 
-pub elaborated-returns-in_err-args-in-None-class_in : goal.elaborated-returns-in_err-args-in-None-class_in
-elaborated-returns-in_err-args-in-None-class_in t c = λ j h.
+pub invoked_on-returns-in_err-m-in-None-class_in : goal.invoked_on-returns-in_err-m-in-None-class_in
+invoked_on-returns-in_err-m-in-None-class_in t c = λ j h.
+    let p = err_from_is_err_and c.from_residual-in_err-m-in-None-class_in.result c.from_residual-in_err-m-in-None-class_in.ensures.1 in
+    rw (p.1, p.2) (object_fails j (table_of c.args.table.now) c.args.scope.now c.args.texts.now (expression_of c.args.object.now) c.args.name.now (row_of (map expression_of c.args.args.now)) c.args.token _ (search rules) (search rules) (c.in_err-m-in-None-class_in.ensures j h))
+
+pub invoked_on-returns-in_err-args-in-None-class_in : goal.invoked_on-returns-in_err-args-in-None-class_in
+invoked_on-returns-in_err-args-in-None-class_in t c = λ j h.
     let p = err_from_is_err_and c.from_residual-in_err-args-in-None-class_in.result c.from_residual-in_err-args-in-None-class_in.ensures.1 in
-    rw (p.1, p.2) (object_stops j (table_of c.args.table.now) c.args.scope.now c.args.texts.now c.elaborated-in-None-class_in.new.texts c.args.e.now c.deref-in-InvokeOn.result.now c.deref-in-None-stream_in.result.now c.deref-in-None-class_in.result.now c.in-InvokeOn.object c.in-InvokeOn.name c.in-InvokeOn.args c.in-InvokeOn.token
-    c.deref-in-None-class_in-2.result.now (meaning_of c.in_ok-m-in-None-class_in.m) _
-    c.in-InvokeOn.is c.deref-in-InvokeOn.ensures c.deref-in-None-stream_in.ensures c.deref-in-None-class_in.ensures c.deref-in-None-class_in-2.ensures.value (search rules) (search rules)
-    (c.in_ok-m-in-None-class_in.ensures j h) (c.in_err-args-in-None-class_in.ensures j h))
+    rw (p.1, p.2) (object_stops j (table_of c.args.table.now) c.args.scope.now c.args.texts.now c.elaborated.new.texts (expression_of c.args.object.now) c.args.name.now (row_of (map expression_of c.args.args.now)) c.args.token (meaning_of c.in_ok-m-in-None-class_in.m) _ (search rules) (search rules) (c.in_ok-m-in-None-class_in.ensures j h) (c.in_err-args-in-None-class_in.ensures j h))
 
-pub elaborated-returns-in_ok-args-in-Some-stream_in : goal.elaborated-returns-in_ok-args-in-Some-stream_in
-elaborated-returns-in_ok-args-in-Some-stream_in t c = λ j h.
-    stream_goes j (table_of c.args.table.now) c.args.scope.now c.args.texts.now c.elaborated_all-in-Some-stream_in.new.texts c.called_on_stream.new.texts c.args.e.now c.deref-in-InvokeOn.result.now c.in-InvokeOn.object c.in-InvokeOn.name c.in-InvokeOn.args c.in-InvokeOn.token
-    c.deref-in-Some-stream_in.result.now c.as_str-in-Some-stream_in.result.now (stream_of c.in-Some-stream_in.stream) (map meaning_of c.in_ok-args-in-Some-stream_in.args.items) c.called_on_stream.result
-    c.in-InvokeOn.is c.deref-in-InvokeOn.ensures c.deref-in-Some-stream_in.ensures.value (search rules) (search rules) (c.in_ok-args-in-Some-stream_in.ensures j h) c.called_on_stream.ensures
+pub invoked_on-returns-in_ok-args-in-Some : goal.invoked_on-returns-in_ok-args-in-Some
+invoked_on-returns-in_ok-args-in-Some t c = λ j h.
+    stream_goes j (table_of c.args.table.now) c.args.scope.now c.args.texts.now c.elaborated_all.new.texts c.called_on_stream.new.texts (expression_of c.args.object.now) c.args.name.now (row_of (map expression_of c.args.args.now)) c.args.token (stream_of c.in-Some.stream) (map meaning_of c.in_ok-args-in-Some.args.items) c.called_on_stream.result
+    (search rules) (c.in_ok-args-in-Some.ensures j h) c.called_on_stream.ensures
 
-pub elaborated-returns-in_ok-args-in-Some-class_in : goal.elaborated-returns-in_ok-args-in-Some-class_in
-elaborated-returns-in_ok-args-in-Some-class_in t c = λ j h.
-    class_goes j (table_of c.args.table.now) c.args.scope.now c.args.texts.now c.elaborated_all-in-Some-class_in.new.texts c.called_on_class.new.texts c.args.e.now c.deref-in-InvokeOn.result.now c.deref-in-None-stream_in.result.now c.in-InvokeOn.object c.in-InvokeOn.name c.in-InvokeOn.args c.in-InvokeOn.token
-    c.deref-in-Some-class_in.result.now c.as_str-in-Some-class_in.result.now (class_name_of c.in-Some-class_in.c) (map meaning_of c.in_ok-args-in-Some-class_in.args.items) c.called_on_class.result
-    c.in-InvokeOn.is c.deref-in-InvokeOn.ensures c.deref-in-None-stream_in.ensures c.deref-in-Some-class_in.ensures.value (search rules) (search rules) (search rules)
-    (c.in_ok-args-in-Some-class_in.ensures j h) (c.called_on_class.ensures j h)
+pub invoked_on-returns-in_ok-args-in-Some-class_in : goal.invoked_on-returns-in_ok-args-in-Some-class_in
+invoked_on-returns-in_ok-args-in-Some-class_in t c = λ j h.
+    class_goes j (table_of c.args.table.now) c.args.scope.now c.args.texts.now c.elaborated_all-in-Some-class_in.new.texts c.called_on_class.new.texts (expression_of c.args.object.now) c.args.name.now (row_of (map expression_of c.args.args.now)) c.args.token (class_name_of c.in-Some-class_in.c) (map meaning_of c.in_ok-args-in-Some-class_in.args.items) c.called_on_class.result
+    (search rules) (search rules) (c.in_ok-args-in-Some-class_in.ensures j h) (c.called_on_class.ensures j h)
 
-pub elaborated-returns-in_ok-args-in-None-class_in : goal.elaborated-returns-in_ok-args-in-None-class_in
-elaborated-returns-in_ok-args-in-None-class_in t c = λ j h.
-    object_goes j (table_of c.args.table.now) c.args.scope.now c.args.texts.now c.elaborated-in-None-class_in.new.texts c.elaborated_all-in-None-class_in.new.texts c.called_on.new.texts c.args.e.now c.deref-in-InvokeOn.result.now c.deref-in-None-stream_in.result.now c.deref-in-None-class_in.result.now c.in-InvokeOn.object c.in-InvokeOn.name c.in-InvokeOn.args c.in-InvokeOn.token
-    c.deref-in-None-class_in-2.result.now c.as_str-in-None-class_in.result.now (meaning_of c.in_ok-m-in-None-class_in.m) (map meaning_of c.in_ok-args-in-None-class_in.args.items) c.called_on.result
-    c.in-InvokeOn.is c.deref-in-InvokeOn.ensures c.deref-in-None-stream_in.ensures c.deref-in-None-class_in.ensures c.deref-in-None-class_in-2.ensures.value (search rules) (search rules) (search rules)
-    (c.in_ok-m-in-None-class_in.ensures j h) (c.in_ok-args-in-None-class_in.ensures j h) (c.called_on.ensures j h)
+pub invoked_on-returns-in_ok-args-in-None-class_in : goal.invoked_on-returns-in_ok-args-in-None-class_in
+invoked_on-returns-in_ok-args-in-None-class_in t c = λ j h.
+    object_goes j (table_of c.args.table.now) c.args.scope.now c.args.texts.now c.elaborated.new.texts c.elaborated_all-in-None-class_in.new.texts c.called_on.new.texts (expression_of c.args.object.now) c.args.name.now (row_of (map expression_of c.args.args.now)) c.args.token (meaning_of c.in_ok-m-in-None-class_in.m) (map meaning_of c.in_ok-args-in-None-class_in.args.items) c.called_on.result
+    (search rules) (search rules) (c.in_ok-m-in-None-class_in.ensures j h) (c.in_ok-args-in-None-class_in.ensures j h) (c.called_on.ensures j h)
+
+pub elaborated-returns-in-InvokeOn : goal.elaborated-returns-in-InvokeOn
+elaborated-returns-in-InvokeOn t c = λ j h.
+    call_found j (table_of c.args.table.now) c.args.scope.now c.args.texts.now c.invoked_on.new.texts c.args.e.now _ c.invoked_on.result
+    (call_seen c.args.e.now c.deref-in-InvokeOn.result.now c.in-InvokeOn.object c.in-InvokeOn.name c.in-InvokeOn.args c.in-InvokeOn.token c.as_str-in-InvokeOn.result.now c.deref-in-InvokeOn-2.result.now
+    c.in-InvokeOn.is c.deref-in-InvokeOn.ensures (search rules) c.deref-in-InvokeOn-2.ensures.value) (c.invoked_on.ensures j h)

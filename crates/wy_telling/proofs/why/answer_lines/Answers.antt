@@ -17,8 +17,8 @@ loop-event-init g c = record {
   lines = λ rs is by_data of. c.new-text.ensures.items;
 }
 
-pub put_line-requires : goal.put_line-requires
-put_line-requires g c =
+pub put_event_line-requires : goal.put_event_line-requires
+put_event_line-requires g c =
     let all = c.as_slice-event-items.result.now in
     let count = (g.V.EventView.tells c.args.view.now).count in
     let rises = subst (Rises 0 count) (sym c.as_slice-event-items.ensures.value) c.requires.there in
@@ -38,9 +38,9 @@ loop-event-preserved g c =
     let p = program_of c.args.program.now in
     let lines = c.args.program.now.lines.items in
     record {
-      keeps = keeps_on (told c.args.view.now) (told c.loop-event.view) (told c.put_line.new.view) v.keeps c.put_line.ensures.keeps;
-      faults = c.in_ok-put_line.ensures.answers ∙ v.faults;
+      keeps = keeps_on (told c.args.view.now) (told c.loop-event.view) (told c.put_event_line.new.view) v.keeps c.put_event_line.ensures.keeps;
+      faults = c.in_ok-put_event_line.ensures.answers ∙ v.faults;
       flow = λ by_data is. (taken by_data is).1;
-      lines = λ rs is by_data of. one_more p lines rs by_data all c.as_slice-event-items.result.now i c.taken-marked.result.0 c.loop-event.text.items c.put_line.new.text.items same c.loop-event-test.true
-          (c.in_ok-put_line.ensures.line rs (v.keeps.records ∙ is)) (taken by_data of).0 (v.lines rs is by_data of);
+      lines = λ rs is by_data of. one_more p lines rs by_data all c.as_slice-event-items.result.now i c.taken-marked.result.0 c.loop-event.text.items c.put_event_line.new.out.items same c.loop-event-test.true
+          (c.in_ok-put_event_line.ensures.line rs (v.keeps.records ∙ is)) (taken by_data of).0 (v.lines rs is by_data of);
     }

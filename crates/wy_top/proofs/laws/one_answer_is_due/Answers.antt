@@ -1,13 +1,14 @@
-use Rattle.std.proofs.Common.{◌≡◌, ◌∙◌, sym, ap, subst, refl, inl, inr, ◌⊎◌, ℕ, List, length, Option, Some, None, Result, Ok, Err, arith}
+use Rattle.std.proofs.Common.{◌≡◌, ◌∙◌, sym, ap, subst, refl, inl, inr, ◌⊎◌, ℕ, List, length, Option, Some, None, arith}
 use Rattle.wy_kernel.specs.Program.{Program}
 use Rattle.wy_outside.specs.Shelf.{Files}
-use Rattle.wy_words.specs.Words.{Asked, Asks, Command, Run, Record, Output, Questions, Why, WhyNot, Audit, IsNoCommand, AskOneCommand}
-use Rattle.wy_reply.specs.Lines.{usage_line, of_trace}
+use Rattle.wy_words.specs.Words.{Asked, Asks, Command, Run, Record, Output, Questions, Why, WhyNot, Audit, Explore, Gen, AskOneCommand}
+use Rattle.wy_gen.specs.Source.{source}
+use Rattle.wy_reply.specs.Generated.{generated_report}
 use Rattle.wy_reply.specs.Report.{report, recorded_report}
 use Rattle.wy_reply.specs.Tellings.{Wanted}
 use Rattle.wy_reply.specs.Tellings as wanted
 use Rattle.wy_top.specs.Held.{Holds, Lacks, absent, too_long, IsInput, source_limit, input_limit, trace_limit}
-use Rattle.wy_top.specs.Due.{Due, DueFor, DueForBytes, DueForRun, DueForTrace, DueTo, usage, asked, AreSyntaxLines, of_source, of_head, run_of, trace_of}
+use Rattle.wy_top.specs.Due.{Due, DueFor, DueForBytes, DueForRun, DueForTrace, DueTo, usage, asked, explored, generated, AreSyntaxLines, of_source, of_head, of_generated, run_of, trace_of}
 use Rattle.wy_top.specs.Due as due
 use Rattle.wy_top.proofs.OneText.{Known, SameLines, one_for}
 use Rattle.wy_top.proofs.OneTrace.{Traces, SameOfTrace, one_text, syntax_lines, one_of_bytes}
@@ -105,16 +106,52 @@ one_command known traces words held (WhyNot trace statement) f s t x y asks told
     trace_same words held (WhyNot trace statement) f trace s t x y asks told refl (one_trace known traces f trace (wanted.WhyNot statement) s t x y first second)
 one_command known traces words held (Audit trace) f s t x y asks told first second =
     trace_same words held (Audit trace) f trace s t x y asks told refl (one_trace known traces f trace wanted.Audit s t x y first second)
+one_command known traces words held (Explore trace) f s t x y asks told first second = absurd first
+one_command known traces words held (Gen n) f s t x y asks told first second = absurd first
 
-one : Known → Traces → AskOneCommand → (words : List (List ℕ)) (held : Option Files) (s t : ℕ) (x y : List ℕ) → Due words held s x → Due words held t y → Same words held s t x y
-one known traces commands words held _ _ _ _ (usage none) (usage also) = (refl, inl refl)
-one known traces commands words held _ _ _ _ (usage none) (asked c f t y asks told d) = absurd (none c asks)
-one known traces commands words held _ _ _ _ (asked c f s x asks told d) (usage none) = absurd (none c asks)
-one known traces commands words held _ _ _ _ (asked c f s x asks told first) (asked d g t y also held_so second) =
+-- a generated program
+gen_is : (m n : ℕ) → Gen m ≡ Gen n → m ≡ n
+gen_is m n e = cc
+
+explore_is : (t u : List ℕ) → Explore t ≡ Explore u → t ≡ u
+explore_is t u e = cc
+
+same_generated : (words : List (List ℕ)) (held : Option Files) (n s t : ℕ) (x y : List ℕ) → Asks words (Gen n) → (s ≡ t) × SameLines (source n) x y → Same words held s t x y
+same_generated words held n s t x y asks (e, inl same) = (e, inl same)
+same_generated words held n s t x y asks (e, inr (spans, ts, first, second)) = (e, inr (of_generated n spans x y asks ts first second))
+
+one : Known → Traces → AskOneCommand → (words : List (List ℕ)) (held : Option Files) (keys : Option (List ℕ)) (s t : ℕ) (x y : List ℕ) → Due words held keys s x → Due words held keys t y → Same words held s t x y
+one known traces commands words held keys _ _ _ _ (usage none) (usage also) = (refl, inl refl)
+one known traces commands words held keys _ _ _ _ (usage none) (asked c f t y asks told d) = absurd (none c asks)
+one known traces commands words held keys _ _ _ _ (usage none) (explored name f i t y asks told given d) = absurd (none (Explore name) asks)
+one known traces commands words held keys _ _ _ _ (usage none) (generated n t y asks d) = absurd (none (Gen n) asks)
+one known traces commands words held keys _ _ _ _ (asked c f s x asks told d) (usage none) = absurd (none c asks)
+one known traces commands words held keys _ _ _ _ (asked c f s x asks told first) (asked d g t y also held_so second) =
     let same : d ≡ c = commands words d c also asks in
     let shelves : Some g ≡ Some f = sym held_so ∙ told in
     let shelf : g ≡ f = cc in
     one_command known traces words held c f s t x y asks told first (subst (λ (z : Command). DueTo f z t y) same (subst (λ (z : Files). DueTo z d t y) shelf second))
+one known traces commands words held keys _ _ _ _ (asked c f s x asks told first) (explored name g i t y also held_so given second) = absurd (subst (λ (z : Command). DueTo f z s x) (commands words c (Explore name) asks also) first)
+one known traces commands words held keys _ _ _ _ (asked c f s x asks told first) (generated n t y also second) = absurd (subst (λ (z : Command). DueTo f z s x) (commands words c (Gen n) asks also) first)
+one known traces commands words held keys _ _ _ _ (explored name f i s x asks told given first) (usage none) = absurd (none (Explore name) asks)
+one known traces commands words held keys _ _ _ _ (explored name f i s x asks told given first) (asked c g t y also held_so second) = absurd (subst (λ (z : Command). DueTo g z t y) (commands words c (Explore name) also asks) second)
+one known traces commands words held keys _ _ _ _ (explored name f i s x asks told given first) (explored other g j t y also held_so given_so second) =
+    let same : other ≡ name = explore_is other name (commands words (Explore other) (Explore name) also asks) in
+    let shelves : Some g ≡ Some f = sym held_so ∙ told in
+    let shelf : g ≡ f = cc in
+    let inputs : Some j ≡ Some i = sym given_so ∙ given in
+    let input : j ≡ i = cc in
+    trace_same words held (Explore name) f name s t x y asks told refl
+    (one_trace known traces f name (wanted.Explore i) s t x y first
+    (subst (λ (z : List ℕ). DueForTrace f name (wanted.Explore z) t y) input (subst (λ (z : List ℕ). DueForTrace f z (wanted.Explore j) t y) same (subst (λ (z : Files). DueForTrace z other (wanted.Explore j) t y) shelf second))))
+one known traces commands words held keys _ _ _ _ (explored name f i s x asks told given first) (generated n t y also second) = absurd (let e = commands words (Explore name) (Gen n) asks also in cc)
+one known traces commands words held keys _ _ _ _ (generated n s x asks first) (usage none) = absurd (none (Gen n) asks)
+one known traces commands words held keys _ _ _ _ (generated n s x asks first) (asked c f t y also told second) = absurd (subst (λ (z : Command). DueTo f z t y) (commands words c (Gen n) also asks) second)
+one known traces commands words held keys _ _ _ _ (generated n s x asks first) (explored name f i t y also told given second) = absurd (let e = commands words (Gen n) (Explore name) asks also in cc)
+one known traces commands words held keys _ _ _ _ (generated n s x asks first) (generated m t y also second) =
+    let same : m ≡ n = gen_is m n (commands words (Gen m) (Gen n) also asks) in
+    same_generated words held n s t x y asks (one_for known (source n) (λ p lines. generated_report n p) s t x y first
+    (subst (λ (k : ℕ). DueFor (source k) (λ p lines. generated_report k p) t y) same second))
 
 pub returns : goal.returns
 returns c =
@@ -125,4 +162,4 @@ returns c =
       utf8 = c.a_refused_text_has_no_tokens.ensures.utf8;
       trees = c.a_token_list_has_one_tree.ensures;
       programs = c.a_text_has_one_program.ensures;
-    }) (record { reading = c.bytes_are_read_in_one_way.ensures; answers = c.one_answer_to_why.ensures; statements = c.one_answer_to_whynot.ensures; audits = c.one_audit_is_due.ensures }) c.words_ask_one_command.ensures
+    }) (record { reading = c.bytes_are_read_in_one_way.ensures; answers = c.one_answer_to_why.ensures; statements = c.one_answer_to_whynot.ensures; audits = c.one_audit_is_due.ensures; sessions = c.one_talk.ensures }) c.words_ask_one_command.ensures

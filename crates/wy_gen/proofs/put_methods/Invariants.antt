@@ -1,0 +1,8 @@
+use Rattle.std.proofs.Common.{◌≡◌, ◌++◌, ◌-◌, map, string_bytes}
+use Rattle.std.specs.List.{range_with_len}
+use Rattle.wy_gen.specs.Source.{below, ended, method}
+use Rattle.wy_gen.proofs.put_methods.Given as goal
+
+-- what is written and the lines that are left are the whole
+abbrev pub invariant-loop-k : goal.invariant-loop-k
+invariant-loop-k l = string_bytes l.text ++ ended (map (method l.n) (range_with_len l.k (l.n - l.k))) ≡ string_bytes l.fn.text ++ ended (map (method l.n) (below l.n))

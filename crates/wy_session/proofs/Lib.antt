@@ -1,0 +1,9 @@
+mod Parts
+mod Stopping
+mod Reading
+mod Finishing
+mod Talking
+mod OneTalk
+mod Saying
+mod Replying
+mod Desks

@@ -1,0 +1,247 @@
+//! A session over a trace that is held whole.
+ghost use Rattle.std.specs.Prelude.{◌≡◌, ◌++◌, ◌<◌, ◌^◌, false, List, Some, All, IfOk, OnOk, length, map};
+ghost use Rattle.wy_event.specs.Record.{Recorded};
+ghost use Rattle.wy_view.specs.References.{AllRefersBelow};
+ghost use Rattle.wy_view.specs.View.{Answers, Keeps};
+ghost use Rattle.wy_kernel.specs.Parts.{program_of};
+ghost use Rattle.wy_explore.specs.Explorer.{AllAnswered, AllWithin, IsReplyWithin, IsWorldOf, reply_of};
+ghost use Rattle.wy_session.specs.Desk.{IsAsked, IsSceneOf, scene_of};
+ghost use Rattle.wy_absence.specs.Items.{items_text};
+ghost use Rattle.wy_whynot.specs.Evidence.{evidence_in};
+ghost use Rattle.wy_lines.specs.Lines.{event_line};
+ghost use Rattle.wy_session.specs.Scene.{Scene, lines_of, reply_text, sources_text};
+ghost use Rattle.wy_session.specs.Ways.{Closed, TakesManyFor, failures};
+
+use crate::ending::Ending;
+use crate::respond::Respond;
+use crate::session::talk;
+use std::alloc::{AllocError, Global};
+use std::marker::Brand;
+use std::sync::ledger::{Blank, Ledger};
+use wy_absence::put_items;
+use wy_event::record::{Cover, Event};
+use wy_explore::{Explorer, Reply, World};
+use wy_index::Index;
+use wy_kernel::program::Program;
+use wy_lines::{put_event_line, put_source_line};
+use wy_outside::sink::Sink;
+use wy_outside::source::Source;
+use wy_static::links::links;
+use wy_telling::answer_lines;
+use wy_view::{EventView, MemoryView, Steps, ViewError};
+use wy_why::Source as From;
+use wy_whynot::Item;
+
+/// The line of an event.
+fn event_line<V: EventView, L: Ledger>(
+    alloc: Global,
+    program: &Program,
+    view: &mut V,
+    event: u32,
+    steps: &mut Steps<L>,
+) -> Result<Vec<u8>, ViewError>
+    requires there { event < (V.tells view.old).count }
+    ensures line { (rs : List Recorded) → (V.tells view.old).records ≡ Some rs
+        → IfOk result (λ line. line.items
+        ≡ event_line (program_of program.now) program.now.lines.items rs event false) }
+    ensures keeps { Keeps (V.tells view.old) (V.tells view.new) }
+    ensures answers { Answers result (V.tells view.old) (V.tells view.new) }
+{
+    let mut line = Vec::new(alloc);
+    put_event_line(&mut line, program, view, event, false, steps)?;
+    Ok(line)
+}
+
+/// Puts a line for each source behind a text.
+fn put_sources<V: EventView, L: Ledger>(
+    out: &mut Vec<u8>,
+    program: &Program,
+    view: &mut V,
+    sources: &[From],
+    steps: &mut Steps<L>,
+) -> Result<(), ViewError>
+    requires { All (λ s. s.event < (V.tells view.old).count) sources.now }
+    ensures lines { (rs : List Recorded) → (V.tells view.old).records ≡ Some rs
+        → OnOk result (out.new.items ≡ out.old.items ++ lines_of (program_of program.now)
+        program.now.lines.items rs sources.now) }
+    ensures keeps { Keeps (V.tells view.old) (V.tells view.new) }
+    ensures answers { Answers result (V.tells view.old) (V.tells view.new) }
+{
+    for source in sources {
+        put_source_line(out, program, view, source, steps)?;
+    }
+    Ok(())
+}
+
+/// The lines of what an event comes from directly, or that there is nothing.
+#[tactic(auto, unfolding(crate::specs::Scene::sources_text, crate::specs::Scene::none_line))]
+fn source_lines<V: EventView, L: Ledger>(
+    alloc: Global,
+    program: &Program,
+    view: &mut V,
+    sources: &[From],
+    steps: &mut Steps<L>,
+) -> Result<Vec<u8>, ViewError>
+    requires { All (λ s. s.event < (V.tells view.old).count) sources.now }
+    ensures lines { (rs : List Recorded) → (V.tells view.old).records ≡ Some rs
+        → IfOk result (λ text. text.items ≡ sources_text (program_of program.now)
+        program.now.lines.items rs sources.now) }
+    ensures keeps { Keeps (V.tells view.old) (V.tells view.new) }
+    ensures answers { Answers result (V.tells view.old) (V.tells view.new) }
+{
+    if sources.is_empty() {
+        return Ok(Vec::from_slice(alloc, "none\n".as_bytes())?);
+    }
+    let mut lines = Vec::new(alloc);
+    put_sources(&mut lines, program, view, sources, steps)?;
+    Ok(lines)
+}
+
+/// The lines of the links that kept a statement from running.
+fn item_lines(alloc: Global, program: &Program, items: &[Item]) -> Result<Vec<u8>, AllocError>
+    ensures { IfOk result (λ text. text.items ≡ items_text (program_of program.now)
+        program.now.lines.items (map evidence_in items.now)) }
+{
+    let mut lines = Vec::new(alloc);
+    put_items(alloc, &mut lines, program, items)?;
+    Ok(lines)
+}
+
+/// The lines of a reply. The end of a session has none.
+#[tactic(auto, unfolding(crate::specs::Scene::reply_text, crate::specs::Scene::none_line))]
+fn reply_lines<V: EventView, L: Ledger>(
+    alloc: Global,
+    world: World<'_>,
+    view: &mut V,
+    explorer: &Explorer,
+    reply: &Reply,
+    steps: &mut Steps<L>,
+) -> Result<Vec<u8>, ViewError>
+    requires world { IsWorldOf (V.tells view.old) world }
+    requires reply { IsReplyWithin (V.tells view.old).count reply.now }
+    requires explorer { AllWithin (V.tells view.old).count explorer.now }
+    ensures text { (x : Scene) → IsSceneOf (V.tells view.old) world.entry x
+        → AllAnswered x.program x.records explorer.now → IsAsked explorer.now reply.now
+        → IfOk result (λ text. text.items ≡ reply_text x (reply_of reply.now)) }
+    ensures keeps { Keeps (V.tells view.old) (V.tells view.new) }
+    ensures answers { Answers result (V.tells view.old) (V.tells view.new) }
+{
+    let program = world.program;
+    match reply {
+        Reply::At(Some(event)) => event_line(alloc, program, view, *event, steps),
+        Reply::At(None) => Ok(Vec::from_slice(alloc, "none\n".as_bytes())?),
+        Reply::Answer(_) => match explorer.answer() {
+            Some(answered) => answer_lines(alloc, program, view, &answered.answer, steps),
+            None => Ok(Vec::new(alloc)),
+        },
+        Reply::From(sources) => source_lines(alloc, program, view, sources.as_slice(), steps),
+        Reply::Items(items) => Ok(item_lines(alloc, program, items.as_slice())?),
+        Reply::NoSuch => Ok(Vec::from_slice(alloc, "no such\n".as_bytes())?),
+        Reply::NothingToUndo => Ok(Vec::from_slice(alloc, "nothing to undo\n".as_bytes())?),
+        Reply::End => Ok(Vec::new(alloc)),
+    }
+}
+
+/// An explorer with the trace that it looks at.
+#[derive(Drop)]
+struct Desk<'a, L: Ledger> {
+    world: World<'a>,
+    view: MemoryView,
+    steps: Steps<L>,
+    explorer: Explorer,
+}
+
+impl<'a, L: Ledger> Respond for Desk<'a, L> {
+    ghost use Rattle.std.specs.Prelude.{None};
+    ghost use Rattle.wy_view.specs.Whole.{whole};
+    ghost use Rattle.wy_session.specs.Desk.{IsDesk};
+
+    ghost stands = { λ d x s. IsDesk (whole d.view.events.items None) d.world d.explorer x s };
+
+    /// Events in memory refuse for want of memory alone.
+    fn reply(&mut self, alloc: Global, line: &[u8]) -> Result<Option<Vec<u8>>, AllocError> {
+        let Desk {
+            world,
+            view,
+            steps,
+            explorer,
+        } = self;
+        let Ok(reply) = explorer.apply(alloc, line, *world, view, steps) else {
+            return Err(AllocError);
+        };
+        if let Reply::End = reply {
+            return Ok(None);
+        }
+        match reply_lines(alloc, *world, view, explorer, &reply, steps) {
+            Ok(text) => Ok(Some(text)),
+            Err(_) => Err(AllocError),
+        }
+    }
+}
+
+/// Answers the lines of an input over a trace of a program, each before more is read.
+pub fn explore<K: Source, O: Sink>(
+    alloc: Global,
+    program: &Program,
+    events: Vec<Event>,
+    covers: &[Cover],
+    keys: &mut K,
+    out: &mut O,
+) -> Ending
+    requires fields { length program.now.fields.items < 2 ^ 32 }
+    requires few { length events.items < 2 ^ 32 }
+    requires refer_below { AllRefersBelow events.items }
+    ensures closed { Closed (scene_of program.now events.items covers.now) (K.left keys.old)
+        (failures (K.faults keys.old) (K.faults keys.new) (O.faults out.old) (O.faults out.new))
+        (O.written out.old) (O.written out.new) result }
+    ensures taken { TakesManyFor result (K.taken keys.old) (K.taken keys.new) }
+{
+    explore_with::<K, O, Brand>(alloc, program, events, covers, keys, out, Blank::new(1))
+}
+
+/// The same, with a ledger for the steps, which nobody reads.
+fn explore_with<K: Source, O: Sink, L: Ledger>(
+    alloc: Global,
+    program: &Program,
+    events: Vec<Event>,
+    covers: &[Cover],
+    keys: &mut K,
+    out: &mut O,
+    blank: Blank,
+) -> Ending
+    requires fields { length program.now.fields.items < 2 ^ 32 }
+    requires few { length events.items < 2 ^ 32 }
+    requires refer_below { AllRefersBelow events.items }
+    requires name { blank.name ≡ L.name }
+    requires parts { blank.parts ≡ L.parts }
+    requires some { 0 < blank.parts }
+    ensures closed { Closed (scene_of program.now events.items covers.now) (K.left keys.old)
+        (failures (K.faults keys.old) (K.faults keys.new) (O.faults out.old) (O.faults out.new))
+        (O.written out.old) (O.written out.new) result }
+    ensures taken { TakesManyFor result (K.taken keys.old) (K.taken keys.new) }
+{
+    let mut steps = Steps::<L>::new(blank);
+    let mut view = MemoryView { events };
+    let Ok(index) = Index::build(alloc, &mut view, program, &mut steps) else {
+        return Ending::NoMemory;
+    };
+    let Ok(links) = links(alloc, program) else {
+        return Ending::NoMemory;
+    };
+    let Ok(explorer) = Explorer::open(alloc) else {
+        return Ending::NoMemory;
+    };
+    let world = World {
+        program,
+        links: &links,
+        coverage: covers,
+        index: &index,
+    };
+    let mut desk = Desk {
+        world,
+        view,
+        steps,
+        explorer,
+    };
+    talk(alloc, keys, &mut desk, out)
+}

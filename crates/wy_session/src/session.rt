@@ -1,0 +1,46 @@
+//! The whole of a session.
+ghost use Rattle.wy_explore.specs.Session.{begun};
+ghost use Rattle.wy_session.specs.Scene.{Scene};
+ghost use Rattle.wy_session.specs.Standing.{Stands};
+ghost use Rattle.wy_session.specs.Ways.{Closed, TakesManyFor, failures};
+
+use crate::ending::Ending;
+use crate::line::{OpenLine, end_with};
+use crate::respond::Respond;
+use std::alloc::Global;
+use wy_outside::sink::Sink;
+use wy_outside::source::{Source, SourceError};
+
+/// How many bytes are asked for at a time.
+const PIECE: u32 = 8192;
+
+/// Answers the lines of an input, each before more is read, until it ends.
+pub fn talk<K: Source, O: Sink, R: Respond>(
+    alloc: Global,
+    keys: &mut K,
+    responder: &mut R,
+    out: &mut O,
+) -> Ending
+    requires { Stands (R.stands responder.old) }
+    ensures closed { (x : Scene) → R.stands responder.old x begun → Closed x (K.left keys.old)
+        (failures (K.faults keys.old) (K.faults keys.new) (O.faults out.old) (O.faults out.new))
+        (O.written out.old) (O.written out.new) result }
+    ensures taken { TakesManyFor result (K.taken keys.old) (K.taken keys.new) }
+{
+    let mut line = OpenLine {
+        bytes: Vec::new(alloc),
+        before: 0,
+    };
+    loop {
+        match keys.read(alloc, PIECE) {
+            Ok(piece) if piece.is_empty() => return line.finish(alloc, responder, out),
+            Ok(piece) => {
+                if let Err(ending) = line.take(alloc, piece.as_slice(), responder, out) {
+                    return ending;
+                }
+            }
+            Err(SourceError::Failed) => return end_with(out, "fault: keys\n", Ending::KeysFailed),
+            Err(SourceError::NoMemory) => return Ending::NoMemory,
+        }
+    }
+}

@@ -1,0 +1,150 @@
+-- What the opening of a trace comes to.
+use Rattle.std.proofs.Common.{◌≡◌, ◌∙◌, sym, ap, subst, refl, inl, inr, ℕ, true, false, List, Option, Some, None, Result, Ok, Err, IfOk, Vec, Global}
+use Rattle.std.specs.Prelude.{MatchBool}
+use Rattle.std.specs.declared.alloc.AllocError.{AllocError}
+use Rattle.wy_kernel.specs.declared.program.Program.{Program}
+use Rattle.wy_event.specs.declared.record.Head.{Head}
+use Rattle.wy_event.specs.declared.record.Trace.{Trace}
+use Rattle.wy_event.specs.declared.record.Event.{Event}
+use Rattle.wy_event.specs.declared.record.Cover.{Cover}
+use Rattle.wy_frames.specs.Heads.{Answers, head_of}
+use Rattle.wy_frames.specs.Traces.{IsReadAs, ReadsAs}
+use Rattle.wy_frames.specs.declared.error.TraceError.{TraceError}
+use Rattle.wy_outside.specs.Counts.{Rose}
+use Rattle.wy_outside.specs.Shelf.{Files}
+use Rattle.wy_session.specs.Desk.{scene_of}
+use Rattle.wy_session.specs.Ways.{Closed, TakesManyFor, failures}
+use Rattle.wy_session.specs.declared.ending.Ending.{Ending}
+use Rattle.wy_reply.specs.declared.answer.Answer.{Answer}
+use Rattle.wy_reply.specs.declared.status.Status.{Status}
+use Rattle.wy_reply.specs.declared.status.Status.TheVariants.{Absent, Fault, TooLong, Usage}
+use Rattle.wy_reply.specs.Lines.{absent_line, too_long_line}
+use Rattle.wy_reply.specs.Statuses.{code_of, is_of_files}
+use Rattle.wy_reply.specs.Tellings as tellings
+use Rattle.wy_reply.specs.Tellings.{IsTraceLine, Wanted, covers_of}
+use Rattle.wy_top.specs.declared.files.FileError.{FileError}
+use Rattle.wy_top.specs.declared.files.FileError.TheVariants as error
+use Rattle.wy_top.specs.declared.opening.Opening.{Opening}
+use Rattle.wy_top.specs.declared.opening.Opening.TheVariants.{Open, Refused}
+use Rattle.wy_top.specs.Call.{IsOpened}
+use Rattle.wy_top.specs.Due.{DueForBytes, DueForTrace}
+use Rattle.wy_top.specs.Due as due
+use Rattle.wy_top.specs.Held.{trace_limit}
+use Rattle.wy_top.specs.Openings.{AnswersAny, Explores, IsSettled, Keys, OpensBytes, OpensFile, OpensUnder, Output, RefusesUnder, session, status_of}
+use Rattle.wy_top.specs.Programs.{IsProgramOf}
+use Rattle.wy_top.specs.Reads.{GivesFile, Tells, is_absent, is_fault, is_too_long}
+use Rattle.wy_top.specs.Replies.{HasCause, ShelfCounts}
+use Rattle.wy_top.proofs.Replies.{no_head_due}
+
+-- ---- under the program of a source
+
+is_read : (p : Program) (bytes : List ℕ) (e : TraceError) (line : List ℕ) → ReadsAs (Err e) p bytes → IsTraceLine e line → IsReadAs p bytes (Err e)
+is_read p bytes _ _ read (tellings.cut byte) = read
+is_read p bytes _ _ read (tellings.damaged byte rule) = read
+is_read p bytes _ _ read tellings.bad_seal = read
+
+pub no_trace_under : (source bytes : List ℕ) (p : Program) (e : TraceError) (answer : Answer) → IsProgramOf source p → ReadsAs (Err e) p bytes → tellings.RefusesTrace e answer → RefusesUnder source bytes answer
+no_trace_under source bytes p e answer is read h = inr (p, e, is, is_read p bytes e answer.text.items read h.1, h)
+
+-- ---- by a head
+
+refused_due : (source bytes : List ℕ) (w : Wanted) (head : Head) (end : ℕ) (answer : Answer) → head_of bytes ≡ Ok (head, end) → source ≡ head.source → RefusesUnder source bytes answer →
+    DueForBytes bytes w (code_of answer.status) answer.text.items
+refused_due source bytes w head end answer at same (inl (refused, (line, none, said))) = rw (refused, said) (due.no_program head end line at (rw (same) at none))
+refused_due source bytes w head end answer at same (inr (p, e, is, read, h)) =
+    rw (h.0) (due.program head end p 5 answer.text.items at (rw (same) at is) (tellings.refused e answer.text.items read h.1))
+
+opens : (source bytes : List ℕ) (head : Head) (end : ℕ) (o : Opening) → head_of bytes ≡ Ok (head, end) → source ≡ head.source → OpensUnder source bytes o → OpensBytes bytes o
+opens source bytes head end (Open p t) at same (is, read) = (head, end, at, rw (same) at is, read)
+opens source bytes head end (Refused answer) at same h = λ w. refused_due source bytes w head end answer at same h
+
+pub opened_by_head : (source bytes : List ℕ) (head : Head) (end : ℕ) (r : Result Opening AllocError) → head_of bytes ≡ Ok (head, end) → source ≡ head.source →
+    IfOk r (OpensUnder source bytes) → IfOk r (OpensBytes bytes)
+opened_by_head source bytes head end (Ok o) at same h = opens source bytes head end o at same h
+opened_by_head source bytes head end (Err e) at same h = tt
+
+abbrev unread : TraceError → Result (Head × ℕ) TraceError
+unread e = Err e
+
+pub no_head_any : (bytes : List ℕ) (e : TraceError) (answer : Answer) → Answers (unread e) (head_of bytes) → tellings.RefusesTrace e answer → OpensBytes bytes (Refused answer)
+no_head_any bytes e answer is h = λ w. no_head_due bytes w e (Ok answer) is h
+
+-- ---- in its file
+
+not_of_files : (s t : Status) → is_of_files s ≡ false → is_of_files t ≡ true → s ≡ t → ⊥
+not_of_files s t settled of is = let x : true ≡ false = sym (ap is_of_files is ∙ of) ∙ settled in cc
+
+caused : (before after : ShelfCounts) (answer : Answer) → is_of_files answer.status ≡ false → HasCause before after answer
+caused before after answer settled = record {
+  absent = λ is. absurd (not_of_files answer.status Absent settled refl is);
+  too_long = λ is. absurd (not_of_files answer.status TooLong settled refl is);
+  command = λ is. not_of_files answer.status Usage settled refl is;
+}
+
+opened_at : (held : Option Files) (name : List ℕ) (bytes : Vec ℕ Global) (p : Program) (t : Trace) → GivesFile held name trace_limit (Ok bytes) → OpensBytes bytes.items (Open p t) →
+    (files : Files) → held ≡ Some files → IsOpened files name p t
+opened_at None name bytes p t gives o files told = absurd (cc)
+opened_at (Some shelf) name bytes p t gives (head, end, at, is, read) files told =
+    let same : shelf ≡ files = cc in
+    subst (λ (f : Files). IsOpened f name p t) same (record { bytes = bytes.items; holds = gives; head = head; end = end; is_head = at; is_program = is; is_read = read })
+
+refused_at : (held : Option Files) (name : List ℕ) (bytes : Vec ℕ Global) (answer : Answer) → GivesFile held name trace_limit (Ok bytes) → OpensBytes bytes.items (Refused answer) →
+    (w : Wanted) (files : Files) → held ≡ Some files → DueForTrace files name w (code_of answer.status) answer.text.items
+refused_at None name bytes answer gives o w files told = absurd (cc)
+refused_at (Some shelf) name bytes answer gives o w files told =
+    let same : shelf ≡ files = cc in
+    subst (λ (f : Files). DueForTrace f name w (code_of answer.status) answer.text.items) same (due.read bytes.items (code_of answer.status) answer.text.items gives (o w))
+
+in_file : (held : Option Files) (name : List ℕ) (bytes : Vec ℕ Global) (before after : ShelfCounts) (o : Opening) → GivesFile held name trace_limit (Ok bytes) → after.faults ≡ before.faults →
+    OpensBytes bytes.items o → IsSettled o → OpensFile held name before after o
+in_file held name bytes before after (Open p t) gives same o settled = (settled.0, settled.1, same, opened_at held name bytes p t gives o)
+in_file held name bytes before after (Refused answer) gives same o settled =
+    (caused before after answer settled, inr (same, not_of_files answer.status Fault settled refl, refused_at held name bytes answer gives o))
+
+pub opened_in_file : (held : Option Files) (name : List ℕ) (bytes : Vec ℕ Global) (given : List ℕ) (before after : ShelfCounts) (r : Result Opening AllocError) → GivesFile held name trace_limit (Ok bytes) → after.faults ≡ before.faults →
+    given ≡ bytes.items → IfOk r (OpensBytes given) → IfOk r IsSettled → IfOk r (OpensFile held name before after)
+opened_in_file held name bytes given before after (Ok o) gives same first is settled = in_file held name bytes before after o gives same (rw (first) at is) settled
+opened_in_file held name bytes given before after (Err e) gives same first is settled = tt
+
+lacks_at : (held : Option Files) (name : List ℕ) (w : Wanted) (e : FileError) (answer : Answer) → GivesFile held name trace_limit (Err e) → Tells e answer → (answer.status ≡ Fault → ⊥) →
+    (files : Files) → held ≡ Some files → DueForTrace files name w (code_of answer.status) answer.text.items
+lacks_at None name w e answer gives tells some files told = absurd (cc)
+lacks_at (Some shelf) name w (error.Absent lacking) answer gives tells some files told =
+    let same : shelf ≡ files = cc in
+    subst (λ (f : Files). DueForTrace f name w (code_of answer.status) answer.text.items) same (rw (tells.0, tells.1) (due.no_trace 3 (absent_line lacking.now) gives))
+lacks_at (Some shelf) name w (error.TooLong lacking) answer gives tells some files told =
+    let same : shelf ≡ files = cc in
+    subst (λ (f : Files). DueForTrace f name w (code_of answer.status) answer.text.items) same (rw (tells.0, tells.1) (due.no_trace 8 (too_long_line lacking.now) gives))
+lacks_at (Some shelf) name w error.Fault answer gives tells some files told = absurd (some tells.0)
+lacks_at (Some shelf) name w error.NoMemory answer gives tells some files told = absurd tells
+
+any_lack : (held : Option Files) (name : List ℕ) (e : FileError) (before after : ShelfCounts) (answer : Answer) → GivesFile held name trace_limit (Err e) →
+    MatchBool (is_fault e) (Rose before.faults after.faults) (after.faults ≡ before.faults) → Tells e answer → AnswersAny held name before after answer
+any_lack held name (error.Absent lacking) before after answer gives same tells =
+    let some : answer.status ≡ Fault → ⊥ = λ is. absurd (let x = sym tells.0 ∙ is in cc) in
+    inr (same, some, λ w. lacks_at held name w (error.Absent lacking) answer gives tells some)
+any_lack held name (error.TooLong lacking) before after answer gives same tells =
+    let some : answer.status ≡ Fault → ⊥ = λ is. absurd (let x = sym tells.0 ∙ is in cc) in
+    inr (same, some, λ w. lacks_at held name w (error.TooLong lacking) answer gives tells some)
+any_lack held name error.Fault before after answer gives rose tells = inl (tells.0, tells.1, rose)
+any_lack held name error.NoMemory before after answer gives same tells = absurd tells
+
+lack_caused : (e : FileError) (before after : ShelfCounts) (answer : Answer) → MatchBool (is_absent e) (Rose before.misses after.misses) (after.misses ≡ before.misses) →
+    MatchBool (is_too_long e) (Rose before.fulls after.fulls) (after.fulls ≡ before.fulls) → Tells e answer → HasCause before after answer
+lack_caused (error.Absent lacking) before after answer absent long tells = record { absent = λ is. absent; too_long = λ is. absurd (let x = sym tells.0 ∙ is in cc); command = λ is. (let x = sym tells.0 ∙ is in cc) }
+lack_caused (error.TooLong lacking) before after answer absent long tells = record { absent = λ is. absurd (let x = sym tells.0 ∙ is in cc); too_long = λ is. long; command = λ is. (let x = sym tells.0 ∙ is in cc) }
+lack_caused error.Fault before after answer absent long tells = record { absent = λ is. absurd (let x = sym tells.0 ∙ is in cc); too_long = λ is. absurd (let x = sym tells.0 ∙ is in cc); command = λ is. (let x = sym tells.0 ∙ is in cc) }
+lack_caused error.NoMemory before after answer absent long tells = absurd tells
+
+pub lacking_file : (held : Option Files) (name : List ℕ) (e : FileError) (before after : ShelfCounts) (answer : Answer) → GivesFile held name trace_limit (Err e) →
+    MatchBool (is_fault e) (Rose before.faults after.faults) (after.faults ≡ before.faults) → MatchBool (is_absent e) (Rose before.misses after.misses) (after.misses ≡ before.misses) →
+    MatchBool (is_too_long e) (Rose before.fulls after.fulls) (after.fulls ≡ before.fulls) → Tells e answer → OpensFile held name before after (Refused answer)
+lacking_file held name e before after answer gives fault absent long tells = (lack_caused e before after answer absent long tells, any_lack held name e before after answer gives fault tells)
+
+-- ---- a session over it
+
+pub session_explores : (held : Option Files) (name : List ℕ) (sb sa : ShelfCounts) (kb ka : Keys) (b a : Output) (p : Program) (t : Trace) (events : List Event) (covers : List Cover) (e : Ending) (s : Status) → OpensFile held name sb sa (Open p t) →
+    events ≡ t.events → covers ≡ covers_of t → s ≡ status_of e → Closed (scene_of p events covers) kb.left (failures kb.faults ka.faults b.faults a.faults) b.written a.written e →
+    TakesManyFor e kb.taken ka.taken → Explores held name sb sa kb ka b a s
+session_explores held name sb sa kb ka b a p t events covers e s o listed covered is closed takes =
+    subst (Explores held name sb sa kb ka b a) (sym is) (session p t e o.2 o.3 (rw (listed, covered) at closed) takes)

@@ -1,0 +1,8 @@
+use Rattle.wy_top.proofs.Opened.{lacking_file, opened_in_file}
+use Rattle.wy_top.proofs.opening.open_trace.Goals as goal
+
+pub returns-in-Ok-clause-opens : goal.returns-in-Ok-clause-opens
+returns-in-Ok-clause-opens g c = opened_in_file _ _ c.in-Ok.bytes _ _ _ c.open_bytes.result c.in-Ok.ensures.content c.in-Ok.ensures.fault c.as_slice.ensures.value c.open_bytes.ensures.opens c.open_bytes.ensures.settled
+
+pub returns-in_ok-answer_to_lack-in-Err-clause-opens : goal.returns-in_ok-answer_to_lack-in-Err-clause-opens
+returns-in_ok-answer_to_lack-in-Err-clause-opens g c = lacking_file _ _ c.in-Err.error _ _ c.in_ok-answer_to_lack-in-Err.field-0 c.in-Err.ensures.content c.in-Err.ensures.fault c.in-Err.ensures.absent c.in-Err.ensures.too_long c.in_ok-answer_to_lack-in-Err.ensures

@@ -1,0 +1,109 @@
+-- A trace that a session is over: what its opening gives, and how the session ends.
+use Rattle.std.specs.Prelude.{◌≡◌, ◌<◌, ◌^◌, ◌⊎◌, ℕ, List, length, false, Option, Some, Ok, Err}
+use Rattle.wy_event.specs.declared.record.Head.{Head}
+use Rattle.wy_frames.specs.Heads.{head_of}
+use Rattle.wy_frames.specs.Traces.{IsReadAs}
+use Rattle.wy_frames.specs.declared.error.TraceError.{TraceError}
+use Rattle.wy_kernel.specs.declared.program.Program.{Program}
+use Rattle.wy_event.specs.declared.record.Trace.{Trace}
+use Rattle.wy_outside.specs.Counts.{Rose}
+use Rattle.wy_outside.specs.Shelf.{Files}
+use Rattle.wy_view.specs.References.{AllRefersBelow}
+use Rattle.wy_session.specs.Desk.{scene_of}
+use Rattle.wy_session.specs.Ways.{Closed, TakesManyFor}
+use Rattle.wy_session.specs.Ways as ways
+use Rattle.wy_session.specs.declared.ending.Ending.{Ending}
+use Rattle.wy_session.specs.declared.ending.Ending.TheVariants as ending
+use Rattle.wy_reply.specs.declared.answer.Answer.{Answer}
+use Rattle.wy_reply.specs.declared.status.Status.{Status}
+use Rattle.wy_reply.specs.declared.status.Status.TheVariants as status
+use Rattle.wy_reply.specs.Statuses.{code_of, is_of_files}
+use Rattle.wy_reply.specs.Lines.{of_trace, shelf_fault_line}
+use Rattle.wy_reply.specs.Tellings.{RefusesTrace, Wanted, covers_of}
+use Rattle.wy_top.specs.declared.opening.Opening.{Opening}
+use Rattle.wy_top.specs.declared.opening.Opening.TheVariants.{Open, Refused}
+use Rattle.wy_top.specs.Call.{IsOpened}
+use Rattle.wy_top.specs.Deliveries.{Delivers}
+use Rattle.wy_top.specs.Due.{DueForBytes, DueForTrace}
+use Rattle.wy_top.specs.Programs.{IsProgramOf}
+use Rattle.wy_top.specs.Causes.{IsNoProgram}
+use Rattle.wy_top.specs.Replies.{HasCause, ShelfCounts}
+
+-- events of memory that a view holds
+pub record IsViewable (t : Trace) : Type 0 where
+  pub few : length t.events < 2 ^ 32
+  pub refer_below : AllRefersBelow t.events
+
+-- the source is no program, or the bytes are no trace under it, and the line says why
+abbrev pub RefusesUnder : List ℕ → List ℕ → Answer → Type 0
+RefusesUnder source bytes answer =
+    ((answer.status ≡ status.Trace) × ((line : List ℕ) × IsNoProgram source line × (answer.text.items ≡ of_trace line)))
+    ⊎ ((p : Program) × (e : TraceError) × IsProgramOf source p × IsReadAs p bytes (Err e) × RefusesTrace e answer)
+
+-- the program of a source, and the trace as which the bytes are read under it; or why there is none
+abbrev pub OpensUnder : List ℕ → List ℕ → Opening → Type 0
+OpensUnder source bytes (Open p t) = IsProgramOf source p × IsReadAs p bytes (Ok t)
+OpensUnder source bytes (Refused answer) = RefusesUnder source bytes answer
+
+abbrev pub OpensBytes : List ℕ → Opening → Type 0
+OpensBytes bytes (Open p t) = (head : Head) × (end : ℕ) × (head_of bytes ≡ Ok (head, end)) × IsProgramOf head.source p × IsReadAs p bytes (Ok t)
+OpensBytes bytes (Refused answer) = (w : Wanted) → DueForBytes bytes w (code_of answer.status) answer.text.items
+
+-- what is open can be viewed, and a refusal speaks of no file
+abbrev pub IsSettled : Opening → Type 0
+IsSettled (Open p t) = IsViewable t × (length p.fields.items < 2 ^ 32)
+IsSettled (Refused answer) = is_of_files answer.status ≡ false
+
+-- the shelf failed, and the answer names it; or it is what is due of that trace, whatever is wanted
+abbrev pub AnswersAny : Option Files → List ℕ → ShelfCounts → ShelfCounts → Answer → Type 0
+AnswersAny held name before after answer =
+    ((answer.status ≡ status.Fault) × (answer.text.items ≡ shelf_fault_line) × Rose before.faults after.faults)
+    ⊎ ((after.faults ≡ before.faults) × (answer.status ≡ status.Fault → ⊥)
+    × ((w : Wanted) (files : Files) → held ≡ Some files → DueForTrace files name w (code_of answer.status) answer.text.items))
+
+-- the trace of a name is open, and no count rose; or what is answered in place of whatever is wanted
+abbrev pub OpensFile : Option Files → List ℕ → ShelfCounts → ShelfCounts → Opening → Type 0
+OpensFile held name before after (Open p t) = IsViewable t × (length p.fields.items < 2 ^ 32) × (after.faults ≡ before.faults)
+    × ((files : Files) → held ≡ Some files → IsOpened files name p t)
+OpensFile held name before after (Refused answer) = HasCause before after answer × AnswersAny held name before after answer
+
+-- ---- a session
+
+abbrev pub status_of : Ending → Status
+status_of ending.Done = status.Done
+status_of ending.LongLine = status.TooLong
+status_of ending.LongInput = status.TooLong
+status_of ending.KeysFailed = status.Fault
+status_of ending.OutFailed = status.Fault
+status_of ending.NoMemory = status.NoMemory
+
+-- what is left of the keys, how often they failed, and how much of them was taken
+pub record Keys : Type 0 where
+  pub left : Option (List ℕ)
+  pub faults : ℕ
+  pub taken : ℕ
+
+abbrev pub keys_at : Option (List ℕ) → ℕ → ℕ → Keys
+keys_at left faults taken = record { left = left; faults = faults; taken = taken }
+
+-- the output, and how often it failed
+pub record Output : Type 0 where
+  pub written : Option (List ℕ)
+  pub faults : ℕ
+
+abbrev pub output_at : Option (List ℕ) → ℕ → Output
+output_at written faults = record { written = written; faults = faults }
+
+-- a trace that can't be opened is answered for, and the keys stay; a session over the trace of a name comes to its end; or memory ran out before anything was written
+pub data Explores (held : Option Files) (name : List ℕ) (shelf_before shelf_after : ShelfCounts) (keys_before keys_after : Keys) (before after : Output) : Status → Type 0 where
+  refused : (answer : Answer) (s : Status) → HasCause shelf_before shelf_after answer
+      → AnswersAny held name shelf_before shelf_after answer
+      → keys_after ≡ keys_before → Delivers answer s before.faults after.faults before.written after.written
+      → Explores held name shelf_before shelf_after keys_before keys_after before after s
+  session : (p : Program) (t : Trace) (e : Ending) → shelf_after.faults ≡ shelf_before.faults
+      → ((files : Files) → held ≡ Some files → IsOpened files name p t)
+      → Closed (scene_of p t.events (covers_of t)) keys_before.left (ways.failures keys_before.faults keys_after.faults before.faults after.faults) before.written after.written e
+      → TakesManyFor e keys_before.taken keys_after.taken
+      → Explores held name shelf_before shelf_after keys_before keys_after before after (status_of e)
+  memory : keys_after ≡ keys_before → after ≡ before
+      → Explores held name shelf_before shelf_after keys_before keys_after before after status.NoMemory

@@ -1,0 +1,70 @@
+//! A trace that is opened: its program and what it records, or what is answered in their place.
+ghost use Rattle.std.specs.Prelude.{◌≡◌, ◌≤◌, IfOk, length};
+ghost use Rattle.wy_top.specs.Held.{source_limit, trace_limit};
+ghost use Rattle.wy_top.specs.Openings.{IsSettled, OpensBytes, OpensFile, OpensUnder};
+ghost use Rattle.wy_top.specs.Replies.{at_shelf};
+
+use crate::answer::answer_to_lack;
+use crate::files::read_trace;
+use crate::reading::front;
+use crate::trace::answer_to_error;
+use std::alloc::{AllocError, Global};
+use wy_event::record::Trace;
+use wy_frames::{decode, read_head};
+use wy_kernel::program::Program;
+use wy_outside::shelf::Shelf;
+use wy_referring::{decoded_events_refer_below, few_events_are_decoded};
+use wy_reply::{Answer, answer_to_trace_error};
+use wy_spelled::heads_are_short;
+
+/// A trace and the program of its head, or what is answered where there is none.
+#[derive(Drop)]
+pub enum Opening {
+    Open { program: Program, trace: Trace },
+    Refused(Answer),
+}
+
+/// The trace of bytes whose head has this source.
+fn open_under(alloc: Global, source: &[u8], bytes: &[u8]) -> Result<Opening, AllocError>
+    requires source { length source.now ≤ source_limit }
+    requires bytes { length bytes.now ≤ trace_limit }
+    ensures opens { IfOk result (OpensUnder source.now bytes.now) }
+    ensures settled { IfOk result IsSettled }
+{
+    decoded_events_refer_below();
+    few_events_are_decoded();
+    let program = match front(alloc, source) {
+        Ok(typed) => typed.program,
+        Err(error) => return Ok(Opening::Refused(answer_to_error(alloc, error)?)),
+    };
+    match decode(alloc, bytes, &program) {
+        Ok(trace) => Ok(Opening::Open { program, trace }),
+        Err(error) => Ok(Opening::Refused(answer_to_trace_error(alloc, error)?)),
+    }
+}
+
+/// The trace of bytes: their head, its program and the rest are read in this order.
+fn open_bytes(alloc: Global, bytes: &[u8]) -> Result<Opening, AllocError>
+    requires { length bytes.now ≤ trace_limit }
+    ensures opens { IfOk result (OpensBytes bytes.now) }
+    ensures settled { IfOk result IsSettled }
+{
+    heads_are_short();
+    match read_head(alloc, bytes) {
+        Ok((head, _)) => open_under(alloc, head.source.as_slice(), bytes),
+        Err(error) => Ok(Opening::Refused(answer_to_trace_error(alloc, error)?)),
+    }
+}
+
+/// The trace of a name.
+pub fn open_trace<S: Shelf>(alloc: Global, shelf: &mut S, name: &str) -> Result<Opening, AllocError>
+    ensures opens { IfOk result (OpensFile (S.held shelf.old) name.now
+        (at_shelf (S.faults shelf.old) (S.misses shelf.old) (S.fulls shelf.old))
+        (at_shelf (S.faults shelf.new) (S.misses shelf.new) (S.fulls shelf.new))) }
+    ensures files_stay { S.held shelf.new ≡ S.held shelf.old }
+{
+    match read_trace(alloc, shelf, name) {
+        Ok(bytes) => open_bytes(alloc, bytes.as_slice()),
+        Err(error) => Ok(Opening::Refused(answer_to_lack(alloc, error)?)),
+    }
+}
