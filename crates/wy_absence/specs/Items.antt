@@ -4,7 +4,7 @@ use Rattle.std.specs.Fmt.{decimal}
 use Rattle.std.specs.List.{flat_map}
 use Rattle.wy_kernel.specs.Program.{Program}
 use Rattle.wy_kernel.specs.Statements.{statements_of}
-use Rattle.wy_event.specs.Record.{NONE, present}
+use Rattle.wy_kernel.specs.View.{NONE, present}
 use Rattle.wy_text.specs.Lines.{line_of, name_of, place_of}
 use Rattle.wy_lines.specs.Names.{method_name}
 use Rattle.wy_ways.specs.declared.point.Point.{Point}

@@ -1,14 +1,15 @@
 //! Events that are looked at before a view holds them: each refers to earlier ones alone.
 
 ghost use Rattle.std.specs.Prelude.{◌≡◌, true};
-ghost use Rattle.wy_event.specs.Record.{present, recorded};
+ghost use Rattle.wy_event.specs.Record.{recorded};
+ghost use Rattle.wy_kernel.specs.View.{present};
 ghost use Rattle.wy_view.specs.References.{AllRefersBelow, OptionBelow, RefersBelow, SlotBelow, UseBelow, UsesBelow, ValueBelow};
 
 use wy_event::record::{Event, Slot, Use};
 use wy_kernel::types::NONE;
 use wy_value::Value;
 
-#[tactic(auto, unfolding(wy_event::specs::Record::present))]
+#[tactic(auto, unfolding(wy_kernel::specs::View::present))]
 fn is_below(number: u32, n: u32) -> bool
     ensures { result ≡ true → OptionBelow n (present number) }
 {

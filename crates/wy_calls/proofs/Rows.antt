@@ -3,10 +3,9 @@ use Rattle.std.proofs.Common.{◌≡◌, ◌<◌, ◌≤◌, ℕ, ◌+◌, true,
 use Rattle.std.specs.Prelude.{None as Absent, ◌⊎◌, nat_eq}
 use Rattle.std.proofs.lemmas.Bool.Decides.{eqb_tells}
 use Rattle.std.proofs.lemmas.List.{drop-drop, drop_more, get_or-drop, get_or_default, length-drop}
-use Rattle.wy_event.specs.Record.{NONE}
 use Rattle.wy_kernel.specs.Program.{Method, runs_as, declared_in}
 use Rattle.wy_kernel.specs.declared.types.Method.{Method as Row}
-use Rattle.wy_kernel.specs.View.{method_of}
+use Rattle.wy_kernel.specs.View.{method_of, NONE}
 use Rattle.wy_calls.specs.Dispatch.{first_in, HasNexts}
 use Rattle.wy_calls.proofs.Chain.{is_found, is_passed, none_is_left}
 

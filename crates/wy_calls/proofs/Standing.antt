@@ -11,7 +11,7 @@ use Rattle.std.proofs.lemmas.List.Kept.{AllPairs-filter}
 use mathlib.Core.List.{reverse-cons}
 use Rattle.wy_steps.specs.Steps as steps
 use Rattle.wy_steps.specs.Steps.{depth_limit, outlasting, same_frame, parent}
-use Rattle.wy_event.specs.Record.{present}
+use Rattle.wy_kernel.specs.View.{present}
 use Rattle.wy_calls.specs.Calls.{Frame, Standing, IsUpTo, Refuses, event_of, activated, ended, closed, with_local, with_newest}
 use Rattle.wy_calls.specs.declared.parts.Reach.{Reach}
 use Rattle.wy_calls.specs.declared.parts.Reach.TheVariants.{Around, Through}

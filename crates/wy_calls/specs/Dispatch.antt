@@ -1,8 +1,7 @@
 -- What a search for the method that runs goes by.
 use Rattle.std.specs.Prelude.{ℕ, ◌≡◌, ◌<◌, ◌≤◌, ◌+◌, nat_eq, if◌then◌else◌, List, [], ◌∷◌, length, drop, map, slice_index_or, Option}
-use Rattle.wy_event.specs.Record.{NONE}
 use Rattle.wy_kernel.specs.Program.{Program, class, declared_in}
-use Rattle.wy_kernel.specs.View.{method_of}
+use Rattle.wy_kernel.specs.View.{method_of, NONE}
 use Rattle.wy_kernel.specs.declared.program.Program.{Program as Memory}
 use Rattle.wy_kernel.specs.declared.types.Method.{Method}
 

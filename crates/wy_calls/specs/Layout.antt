@@ -3,7 +3,7 @@ use Rattle.std.specs.Prelude.{ℕ, ◌≡◌, ◌≤◌, ◌<◌, Bool, false, �
 use Rattle.std.specs.Prelude.{None as Absent}
 use Rattle.std.specs.Option.{IsSomeAnd}
 use Rattle.std.specs.List.{All, AllPairs}
-use Rattle.wy_event.specs.Record.{NONE}
+use Rattle.wy_kernel.specs.View.{NONE}
 use Rattle.wy_value.specs.declared.value.Value.{Value}
 use Rattle.wy_steps.specs.Sets.{nothing}
 use Rattle.wy_steps.specs.State.{Active}

@@ -2,7 +2,7 @@
 
 ghost use Rattle.std.specs.Prelude.{◌≡◌, ◌<◌, ◌+◌, IfErr, IfOk, OnOk, length, nat_le, slice_get};
 ghost use Rattle.std.specs.List.{All};
-ghost use Rattle.wy_event.specs.Record.{present};
+ghost use Rattle.wy_kernel.specs.View.{present};
 ghost use Rattle.wy_steps.specs.State.{Around, Through};
 ghost use Rattle.wy_steps.specs.Steps.{depth_limit, parent};
 ghost use Rattle.wy_calls.specs.Calls.{IsUpTo, Refuses, activated, closed, ended, entered, frame_of, held, left, locals_of, nothing_runs, opened, with_local};

@@ -1,7 +1,7 @@
 //! Frames with their locals. The locals of all frames lie behind one another.
 
 ghost use Rattle.std.specs.Prelude.{◌≡◌, IfOk, reverse, slice_get, Some};
-ghost use Rattle.wy_event.specs.Record.{present};
+ghost use Rattle.wy_kernel.specs.View.{present};
 ghost use Rattle.wy_calls.specs.Calls.{held, locals_of};
 ghost use Rattle.wy_calls.specs.Layout.{framed, newest_of, IsPlaceOf};
 

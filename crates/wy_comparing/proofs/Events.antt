@@ -2,7 +2,8 @@
 use Rattle.std.proofs.Common.{◌≡◌, ◌↔◌, ◌∙◌, ℕ, Bool, true, false, ap, sym, IsTrue, inl, inr}
 use Rattle.std.proofs.lemmas.Bool.Decides.{eqb_tells}
 use Rattle.wy_event.specs.declared.record.Event.{Event}
-use Rattle.wy_event.specs.Record.{present, recorded}
+use Rattle.wy_event.specs.Record.{recorded}
+use Rattle.wy_kernel.specs.View.{present}
 
 abbrev pub SameNumbers : Event → Event → Type 0
 SameNumbers a b = (a.site ≡ b.site) × (a.frame ≡ b.frame) × (a.control ≡ b.control) × (a.what ≡ b.what)

@@ -1,6 +1,6 @@
 -- A record of an event as contracts see it: a number that is NONE in memory is absent, and lists are without capacities.
-use Rattle.std.specs.Prelude.{ℕ, Bool, false, ◌&&◌, ◌==◌, nat_eq, if◌then◌else◌, List, Option, Some}
-use Rattle.std.specs.Prelude.{None as Absent}
+use Rattle.std.specs.Prelude.{ℕ, Bool, false, ◌&&◌, nat_eq, List, Option}
+use Rattle.wy_kernel.specs.View.{present}
 use Rattle.wy_value.specs.declared.value.Value.{Value}
 use Rattle.wy_event.specs.declared.record.Kind.{Kind}
 use Rattle.wy_event.specs.declared.record.Slot.{Slot}
@@ -18,12 +18,6 @@ pub record Recorded : Type 0 where
   pub value : Value
   pub units : List ℕ
   pub uses : List Use
-
-abbrev pub NONE : ℕ
-NONE = 4294967295
-
-unfoldable pub present : ℕ → Option ℕ
-present n = if n == NONE then Absent else Some n
 
 unfoldable pub recorded : Event → Recorded
 recorded e = record {

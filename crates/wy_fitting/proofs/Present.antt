@@ -1,7 +1,7 @@
 -- A number of memory is present where it is not NONE.
 use Rattle.std.proofs.Common.{◌≡◌, ℕ, ◌<◌, ◌^◌, Bool, true, false, eqb, refl, arith}
 use Rattle.std.proofs.lemmas.Bool.{eqb-false}
-use Rattle.wy_event.specs.Record.{NONE, present}
+use Rattle.wy_kernel.specs.View.{NONE, present}
 use Rattle.wy_fitting.specs.Fits.{IsPresent}
 
 by_test : (n : ℕ) (b : Bool) → n < 2 ^ 32 → eqb n NONE ≡ b → IsPresent (present n)

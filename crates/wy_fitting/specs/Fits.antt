@@ -9,7 +9,8 @@ use Rattle.wy_event.specs.declared.record.Slot.{Slot}
 use Rattle.wy_event.specs.declared.record.Slot.TheVariants as slots
 use Rattle.wy_event.specs.declared.record.Use.{Use}
 use Rattle.wy_event.specs.declared.record.Use.TheVariants as used
-use Rattle.wy_event.specs.Record.{Recorded, NONE}
+use Rattle.wy_event.specs.Record.{Recorded}
+use Rattle.wy_kernel.specs.View.{NONE}
 
 -- four bytes
 abbrev pub IsNumber : ℕ → Type 0

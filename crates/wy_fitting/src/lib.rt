@@ -2,7 +2,8 @@
 #![tactic(auto)]
 
 ghost use Rattle.std.specs.Prelude.{All, map};
-ghost use Rattle.wy_event.specs.Record.{present, recorded};
+ghost use Rattle.wy_event.specs.Record.{recorded};
+ghost use Rattle.wy_kernel.specs.View.{present};
 ghost use Rattle.wy_fitting.specs.Fits.{AllFit, Fits, IsPresent, IsUnit, SlotFits, UseFits, ValueFits};
 
 use wy_event::record::{Event, Slot, Use};

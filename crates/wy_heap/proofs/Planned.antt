@@ -1,11 +1,10 @@
 -- A plan that is taken from a program in memory.
 use Rattle.std.proofs.Common.{◌≡◌, ℕ, List, [], ◌∷◌, map, refl, ap, ◌∙◌}
 use Rattle.std.specs.Prelude.{Option}
-use Rattle.wy_event.specs.Record.{present}
 use Rattle.wy_kernel.specs.declared.types.Class.{Class}
 use Rattle.wy_kernel.specs.declared.types.Field.{Field}
 use Rattle.wy_kernel.specs.declared.program.Program.{Program}
-use Rattle.wy_kernel.specs.View.{class_of, field_of}
+use Rattle.wy_kernel.specs.View.{class_of, field_of, present}
 use Rattle.wy_kernel.specs.View as kernel
 use Rattle.wy_kernel.specs.Parts.{program_of}
 use Rattle.wy_heap.specs.declared.plan.FieldPlan.{FieldPlan}

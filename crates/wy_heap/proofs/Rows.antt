@@ -5,7 +5,7 @@ use Rattle.std.specs.declared.vec.Vec.{Vec}
 use Rattle.std.specs.declared.alloc.Global.{Global}
 use Rattle.std.proofs.lemmas.Bool.{eqb-true}
 use Rattle.std.proofs.lemmas.List.{get_or_past, length-map}
-use Rattle.wy_event.specs.Record.{present}
+use Rattle.wy_kernel.specs.View.{present}
 use Rattle.wy_heap.specs.declared.layout.Row.{Row}
 use Rattle.wy_heap.specs.declared.layout.Layouts.{Layouts}
 use Rattle.wy_heap.specs.Plan.{fields_above, fields_up, own_of}

@@ -3,7 +3,7 @@ use Rattle.std.specs.Prelude.{◌≡◌, ◌≢◌, ◌<◌, ◌≤◌, ℕ, Boo
 use Rattle.std.specs.Prelude.{None as Absent}
 use Rattle.std.specs.declared.vec.Vec.{Vec}
 use Rattle.std.specs.declared.alloc.Global.{Global}
-use Rattle.wy_event.specs.Record.{present}
+use Rattle.wy_kernel.specs.View.{present}
 use Rattle.wy_heap.specs.declared.plan.FieldPlan.{FieldPlan}
 use Rattle.wy_heap.specs.declared.layout.Row.{Row}
 use Rattle.wy_heap.specs.Plan.{Plan, first_of, own_below, fields_of}

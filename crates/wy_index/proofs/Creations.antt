@@ -7,7 +7,8 @@ use Rattle.wy_event.specs.declared.record.Kind.{Kind}
 use Rattle.wy_event.specs.declared.record.Kind.TheVariants as kind
 use Rattle.wy_event.specs.declared.record.Slot.{Slot}
 use Rattle.wy_event.specs.declared.record.Slot.TheVariants as slot
-use Rattle.wy_event.specs.Record.{Recorded, NONE, present}
+use Rattle.wy_event.specs.Record.{Recorded}
+use Rattle.wy_kernel.specs.View.{NONE, present}
 use Rattle.wy_event.specs.Sources.{Owners, is_what, creates_as, creates, is_so, or_else, creation}
 use Rattle.wy_index.proofs.Numbers.{absent_number, present_number}
 use Rattle.wy_index.specs.Found.{first_from, is_init, is_init_of, is_new, made_new, maker_of, earlier}

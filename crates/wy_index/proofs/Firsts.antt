@@ -3,7 +3,7 @@ use Rattle.std.proofs.Common.{◌≡◌, ℕ, Bool, true, false, cond, Option, S
 use Rattle.std.specs.Prelude.{nat_eq, if◌then◌else◌, is_some}
 use Rattle.std.specs.Ordering.{nat_cmp, is_eq}
 use Rattle.std.proofs.lemmas.Bool.{cases_eq, false≢true}
-use Rattle.wy_event.specs.Record.{NONE, present}
+use Rattle.wy_kernel.specs.View.{NONE, present}
 use Rattle.wy_event.specs.Sources.{is_what, or_else}
 use Rattle.wy_index.proofs.Numbers.{absent_number, present_number}
 use Rattle.wy_index.proofs.Orders.{same_numbers}

@@ -3,7 +3,8 @@ use Rattle.std.proofs.Common.{◌≡◌, ◌⊎◌, inl, inr, ℕ, zero, suc, �
 use Rattle.std.specs.Prelude.{slice_get, if◌then◌else◌}
 use Rattle.std.proofs.lemmas.Option.{none-some}
 use Rattle.std.proofs.lemmas.List.{get_or_past}
-use Rattle.wy_event.specs.Record.{Recorded, NONE}
+use Rattle.wy_event.specs.Record.{Recorded}
+use Rattle.wy_kernel.specs.View.{NONE}
 use Rattle.wy_event.specs.Sources.{or_else}
 use Rattle.wy_view.specs.References.{OptionBelow}
 use Rattle.wy_index.specs.Found.{gathered, first_from, body_of, body_at, caller_in}

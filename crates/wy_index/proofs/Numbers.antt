@@ -1,7 +1,7 @@
 -- Numbers that may be absent, as they are kept.
 use Rattle.std.proofs.Common.{◌≡◌, ℕ, Bool, true, false, refl, sym, ap, Some, None, eqb-true, eq-eqb, ne_eqb}
 use Rattle.std.specs.Prelude.{◌==◌, if◌then◌else◌}
-use Rattle.wy_event.specs.Record.{NONE, present}
+use Rattle.wy_kernel.specs.View.{NONE, present}
 use Rattle.wy_index.specs.Found.{number}
 
 pub number_of_present : (n : ℕ) → number (present n) ≡ n

@@ -3,7 +3,8 @@
 ghost use Rattle.std.specs.Prelude.{◌≡◌, ◌<◌, ◌^◌, ◌++◌, ◌∷◌, ℕ, List, [], OnOk, Some, None, if◌then◌else◌, length, vec_len, nat_eq};
 ghost use Rattle.std.specs.Ordering.{nat_cmp};
 ghost use Rattle.std.specs.BTreeMap.{get};
-ghost use Rattle.wy_event.specs.Record.{Recorded, recorded, present};
+ghost use Rattle.wy_event.specs.Record.{Recorded, recorded};
+ghost use Rattle.wy_kernel.specs.View.{present};
 ghost use Rattle.wy_event.specs.Sources.{is_what, or_else};
 ghost use Rattle.wy_index.specs.Found.{posting_of, print_of, is_call_of, is_init_of, body_at, hit_from, one_if};
 ghost use Rattle.wy_index.specs.Kept.{kept_under};

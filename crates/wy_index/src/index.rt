@@ -1,7 +1,8 @@
 //! The index of a trace, and its look-ups.
 
 ghost use Rattle.std.specs.Prelude.{◌≡◌, ◌+◌, ◌*◌, ◌<◌, ◌≤◌, ◌^◌, ◌++◌, ◌∷◌, ℕ, List, [], IfOk, IfSome, OnOk, length, slice_get, map};
-ghost use Rattle.wy_event.specs.Record.{Recorded, recorded, present};
+ghost use Rattle.wy_event.specs.Record.{Recorded, recorded};
+ghost use Rattle.wy_kernel.specs.View.{present};
 ghost use Rattle.wy_event.specs.Sources.{creation, last_write, written};
 ghost use Rattle.wy_kernel.specs.Program.{field};
 ghost use Rattle.wy_kernel.specs.Parts.{program_of};

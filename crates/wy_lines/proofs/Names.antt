@@ -5,8 +5,7 @@ use Rattle.std.proofs.lemmas.List.{get_or_past, length-map}
 use Rattle.wy_kernel.specs.declared.program.Program.{Program}
 use Rattle.wy_kernel.specs.Parts.{program_of}
 use Rattle.wy_kernel.specs.Program.{body, field, fixed_text, init_body, method}
-use Rattle.wy_kernel.specs.View.{body_of, field_of, method_of}
-use Rattle.wy_event.specs.Record.{NONE, present}
+use Rattle.wy_kernel.specs.View.{body_of, field_of, method_of, NONE, present}
 use Rattle.wy_meaning.specs.Library.{brackets_text}
 use Rattle.wy_lines.specs.Names.{field_name, member_name, method_name}
 

@@ -15,7 +15,8 @@ use Rattle.wy_event.specs.declared.record.Kind.{Kind}
 use Rattle.wy_event.specs.declared.record.Kind.TheVariants as kind
 use Rattle.wy_event.specs.declared.record.Slot.{Slot}
 use Rattle.wy_event.specs.declared.record.Slot.TheVariants as slot
-use Rattle.wy_event.specs.Record.{Recorded, present}
+use Rattle.wy_event.specs.Record.{Recorded}
+use Rattle.wy_kernel.specs.View.{present}
 use Rattle.wy_event.specs.Sources.{Control}
 use Rattle.wy_lines.specs.Lines.{event_line, line_at, deed_of, line_with, where_at, deed, verb, led, equation, made_text, subject, given, star}
 use Rattle.wy_text.specs.Lines.{place_of, place_on, name_of}

@@ -7,7 +7,8 @@ use Rattle.wy_value.specs.declared.value.Value.{Value}
 use Rattle.wy_value.specs.declared.value.Value.TheVariants as value_of
 use Rattle.wy_event.specs.declared.record.Kind.{Kind}
 use Rattle.wy_event.specs.declared.record.Kind.TheVariants.{Init, New, Call, Bind, Set, Test, Text, Read, Print, Return, Jump, Throw, Catch}
-use Rattle.wy_event.specs.Record.{Recorded, present}
+use Rattle.wy_event.specs.Record.{Recorded}
+use Rattle.wy_kernel.specs.View.{present}
 use Rattle.wy_text.specs.Lines.{line_of, name_of, place_of}
 use Rattle.wy_lines.specs.Names.{made_name, method_name, numbered}
 use Rattle.wy_lines.specs.Places.{slot_text}

@@ -1,7 +1,8 @@
 //! The line of an event.
 
 ghost use Rattle.std.specs.Prelude.{◌≡◌, ◌++◌, ◌+◌, ◌<◌, ◌≤◌, ℕ, Bool, List, Some, IfOk, OnOk, codes, length};
-ghost use Rattle.wy_event.specs.Record.{Recorded, present};
+ghost use Rattle.wy_event.specs.Record.{Recorded};
+ghost use Rattle.wy_kernel.specs.View.{present};
 ghost use Rattle.wy_kernel.specs.Parts.{program_of};
 ghost use Rattle.wy_kernel.specs.Program as parts;
 ghost use Rattle.wy_lines.specs.Lines.{deed, equation, event_line, given, led, line_with, made_text, star, subject, verb, where_at};

@@ -1,7 +1,8 @@
 //! What is read of one record of a trace.
 
 ghost use Rattle.std.specs.Prelude.{◌≡◌, ◌+◌, ◌++◌, ◌<◌, ℕ, List, Some, IfOk, OnOk, slice_get};
-ghost use Rattle.wy_event.specs.Record.{Recorded, present, recorded};
+ghost use Rattle.wy_event.specs.Record.{Recorded, recorded};
+ghost use Rattle.wy_kernel.specs.View.{present};
 ghost use Rattle.wy_lines.specs.Values.{quoted, units_of, what_of};
 ghost use Rattle.wy_view.specs.View.{Answers, IsRecordOf, Keeps};
 

@@ -1,7 +1,7 @@
 //! The names of methods, fields and types.
 
 ghost use Rattle.std.specs.Prelude.{◌≡◌, ◌++◌, OnOk, string_bytes};
-ghost use Rattle.wy_event.specs.Record.{present};
+ghost use Rattle.wy_kernel.specs.View.{present};
 ghost use Rattle.wy_kernel.specs.Parts.{program_of};
 ghost use Rattle.wy_kernel.specs.Program.{base_of, type_of_code};
 ghost use Rattle.wy_meaning.specs.Library.{base_name, brackets_text, primitive_name, type_name};
@@ -20,7 +20,7 @@ const BRACKETS: u32 = 1 << 24;
 const CLASSES: u32 = 16;
 
 /// Puts a method's name behind that of its class, and nothing where there is no method.
-#[tactic(auto, unfolding(crate::specs::Names::method_name, wy_event::specs::Record::present))]
+#[tactic(auto, unfolding(crate::specs::Names::method_name, wy_kernel::specs::View::present))]
 pub fn put_method_name(out: &mut Vec<u8>, program: &Program, number: u32) -> Result<(), AllocError>
     ensures { OnOk result (out.new.items
         ≡ out.old.items ++ method_name (program_of program.now) (present number)) }
@@ -64,7 +64,7 @@ fn put_member_name(
 }
 
 /// Puts the name of a type by its code, and nothing where there is no code.
-#[tactic(auto, unfolding(crate::specs::Names::made_name, wy_event::specs::Record::present))]
+#[tactic(auto, unfolding(crate::specs::Names::made_name, wy_kernel::specs::View::present))]
 pub(crate) fn put_made_name(
     out: &mut Vec<u8>,
     program: &Program,

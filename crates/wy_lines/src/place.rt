@@ -2,10 +2,10 @@
 
 ghost use Rattle.std.specs.Prelude.{◌≡◌, ◌++◌, ◌+◌, ◌<◌, ◌≤◌, ℕ, List, Some, OnOk, codes, option_map};
 ghost use Rattle.std.specs.Fmt.{decimal};
-ghost use Rattle.wy_event.specs.Record.{Recorded, present};
+ghost use Rattle.wy_event.specs.Record.{Recorded};
 ghost use Rattle.wy_kernel.specs.Parts.{program_of};
 ghost use Rattle.wy_kernel.specs.Program.{body, init_body};
-ghost use Rattle.wy_kernel.specs.View.{body_of, local_of};
+ghost use Rattle.wy_kernel.specs.View.{body_of, local_of, present};
 ghost use Rattle.wy_lines.specs.Names.{field_name, numbered};
 ghost use Rattle.wy_lines.specs.Places.{begun, called, local_name, slot_text};
 ghost use Rattle.wy_view.specs.References.{SlotBelow};
@@ -108,7 +108,7 @@ fn name_in(body: Option<&Body>, index: u32) -> &str
 }
 
 /// The body that an event began, where it began one.
-#[tactic(auto, unfolding(crate::specs::Places::begun, wy_event::specs::Record::present))]
+#[tactic(auto, unfolding(crate::specs::Places::begun, wy_kernel::specs::View::present))]
 fn body_begun(program: &Program, frame: Begun) -> Option<&Body>
     ensures { option_map (λ b. body_of b.now) result
         ≡ begun (program_of program.now) frame.kind (present frame.what) }

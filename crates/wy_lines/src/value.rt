@@ -1,7 +1,8 @@
 //! Values, objects with their types and texts with their units.
 
 ghost use Rattle.std.specs.Prelude.{◌≡◌, ◌++◌, ◌+◌, ◌<◌, ◌≤◌, ℕ, List, Some, OnOk};
-ghost use Rattle.wy_event.specs.Record.{Recorded, present};
+ghost use Rattle.wy_event.specs.Record.{Recorded};
+ghost use Rattle.wy_kernel.specs.View.{present};
 ghost use Rattle.wy_kernel.specs.Parts.{program_of};
 ghost use Rattle.wy_kernel.specs.Program.{fixed_text};
 ghost use Rattle.wy_lines.specs.Names.{made_name, numbered};

@@ -2,7 +2,7 @@
 use Rattle.std.proofs.Common.{◌≡◌, ◌∙◌, ◌<◌, ◌+◌, ◌-◌, ℕ, suc, true, List, [], ◌∷◌, length, map, reverse, get_or, refl, sym, ap, ap₂, arith}
 use Rattle.wy_kernel.specs.Program.{Program}
 use Rattle.wy_event.specs.declared.record.Cover.{Cover}
-use Rattle.wy_event.specs.Record.{present}
+use Rattle.wy_kernel.specs.View.{present}
 use Rattle.wy_steps.specs.Sets.{nothing}
 use Rattle.wy_steps.specs.State.{Carried, State, Covered, Outcome, Done, Left, Stopped, go_on, return, leave, stop}
 use Rattle.wy_meaning.specs.Run as meaning

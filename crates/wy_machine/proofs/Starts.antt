@@ -6,7 +6,8 @@ use Rattle.wy_kernel.specs.Program.{Program, class, method}
 use Rattle.wy_value.specs.declared.value.Value.{Value}
 use Rattle.wy_event.specs.declared.record.Cover.{Cover}
 use Rattle.wy_event.specs.declared.record.Slot.TheVariants.{Field, Elem}
-use Rattle.wy_event.specs.Record.{Recorded, present}
+use Rattle.wy_event.specs.Record.{Recorded}
+use Rattle.wy_kernel.specs.View.{present}
 use Rattle.wy_heap.specs.declared.heap.Heap.{Heap}
 use Rattle.wy_heap.specs.Changes.{IsNew}
 use Rattle.wy_steps.specs.Sets.{nothing}

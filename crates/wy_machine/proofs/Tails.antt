@@ -2,7 +2,7 @@
 use Rattle.std.proofs.Common.{◌≡◌, ◌↔◌, ◌∙◌, Bool, true, false, List, [], ◌∷◌, map, ap, ap₂, refl, sym, IsTrue}
 use Rattle.wy_event.specs.declared.record.Cover.{Cover}
 use Rattle.wy_event.specs.declared.record.Tail.{Tail}
-use Rattle.wy_event.specs.Record.{present}
+use Rattle.wy_kernel.specs.View.{present}
 use Rattle.wy_comparing.proofs.Events.{present_once}
 use Rattle.wy_meaning.specs.Kept.{covered_of, kept_tail}
 use Rattle.wy_machine.specs.Audits.{SameCounts}

@@ -7,7 +7,8 @@ use Rattle.std.proofs.lemmas.Option.{slice_get_cases, slice_get_past, slice_get_
 use mathlib.Core.List.{reverse-cons, map-append}
 use Rattle.wy_value.specs.declared.value.Value.{Value}
 use Rattle.wy_value.specs.declared.value.Value.TheVariants.{Object}
-use Rattle.wy_event.specs.Record.{Recorded, present}
+use Rattle.wy_event.specs.Record.{Recorded}
+use Rattle.wy_kernel.specs.View.{present}
 use Rattle.wy_event.specs.declared.record.Kind.{Kind}
 use Rattle.wy_event.specs.declared.record.Kind.TheVariants as kinds
 use Rattle.wy_heap.proofs.Slots.{get-append, get-append_past}

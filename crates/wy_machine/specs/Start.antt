@@ -1,6 +1,6 @@
 -- What is known of a statement before a run.
 use Rattle.wy_event.specs.declared.record.Cover.{Cover}
-use Rattle.wy_event.specs.Record.{NONE}
+use Rattle.wy_kernel.specs.View.{NONE}
 
 -- it never began, and nothing left it
 abbrev pub untouched : Cover

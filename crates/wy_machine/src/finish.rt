@@ -1,7 +1,7 @@
 //! How a run ended, and what is kept of it.
 
 ghost use Rattle.std.specs.Prelude.{◌≡◌, ℕ, List, IfOk, true};
-ghost use Rattle.wy_event.specs.Record.{present};
+ghost use Rattle.wy_kernel.specs.View.{present};
 ghost use Rattle.wy_kernel.specs.Program as kernel;
 ghost use Rattle.wy_machine.specs.Ended.{IsEndFor, events_of};
 ghost use Rattle.wy_machine.specs.Going.{last_at, stop_at};
@@ -66,7 +66,7 @@ pub fn finish<'a, R: Recorder + Drop>(
 }
 
 /// A number, or NONE.
-#[tactic(auto, unfolding(wy_event::specs::Record::present))]
+#[tactic(auto, unfolding(wy_kernel::specs::View::present))]
 fn number_of(number: Option<u32>) -> Result<u32, AllocError>
     ensures { IfOk result (λ n. present n ≡ number) }
 {

@@ -18,7 +18,8 @@ use Rattle.wy_steps.specs.State.{Covered}
 use Rattle.wy_meaning.specs.Run.{Tail}
 use Rattle.wy_kernel.specs.Program.{class, method, field, body, init_body, fixed_text, local_site, is_source, full_name, primitive_code, base_code, type_code, base_of, type_of_code, element_type, class_of_type, is_array, is_one_of, is_above, class_below, is_subclass, same_primitive, base_below, is_object, brackets_below, is_below, same_units, same_types, is_instance, runs_as, declared_in, or_above, find_method, dispatch}
 use Rattle.wy_event.specs.Numbers.{none, only, union, union_of}
-use Rattle.wy_event.specs.Record.{present, recorded, same_slot}
+use Rattle.wy_event.specs.Record.{recorded, same_slot}
+use Rattle.wy_kernel.specs.View.{present}
 use Rattle.wy_event.specs.Sources.{is_write, writes, is_what, creates_as, creates, is_so, or_else, written, creation, last_write, with_role, use_source, use_sources, event_sources, sources_of, sources, is_data, source_events, closure_within, closure, data_closure}
 use Rattle.wy_steps.specs.State.{go_on, ◌>>=◌, ◌>>◌, return, leave, stop, go_on_left, catching, choose}
 use Rattle.wy_steps.specs.Steps.{constant, with_value, joined, joined_all, value_of, chosen, pay, tick, steps_left, frame, event_in, event_at, is_init_of, has_init, is_begun, held_of, read, slot_with, no_value, declare, parent, control_set, next_event, made, with_event, room_for, noting, note, held_by, with_stored, writing, note_write, default_primitive, default_value, code_of, default_in, owner_in, if_empty, with_created, creating, note_new, with_active, entered, go_in, activating, active_again, scoped, same_frame, ends_with, outlasting, without, end_reaches, reaching, frame_again, in_frame, with_elements, take_elements, with_units, take_units, room_for_output, write_out, take_byte, next_byte, cover_with, covering, first_moment, begun, ended, left_by, stop_cause, event_of, arrives, end_normally, be_left, cover_end, covered}

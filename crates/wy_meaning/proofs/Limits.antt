@@ -28,7 +28,7 @@ use Rattle.wy_meaning.specs.Text.{make_text, print}
 use Rattle.wy_meaning.specs.Array.{make_array}
 use Rattle.wy_meaning.specs.Run.{world, main_run, start, stop_of, end}
 use Rattle.wy_meaning.specs.Kept.{covered_of, kept_tail}
-use Rattle.wy_event.specs.Record.{present}
+use Rattle.wy_kernel.specs.View.{present}
 use Rattle.wy_meaning.proofs.Rows.{p1}
 
 -- P1 with five steps: five events, and the second declaration does not begin

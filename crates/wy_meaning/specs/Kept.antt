@@ -3,7 +3,7 @@ use Rattle.std.specs.Prelude.{map}
 use Rattle.wy_event.specs.declared.record.Cover.{Cover}
 use Rattle.wy_event.specs.declared.record.Tail.{Tail as Kept}
 use Rattle.wy_event.specs.declared.record.Thrown.{Thrown as KeptThrown}
-use Rattle.wy_event.specs.Record.{present}
+use Rattle.wy_kernel.specs.View.{present}
 use Rattle.wy_steps.specs.State.{Covered}
 use Rattle.wy_meaning.specs.Run.{Tail, Thrown}
 

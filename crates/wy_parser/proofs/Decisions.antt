@@ -9,7 +9,7 @@ use Rattle.wy_tree.specs.declared.kind.Kind.{Kind}
 use Rattle.wy_tree.specs.declared.kind.Kind.TheVariants as kinds
 use Rattle.wy_tree.specs.declared.grammar.Row.{Row}
 use Rattle.wy_tree.specs.declared.grammar.Item.{Item}
-use Rattle.wy_parser.specs.Choosing.{front, choose}
+use Rattle.wy_parser.specs.Prediction.{front, predict}
 use Rattle.wy_parser.proofs.Truth.{is_false}
 use Rattle.wy_parser.proofs.Firsts.{first_in}
 use Rattle.wy_parser.proofs.Follows.{row_meets, occurs, Lawful}
@@ -25,7 +25,7 @@ lets _ k = true
 
 pub decides : {row : Row} {way : List Item} (y : Alternative row way) (items : List Item) (ts : Asts) → Match (way ++ items) ts → (s : List Tok) (F : Kind → Bool) → F (front s) ≡ true
     → ((k : Kind) → first_in items F k ≡ true → row_meets row k ≡ true) → occurs row items ≡ true → Lawful items F → lets y (front (tokens_all ts ++ s)) ≡ true
-    → first_in way (row_meets row) (front (tokens_all ts ++ s)) ≡ true → choose row (tokens_all ts ++ s) ≡ way
+    → first_in way (row_meets row) (front (tokens_all ts ++ s)) ≡ true → predict row (tokens_all ts ++ s) ≡ way
 decides (grammar.none_of {x}) items ts w s F f m o l q g = tells_none_of x (tokens_all ts ++ s) g
 decides (grammar.some_of {x}) items ts w s F f m o l q g = tells_some_of x items o (tokens_all ts ++ s) g
 decides (grammar.absent {x}) items ts w s F f m o l q g = tells_absent x (tokens_all ts ++ s) g

@@ -5,7 +5,7 @@ use Rattle.wy_tree.specs.Kinds.{kind_of, same}
 use Rattle.wy_tree.specs.Conditions.{is_name, is_reference, is_signed, is_sign, condition, fine}
 use Rattle.wy_tree.specs.Ast.{Ast, Asts, Leaf, none, more, tokens, tokens_all}
 use Rattle.wy_tree.specs.Grammar as grammar
-use Rattle.wy_tree.specs.Grammar.{a, name, is_prefixing, Suffix, Is, made, grown, Match, done, token, part, chosen}
+use Rattle.wy_tree.specs.Grammar.{a, name, is_prefixing, Suffix, Is, made, grown, Match, done, token, part, predicted}
 use Rattle.wy_tree.specs.declared.kind.Kind.{Kind}
 use Rattle.wy_tree.specs.declared.kind.Kind.TheVariants as kinds
 use Rattle.wy_tree.specs.declared.grammar.Class.TheVariants.{Element, Prefixing}
@@ -14,7 +14,7 @@ use Rattle.wy_tree.specs.declared.grammar.Sort.TheVariants as sorts
 use Rattle.wy_tree.specs.declared.grammar.Row.TheVariants as rows
 use Rattle.wy_tree.specs.declared.grammar.Item.{Item}
 use Rattle.wy_tree.specs.declared.grammar.Item.TheVariants.{One, Part, Parts}
-use Rattle.wy_parser.specs.Choosing.{front, rest, second, third, casts, casts_to_name, begins_operand, choose_operator, choose_unary, choose_new, choose_dimension}
+use Rattle.wy_parser.specs.Prediction.{front, rest, second, third, casts, casts_to_name, begins_operand, predict_operator, predict_unary, predict_new, predict_dimension}
 use Rattle.wy_parser.proofs.Truth.{and_left, or_left, or_right, both, neither, not_both, is_not, is_false}
 use Rattle.wy_parser.proofs.Firsts.{within, begins, first_in, every, implied, starts, front_first}
 use Rattle.wy_parser.proofs.Follows.{after_unary}
@@ -49,9 +49,9 @@ pub fine_condition : (x : Sort) (ts : Asts) → fine x ts ≡ true → condition
 fine_condition x ts e = and_left (condition x ts) _ e
 
 reference_type : (t : Ast) → Is sorts.Type t → is_reference t ≡ true → (r : List Tok) → Reference (tokens t ++ r) r
-reference_type t (made (token {o} e (chosen grammar.no_brackets done)) f q) i r =
+reference_type t (made (token {o} e (predicted grammar.no_brackets done)) f q) i r =
     subst (λ z. Reference (tokens z ++ r) r) (sym q) (named (sym (ap is_reference q) ∙ i))
-reference_type t (made (token {o} e (chosen grammar.brackets (token {o = o'} e' (token {o = o''} e'' w)))) f q) i r =
+reference_type t (made (token {o} e (predicted grammar.brackets (token {o = o'} e' (token {o = o''} e'' w)))) f q) i r =
     subst (λ z. Reference (tokens z ++ r) r) (sym q) (bracketed e e' e'')
 reference_type t (grown v (grammar.operator f) w e q) i r = absurd (cc)
 
@@ -62,20 +62,20 @@ reference t (grown v (grammar.operator f) w e q) r = absurd (cc)
 
 -- what the operand of a cast to a reference type begins with
 unsigned_unary : (t : Ast) → Is sorts.Unary t → not (is_signed t) ≡ true → (s : List Tok) → begins_operand (front (tokens t ++ s)) ≡ true
-unsigned_unary t (made (chosen grammar.negated (token {o} e (chosen grammar.big (token g done)))) f q) i s =
+unsigned_unary t (made (predicted grammar.negated (token {o} e (predicted grammar.big (token g done)))) f q) i s =
     absurd (let h : not (is_sign (kind_of o)) ≡ true = sym (ap (λ z. not (is_signed z)) q) ∙ i in let j = minus_is_sign (kind_of o) e in let l = is_false (is_sign (kind_of o)) h in cc)
-unsigned_unary t (made (chosen grammar.negated (token {o} e (chosen grammar.small (part v done)))) f q) i s =
+unsigned_unary t (made (predicted grammar.negated (token {o} e (predicted grammar.small (part v done)))) f q) i s =
     absurd (let h : not (is_sign (kind_of o)) ≡ true = sym (ap (λ z. not (is_signed z)) q) ∙ i in let j = minus_is_sign (kind_of o) e in let l = is_false (is_sign (kind_of o)) h in cc)
-unsigned_unary t (made (chosen grammar.prefixed (token {o} e (part v done))) f q) i s =
+unsigned_unary t (made (predicted grammar.prefixed (token {o} e (part v done))) f q) i s =
     let h : not (is_sign (kind_of o)) ≡ true = sym (ap (λ z. not (is_signed z)) q) ∙ i in
     ap (λ z. begins_operand (front (tokens z ++ s))) q ∙ second_of (is_sign (kind_of o)) (begins_operand (kind_of o)) (is_false (is_sign (kind_of o)) h) (prefixing_or_sign (kind_of o) e)
   where
     second_of : (b c : Bool) → b ≡ false → (b || c) ≡ true → c ≡ true
     second_of true c e f = absurd (cc)
     second_of false c e f = f
-unsigned_unary t (made (chosen grammar.a_cast (part {t = t'} v done)) f q) i s =
+unsigned_unary t (made (predicted grammar.a_cast (part {t = t'} v done)) f q) i s =
     ap (λ z. begins_operand (front (tokens z ++ s))) q ∙ cast_operand (front (tokens t' ++ s)) (starts sorts.Cast t' v s)
-unsigned_unary t (made (chosen grammar.a_postfix (part {t = t'} v done)) f q) i s =
+unsigned_unary t (made (predicted grammar.a_postfix (part {t = t'} v done)) f q) i s =
     ap (λ z. begins_operand (front (tokens z ++ s))) q ∙ postfix_operand (front (tokens t' ++ s)) (starts sorts.Postfix t' v s)
 unsigned_unary t (grown v (grammar.operator f) w e q) i s = absurd (cc)
 
@@ -121,9 +121,9 @@ unfolding casts casts_in
 opened o u b e f = ap (λ z. z && (same (front u) kinds.Prim || (is_name (front u) && casts_to_name (rest u)))) e ∙ f
 
 cast_casts : (t : Ast) → Is sorts.Cast t → (s : List Tok) → casts (tokens t ++ s) ≡ true
-cast_casts t (made (token {o} e (chosen grammar.to_primitive (token {o = o'} {ts} e' w))) f q) s =
+cast_casts t (made (token {o} e (predicted grammar.to_primitive (token {o = o'} {ts} e' w))) f q) s =
     ap casts (retell sorts.Cast t (more (Leaf o) (more (Leaf o') ts)) s q) ∙ opened o (o' ∷ (tokens_all ts ++ s)) true e (primitive_casts o' (tokens_all ts ++ s) e')
-cast_casts t (made (token {o} e (chosen grammar.to_reference (part {t = t'} v (token {o = o'} e' (part {t = t''} v' done))))) f q) s =
+cast_casts t (made (token {o} e (predicted grammar.to_reference (part {t = t'} v (token {o = o'} e' (part {t = t''} v' done))))) f q) s =
     let r = o' ∷ (tokens_all (more t'' none) ++ s) in
     ap casts (retell sorts.Cast t (more (Leaf o) (more t' (more (Leaf o') (more t'' none)))) s q) ∙ ap (λ z. casts (o ∷ z)) (append_assoc (tokens t') (o' ∷ tokens_all (more t'' none)) s)
     ∙ opened o (tokens t' ++ r) true e
@@ -238,14 +238,14 @@ unopened u e = is_false (same (front u) kinds.OpenParen && (same (second u) kind
     by false c e = refl
 
 primary_parts : (ts : Asts) → Match (Parts rows.PrimaryForm ∷ []) ts → (s : List Tok) → begins_operand (front s) ≡ false → casts (tokens_all ts ++ s) ≡ false
-primary_parts _ (chosen grammar.literal (token {o} {ts} e w)) s f = unopened (o ∷ (tokens_all ts ++ s)) (literal_opens_nothing (kind_of o) e)
-primary_parts _ (chosen grammar.this (token {o} {ts} e w)) s f = unopened (o ∷ (tokens_all ts ++ s)) (this_opens_nothing (kind_of o) e)
-primary_parts _ (chosen grammar.named (token {o} {ts} e w)) s f = unopened (o ∷ (tokens_all ts ++ s)) (name_opens_nothing (kind_of o) e)
-primary_parts _ (chosen grammar.grouped (token {o} e (part {t} v (token {o = o'} e' done)))) s f =
+primary_parts _ (predicted grammar.literal (token {o} {ts} e w)) s f = unopened (o ∷ (tokens_all ts ++ s)) (literal_opens_nothing (kind_of o) e)
+primary_parts _ (predicted grammar.this (token {o} {ts} e w)) s f = unopened (o ∷ (tokens_all ts ++ s)) (this_opens_nothing (kind_of o) e)
+primary_parts _ (predicted grammar.named (token {o} {ts} e w)) s f = unopened (o ∷ (tokens_all ts ++ s)) (name_opens_nothing (kind_of o) e)
+primary_parts _ (predicted grammar.grouped (token {o} e (part {t} v (token {o = o'} e' done)))) s f =
     opened o ((tokens t ++ (o' ∷ [])) ++ s) false e (ap casts_in (append_assoc (tokens t) (o' ∷ []) s) ∙ group_casts t v o' s e' f)
-primary_parts _ (chosen grammar.created (part {t} {ts} v w)) s f =
+primary_parts _ (predicted grammar.created (part {t} {ts} v w)) s f =
     let u = tokens_all (more t ts) ++ s in unopened u (new_opens_nothing (front u) (part_front sorts.New t ts v s))
-primary_parts _ (chosen grammar.inherited (token {o} {ts} e w)) s f = unopened (o ∷ (tokens_all ts ++ s)) (super_opens_nothing (kind_of o) e)
+primary_parts _ (predicted grammar.inherited (token {o} {ts} e w)) s f = unopened (o ∷ (tokens_all ts ++ s)) (super_opens_nothing (kind_of o) e)
 
 -- what goes on with a primary expression is no operand
 suffix_operand : (items : List Item) → Suffix sorts.Primary items → (ts : Asts) → Match items ts → (s : List Tok) → begins_operand (front (tokens_all ts ++ s)) ≡ false
@@ -265,8 +265,8 @@ postfix_casts t (made (part {t = t'} {ts} v w) f q) s e =
     ∙ primary_casts t' v (tokens_all ts ++ s) (is_false (begins_operand k) (step_or_end k (front_first (Parts rows.Steps ∷ []) ts w (within after_unary) s e)))
 postfix_casts t (grown v (grammar.operator f) w e q) s g = absurd (cc)
 
-pub tells_negated : (u : List Tok) → same (front u) kinds.Minus ≡ true → choose_operator rows.UnaryForm u ≡ a kinds.Minus ∷ Parts rows.Negated ∷ []
-unfolding choose_operator choose_unary
+pub tells_negated : (u : List Tok) → same (front u) kinds.Minus ≡ true → predict_operator rows.UnaryForm u ≡ a kinds.Minus ∷ Parts rows.Negated ∷ []
+unfolding predict_operator predict_unary
 tells_negated u f = yes (same (front u) kinds.Minus) _ _ f
 
 prefixing_is_no_minus : (k : Kind) → is_prefixing k ≡ true → not (same k kinds.Minus) ≡ true
@@ -301,12 +301,12 @@ bracket_is_no_close : (k : Kind) → same k kinds.OpenBracket ≡ true → not (
 unfolding every
 bracket_is_no_close k e = implied (λ k. same k kinds.OpenBracket) (λ k. not (same k kinds.CloseParen)) refl k e
 
-pub tells_prefixed : (u : List Tok) → is_prefixing (front u) ≡ true → choose_operator rows.UnaryForm u ≡ One Prefixing ∷ Part sorts.Unary ∷ []
-unfolding choose_operator choose_unary
+pub tells_prefixed : (u : List Tok) → is_prefixing (front u) ≡ true → predict_operator rows.UnaryForm u ≡ One Prefixing ∷ Part sorts.Unary ∷ []
+unfolding predict_operator predict_unary
 tells_prefixed u f = no (same (front u) kinds.Minus) _ _ (prefixing_is_no_minus (front u) f) ∙ yes (is_prefixing (front u)) _ _ f
 
-pub tells_a_cast : (items : List Item) (ts : Asts) → Match (Part sorts.Cast ∷ items) ts → (s : List Tok) → choose_operator rows.UnaryForm (tokens_all ts ++ s) ≡ Part sorts.Cast ∷ []
-unfolding choose_operator choose_unary
+pub tells_a_cast : (items : List Item) (ts : Asts) → Match (Part sorts.Cast ∷ items) ts → (s : List Tok) → predict_operator rows.UnaryForm (tokens_all ts ++ s) ≡ Part sorts.Cast ∷ []
+unfolding predict_operator predict_unary
 tells_a_cast items _ (part {t} {ts} v w) s =
     let u = tokens_all (more t ts) ++ s in
     let b = part_front sorts.Cast t ts v s in
@@ -314,16 +314,16 @@ tells_a_cast items _ (part {t} {ts} v w) s =
     ∙ yes (casts u) _ _ (ap casts (append_assoc (tokens t) (tokens_all ts) s) ∙ cast_casts t v (tokens_all ts ++ s))
 
 pub tells_a_postfix : (items : List Item) (ts : Asts) → Match (Part sorts.Postfix ∷ items) ts → (F : Kind → Bool) (s : List Tok) → F (front s) ≡ true
-    → ((k : Kind) → first_in items F k ≡ true → within after_unary k ≡ true) → choose_operator rows.UnaryForm (tokens_all ts ++ s) ≡ Part sorts.Postfix ∷ []
-unfolding choose_operator choose_unary
+    → ((k : Kind) → first_in items F k ≡ true → within after_unary k ≡ true) → predict_operator rows.UnaryForm (tokens_all ts ++ s) ≡ Part sorts.Postfix ∷ []
+unfolding predict_operator predict_unary
 tells_a_postfix items _ (part {t} {ts} v w) F s f ends =
     let u = tokens_all (more t ts) ++ s in
     let b = part_front sorts.Postfix t ts v s in
     let c : casts u ≡ false = ap casts (append_assoc (tokens t) (tokens_all ts) s) ∙ postfix_casts t v (tokens_all ts ++ s) (ends (front (tokens_all ts ++ s)) (front_first items ts w F s f)) in
     no (same (front u) kinds.Minus) _ _ (postfix_is_no_minus (front u) b) ∙ no (is_prefixing (front u)) _ _ (postfix_is_no_prefix (front u) b) ∙ no (casts u) _ _ (is_not (casts u) c)
 
-pub tells_to_primitive : (items : List Item) (ts : Asts) → Match (a kinds.Prim ∷ a kinds.CloseParen ∷ items) ts → (s : List Tok) → choose_operator rows.CastForm (tokens_all ts ++ s) ≡ a kinds.Prim ∷ a kinds.CloseParen ∷ Part sorts.Unary ∷ []
-unfolding choose_operator
+pub tells_to_primitive : (items : List Item) (ts : Asts) → Match (a kinds.Prim ∷ a kinds.CloseParen ∷ items) ts → (s : List Tok) → predict_operator rows.CastForm (tokens_all ts ++ s) ≡ a kinds.Prim ∷ a kinds.CloseParen ∷ Part sorts.Unary ∷ []
+unfolding predict_operator
 tells_to_primitive items _ (token {o} e (token {o = o'} {ts} f w)) s =
     let u = o ∷ (o' ∷ (tokens_all ts ++ s)) in
     yes (same (front u) kinds.Prim && same (second u) kinds.CloseParen) _ _ (both (same (front u) kinds.Prim) (same (second u) kinds.CloseParen) e f)
@@ -332,42 +332,42 @@ reference_no_primitive : (u r : List Tok) → Reference u r → not (same (front
 reference_no_primitive _ r (named {o} n) = not_both (same (kind_of o) kinds.Prim) (same (front r) kinds.CloseParen) (λ b. absurd (let d = is_false (same (kind_of o) kinds.Prim) (name_is_no_type (kind_of o) n) in cc))
 reference_no_primitive _ r (bracketed {o} {o'} {o''} {u} n g h) = not_both (same (kind_of o) kinds.Prim) (same (kind_of o') kinds.CloseParen) (λ b. is_false (same (kind_of o') kinds.CloseParen) (bracket_is_no_close (kind_of o') g))
 
-pub tells_to_reference : (items : List Item) (ts : Asts) → Match (Part sorts.RefType ∷ items) ts → (s : List Tok) → choose_operator rows.CastForm (tokens_all ts ++ s) ≡ Part sorts.RefType ∷ a kinds.CloseParen ∷ Part sorts.Operand ∷ []
-unfolding choose_operator
+pub tells_to_reference : (items : List Item) (ts : Asts) → Match (Part sorts.RefType ∷ items) ts → (s : List Tok) → predict_operator rows.CastForm (tokens_all ts ++ s) ≡ Part sorts.RefType ∷ a kinds.CloseParen ∷ Part sorts.Operand ∷ []
+unfolding predict_operator
 tells_to_reference items _ (part {t} {ts} v w) s =
     let u = tokens_all (more t ts) ++ s in
     no (same (front u) kinds.Prim && same (second u) kinds.CloseParen) _ _
     (subst (λ z. not (same (front z) kinds.Prim && same (second z) kinds.CloseParen) ≡ true) (sym (append_assoc (tokens t) (tokens_all ts) s)) (reference_no_primitive (tokens t ++ (tokens_all ts ++ s)) (tokens_all ts ++ s) (reference t v (tokens_all ts ++ s))))
 
-pub tells_an_object : (items : List Item) (ts : Asts) → Match (name ∷ Part sorts.Args ∷ items) ts → (s : List Tok) → choose_new (tokens_all ts ++ s) ≡ name ∷ Part sorts.Args ∷ []
-unfolding choose_new
+pub tells_an_object : (items : List Item) (ts : Asts) → Match (name ∷ Part sorts.Args ∷ items) ts → (s : List Tok) → predict_new (tokens_all ts ++ s) ≡ name ∷ Part sorts.Args ∷ []
+unfolding predict_new
 tells_an_object items _ (token {o} e (part {t} {ts} v w)) s =
     let u = o ∷ (tokens_all (more t ts) ++ s) in yes (same (second u) kinds.OpenParen) _ _ (arguments_open (second u) (part_front sorts.Args t ts v s))
 
-pub tells_sized : (items : List Item) (ts : Asts) → Match (One Element ∷ a kinds.OpenBracket ∷ Part sorts.Expr ∷ items) ts → (s : List Tok) → choose_new (tokens_all ts ++ s) ≡ One Element ∷ a kinds.OpenBracket ∷ Part sorts.Expr ∷ a kinds.CloseBracket ∷ Parts rows.Dimensions ∷ []
-unfolding choose_new
+pub tells_sized : (items : List Item) (ts : Asts) → Match (One Element ∷ a kinds.OpenBracket ∷ Part sorts.Expr ∷ items) ts → (s : List Tok) → predict_new (tokens_all ts ++ s) ≡ One Element ∷ a kinds.OpenBracket ∷ Part sorts.Expr ∷ a kinds.CloseBracket ∷ Parts rows.Dimensions ∷ []
+unfolding predict_new
 tells_sized items _ (token {o} e (token {o = o'} e' (part {t} {ts} v w))) s =
     let u = o ∷ (o' ∷ (tokens_all (more t ts) ++ s)) in
     no (same (second u) kinds.OpenParen) _ _ (bracket_is_no_parenthesis (second u) e') ∙ no (same (third u) kinds.CloseBracket) _ _ (expr_is_no_close (third u) (part_front sorts.Expr t ts v s))
 
-pub tells_listed : (items : List Item) (ts : Asts) → Match (One Element ∷ a kinds.OpenBracket ∷ a kinds.CloseBracket ∷ items) ts → (s : List Tok) → choose_new (tokens_all ts ++ s) ≡ One Element ∷ a kinds.OpenBracket ∷ a kinds.CloseBracket ∷ Parts rows.Brackets ∷ a kinds.OpenBrace ∷ Parts rows.Elements ∷ a kinds.CloseBrace ∷ []
-unfolding choose_new
+pub tells_listed : (items : List Item) (ts : Asts) → Match (One Element ∷ a kinds.OpenBracket ∷ a kinds.CloseBracket ∷ items) ts → (s : List Tok) → predict_new (tokens_all ts ++ s) ≡ One Element ∷ a kinds.OpenBracket ∷ a kinds.CloseBracket ∷ Parts rows.Brackets ∷ a kinds.OpenBrace ∷ Parts rows.Elements ∷ a kinds.CloseBrace ∷ []
+unfolding predict_new
 tells_listed items _ (token {o} e (token {o = o'} e' (token {o = o''} {ts} e'' w))) s =
     let u = o ∷ (o' ∷ (o'' ∷ (tokens_all ts ++ s))) in
     no (same (second u) kinds.OpenParen) _ _ (bracket_is_no_parenthesis (second u) e') ∙ yes (same (third u) kinds.CloseBracket) _ _ e''
 
-pub tells_dimension : (items : List Item) (ts : Asts) → Match (a kinds.OpenBracket ∷ Part sorts.Expr ∷ items) ts → (s : List Tok) → choose_dimension (tokens_all ts ++ s) ≡ a kinds.OpenBracket ∷ Part sorts.Expr ∷ a kinds.CloseBracket ∷ Parts rows.Dimensions ∷ []
-unfolding choose_dimension
+pub tells_dimension : (items : List Item) (ts : Asts) → Match (a kinds.OpenBracket ∷ Part sorts.Expr ∷ items) ts → (s : List Tok) → predict_dimension (tokens_all ts ++ s) ≡ a kinds.OpenBracket ∷ Part sorts.Expr ∷ a kinds.CloseBracket ∷ Parts rows.Dimensions ∷ []
+unfolding predict_dimension
 tells_dimension items _ (token {o} e (part {t} {ts} v w)) s =
     let u = o ∷ (tokens_all (more t ts) ++ s) in
     yes (same (front u) kinds.OpenBracket) _ _ e ∙ no (same (second u) kinds.CloseBracket) _ _ (expr_is_no_close (second u) (part_front sorts.Expr t ts v s))
 
-pub tells_unsized : (items : List Item) (ts : Asts) → Match (a kinds.OpenBracket ∷ a kinds.CloseBracket ∷ items) ts → (s : List Tok) → choose_dimension (tokens_all ts ++ s) ≡ a kinds.OpenBracket ∷ a kinds.CloseBracket ∷ Parts rows.Brackets ∷ []
-unfolding choose_dimension
+pub tells_unsized : (items : List Item) (ts : Asts) → Match (a kinds.OpenBracket ∷ a kinds.CloseBracket ∷ items) ts → (s : List Tok) → predict_dimension (tokens_all ts ++ s) ≡ a kinds.OpenBracket ∷ a kinds.CloseBracket ∷ Parts rows.Brackets ∷ []
+unfolding predict_dimension
 tells_unsized items _ (token {o} e (token {o = o'} {ts} f w)) s =
     let u = o ∷ (o' ∷ (tokens_all ts ++ s)) in
     yes (same (front u) kinds.OpenBracket) _ _ e ∙ yes (same (second u) kinds.CloseBracket) _ _ f
 
-pub tells_no_dimensions : (u : List Tok) → not (same (front u) kinds.OpenBracket) ≡ true → choose_dimension u ≡ []
-unfolding choose_dimension
+pub tells_no_dimensions : (u : List Tok) → not (same (front u) kinds.OpenBracket) ≡ true → predict_dimension u ≡ []
+unfolding predict_dimension
 tells_no_dimensions u e = no (same (front u) kinds.OpenBracket) _ _ e

@@ -10,7 +10,7 @@ use Rattle.wy_tree.specs.declared.grammar.Row.{Row}
 use Rattle.wy_tree.specs.declared.grammar.Row.TheVariants as rows
 use Rattle.wy_tree.specs.declared.grammar.Item.{Item}
 use Rattle.wy_tree.specs.declared.grammar.Item.TheVariants.{One, Part, Parts}
-use Rattle.wy_parser.specs.Choosing.{comes, is_there}
+use Rattle.wy_parser.specs.Prediction.{comes, is_there}
 use Rattle.wy_parser.proofs.Truth.{and_left, and_right, is_false}
 use Rattle.wy_parser.proofs.Firsts.{within, begins, row_begins, row_empty, first_in, first_append, every, implies, implied}
 

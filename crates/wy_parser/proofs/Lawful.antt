@@ -13,7 +13,7 @@ use Rattle.wy_tree.specs.declared.grammar.Row.TheVariants as rows
 use Rattle.wy_tree.specs.declared.grammar.Row.{Row}
 use Rattle.wy_tree.specs.declared.grammar.Item.{Item}
 use Rattle.wy_tree.specs.declared.grammar.Item.TheVariants.{One, Part, Parts}
-use Rattle.wy_parser.specs.Choosing.{front, continued, continued_level, continued_relation, continued_primary}
+use Rattle.wy_parser.specs.Prediction.{front, continued, continued_level, continued_relation, continued_primary}
 use Rattle.wy_parser.proofs.Truth.{is_false}
 use Rattle.wy_parser.proofs.Firsts.{every, implied}
 use Rattle.wy_parser.proofs.Follows.{ends, meets, row_meets, occurs, Lawful, lawful_ok}

@@ -5,7 +5,7 @@ use Rattle.wy_tree.specs.Kinds.{kind_of, same}
 use Rattle.wy_tree.specs.Conditions.{is_name}
 use Rattle.wy_tree.specs.Ast.{Ast, Asts, Leaf, more, node, tokens, tokens_all}
 use Rattle.wy_tree.specs.Grammar as grammar
-use Rattle.wy_tree.specs.Grammar.{a, name, is_modifying, form_of, Is, made, grown, Match, done, token, part, chosen}
+use Rattle.wy_tree.specs.Grammar.{a, name, is_modifying, form_of, Is, made, grown, Match, done, token, part, predicted}
 use Rattle.wy_tree.specs.declared.kind.Kind.{Kind}
 use Rattle.wy_tree.specs.declared.kind.Kind.TheVariants as kinds
 use Rattle.wy_tree.specs.declared.grammar.Sort.{Sort}
@@ -13,7 +13,7 @@ use Rattle.wy_tree.specs.declared.grammar.Sort.TheVariants as sorts
 use Rattle.wy_tree.specs.declared.grammar.Row.TheVariants as rows
 use Rattle.wy_tree.specs.declared.grammar.Item.{Item}
 use Rattle.wy_tree.specs.declared.grammar.Item.TheVariants.{Part, Parts}
-use Rattle.wy_parser.specs.Choosing.{front, rest, second, past, modifies, is_bracket, heads_method, heads_interface, choose_declared, choose_declaration, choose_member, choose_member_tail}
+use Rattle.wy_parser.specs.Prediction.{front, rest, second, past, modifies, is_bracket, heads_method, heads_interface, predict_declared, predict_declaration, predict_member, predict_member_tail}
 use Rattle.wy_parser.proofs.Truth.{or_left, or_right, both, neither, not_both, is_not, is_false}
 use Rattle.wy_parser.proofs.Firsts.{begins, row_begins, first_in, every, implied, node_front, starts, front_first}
 use Rattle.wy_parser.proofs.Follows.{row_meets}
@@ -58,9 +58,9 @@ unfolding every
 class_is_no_interface k e = implied (λ k. same k kinds.Class) (λ k. not (same k kinds.Interface)) refl k e
 
 mod_past : (t : Ast) → Is sorts.Mod t → (r : List Tok) → past modifies (tokens t ++ r) ≡ past modifies r
-mod_past t (made (chosen grammar.modifier (token {o} e done)) f q) r =
+mod_past t (made (predicted grammar.modifier (token {o} e done)) f q) r =
     ap (λ z. past modifies (tokens z ++ r)) q ∙ past_more modifies o r (modifying_modifies (kind_of o) e)
-mod_past t (made (chosen grammar.annotation (token {o} e (token {o = o'} e' done))) f q) r =
+mod_past t (made (predicted grammar.annotation (token {o} e (token {o = o'} e' done))) f q) r =
     ap (λ z. past modifies (tokens z ++ r)) q ∙ past_more modifies o (o' ∷ r) (at_modifies (kind_of o) e) ∙ past_more modifies o' r (override_modifies (kind_of o') e')
 mod_past t (grown v (grammar.operator f) w e q) r = absurd (cc)
 
@@ -71,8 +71,8 @@ record Behind (items : List Item) (ts : Asts) (s : List Tok) : Type 0 where
   same_past : past modifies (tokens_all ts ++ s) ≡ past modifies (tokens_all parts ++ s)
 
 behind_mods : (items : List Item) (ts : Asts) → Match (Parts (rows.Any sorts.Mod) ∷ items) ts → (s : List Tok) → Behind items ts s
-behind_mods items ts (chosen grammar.none_of w) s = record { parts = ts; are = w; same_past = refl }
-behind_mods items _ (chosen grammar.some_of (part {t} {ts} v w)) s =
+behind_mods items ts (predicted grammar.none_of w) s = record { parts = ts; are = w; same_past = refl }
+behind_mods items _ (predicted grammar.some_of (part {t} {ts} v w)) s =
     let i = behind_mods items ts w s in
     record {
       parts = i.parts;
@@ -110,19 +110,19 @@ interface_is_no_semicolon : (k : Kind) → begins sorts.Interface k ≡ true →
 unfolding every
 interface_is_no_semicolon k e = implied (begins sorts.Interface) (λ k. not (same k kinds.Semicolon)) refl k e
 
-pub tells_nothing : (u : List Tok) → same (front u) kinds.Semicolon ≡ true → choose_declaration rows.Declared u ≡ a kinds.Semicolon ∷ []
-unfolding choose_declaration choose_declared
+pub tells_nothing : (u : List Tok) → same (front u) kinds.Semicolon ≡ true → predict_declaration rows.Declared u ≡ a kinds.Semicolon ∷ []
+unfolding predict_declaration predict_declared
 tells_nothing u f = yes (same (front u) kinds.Semicolon) _ _ f
 
-pub tells_a_class : (items : List Item) (ts : Asts) → Match (Part sorts.Class ∷ items) ts → (s : List Tok) → choose_declaration rows.Declared (tokens_all ts ++ s) ≡ Part sorts.Class ∷ []
-unfolding choose_declaration choose_declared
+pub tells_a_class : (items : List Item) (ts : Asts) → Match (Part sorts.Class ∷ items) ts → (s : List Tok) → predict_declaration rows.Declared (tokens_all ts ++ s) ≡ Part sorts.Class ∷ []
+unfolding predict_declaration predict_declared
 tells_a_class items _ (part {t} {ts} v w) s =
     let u = tokens_all (more t ts) ++ s in
     let f : heads_interface u ≡ false = ap heads_interface (append_assoc (tokens t) (tokens_all ts) s) ∙ class_head t v (tokens_all ts ++ s) in
     no (same (front u) kinds.Semicolon) _ _ (class_is_no_semicolon (front u) (part_front sorts.Class t ts v s)) ∙ no (heads_interface u) _ _ (is_not (heads_interface u) f)
 
-pub tells_an_interface : (items : List Item) (ts : Asts) → Match (Part sorts.Interface ∷ items) ts → (s : List Tok) → choose_declaration rows.Declared (tokens_all ts ++ s) ≡ Part sorts.Interface ∷ []
-unfolding choose_declaration choose_declared
+pub tells_an_interface : (items : List Item) (ts : Asts) → Match (Part sorts.Interface ∷ items) ts → (s : List Tok) → predict_declaration rows.Declared (tokens_all ts ++ s) ≡ Part sorts.Interface ∷ []
+unfolding predict_declaration predict_declared
 tells_an_interface items _ (part {t} {ts} v w) s =
     let u = tokens_all (more t ts) ++ s in
     let f : heads_interface u ≡ true = ap heads_interface (append_assoc (tokens t) (tokens_all ts) s) ∙ interface_head t v (tokens_all ts ++ s) in
@@ -144,7 +144,7 @@ tail_is_no_block : (k : Kind) → (begins sorts.Mod k || (row_begins rows.Member
 unfolding every
 tail_is_no_block k e = implied (λ k. begins sorts.Mod k || (row_begins rows.MemberTail k || false)) (λ k. not (same k kinds.OpenBrace)) refl k e
 
-pub tells_static_initializer : (items : List Item) (ts : Asts) → Match (a kinds.Static ∷ Part sorts.Block ∷ items) ts → (s : List Tok) → choose_member rows.MemberForm (tokens_all ts ++ s) ≡ a kinds.Static ∷ Part sorts.Block ∷ []
+pub tells_static_initializer : (items : List Item) (ts : Asts) → Match (a kinds.Static ∷ Part sorts.Block ∷ items) ts → (s : List Tok) → predict_member rows.MemberForm (tokens_all ts ++ s) ≡ a kinds.Static ∷ Part sorts.Block ∷ []
 tells_static_initializer items _ (token {o} e (part {t} {ts} v w)) s =
     let u = o ∷ (tokens_all (more t ts) ++ s) in
     no_sign_static_initializer u e
@@ -153,21 +153,21 @@ tells_static_initializer items _ (token {o} e (part {t} {ts} v w)) s =
 -- behind the modifier static stands no block
 static_alone : (items : List Item) (ts : Asts) → Match (Parts (rows.Any sorts.Mod) ∷ Parts rows.MemberTail ∷ items) ts → (s : List Tok) → same (front (tokens_all ts ++ s)) kinds.Static ≡ true
     → same (second (tokens_all ts ++ s)) kinds.OpenBrace ≡ false
-static_alone items ts (chosen grammar.none_of w) s e =
+static_alone items ts (predicted grammar.none_of w) s e =
     let k = front (tokens_all ts ++ s) in
     let f = tail_is_not_static k (front_first (Parts rows.MemberTail ∷ items) ts w (λ _. true) s refl) in
     absurd (let g = is_false (same k kinds.Static) f in cc)
-static_alone items _ (chosen grammar.some_of (part {ts} (made (chosen grammar.modifier (token {o} e' done)) f q) w)) s e =
+static_alone items _ (predicted grammar.some_of (part {ts} (made (predicted grammar.modifier (token {o} e' done)) f q) w)) s e =
     let k = front (tokens_all ts ++ s) in
     ap (λ z. same (second ((tokens z ++ tokens_all ts) ++ s)) kinds.OpenBrace) q
     ∙ is_false (same k kinds.OpenBrace) (tail_is_no_block k (front_first (Parts (rows.Any sorts.Mod) ∷ Parts rows.MemberTail ∷ items) ts w (λ _. true) s refl))
-static_alone items _ (chosen grammar.some_of (part {ts} (made (chosen grammar.annotation (token {o} e' (token {o = o'} f' done))) f q) w)) s e =
+static_alone items _ (predicted grammar.some_of (part {ts} (made (predicted grammar.annotation (token {o} e' (token {o = o'} f' done))) f q) w)) s e =
     let g : same (kind_of o) kinds.Static ≡ true = sym (ap (λ z. same (front ((tokens z ++ tokens_all ts) ++ s)) kinds.Static) q) ∙ e in
     absurd (let h = is_false (same (kind_of o) kinds.Static) (annotation_is_not_static (kind_of o) e') in cc)
-static_alone items _ (chosen grammar.some_of (part (grown v (grammar.operator f) w' e' q) w)) s e = absurd (cc)
+static_alone items _ (predicted grammar.some_of (part (grown v (grammar.operator f) w' e' q) w)) s e = absurd (cc)
 
 pub tells_a_member : (items : List Item) (ts : Asts) → Match (Parts (rows.Any sorts.Mod) ∷ Parts rows.MemberTail ∷ items) ts → (s : List Tok)
-    → first_in (Parts (rows.Any sorts.Mod) ∷ Parts rows.MemberTail ∷ []) (row_meets rows.MemberForm) (front (tokens_all ts ++ s)) ≡ true → choose_member rows.MemberForm (tokens_all ts ++ s) ≡ Parts (rows.Any sorts.Mod) ∷ Parts rows.MemberTail ∷ []
+    → first_in (Parts (rows.Any sorts.Mod) ∷ Parts rows.MemberTail ∷ []) (row_meets rows.MemberForm) (front (tokens_all ts ++ s)) ≡ true → predict_member rows.MemberForm (tokens_all ts ++ s) ≡ Parts (rows.Any sorts.Mod) ∷ Parts rows.MemberTail ∷ []
 tells_a_member items ts w s f =
     let u = tokens_all ts ++ s in
     no_sign_a_member u f ∙ no (same (front u) kinds.Static && same (second u) kinds.OpenBrace) _ _ (not_both (same (front u) kinds.Static) (same (second u) kinds.OpenBrace) (static_alone items ts w s))
@@ -208,15 +208,15 @@ behind_name : (k : Kind) → first_in (Parts rows.Brackets ∷ Parts rows.Initia
 unfolding every
 behind_name k e = implied (λ k. first_in (Parts rows.Brackets ∷ Parts rows.Initial ∷ []) (first_in (Parts (rows.Further sorts.Decl) ∷ []) (λ k. same k kinds.Semicolon)) k) (λ k. not (same k kinds.OpenParen)) refl k e
 
-pub tells_a_constructor : (items : List Item) (ts : Asts) → Match (name ∷ Part sorts.Params ∷ items) ts → (s : List Tok) → choose_member rows.MemberTail (tokens_all ts ++ s) ≡ name ∷ Part sorts.Params ∷ Parts (rows.Maybe sorts.Throws) ∷ a kinds.OpenBrace ∷ Parts rows.OwnCall ∷ Parts (rows.Any sorts.Local) ∷ a kinds.CloseBrace ∷ []
-unfolding choose_member choose_member_tail
+pub tells_a_constructor : (items : List Item) (ts : Asts) → Match (name ∷ Part sorts.Params ∷ items) ts → (s : List Tok) → predict_member rows.MemberTail (tokens_all ts ++ s) ≡ name ∷ Part sorts.Params ∷ Parts (rows.Maybe sorts.Throws) ∷ a kinds.OpenBrace ∷ Parts rows.OwnCall ∷ Parts (rows.Any sorts.Local) ∷ a kinds.CloseBrace ∷ []
+unfolding predict_member predict_member_tail
 tells_a_constructor items _ (token {o} e (part {t} {ts} v w)) s =
     let u = o ∷ (tokens_all (more t ts) ++ s) in
     yes (is_name (front u) && same (second u) kinds.OpenParen) _ _ (both (is_name (front u)) (same (second u) kinds.OpenParen) e (params_open (second u) (part_front sorts.Params t ts v s)))
 
 brackets_past : (ts : Asts) → Match (Parts rows.Brackets ∷ []) ts → (r : List Tok) → past is_bracket (tokens_all ts ++ r) ≡ past is_bracket r
-brackets_past _ (chosen grammar.no_brackets done) r = refl
-brackets_past _ (chosen grammar.brackets (token {o} e (token {o = o'} {ts} f w))) r =
+brackets_past _ (predicted grammar.no_brackets done) r = refl
+brackets_past _ (predicted grammar.brackets (token {o} e (token {o = o'} {ts} f w))) r =
     past_more is_bracket o (o' ∷ (tokens_all ts ++ r)) (open_is_bracket (kind_of o) e) ∙ past_more is_bracket o' (tokens_all ts ++ r) (close_is_bracket (kind_of o') f) ∙ brackets_past ts w r
 
 -- past the brackets of a type comes what follows it
@@ -239,24 +239,24 @@ name_past (o ∷ r) n = past_here is_bracket o r (is_false (is_bracket (kind_of 
 -- a result, before the name and the parameters of a method
 result_heads : (t : Ast) → Is sorts.Result t → (r : List Tok) → is_name (front r) ≡ true → same (second r) kinds.OpenParen ≡ true → heads_method (tokens t ++ r) ≡ true
 unfolding heads_method
-result_heads t (made (chosen grammar.no_result (token {o} e done)) f q) r n p =
+result_heads t (made (predicted grammar.no_result (token {o} e done)) f q) r n p =
     ap (λ z. same (front z) kinds.Void || same (second (past is_bracket (rest z))) kinds.OpenParen) (ap (λ z. tokens z ++ r) q)
     ∙ or_left (same (kind_of o) kinds.Void) (same (second (past is_bracket r)) kinds.OpenParen) e
-result_heads t (made (chosen grammar.a_result (part {t = t'} v done)) f q) r n p =
+result_heads t (made (predicted grammar.a_result (part {t = t'} v done)) f q) r n p =
     ap (λ z. same (front z) kinds.Void || same (second (past is_bracket (rest z))) kinds.OpenParen) (ap (λ z. tokens z ++ r) q)
     ∙ or_right (same (front (tokens t' ++ r)) kinds.Void) (same (second (past is_bracket (rest (tokens t' ++ r)))) kinds.OpenParen)
     (ap (λ z. same (second z) kinds.OpenParen) (type_past t' v r ∙ name_past r n) ∙ p)
 result_heads t (grown v (grammar.operator f) w e q) r n p = absurd (cc)
 
 result_second : (t : Ast) → Is sorts.Result t → (r : List Tok) → is_name (front r) ≡ true → is_name (front (tokens t ++ r)) ≡ true → same (second (tokens t ++ r)) kinds.OpenParen ≡ false
-result_second t (made (chosen grammar.no_result (token {o} e done)) f q) r n b =
+result_second t (made (predicted grammar.no_result (token {o} e done)) f q) r n b =
     let c : is_name (kind_of o) ≡ true = sym (ap (λ z. is_name (front (tokens z ++ r))) q) ∙ b in
     absurd (let d = is_false (is_name (kind_of o)) (void_is_no_name (kind_of o) e) in cc)
-result_second t (made (chosen grammar.a_result (part {t = t'} v done)) f q) r n b = ap (λ z. same (second (tokens z ++ r)) kinds.OpenParen) q ∙ type_second t' v r n
+result_second t (made (predicted grammar.a_result (part {t = t'} v done)) f q) r n b = ap (λ z. same (second (tokens z ++ r)) kinds.OpenParen) q ∙ type_second t' v r n
 result_second t (grown v (grammar.operator f) w e q) r n b = absurd (cc)
 
-pub tells_a_method : (items : List Item) (ts : Asts) → Match (Part sorts.Result ∷ name ∷ Part sorts.Params ∷ items) ts → (s : List Tok) → choose_member rows.MemberTail (tokens_all ts ++ s) ≡ Part sorts.Result ∷ name ∷ Part sorts.Params ∷ Parts (rows.Maybe sorts.Throws) ∷ Parts rows.MethodBody ∷ []
-unfolding choose_member choose_member_tail
+pub tells_a_method : (items : List Item) (ts : Asts) → Match (Part sorts.Result ∷ name ∷ Part sorts.Params ∷ items) ts → (s : List Tok) → predict_member rows.MemberTail (tokens_all ts ++ s) ≡ Part sorts.Result ∷ name ∷ Part sorts.Params ∷ Parts (rows.Maybe sorts.Throws) ∷ Parts rows.MethodBody ∷ []
+unfolding predict_member predict_member_tail
 tells_a_method items _ (part {t} v (token {o} e (part {t = t'} {ts} v' w))) s =
     let r = o ∷ (tokens_all (more t' ts) ++ s) in
     let p : same (second r) kinds.OpenParen ≡ true = params_open (second r) (part_front sorts.Params t' ts v' s) in
@@ -279,8 +279,8 @@ decls_second t (made (part {t = t'} {ts} v w) f q) r n =
     (behind_name (second u) (decl_second t' v F (tokens_all ts ++ r) (front_first (Parts (rows.Further sorts.Decl) ∷ []) ts w (λ k. same k kinds.Semicolon) r n)))
 decls_second t (grown v (grammar.operator f) w e q) r n = absurd (cc)
 
-pub tells_fields : (items : List Item) (ts : Asts) → Match (Part sorts.Type ∷ Part sorts.Decls ∷ a kinds.Semicolon ∷ items) ts → (s : List Tok) → choose_member rows.MemberTail (tokens_all ts ++ s) ≡ Part sorts.Type ∷ Part sorts.Decls ∷ a kinds.Semicolon ∷ []
-unfolding choose_member choose_member_tail heads_method
+pub tells_fields : (items : List Item) (ts : Asts) → Match (Part sorts.Type ∷ Part sorts.Decls ∷ a kinds.Semicolon ∷ items) ts → (s : List Tok) → predict_member rows.MemberTail (tokens_all ts ++ s) ≡ Part sorts.Type ∷ Part sorts.Decls ∷ a kinds.Semicolon ∷ []
+unfolding predict_member predict_member_tail heads_method
 tells_fields items _ (part {t} v (part {t = t'} v' (token {o} {ts} e w))) s =
     let r = tokens t' ++ (o ∷ (tokens_all ts ++ s)) in
     let n : is_name (front r) ≡ true = decls_name (front r) (starts sorts.Decls t' v' (o ∷ (tokens_all ts ++ s))) in

@@ -12,7 +12,7 @@ use Rattle.wy_tree.specs.declared.grammar.Sort.{Sort}
 use Rattle.wy_tree.specs.declared.grammar.Row.{Row}
 use Rattle.wy_tree.specs.declared.grammar.Item.{Item}
 use Rattle.wy_tree.specs.declared.grammar.Item.TheVariants.{One, Part, Parts}
-use Rattle.wy_parser.specs.Choosing.{choose}
+use Rattle.wy_parser.specs.Prediction.{predict}
 use Rattle.wy_parser.specs.Reading.{ReadAll, Reader, read_then, guard, taken, before, parts, closed_by, base, grow, growing, ranked, reader}
 
 pub reader_shallow : (r : ℕ) (x : Sort) (s : List Tok) → reader 0 r x s ≡ None
@@ -91,10 +91,10 @@ unfolding parts
 step_part first next zero x items s lt = absurd (omega arith)
 step_part first next (suc k) x items s lt = let e : k ≡ suc k - 1 = omega arith in ap (λ z. read_then (first x s) (λ t r. before t (parts next next z items r))) e
 
-step_row : (first next : Reader) (k : ℕ) (row : Row) (items : List Item) (s : List Tok) → 0 < k → parts first next k (Parts row ∷ items) s ≡ parts first next (k - 1) (choose row s ++ items) s
+step_row : (first next : Reader) (k : ℕ) (row : Row) (items : List Item) (s : List Tok) → 0 < k → parts first next k (Parts row ∷ items) s ≡ parts first next (k - 1) (predict row s ++ items) s
 unfolding parts
 step_row first next zero row items s lt = absurd (omega arith)
-step_row first next (suc k) row items s lt = let e : k ≡ suc k - 1 = omega arith in ap (λ z. parts first next z (choose row s ++ items) s) e
+step_row first next (suc k) row items s lt = let e : k ≡ suc k - 1 = omega arith in ap (λ z. parts first next z (predict row s ++ items) s) e
 
 pub reads_token : (whole : ReadAll) (found : Asts) (first next : Reader) (k : ℕ) (items : List Item) (s : List Tok) (c : Class) (items' : List Item) (x : Tok × List Tok) (found' : Asts) (t : Ast)
     → IsReading whole found first next k items s → 0 < k → items ≡ One c ∷ items' → taken c s ≡ Some x → t ≡ Leaf x.0 → found' ≡ joined found (one t)
@@ -130,7 +130,7 @@ reads_no_part whole found first next k items s x items' w lt e f =
     ∙ ap (before_all found) (step_part first next k x items' s lt ∙ ap (λ z. read_then z (λ t r. before t (parts next next (k - 1) items' r))) f) ∙ before_none found
 
 pub reads_row : (whole : ReadAll) (found : Asts) (first next : Reader) (k : ℕ) (items : List Item) (s : List Tok) (row : Row) (items' items'' : List Item)
-    → IsReading whole found first next k items s → 0 < k → items ≡ Parts row ∷ items' → items'' ≡ choose row s ++ items'
+    → IsReading whole found first next k items s → 0 < k → items ≡ Parts row ∷ items' → items'' ≡ predict row s ++ items'
     → IsReading whole found first next (k - 1) items'' s
 reads_row whole found first next k items s row items' items'' w lt e f = record {
   same = w.same ∙ ap (λ z. before_all found (parts first next k z s)) e ∙ ap (before_all found) (step_row first next k row items' s lt)

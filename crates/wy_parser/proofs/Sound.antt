@@ -5,14 +5,14 @@ use Rattle.wy_tree.specs.Seen.{Tok}
 use Rattle.wy_tree.specs.Kinds.{kind_of}
 use Rattle.wy_tree.specs.Ast.{Ast, Asts, Leaf, Node, none, more, one, tokens, tokens_all, deep, deepest}
 use Rattle.wy_tree.specs.Conditions.{fine, joins}
-use Rattle.wy_tree.specs.Grammar.{allows, form_of, rule, Is, made, grown, Match, done, token, part, chosen}
+use Rattle.wy_tree.specs.Grammar.{allows, form_of, rule, Is, made, grown, Match, done, token, part, predicted}
 use Rattle.wy_tree.specs.declared.grammar.Class.{Class}
 use Rattle.wy_tree.specs.declared.grammar.Sort.{Sort}
 use Rattle.wy_tree.specs.declared.grammar.Item.{Item}
 use Rattle.wy_tree.specs.declared.grammar.Item.TheVariants.{One, Part, Parts}
-use Rattle.wy_parser.specs.Choosing.{choose, continued}
+use Rattle.wy_parser.specs.Prediction.{predict, continued}
 use Rattle.wy_parser.specs.Reading.{Read, ReadAll, Reader, read_then, guard, taken, before, steps, parts, closed_by, closed, Grown, Stay, Wrong, Onto, onto, grown_by, growing, around, grow_by, grow, base, step, ranked, reader}
-use Rattle.wy_parser.proofs.Ways.{choose_is, continued_is}
+use Rattle.wy_parser.proofs.Ways.{predict_is, continued_is}
 
 pub record Reads (d : ℕ) (x : Sort) (s : List Tok) (y : Ast × List Tok) : Type 0 where
   pub is : Is x y.0
@@ -89,8 +89,8 @@ parts_sound first next d e f g (suc k) (Part x ∷ items) s y q =
       spelled = v.spelled ∙ ap (λ z. tokens a.0.0 ++ z) i.spelled ∙ sym (append_assoc (tokens a.0.0) (tokens_all b.0.0) b.0.1);
     })
 parts_sound first next d e f g (suc k) (Parts row ∷ items) s y q =
-    let i = parts_sound first next d e f g k (choose row s ++ items) s y q in
-    record { are = chosen (choose_is row s) i.are; spelled = i.spelled }
+    let i = parts_sound first next d e f g k (predict row s ++ items) s y q in
+    record { are = predicted (predict_is row s) i.are; spelled = i.spelled }
 
 parts_later : (next : Reader) (e : ℕ) → Sound next e → (k : ℕ) (items : List Item) (s : List Tok) (y : Asts × List Tok) → parts next next k items s ≡ Some y → deepest y.0 ≤ max e 1
 unfolding parts
@@ -109,7 +109,7 @@ parts_later next e g (suc k) (Part x ∷ items) s y q =
     let b = before_ok a.0.0 (parts next next k items a.0.1) y a.2 in
     let i = parts_later next e g k items a.0.1 b.0 b.1 in
     subst (λ (z : Asts × List Tok). deepest z.0 ≤ max e 1) b.2 (omega (arith, i, v.shallow))
-parts_later next e g (suc k) (Parts row ∷ items) s y q = parts_later next e g k (choose row s ++ items) s y q
+parts_later next e g (suc k) (Parts row ∷ items) s y q = parts_later next e g k (predict row s ++ items) s y q
 
 -- the depth of the parts: of the first, and of the others
 parts_shallow : (first next : Reader) (d e : ℕ) → Sound first d → Sound next e → 1 ≤ d → (k : ℕ) (items : List Item) (s : List Tok) (y : Asts × List Tok) → parts first next k items s ≡ Some y → deepest y.0 ≤ max d (max e 1)
@@ -129,7 +129,7 @@ parts_shallow first next d e f g pos (suc k) (Part x ∷ items) s y q =
     let b = before_ok a.0.0 (parts next next k items a.0.1) y a.2 in
     let i = parts_later next e g k items a.0.1 b.0 b.1 in
     subst (λ (z : Asts × List Tok). deepest z.0 ≤ max d (max e 1)) b.2 (omega (arith, i, v.shallow))
-parts_shallow first next d e f g pos (suc k) (Parts row ∷ items) s y q = parts_shallow first next d e f g pos k (choose row s ++ items) s y q
+parts_shallow first next d e f g pos (suc k) (Parts row ∷ items) s y q = parts_shallow first next d e f g pos k (predict row s ++ items) s y q
 
 -- the tree of a sort, from its parts
 closed_sound : (d : ℕ) (x : Sort) (all : List Tok) (ts : Asts) (s : List Tok) (y : Ast × List Tok) → Match (rule x) ts → all ≡ tokens_all ts ++ s → deepest ts ≤ suc d → closed d x ts s ≡ Some y → Reads (suc d) x all y

@@ -5,7 +5,7 @@ use Rattle.wy_tree.specs.Kinds.{kind_of, same}
 use Rattle.wy_tree.specs.Conditions.{is_name}
 use Rattle.wy_tree.specs.Ast.{Ast, Asts, Leaf, more, tokens, tokens_all}
 use Rattle.wy_tree.specs.Grammar as grammar
-use Rattle.wy_tree.specs.Grammar.{a, name, is_own, Is, made, grown, Match, done, token, part, chosen}
+use Rattle.wy_tree.specs.Grammar.{a, name, is_own, Is, made, grown, Match, done, token, part, predicted}
 use Rattle.wy_tree.specs.declared.kind.Kind.{Kind}
 use Rattle.wy_tree.specs.declared.kind.Kind.TheVariants as kinds
 use Rattle.wy_tree.specs.declared.grammar.Class.TheVariants.{Own}
@@ -13,7 +13,7 @@ use Rattle.wy_tree.specs.declared.grammar.Sort.TheVariants as sorts
 use Rattle.wy_tree.specs.declared.grammar.Row.TheVariants as rows
 use Rattle.wy_tree.specs.declared.grammar.Item.{Item}
 use Rattle.wy_tree.specs.declared.grammar.Item.TheVariants.{One, Part, Parts}
-use Rattle.wy_parser.specs.Choosing.{front, rest, second, comes, declares, choose_member, choose_statement}
+use Rattle.wy_parser.specs.Prediction.{front, rest, second, comes, declares, predict_member, predict_statement}
 use Rattle.wy_parser.proofs.Truth.{or_left, or_right, both, neither, not_both, is_not, is_false}
 use Rattle.wy_parser.proofs.Firsts.{within, begins, first_in, every, implied, starts, front_first}
 use Rattle.wy_parser.proofs.Follows.{are_locals, Lawful}
@@ -62,8 +62,8 @@ unfolding every
 parenthesis_is_no_colon k e = implied (λ k. same k kinds.OpenParen) (λ k. not (same k kinds.Colon)) refl k e
 
 -- own calls
-pub tells_own_call : (items : List Item) (ts : Asts) → Match (One Own ∷ Part sorts.Args ∷ items) ts → (s : List Tok) → choose_member rows.OwnCall (tokens_all ts ++ s) ≡ One Own ∷ Part sorts.Args ∷ a kinds.Semicolon ∷ []
-unfolding choose_member
+pub tells_own_call : (items : List Item) (ts : Asts) → Match (One Own ∷ Part sorts.Args ∷ items) ts → (s : List Tok) → predict_member rows.OwnCall (tokens_all ts ++ s) ≡ One Own ∷ Part sorts.Args ∷ a kinds.Semicolon ∷ []
+unfolding predict_member
 tells_own_call items _ (token {o} e (part {t} {ts} v w)) s =
     let u = o ∷ (tokens_all (more t ts) ++ s) in
     here (is_own (front u) && same (second u) kinds.OpenParen) _ (both (is_own (front u)) (same (second u) kinds.OpenParen) e (arguments_open (second u) (part_front sorts.Args t ts v s)))
@@ -93,30 +93,30 @@ unfolding every
 end_is_no_own k e = implied (λ k. not (comes sorts.Local k)) (λ k. not (is_own k)) refl k e
 
 local_no_call : (t : Ast) → Is sorts.Local t → (s : List Tok) → is_own (front (tokens t ++ s)) ≡ true → no_call (rest (tokens t ++ s))
-local_no_call t (made (chosen {ts} grammar.a_declaration w) f q) s b =
+local_no_call t (made (predicted {ts} grammar.a_declaration w) f q) s b =
     let u = tokens_all ts ++ s in
     let same_tokens : tokens t ++ s ≡ u = retell sorts.Local t ts s q in
     let c : is_own (front u) ≡ true = sym (ap (λ z. is_own (front z)) same_tokens) ∙ b in
     absurd (let d = is_false (is_own (front u)) (declaration_is_no_own (front u) (front_first (Parts rows.MaybeFinal ∷ Part sorts.Type ∷ Part sorts.Decls ∷ a kinds.Semicolon ∷ []) ts w (λ _. true) s refl)) in cc)
-local_no_call t (made (chosen grammar.a_statement (part {t = t'} v done)) f q) s b =
+local_no_call t (made (predicted grammar.a_statement (part {t = t'} v done)) f q) s b =
     subst (λ z. is_own (front (tokens z ++ s)) ≡ true → no_call (rest (tokens z ++ s))) (sym q) (statement_no_call t' v s) b
 local_no_call t (grown v (grammar.operator f) w e q) s b = absurd (cc)
 
 locals_no_call : (items : List Item) (ts : Asts) → Match (Parts (rows.Any sorts.Local) ∷ items) ts → (F : Kind → Bool) (s : List Tok) → F (front s) ≡ true
     → ((k : Kind) → first_in items F k ≡ true → not (comes sorts.Local k) ≡ true) → is_own (front (tokens_all ts ++ s)) ≡ true → same (second (tokens_all ts ++ s)) kinds.OpenParen ≡ false
 unfolding no_call
-locals_no_call items ts (chosen grammar.none_of w) F s f ends b =
+locals_no_call items ts (predicted grammar.none_of w) F s f ends b =
     let k = front (tokens_all ts ++ s) in
     absurd (let d = is_false (is_own k) (end_is_no_own k (ends k (front_first items ts w F s f))) in cc)
-locals_no_call items _ (chosen grammar.some_of (part {t} {ts} v w)) F s f ends b =
+locals_no_call items _ (predicted grammar.some_of (part {t} {ts} v w)) F s f ends b =
     subst (λ z. is_own (front z) ≡ true → same (second z) kinds.OpenParen ≡ false) (sym (append_assoc (tokens t) (tokens_all ts) s)) (local_no_call t v (tokens_all ts ++ s)) b
 
 are_locals_ok : (items : List Item) → are_locals items ≡ true → (more : List Item) × (items ≡ Parts (rows.Any sorts.Local) ∷ more)
 are_locals_ok (Parts (rows.Any sorts.Local) ∷ items) e = (items, refl)
 are_locals_ok _ e = absurd (cc)
 
-pub tells_no_own_call : (items : List Item) (ts : Asts) → Match items ts → (F : Kind → Bool) (s : List Tok) → F (front s) ≡ true → are_locals items ≡ true → Lawful items F → choose_member rows.OwnCall (tokens_all ts ++ s) ≡ []
-unfolding choose_member
+pub tells_no_own_call : (items : List Item) (ts : Asts) → Match items ts → (F : Kind → Bool) (s : List Tok) → F (front s) ≡ true → are_locals items ≡ true → Lawful items F → predict_member rows.OwnCall (tokens_all ts ++ s) ≡ []
+unfolding predict_member
 tells_no_own_call items ts w F s f l m =
     let u = tokens_all ts ++ s in
     let g = are_locals_ok items l in
@@ -126,7 +126,7 @@ tells_no_own_call items ts w F s f l m =
     (not_both (is_own (front u)) (same (second u) kinds.OpenParen) (locals_no_call g.0 ts w' F s f m'.0))
 
 -- labels
-pub tells_labelled : (items : List Item) (ts : Asts) → Match (name ∷ a kinds.Colon ∷ items) ts → (s : List Tok) → choose_statement rows.StmtForm (tokens_all ts ++ s) ≡ name ∷ a kinds.Colon ∷ Part sorts.Stmt ∷ []
+pub tells_labelled : (items : List Item) (ts : Asts) → Match (name ∷ a kinds.Colon ∷ items) ts → (s : List Tok) → predict_statement rows.StmtForm (tokens_all ts ++ s) ≡ name ∷ a kinds.Colon ∷ Part sorts.Stmt ∷ []
 tells_labelled items _ (token {o} e (token {o = o'} {ts} f w)) s =
     let u = o ∷ (o' ∷ (tokens_all ts ++ s)) in
     no_word_labelled u e ∙ yes (is_name (front u) && same (second u) kinds.Colon) _ _ (both (is_name (front u)) (same (second u) kinds.Colon) e f)
@@ -138,7 +138,7 @@ no_label_if : (p : Kind → Bool) → ((k : Kind) → p k ≡ true → not (same
 unfolding no_label
 no_label_if p f r e = is_false (same (front r) kinds.Colon) (f (front r) e)
 
-pub tells_an_effect : (items : List Item) (ts : Asts) → Match (Part sorts.Effect ∷ a kinds.Semicolon ∷ items) ts → (s : List Tok) → choose_statement rows.StmtForm (tokens_all ts ++ s) ≡ Part sorts.Effect ∷ a kinds.Semicolon ∷ []
+pub tells_an_effect : (items : List Item) (ts : Asts) → Match (Part sorts.Effect ∷ a kinds.Semicolon ∷ items) ts → (s : List Tok) → predict_statement rows.StmtForm (tokens_all ts ++ s) ≡ Part sorts.Effect ∷ a kinds.Semicolon ∷ []
 unfolding no_label
 tells_an_effect items _ (part {t} v (token {o} {ts} e w)) s =
     let r = o ∷ (tokens_all ts ++ s) in
@@ -146,7 +146,7 @@ tells_an_effect items _ (part {t} v (token {o} {ts} e w)) s =
     let behind : is_name (front u) ≡ true → same (second u) kinds.Colon ≡ false =
     λ b. leads is_name no_label name_is_word (no_label_if (within joints) joint_is_no_colon) (λ r e f. no_label_if (λ k. same k kinds.OpenBracket) bracket_is_no_colon r e)
     (λ k e f. no_label_if (λ k. same k kinds.OpenParen) parenthesis_is_no_colon) sorts.Effect t v refl r b (no_label_if (λ k. same k kinds.Semicolon) semicolon_is_no_colon r e) in
-    subst (λ z. choose_statement rows.StmtForm z ≡ Part sorts.Effect ∷ a kinds.Semicolon ∷ []) (sym (append_assoc (tokens t) (o ∷ tokens_all ts) s))
+    subst (λ z. predict_statement rows.StmtForm z ≡ Part sorts.Effect ∷ a kinds.Semicolon ∷ []) (sym (append_assoc (tokens t) (o ∷ tokens_all ts) s))
     (no_word_an_effect u (starts sorts.Effect t v r) ∙ no (is_name (front u) && same (second u) kinds.Colon) _ _ (not_both (is_name (front u)) (same (second u) kinds.Colon) behind))
 
 final_or_type : (k : Kind) → (is_name k || same k kinds.Prim) ≡ true → ((same k kinds.Final || same k kinds.Prim) || is_name k) ≡ true
@@ -198,8 +198,8 @@ abbrev names_or_brackets : List Tok → Bool
 names_or_brackets r = is_name (front r) || (same (front r) kinds.OpenBracket && same (second r) kinds.CloseBracket)
 
 type_declares : (ts : Asts) → Match (Parts rows.Brackets ∷ []) ts → (r : List Tok) → is_name (front r) ≡ true → names_or_brackets (tokens_all ts ++ r) ≡ true
-type_declares _ (chosen grammar.no_brackets done) r n = or_left (is_name (front r)) (same (front r) kinds.OpenBracket && same (second r) kinds.CloseBracket) n
-type_declares _ (chosen grammar.brackets (token {o} e (token {o = o'} f w))) r n =
+type_declares _ (predicted grammar.no_brackets done) r n = or_left (is_name (front r)) (same (front r) kinds.OpenBracket && same (second r) kinds.CloseBracket) n
+type_declares _ (predicted grammar.brackets (token {o} e (token {o = o'} f w))) r n =
     or_right (is_name (kind_of o)) (same (kind_of o) kinds.OpenBracket && same (kind_of o') kinds.CloseBracket) (both (same (kind_of o) kinds.OpenBracket) (same (kind_of o') kinds.CloseBracket) e f)
 
 declares_by : (b n c : Bool) → (b || n) ≡ true → (n ≡ true → c ≡ true) → (b || (n && c)) ≡ true
@@ -218,21 +218,21 @@ type_then_name t (grown v (grammar.operator f) w e q) r n = absurd (cc)
 -- a declaration
 pub declaration_declares : (items : List Item) (ts : Asts) → Match (Parts rows.MaybeFinal ∷ Part sorts.Type ∷ Part sorts.Decls ∷ items) ts → (s : List Tok) → declares (tokens_all ts ++ s) ≡ true
 unfolding declares
-declaration_declares items _ (chosen grammar.is_final (token {o} {ts} e w)) s =
+declaration_declares items _ (predicted grammar.is_final (token {o} {ts} e w)) s =
     let u = o ∷ (tokens_all ts ++ s) in
     or_left (same (front u) kinds.Final || same (front u) kinds.Prim) (is_name (front u) && names_or_brackets (rest u)) (or_left (same (front u) kinds.Final) (same (front u) kinds.Prim) e)
-declaration_declares items _ (chosen grammar.not_final (part {t} v (part {t = t'} {ts} v' w))) s =
+declaration_declares items _ (predicted grammar.not_final (part {t} v (part {t = t'} {ts} v' w))) s =
     let r = tokens_all (more t' ts) ++ s in
     ap declares (append_assoc (tokens t) (tokens_all (more t' ts)) s) ∙ type_then_name t v r (decls_name (front r) (part_front sorts.Decls t' ts v' s))
 
 pub tells_a_declaration : (items : List Item) (ts : Asts) → Match (Parts rows.MaybeFinal ∷ Part sorts.Type ∷ Part sorts.Decls ∷ items) ts → (s : List Tok)
-    → choose_statement rows.LocalForm (tokens_all ts ++ s) ≡ Parts rows.MaybeFinal ∷ Part sorts.Type ∷ Part sorts.Decls ∷ a kinds.Semicolon ∷ []
-unfolding choose_statement
+    → predict_statement rows.LocalForm (tokens_all ts ++ s) ≡ Parts rows.MaybeFinal ∷ Part sorts.Type ∷ Part sorts.Decls ∷ a kinds.Semicolon ∷ []
+unfolding predict_statement
 tells_a_declaration items ts w s = yes (declares (tokens_all ts ++ s)) _ _ (declaration_declares items ts w s)
 
 pub tells_for_declaration : (items : List Item) (ts : Asts) → Match (Parts rows.MaybeFinal ∷ Part sorts.Type ∷ Part sorts.Decls ∷ items) ts → (s : List Tok)
-    → choose_statement rows.ForInitForm (tokens_all ts ++ s) ≡ Parts rows.MaybeFinal ∷ Part sorts.Type ∷ Part sorts.Decls ∷ []
-unfolding choose_statement
+    → predict_statement rows.ForInitForm (tokens_all ts ++ s) ≡ Parts rows.MaybeFinal ∷ Part sorts.Type ∷ Part sorts.Decls ∷ []
+unfolding predict_statement
 tells_for_declaration items ts w s = yes (declares (tokens_all ts ++ s)) _ _ (declaration_declares items ts w s)
 
 no_declarator : List Tok → Type 0
@@ -269,8 +269,8 @@ statement_declares t v s =
     (λ k e f. no_declarator_if (λ k. same k kinds.OpenParen) parenthesis_declares_nothing) (no_declarator_if (λ k. same k kinds.Semicolon) semicolon_declares_nothing)
     (no_declarator_if (λ k. same k kinds.Colon) colon_declares_nothing) t v s b)
 
-pub tells_a_statement : (items : List Item) (ts : Asts) → Match (Part sorts.Stmt ∷ items) ts → (s : List Tok) → choose_statement rows.LocalForm (tokens_all ts ++ s) ≡ Part sorts.Stmt ∷ []
-unfolding choose_statement
+pub tells_a_statement : (items : List Item) (ts : Asts) → Match (Part sorts.Stmt ∷ items) ts → (s : List Tok) → predict_statement rows.LocalForm (tokens_all ts ++ s) ≡ Part sorts.Stmt ∷ []
+unfolding predict_statement
 tells_a_statement items _ (part {t} {ts} v w) s =
     let u = tokens_all (more t ts) ++ s in
     no (declares u) _ _ (is_not (declares u) (ap declares (append_assoc (tokens t) (tokens_all ts) s) ∙ statement_declares t v (tokens_all ts ++ s)))
@@ -285,8 +285,8 @@ effect_declares t v s p =
     (λ k e f. no_declarator_if (λ k. same k kinds.OpenParen) parenthesis_declares_nothing) sorts.Effect t v refl s b p)
 
 pub tells_for_effects : (items : List Item) (ts : Asts) → Match (Part sorts.Effect ∷ Parts (rows.Further sorts.Effect) ∷ items) ts → (F : Kind → Bool) (s : List Tok) → F (front s) ≡ true
-    → ((k : Kind) → first_in items F k ≡ true → same k kinds.Semicolon ≡ true) → choose_statement rows.ForInitForm (tokens_all ts ++ s) ≡ Part sorts.Effect ∷ Parts (rows.Further sorts.Effect) ∷ []
-unfolding choose_statement
+    → ((k : Kind) → first_in items F k ≡ true → same k kinds.Semicolon ≡ true) → predict_statement rows.ForInitForm (tokens_all ts ++ s) ≡ Part sorts.Effect ∷ Parts (rows.Further sorts.Effect) ∷ []
+unfolding predict_statement
 tells_for_effects items _ (part {t} {ts} v w) F s f ends =
     let r = tokens_all ts ++ s in
     let k = front r in

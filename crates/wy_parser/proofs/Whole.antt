@@ -4,7 +4,7 @@ use Rattle.wy_tree.specs.Seen.{Tok}
 use Rattle.wy_tree.specs.Ast.{Ast, tokens, view, deep}
 use Rattle.wy_tree.specs.declared.grammar.Sort.TheVariants as sorts
 use Rattle.wy_tree.specs.declared.tree.Tree.{Tree}
-use Rattle.wy_parser.specs.Choosing.{continued_level}
+use Rattle.wy_parser.specs.Prediction.{continued_level}
 use Rattle.wy_parser.specs.Reading.{Read, reader}
 use Rattle.wy_parser.specs.Parsed.{without_rest, whole, Tells}
 use Rattle.wy_tree.specs.Trees.{IsTreeOf}

@@ -1,4 +1,4 @@
-pub mod Choosing
+pub mod Prediction
 pub mod Reading
 pub mod Symbols
 pub mod Rules

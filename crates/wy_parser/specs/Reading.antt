@@ -9,7 +9,7 @@ use Rattle.wy_tree.specs.declared.grammar.Class.{Class}
 use Rattle.wy_tree.specs.declared.grammar.Sort.{Sort}
 use Rattle.wy_tree.specs.declared.grammar.Item.{Item}
 use Rattle.wy_tree.specs.declared.grammar.Item.TheVariants.{One, Part, Parts}
-use Rattle.wy_parser.specs.Choosing.{choose, continued}
+use Rattle.wy_parser.specs.Prediction.{predict, continued}
 
 -- a tree, or several, and the tokens after them
 abbrev pub Read : Type 0
@@ -44,7 +44,7 @@ parts first next zero items s = None
 parts first next (suc k) [] s = Some (none, s)
 parts first next (suc k) (One c ∷ items) s = read_then (taken c s) (λ o r. before (Leaf o) (parts next next k items r))
 parts first next (suc k) (Part x ∷ items) s = read_then (first x s) (λ t r. before t (parts next next k items r))
-parts first next (suc k) (Parts row ∷ items) s = parts first next k (choose row s ++ items) s
+parts first next (suc k) (Parts row ∷ items) s = parts first next k (predict row s ++ items) s
 
 -- steps that suffice
 abbrev pub steps : List Tok → ℕ

@@ -2,7 +2,7 @@
 
 ghost use Rattle.std.specs.Prelude.{◌≡◌, ◌++◌, OnOk, reverse};
 ghost use Rattle.wy_parser.specs.Symbols.{symbols_seen};
-ghost use Rattle.wy_parser.specs.Choosing.{choose_unary as unary_way, choose_operator as operator_way, choose_primary as primary_way, choose_new as new_way, choose_dimension as dimension_way};
+ghost use Rattle.wy_parser.specs.Prediction.{predict_unary as unary_way, predict_operator as operator_way, predict_primary as primary_way, predict_new as new_way, predict_dimension as dimension_way};
 
 use crate::look::{behind, casts, front_kind, is_prefixing, is_setting};
 use crate::row::{put, token};
@@ -11,7 +11,7 @@ use std::alloc::AllocError;
 use wy_tree::grammar::{Class, Item, Row, Sort};
 use wy_tree::kind::{Kind, is_kind};
 
-#[tactic(auto, unfolding(crate::specs::Choosing::choose_unary))]
+#[tactic(auto, unfolding(crate::specs::Prediction::predict_unary))]
 fn unary_ways(pending: &mut Vec<Item>, symbols: &[Symbol]) -> Result<(), AllocError>
     ensures { OnOk result (reverse pending.new.items ≡ unary_way (symbols_seen symbols.now) ++ reverse pending.old.items) }
 {
@@ -30,7 +30,7 @@ fn unary_ways(pending: &mut Vec<Item>, symbols: &[Symbol]) -> Result<(), AllocEr
     }
 }
 
-#[tactic(auto, unfolding(crate::specs::Choosing::choose_operator))]
+#[tactic(auto, unfolding(crate::specs::Prediction::predict_operator))]
 pub fn operator_ways(
     pending: &mut Vec<Item>,
     row: Row,
@@ -105,7 +105,7 @@ pub fn operator_ways(
     }
 }
 
-#[tactic(auto, unfolding(crate::specs::Choosing::choose_primary))]
+#[tactic(auto, unfolding(crate::specs::Prediction::predict_primary))]
 pub fn primary_ways(pending: &mut Vec<Item>, symbols: &[Symbol]) -> Result<(), AllocError>
     ensures { OnOk result (reverse pending.new.items ≡ primary_way (symbols_seen symbols.now) ++ reverse pending.old.items) }
 {
@@ -143,7 +143,7 @@ pub fn primary_ways(pending: &mut Vec<Item>, symbols: &[Symbol]) -> Result<(), A
     }
 }
 
-#[tactic(auto, unfolding(crate::specs::Choosing::choose_new))]
+#[tactic(auto, unfolding(crate::specs::Prediction::predict_new))]
 pub fn new_ways(pending: &mut Vec<Item>, symbols: &[Symbol]) -> Result<(), AllocError>
     ensures { OnOk result (reverse pending.new.items ≡ new_way (symbols_seen symbols.now) ++ reverse pending.old.items) }
 {
@@ -178,7 +178,7 @@ pub fn new_ways(pending: &mut Vec<Item>, symbols: &[Symbol]) -> Result<(), Alloc
     }
 }
 
-#[tactic(auto, unfolding(crate::specs::Choosing::choose_dimension))]
+#[tactic(auto, unfolding(crate::specs::Prediction::predict_dimension))]
 pub fn dimension_ways(pending: &mut Vec<Item>, symbols: &[Symbol]) -> Result<(), AllocError>
     ensures { OnOk result (reverse pending.new.items ≡ dimension_way (symbols_seen symbols.now) ++ reverse pending.old.items) }
 {

@@ -5,7 +5,7 @@ ghost use Rattle.wy_tree.specs.Conditions.{is_name as named};
 ghost use Rattle.wy_tree.specs.Grammar.{allows, is_own as own, is_modifying as modifying, is_setting as setting, is_prefixing as prefixing};
 ghost use Rattle.wy_parser.specs.Symbols.{symbol_seen, symbols_seen};
 ghost use Rattle.wy_parser.specs.Reading.{taken};
-ghost use Rattle.wy_parser.specs.Choosing.{front, second, third, rest, past, is_bracket as bracket, modifies as modify, heads_method as method_heads, heads_interface as interface_heads, declares as declaring, begins_operand as operand_begins, casts as casting, casts_to_name as casting_to_name};
+ghost use Rattle.wy_parser.specs.Prediction.{front, second, third, rest, past, is_bracket as bracket, modifies as modify, heads_method as method_heads, heads_interface as interface_heads, declares as declaring, begins_operand as operand_begins, casts as casting, casts_to_name as casting_to_name};
 
 use crate::symbol::Symbol;
 use wy_tree::grammar::Class;
@@ -90,7 +90,7 @@ pub fn take<'a>(symbols: &'a [Symbol], class: Class) -> Option<(&'a Symbol, &'a 
     }
 }
 
-#[tactic(auto, unfolding(crate::specs::Choosing::past))]
+#[tactic(auto, unfolding(crate::specs::Prediction::past))]
 fn past_brackets<'a>(symbols: &'a [Symbol]) -> &'a [Symbol]
     ensures { symbols_seen result.now ≡ past bracket (symbols_seen symbols.now) }
 {
@@ -104,7 +104,7 @@ fn past_brackets<'a>(symbols: &'a [Symbol]) -> &'a [Symbol]
     ahead
 }
 
-#[tactic(auto, unfolding(crate::specs::Choosing::past))]
+#[tactic(auto, unfolding(crate::specs::Prediction::past))]
 fn past_modifiers<'a>(symbols: &'a [Symbol]) -> &'a [Symbol]
     ensures { symbols_seen result.now ≡ past modify (symbols_seen symbols.now) }
 {
@@ -122,7 +122,7 @@ fn past_modifiers<'a>(symbols: &'a [Symbol]) -> &'a [Symbol]
 }
 
 /// Whether `void` stands here, or a type and a name before a parameter list.
-#[tactic(auto, unfolding(crate::specs::Choosing::heads_method))]
+#[tactic(auto, unfolding(crate::specs::Prediction::heads_method))]
 pub fn heads_method(symbols: &[Symbol]) -> bool
     ensures { result ≡ method_heads (symbols_seen symbols.now) }
 {
@@ -134,7 +134,7 @@ pub fn heads_method(symbols: &[Symbol]) -> bool
 }
 
 /// Whether an interface begins here, if a declaration does.
-#[tactic(auto, unfolding(crate::specs::Choosing::heads_interface))]
+#[tactic(auto, unfolding(crate::specs::Prediction::heads_interface))]
 pub fn heads_interface(symbols: &[Symbol]) -> bool
     ensures { result ≡ interface_heads (symbols_seen symbols.now) }
 {
@@ -142,7 +142,7 @@ pub fn heads_interface(symbols: &[Symbol]) -> bool
 }
 
 /// Whether a declaration of variables begins here, if a statement does.
-#[tactic(auto, unfolding(crate::specs::Choosing::declares))]
+#[tactic(auto, unfolding(crate::specs::Prediction::declares))]
 pub fn declares(symbols: &[Symbol]) -> bool
     ensures { result ≡ declaring (symbols_seen symbols.now) }
 {
@@ -171,7 +171,7 @@ fn begins_operand(kind: Kind) -> bool
     )
 }
 
-#[tactic(auto, unfolding(crate::specs::Choosing::casts_to_name))]
+#[tactic(auto, unfolding(crate::specs::Prediction::casts_to_name))]
 fn casts_to_name(symbols: &[Symbol]) -> bool
     ensures { result ≡ casting_to_name (symbols_seen symbols.now) }
 {
@@ -182,7 +182,7 @@ fn casts_to_name(symbols: &[Symbol]) -> bool
 }
 
 /// Whether a cast begins here, if an expression does.
-#[tactic(auto, unfolding(crate::specs::Choosing::casts))]
+#[tactic(auto, unfolding(crate::specs::Prediction::casts))]
 pub fn casts(symbols: &[Symbol]) -> bool
     ensures { result ≡ casting (symbols_seen symbols.now) }
 {

@@ -5,14 +5,14 @@ ghost use Rattle.std.specs.Prelude.{◌≡◌, ◌<◌, ◌≤◌, ◌+◌, ◌*
 ghost use Rattle.wy_tree.specs.Ast.{view, views, one};
 ghost use Rattle.wy_parser.specs.Symbols.{symbols_seen};
 ghost use Rattle.wy_parser.specs.Reading.{run, reader, parts as read_parts, steps, closed as read_closed, closed_by as read_closed_by, base as read_base, grow as read_grow, growing};
-ghost use Rattle.wy_parser.specs.Choosing.{front};
+ghost use Rattle.wy_parser.specs.Prediction.{front};
 ghost use Rattle.wy_parser.specs.declared.stop.Stop.TheVariants.{Memory};
 ghost use Rattle.wy_parser.specs.Parsed.{Gives, GivesGrown, Deepens, Shortens, read_of, parts_of};
 
 use crate::condition::{fine, joins};
 use crate::look::{front_kind, take};
 use crate::part::{PartList, Sub, no_parts, node_around, node_of, push, tip};
-use crate::row::choose;
+use crate::row::predict;
 use crate::rule::{continue_with, form_of, put_rule};
 use crate::stop::{Growth, Stop};
 use crate::symbol::Symbol;
@@ -157,7 +157,7 @@ fn parts<'a>(
                 depth = below;
                 rank = 24;
             }
-            Item::Parts(row) => choose(&mut pending, row, rest)?,
+            Item::Parts(row) => predict(&mut pending, row, rest)?,
         }
     }
     Err(Stop::At(rest.len()))

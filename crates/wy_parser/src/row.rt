@@ -3,7 +3,7 @@
 ghost use Rattle.std.specs.Prelude.{◌≡◌, ◌++◌, OnOk, reverse};
 ghost use Rattle.wy_tree.specs.Grammar.{a};
 ghost use Rattle.wy_parser.specs.Symbols.{symbols_seen};
-ghost use Rattle.wy_parser.specs.Choosing.{choose as way, choose_list as list_way, choose_declared as declared_way, choose_method as method_way, choose_declaration as declaration_way, choose_member_form as member_form_way, choose_member_tail as member_tail_way, choose_member as member_way, choose_elements as elements_way, choose_initial as initial_way, choose_leaving as leaving_way, choose_looping as looping_way, choose_statement_form as statement_form_way, choose_statement as statement_way, comes as coming, is_there as being_there};
+ghost use Rattle.wy_parser.specs.Prediction.{predict as way, predict_list as list_way, predict_declared as declared_way, predict_method as method_way, predict_declaration as declaration_way, predict_member_form as member_form_way, predict_member_tail as member_tail_way, predict_member as member_way, predict_elements as elements_way, predict_initial as initial_way, predict_leaving as leaving_way, predict_looping as looping_way, predict_statement_form as statement_form_way, predict_statement as statement_way, comes as coming, is_there as being_there};
 
 use crate::expression::{dimension_ways, new_ways, operator_ways, primary_ways};
 use crate::look::{
@@ -54,7 +54,7 @@ fn is_there(sort: Sort, kind: Kind) -> bool
     }
 }
 
-#[tactic(auto, unfolding(crate::specs::Choosing::choose_list))]
+#[tactic(auto, unfolding(crate::specs::Prediction::predict_list))]
 fn list_ways(pending: &mut Vec<Item>, row: Row, symbols: &[Symbol]) -> Result<(), AllocError>
     ensures { OnOk result (reverse pending.new.items ≡ list_way row (symbols_seen symbols.now) ++ reverse pending.old.items) }
 {
@@ -136,7 +136,7 @@ fn list_ways(pending: &mut Vec<Item>, row: Row, symbols: &[Symbol]) -> Result<()
     }
 }
 
-#[tactic(auto, unfolding(crate::specs::Choosing::choose_method))]
+#[tactic(auto, unfolding(crate::specs::Prediction::predict_method))]
 fn method_ways(pending: &mut Vec<Item>, symbols: &[Symbol]) -> Result<(), AllocError>
     ensures { OnOk result (reverse pending.new.items ≡ method_way (symbols_seen symbols.now) ++ reverse pending.old.items) }
 {
@@ -164,7 +164,7 @@ fn method_ways(pending: &mut Vec<Item>, symbols: &[Symbol]) -> Result<(), AllocE
     }
 }
 
-#[tactic(auto, unfolding(crate::specs::Choosing::choose_declared))]
+#[tactic(auto, unfolding(crate::specs::Prediction::predict_declared))]
 fn declared_ways(pending: &mut Vec<Item>, symbols: &[Symbol]) -> Result<(), AllocError>
     ensures { OnOk result (reverse pending.new.items ≡ declared_way (symbols_seen symbols.now) ++ reverse pending.old.items) }
 {
@@ -178,7 +178,7 @@ fn declared_ways(pending: &mut Vec<Item>, symbols: &[Symbol]) -> Result<(), Allo
     }
 }
 
-#[tactic(auto, unfolding(crate::specs::Choosing::choose_declaration))]
+#[tactic(auto, unfolding(crate::specs::Prediction::predict_declaration))]
 fn declaration_ways(pending: &mut Vec<Item>, row: Row, symbols: &[Symbol]) -> Result<(), AllocError>
     ensures { OnOk result (reverse pending.new.items ≡ declaration_way row (symbols_seen symbols.now) ++ reverse pending.old.items) }
 {
@@ -231,7 +231,7 @@ fn declaration_ways(pending: &mut Vec<Item>, row: Row, symbols: &[Symbol]) -> Re
     }
 }
 
-#[tactic(auto, unfolding(crate::specs::Choosing::choose_member_form))]
+#[tactic(auto, unfolding(crate::specs::Prediction::predict_member_form))]
 fn member_form_ways(pending: &mut Vec<Item>, symbols: &[Symbol]) -> Result<(), AllocError>
     ensures { OnOk result (reverse pending.new.items ≡ member_form_way (symbols_seen symbols.now) ++ reverse pending.old.items) }
 {
@@ -254,7 +254,7 @@ fn member_form_ways(pending: &mut Vec<Item>, symbols: &[Symbol]) -> Result<(), A
     }
 }
 
-#[tactic(auto, unfolding(crate::specs::Choosing::choose_member_tail))]
+#[tactic(auto, unfolding(crate::specs::Prediction::predict_member_tail))]
 fn member_tail_ways(pending: &mut Vec<Item>, symbols: &[Symbol]) -> Result<(), AllocError>
     ensures { OnOk result (reverse pending.new.items ≡ member_tail_way (symbols_seen symbols.now) ++ reverse pending.old.items) }
 {
@@ -296,7 +296,7 @@ fn member_tail_ways(pending: &mut Vec<Item>, symbols: &[Symbol]) -> Result<(), A
     }
 }
 
-#[tactic(auto, unfolding(crate::specs::Choosing::choose_member))]
+#[tactic(auto, unfolding(crate::specs::Prediction::predict_member))]
 fn member_ways(pending: &mut Vec<Item>, row: Row, symbols: &[Symbol]) -> Result<(), AllocError>
     ensures { OnOk result (reverse pending.new.items ≡ member_way row (symbols_seen symbols.now) ++ reverse pending.old.items) }
 {
@@ -336,7 +336,7 @@ fn member_ways(pending: &mut Vec<Item>, row: Row, symbols: &[Symbol]) -> Result<
     }
 }
 
-#[tactic(auto, unfolding(crate::specs::Choosing::choose_elements))]
+#[tactic(auto, unfolding(crate::specs::Prediction::predict_elements))]
 fn elements_ways(pending: &mut Vec<Item>, symbols: &[Symbol]) -> Result<(), AllocError>
     ensures { OnOk result (reverse pending.new.items ≡ elements_way (symbols_seen symbols.now) ++ reverse pending.old.items) }
 {
@@ -353,7 +353,7 @@ fn elements_ways(pending: &mut Vec<Item>, symbols: &[Symbol]) -> Result<(), Allo
     }
 }
 
-#[tactic(auto, unfolding(crate::specs::Choosing::choose_initial))]
+#[tactic(auto, unfolding(crate::specs::Prediction::predict_initial))]
 fn initial_ways(pending: &mut Vec<Item>, row: Row, symbols: &[Symbol]) -> Result<(), AllocError>
     ensures { OnOk result (reverse pending.new.items ≡ initial_way row (symbols_seen symbols.now) ++ reverse pending.old.items) }
 {
@@ -401,7 +401,7 @@ fn initial_ways(pending: &mut Vec<Item>, row: Row, symbols: &[Symbol]) -> Result
     }
 }
 
-#[tactic(auto, unfolding(crate::specs::Choosing::choose_leaving))]
+#[tactic(auto, unfolding(crate::specs::Prediction::predict_leaving))]
 fn leaving_ways(pending: &mut Vec<Item>, symbols: &[Symbol]) -> Result<(), AllocError>
     ensures { OnOk result (reverse pending.new.items ≡ leaving_way (symbols_seen symbols.now) ++ reverse pending.old.items) }
 {
@@ -457,7 +457,7 @@ fn leaving_ways(pending: &mut Vec<Item>, symbols: &[Symbol]) -> Result<(), Alloc
     }
 }
 
-#[tactic(auto, unfolding(crate::specs::Choosing::choose_looping))]
+#[tactic(auto, unfolding(crate::specs::Prediction::predict_looping))]
 fn looping_ways(pending: &mut Vec<Item>, symbols: &[Symbol]) -> Result<(), AllocError>
     ensures { OnOk result (reverse pending.new.items ≡ looping_way (symbols_seen symbols.now) ++ reverse pending.old.items) }
 {
@@ -506,7 +506,7 @@ fn looping_ways(pending: &mut Vec<Item>, symbols: &[Symbol]) -> Result<(), Alloc
     }
 }
 
-#[tactic(auto, unfolding(crate::specs::Choosing::choose_statement_form))]
+#[tactic(auto, unfolding(crate::specs::Prediction::predict_statement_form))]
 fn statement_form_ways(pending: &mut Vec<Item>, symbols: &[Symbol]) -> Result<(), AllocError>
     ensures { OnOk result (reverse pending.new.items ≡ statement_form_way (symbols_seen symbols.now) ++ reverse pending.old.items) }
 {
@@ -541,7 +541,7 @@ fn statement_form_ways(pending: &mut Vec<Item>, symbols: &[Symbol]) -> Result<()
     }
 }
 
-#[tactic(auto, unfolding(crate::specs::Choosing::choose_statement))]
+#[tactic(auto, unfolding(crate::specs::Prediction::predict_statement))]
 fn statement_ways(pending: &mut Vec<Item>, row: Row, symbols: &[Symbol]) -> Result<(), AllocError>
     ensures { OnOk result (reverse pending.new.items ≡ statement_way row (symbols_seen symbols.now) ++ reverse pending.old.items) }
 {
@@ -622,7 +622,7 @@ fn statement_ways(pending: &mut Vec<Item>, row: Row, symbols: &[Symbol]) -> Resu
 }
 
 /// Puts the alternative of a row that the text takes before what is pending.
-pub fn choose(pending: &mut Vec<Item>, row: Row, symbols: &[Symbol]) -> Result<(), AllocError>
+pub fn predict(pending: &mut Vec<Item>, row: Row, symbols: &[Symbol]) -> Result<(), AllocError>
     ensures { OnOk result (reverse pending.new.items ≡ way row (symbols_seen symbols.now) ++ reverse pending.old.items) }
 {
     match row {

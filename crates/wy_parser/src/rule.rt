@@ -2,7 +2,7 @@
 
 ghost use Rattle.std.specs.Prelude.{◌≡◌, ◌++◌, IfOk, OnOk, is_some, reverse, true, false};
 ghost use Rattle.wy_tree.specs.Grammar.{rule as rule_of, form_of as form_of_sort, tighter as tighter_than, operates as operating};
-ghost use Rattle.wy_parser.specs.Choosing.{continued_level, continued_primary, continued_relation, continued_by as goes_on};
+ghost use Rattle.wy_parser.specs.Prediction.{continued_level, continued_primary, continued_relation, continued_by as goes_on};
 ghost use Rattle.wy_parser.specs.Rules.{items_of, declaration_rule, type_rule, statement_rule, expression_rule};
 
 use crate::row::put;
@@ -285,7 +285,7 @@ fn operates(sort: Sort, kind: Kind) -> bool
     }
 }
 
-#[tactic(auto, unfolding(crate::specs::Choosing::continued_level))]
+#[tactic(auto, unfolding(crate::specs::Prediction::continued_level))]
 fn continue_level(pending: &mut Vec<Item>, sort: Sort, kind: Kind) -> Result<bool, AllocError>
     ensures told { IfOk result (λ b. b ≡ is_some (continued_level sort kind)) }
     ensures put { OnOk result (reverse pending.new.items ≡ items_of (continued_level sort kind) ++ reverse pending.old.items) }
@@ -300,7 +300,7 @@ fn continue_level(pending: &mut Vec<Item>, sort: Sort, kind: Kind) -> Result<boo
     Ok(true)
 }
 
-#[tactic(auto, unfolding(crate::specs::Choosing::continued_relation))]
+#[tactic(auto, unfolding(crate::specs::Prediction::continued_relation))]
 fn continue_relation(pending: &mut Vec<Item>, kind: Kind) -> Result<bool, AllocError>
     ensures told { IfOk result (λ b. b ≡ is_some (continued_relation kind)) }
     ensures put { OnOk result (reverse pending.new.items ≡ items_of (continued_relation kind) ++ reverse pending.old.items) }
@@ -318,7 +318,7 @@ fn continue_relation(pending: &mut Vec<Item>, kind: Kind) -> Result<bool, AllocE
     Ok(true)
 }
 
-#[tactic(auto, unfolding(crate::specs::Choosing::continued_primary))]
+#[tactic(auto, unfolding(crate::specs::Prediction::continued_primary))]
 fn continue_primary(pending: &mut Vec<Item>, kind: Kind) -> Result<bool, AllocError>
     ensures told { IfOk result (λ b. b ≡ is_some (continued_primary kind)) }
     ensures put { OnOk result (reverse pending.new.items ≡ items_of (continued_primary kind) ++ reverse pending.old.items) }

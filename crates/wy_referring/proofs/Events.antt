@@ -5,7 +5,8 @@ use Rattle.std.specs.Int.{w8}
 use Rattle.std.proofs.lemmas.Bool.{ltb-true}
 use Rattle.wy_event.specs.declared.record.Kind.{Kind}
 use Rattle.wy_event.specs.declared.record.Kind.TheVariants as kind
-use Rattle.wy_event.specs.Record.{recorded, present}
+use Rattle.wy_event.specs.Record.{recorded}
+use Rattle.wy_kernel.specs.View.{present}
 use Rattle.wy_view.specs.References.{OptionBelow, ValueBelow, RefersBelow}
 use Rattle.wy_payload.specs.declared.ranges.Ranges.{Ranges}
 use Rattle.wy_payload.specs.declared.known.Known.{Known}

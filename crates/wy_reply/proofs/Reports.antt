@@ -4,7 +4,7 @@ use Rattle.std.specs.List.{concat}
 use Rattle.wy_kernel.specs.declared.program.Program as memory
 use Rattle.wy_kernel.specs.Program.{Program}
 use Rattle.wy_kernel.specs.Parts.{program_of}
-use Rattle.wy_event.specs.Record.{present}
+use Rattle.wy_kernel.specs.View.{present}
 use Rattle.wy_event.specs.declared.record.Head.{Head}
 use Rattle.wy_fitting.specs.Fits.{AllFit}
 use Rattle.wy_steps.specs.Sets.{nothing}

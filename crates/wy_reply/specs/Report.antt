@@ -1,7 +1,7 @@
 -- What is written of a run.
 use Rattle.std.specs.Prelude.{ℕ, List, ◌++◌}
 use Rattle.wy_kernel.specs.Program.{Program}
-use Rattle.wy_event.specs.Record.{present}
+use Rattle.wy_kernel.specs.View.{present}
 use Rattle.wy_steps.specs.Sets.{nothing}
 use Rattle.wy_meaning.specs.Run.{output, tail, thrown}
 use Rattle.wy_machine.specs.declared.ended.Ended.{Ended}

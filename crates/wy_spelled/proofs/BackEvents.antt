@@ -6,7 +6,8 @@ use Rattle.std.proofs.lemmas.Bool.{eqb-true}
 use Rattle.wy_value.specs.declared.value.Value.{Value}
 use Rattle.wy_event.specs.declared.record.Kind.{Kind}
 use Rattle.wy_event.specs.declared.record.Kind.TheVariants as kind
-use Rattle.wy_event.specs.Record.{Recorded, NONE, present, recorded}
+use Rattle.wy_event.specs.Record.{Recorded, recorded}
+use Rattle.wy_kernel.specs.View.{NONE, present}
 use Rattle.wy_fitting.specs.Fits.{IsUnit, IsPresent, ValueFits, Fits, told_value, told_units, told}
 use Rattle.wy_spelling.specs.Spelling.{number, optional, kind_number, slot_bytes, content_bytes, uses_bytes, origin_bytes, event_payload}
 use Rattle.wy_spelling.proofs.Lengths.{units_are_few, uses_are_few}

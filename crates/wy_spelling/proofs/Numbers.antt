@@ -1,7 +1,7 @@
 -- A number that is NONE in memory is spelled as it stands there.
 use Rattle.std.proofs.Common.{◌≡◌, ℕ, Bool, true, false, refl, ap, sym, eqb}
 use Rattle.std.proofs.lemmas.Bool.{eqb-true}
-use Rattle.wy_event.specs.Record.{NONE, present}
+use Rattle.wy_kernel.specs.View.{NONE, present}
 use Rattle.wy_spelling.specs.Spelling.{number, optional}
 
 by_test : (n : ℕ) (b : Bool) → eqb n NONE ≡ b → optional (present n) ≡ number n

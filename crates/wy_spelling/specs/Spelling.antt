@@ -18,7 +18,8 @@ use Rattle.wy_event.specs.declared.record.Coverage.{Coverage}
 use Rattle.wy_event.specs.declared.record.Head.{Head}
 use Rattle.wy_event.specs.declared.record.Tail.{Tail}
 use Rattle.wy_event.specs.declared.record.Trace.{Trace}
-use Rattle.wy_event.specs.Record.{Recorded, NONE, recorded}
+use Rattle.wy_event.specs.Record.{Recorded, recorded}
+use Rattle.wy_kernel.specs.View.{NONE}
 
 -- the greatest length of a trace
 abbrev pub trace_limit : ℕ

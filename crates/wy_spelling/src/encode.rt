@@ -1,7 +1,8 @@
 //! The frames of a trace, each spelled by itself: a letter, the length of what follows in four bytes, and this.
 
 ghost use Rattle.std.specs.Prelude.{◌≡◌, ◌<◌, ◌≤◌, ◌^◌, ◌++◌, ◌∷◌, [], ℕ, List, length, IfOk, OnOk};
-ghost use Rattle.wy_event.specs.Record.{present, recorded};
+ghost use Rattle.wy_event.specs.Record.{recorded};
+ghost use Rattle.wy_kernel.specs.View.{present};
 ghost use Rattle.wy_spelling.specs.Spelling.{kind_number, optional, count_bytes, origin_bytes, coverage_frame, coverage_payload, end_frame, event_frame, event_payload, frame, head_frame, head_payload, magic, number, opening, seal_frame, tail_frames, tail_payload, trace_limit};
 
 use crate::write::{

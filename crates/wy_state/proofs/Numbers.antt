@@ -2,7 +2,7 @@
 use Rattle.std.proofs.Common.{◌≡◌, ◌≢◌, ℕ, Some, refl, ap, inl, inr}
 use Rattle.std.specs.Prelude.{None as Absent, if◌then◌else◌}
 use Rattle.std.proofs.lemmas.Bool.Decides.{eqb_tells}
-use Rattle.wy_event.specs.Record.{present}
+use Rattle.wy_kernel.specs.View.{present}
 
 pub present_some : (n : ℕ) → n ≢ 4294967295 → present n ≡ Some n
 unfolding present

@@ -11,7 +11,8 @@ use Rattle.wy_kernel.specs.declared.types.Base.TheVariants.{Class as Named}
 use Rattle.wy_value.specs.declared.value.Value.TheVariants as value
 use Rattle.wy_value.specs.declared.value.Value.{Value}
 use Rattle.wy_value.specs.declared.value.Value.TheVariants.{None as Nothing, Object, Text as TextOf, Fixed as FixedOf}
-use Rattle.wy_event.specs.Record.{present, same_slot}
+use Rattle.wy_event.specs.Record.{same_slot}
+use Rattle.wy_kernel.specs.View.{present}
 use Rattle.wy_event.specs.declared.record.Slot.{Slot}
 use Rattle.wy_event.specs.declared.record.Slot.TheVariants.{Local, Static, Field, Elem}
 use Rattle.wy_event.specs.declared.record.Slot.TheVariants as slot

@@ -1,7 +1,7 @@
 //! The covers of statements, by number.
 
 ghost use Rattle.std.specs.Prelude.{◌≡◌, ◌≢◌, IfSome};
-ghost use Rattle.wy_event.specs.Record.{present};
+ghost use Rattle.wy_kernel.specs.View.{present};
 ghost use Rattle.wy_steps.specs.Steps.{begun, ended, first_moment, left_by};
 ghost use Rattle.wy_state.specs.Seen.{covered_of};
 
@@ -9,7 +9,7 @@ use wy_event::record::Cover;
 use wy_kernel::types::NONE;
 
 /// The moment of the first begin: this one, where there was none.
-#[tactic(auto, unfolding(wy_steps::specs::Steps::first_moment, wy_event::specs::Record::present))]
+#[tactic(auto, unfolding(wy_steps::specs::Steps::first_moment, wy_kernel::specs::View::present))]
 fn first_moment(first: u32, moment: u32) -> u32
     requires { moment ≢ 4294967295 }
     ensures { present result ≡ first_moment (present first) moment }

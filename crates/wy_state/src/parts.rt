@@ -91,7 +91,7 @@ impl Draft {
     ghost use Rattle.wy_state.specs.Seen.{draft_of};
 
     /// About a value alone.
-    #[tactic(auto, unfolding(wy_meaning::specs::World::plain, wy_event::specs::Record::present))]
+    #[tactic(auto, unfolding(wy_meaning::specs::World::plain, wy_kernel::specs::View::present))]
     pub fn plain(kind: Kind, site: u32, value: Value) -> Draft
         ensures draft { draft_of result [] ≡ words.plain kind site value }
         ensures value { result.value ≡ value }
@@ -106,7 +106,7 @@ impl Draft {
     }
 
     /// About a slot that gets a value.
-    #[tactic(auto, unfolding(wy_meaning::specs::World::into, wy_event::specs::Record::present))]
+    #[tactic(auto, unfolding(wy_meaning::specs::World::into, wy_kernel::specs::View::present))]
     pub fn into_slot(kind: Kind, site: u32, slot: Slot, value: Value) -> Draft
         ensures draft { draft_of result [] ≡ words.into kind site slot value }
         ensures value { result.value ≡ value }

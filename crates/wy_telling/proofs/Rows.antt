@@ -14,7 +14,8 @@ use Rattle.wy_value.specs.declared.value.Value.TheVariants as value
 use Rattle.wy_event.specs.declared.record.Kind.{Kind}
 use Rattle.wy_event.specs.declared.record.Kind.TheVariants as kind
 use Rattle.wy_event.specs.declared.record.Slot.TheVariants as slot
-use Rattle.wy_event.specs.Record.{Recorded, present}
+use Rattle.wy_event.specs.Record.{Recorded}
+use Rattle.wy_kernel.specs.View.{present}
 use Rattle.wy_meaning.specs.Text.{line_end}
 use Rattle.wy_meaning.specs.World.{object_in, type_in, units_in}
 use Rattle.wy_steps.specs.Steps.{code_of}

@@ -9,7 +9,7 @@ use Rattle.wy_kernel.specs.Parts.{program_of}
 use Rattle.wy_kernel.specs.Program.{fixed_text}
 use Rattle.wy_value.specs.declared.value.Value.{Value}
 use Rattle.wy_value.specs.declared.value.Value.TheVariants.{None, Object, Text, Fixed}
-use Rattle.wy_event.specs.Record.{NONE, present}
+use Rattle.wy_kernel.specs.View.{NONE, present}
 use Rattle.wy_value.specs.Numeral.{has_text, text_of}
 
 pub no_text : (p : Program) (n : ℕ) → length p.fixed_texts.items ≤ n → [] ≡ fixed_text (program_of p) n

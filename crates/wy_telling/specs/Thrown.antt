@@ -1,7 +1,8 @@
 -- What a trace says of the Throw that ended its run.
 use Rattle.std.specs.Prelude.{ℕ, List, Option, option_and_then, option_map, slice_get}
 use Rattle.wy_kernel.specs.Program.{class_of_type}
-use Rattle.wy_event.specs.Record.{Recorded, present}
+use Rattle.wy_event.specs.Record.{Recorded}
+use Rattle.wy_kernel.specs.View.{present}
 use Rattle.wy_meaning.specs.World.{object_in, type_in}
 
 -- the record of the Throw that is event `last`, and none where there is no such event

@@ -1,7 +1,8 @@
 //! What is written of a run: its output in whole lines, and how it ended.
 
 ghost use Rattle.std.specs.Prelude.{◌≡◌, ◌++◌, IfOk, OnOk, map};
-ghost use Rattle.wy_event.specs.Record.{present, recorded};
+ghost use Rattle.wy_event.specs.Record.{recorded};
+ghost use Rattle.wy_kernel.specs.View.{present};
 ghost use Rattle.wy_kernel.specs.Parts.{program_of};
 ghost use Rattle.wy_telling.specs.Output.{ends_its_line as ends_line, output_text, whole_lines};
 ghost use Rattle.wy_text.specs.Lines.{stop_line};

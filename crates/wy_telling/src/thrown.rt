@@ -1,7 +1,8 @@
 //! What a trace says of the Throw that ended its run.
 
 ghost use Rattle.std.specs.Prelude.{◌≡◌, ◌<◌, Some, map, slice_get};
-ghost use Rattle.wy_event.specs.Record.{present, recorded};
+ghost use Rattle.wy_event.specs.Record.{recorded};
+ghost use Rattle.wy_kernel.specs.View.{present};
 ghost use Rattle.wy_kernel.specs.Program.{class_of_type, type_of_code};
 ghost use Rattle.wy_meaning.specs.World.{object_in, type_in};
 ghost use Rattle.wy_steps.specs.Steps.{code_of};
@@ -30,7 +31,7 @@ const NOTHING: Thrown = Thrown {
 };
 
 /// What the Throw that is event `last` threw, and where; neither where there is no such event.
-#[tactic(auto, unfolding(crate::specs::Thrown::thrown_class, crate::specs::Thrown::thrown_site, wy_event::specs::Record::recorded, wy_event::specs::Record::present))]
+#[tactic(auto, unfolding(crate::specs::Thrown::thrown_class, crate::specs::Thrown::thrown_site, wy_event::specs::Record::recorded, wy_kernel::specs::View::present))]
 pub(crate) fn thrown(events: &[Event], last: u32) -> Thrown
     ensures class { present result.class ≡ thrown_class (map recorded events.now) (present last) }
     ensures site { present result.site ≡ thrown_site (map recorded events.now) (present last) }
@@ -80,7 +81,7 @@ fn class_at(events: &[Event], number: u32) -> u32
     }
 }
 
-#[tactic(auto, unfolding(wy_steps::specs::Steps::code_of, wy_event::specs::Record::present))]
+#[tactic(auto, unfolding(wy_steps::specs::Steps::code_of, wy_kernel::specs::View::present))]
 fn code_of(what: u32) -> u32
     ensures { result ≡ code_of (present what) }
 {

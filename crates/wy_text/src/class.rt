@@ -1,6 +1,6 @@
 //! The names of classes.
 ghost use Rattle.std.specs.Prelude.{◌≡◌, ◌++◌, OnOk};
-ghost use Rattle.wy_event.specs.Record.{present};
+ghost use Rattle.wy_kernel.specs.View.{present};
 ghost use Rattle.wy_kernel.specs.Parts.{program_of};
 ghost use Rattle.wy_kernel.specs.Program.{class, full_name};
 ghost use Rattle.wy_text.specs.Lines.{name_of};
@@ -13,7 +13,7 @@ use wy_kernel::types::NONE;
 const FIRST_SOURCE_CLASS: u32 = 18;
 
 /// Puts a class's full name behind a text, and nothing where there is no class.
-#[tactic(auto, unfolding(crate::specs::Lines::name_of, wy_event::specs::Record::present))]
+#[tactic(auto, unfolding(crate::specs::Lines::name_of, wy_kernel::specs::View::present))]
 pub fn put_class_name(out: &mut Vec<u8>, program: &Program, number: u32) -> Result<(), AllocError>
     ensures { OnOk result (out.new.items
         ≡ out.old.items ++ name_of (program_of program.now) (present number)) }

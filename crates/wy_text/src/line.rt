@@ -1,6 +1,6 @@
 //! The line of each stop.
 ghost use Rattle.std.specs.Prelude.{◌≡◌, IfOk};
-ghost use Rattle.wy_event.specs.Record.{present};
+ghost use Rattle.wy_kernel.specs.View.{present};
 ghost use Rattle.wy_kernel.specs.Parts.{program_of};
 ghost use Rattle.wy_text.specs.Lines.{plain_line as plain_line_of, stop_line as line_of_stop, uncaught_line as line_of_uncaught};
 

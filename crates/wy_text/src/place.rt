@@ -1,6 +1,6 @@
 //! Where in its text a program threw.
 ghost use Rattle.std.specs.Prelude.{◌≡◌, ◌++◌, OnOk, option_and_then, slice_get};
-ghost use Rattle.wy_event.specs.Record.{present};
+ghost use Rattle.wy_kernel.specs.View.{present};
 ghost use Rattle.wy_text.specs.Lines.{place_of, place_on};
 
 use crate::number::put_decimal;
@@ -18,7 +18,7 @@ pub fn put_place(out: &mut Vec<u8>, program: &Program, site: u32) -> Result<(), 
 }
 
 /// The line of the token that a site is, and None where it is no token.
-#[tactic(auto, unfolding(wy_event::specs::Record::present))]
+#[tactic(auto, unfolding(wy_kernel::specs::View::present))]
 fn line_at(program: &Program, site: u32) -> Option<u32>
     ensures { result ≡ option_and_then (slice_get program.now.lines.items) (present site) }
 {

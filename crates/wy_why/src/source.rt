@@ -114,7 +114,7 @@ fn of_uses<L: Ledger>(
     Ok(found)
 }
 
-#[tactic(auto, unfolding(wy_event::specs::Record::recorded, wy_event::specs::Record::present, wy_event::specs::Sources::with_role))]
+#[tactic(auto, unfolding(wy_event::specs::Record::recorded, wy_kernel::specs::View::present, wy_event::specs::Sources::with_role))]
 fn parent(event: &Event) -> Option<Source>
     ensures { option_to_list (option_map source_of result)
         ≡ records.with_role records.Control (recorded event.now).control }

@@ -3,7 +3,8 @@ use Rattle.std.proofs.Common.{◌≡◌, ◌∙◌, ℕ, suc, Bool, true, false,
 use Rattle.std.specs.Prelude.{◌||◌, is_some, nat_eq}
 use Rattle.std.specs.Prelude.{None as Absent}
 use Rattle.std.specs.List.{list_any}
-use Rattle.wy_event.specs.Record.{NONE, Recorded, present}
+use Rattle.wy_event.specs.Record.{Recorded}
+use Rattle.wy_kernel.specs.View.{NONE, present}
 use Rattle.wy_index.specs.Found.{first_from}
 
 first_is_any : (test : Recorded → Bool) (n : ℕ) (rs : List Recorded) → is_some (first_from test n rs) ≡ list_any test rs

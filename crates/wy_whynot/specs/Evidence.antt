@@ -3,7 +3,8 @@ use Rattle.std.specs.Prelude.{ℕ, Bool, true, false, not, ◌&&◌, ◌==◌, i
 use Rattle.std.specs.Prelude.{None as Absent}
 use Rattle.wy_kernel.specs.Program.{Program}
 use Rattle.wy_event.specs.declared.record.Cover.{Cover}
-use Rattle.wy_event.specs.Record.{Recorded, NONE}
+use Rattle.wy_event.specs.Record.{Recorded}
+use Rattle.wy_kernel.specs.View.{NONE}
 use Rattle.wy_index.specs.declared.found.Hit.{Hit}
 use Rattle.wy_index.specs.Found.{hits_in, is_call}
 use Rattle.wy_ways.specs.declared.point.Point.{Point}

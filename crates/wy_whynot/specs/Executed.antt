@@ -8,7 +8,8 @@ use Rattle.wy_kernel.specs.Program.{Program}
 use Rattle.wy_event.specs.declared.record.Cover.{Cover}
 use Rattle.wy_event.specs.declared.record.Kind.{Kind}
 use Rattle.wy_event.specs.declared.record.Kind.TheVariants as event
-use Rattle.wy_event.specs.Record.{Recorded, NONE}
+use Rattle.wy_event.specs.Record.{Recorded}
+use Rattle.wy_kernel.specs.View.{NONE}
 use Rattle.wy_index.specs.declared.found.Hit.{Hit}
 use Rattle.wy_index.specs.Found.{caller_in, hits_in, is_call_of, is_init_of}
 use Rattle.wy_ways.specs.declared.point.Point.{Point}

@@ -1,6 +1,6 @@
 use Rattle.std.proofs.Common.{◌++◌}
 use Rattle.std.specs.Prelude.{codes}
-use Rattle.wy_event.specs.Record.{present}
+use Rattle.wy_kernel.specs.View.{present}
 use Rattle.wy_kernel.specs.Parts.{program_of}
 use Rattle.wy_lines.specs.Names.{method_name}
 use Rattle.wy_ways.proofs.Behind.{behind_on}

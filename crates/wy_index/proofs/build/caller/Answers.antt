@@ -2,7 +2,7 @@
 use Rattle.std.proofs.Common.{◌≡◌, ⊎_elim, sym, ap, ◌∙◌}
 use Rattle.std.proofs.lemmas.Bool.{cases_eq}
 use Rattle.std.proofs.lemmas.List.{get_or_past, get_or_default}
-use Rattle.wy_event.specs.Record.{NONE}
+use Rattle.wy_kernel.specs.View.{NONE}
 use Rattle.wy_index.specs.Found.{body_at}
 use Rattle.wy_index.proofs.Numbers.{absent_number, present_number}
 use Rattle.wy_index.proofs.build.caller.Goals as goal

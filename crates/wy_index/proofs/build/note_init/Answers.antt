@@ -2,7 +2,8 @@ use Rattle.std.proofs.Common.{◌≡◌, true, false, ◌&&◌, ap, sym, ◌∙�
 use Rattle.std.specs.Prelude.{if◌then◌else◌, Some, None}
 use Rattle.std.specs.BTreeMap.{get}
 use Rattle.std.specs.Ordering.{nat_cmp}
-use Rattle.wy_event.specs.Record.{recorded, present}
+use Rattle.wy_event.specs.Record.{recorded}
+use Rattle.wy_kernel.specs.View.{present}
 use Rattle.wy_event.specs.Sources.{is_what, or_else}
 use Rattle.wy_index.specs.Found.{is_init}
 use Rattle.wy_index.proofs.Firsts.{else_nothing}

@@ -1,5 +1,6 @@
 use Rattle.std.proofs.Common.{ap, subst, sym, ◌∙◌}
-use Rattle.wy_event.specs.Record.{recorded, present}
+use Rattle.wy_event.specs.Record.{recorded}
+use Rattle.wy_kernel.specs.View.{present}
 use Rattle.wy_view.specs.References.{ValueBelow}
 use Rattle.wy_lines.specs.Lines.{deed, line_with}
 use Rattle.wy_lines.specs.Places.{slot_text}

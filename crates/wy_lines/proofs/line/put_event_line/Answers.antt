@@ -1,6 +1,6 @@
 use Rattle.std.proofs.Common.{◌∙◌, ◌++◌, ap}
 use Rattle.wy_kernel.specs.Parts.{program_of}
-use Rattle.wy_event.specs.Record.{present}
+use Rattle.wy_kernel.specs.View.{present}
 use Rattle.wy_lines.specs.Lines.{deed}
 use Rattle.wy_lines.specs.Places.{slot_text}
 use Rattle.wy_lines.specs.Values.{value_text}

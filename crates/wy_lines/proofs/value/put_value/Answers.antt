@@ -1,5 +1,5 @@
 use Rattle.std.proofs.Common.{◌++◌, sym, ap, ◌∙◌}
-use Rattle.wy_event.specs.Record.{present}
+use Rattle.wy_kernel.specs.View.{present}
 use Rattle.wy_kernel.specs.Parts.{program_of}
 use Rattle.wy_lines.specs.Values.{value_text}
 use Rattle.wy_lines.proofs.Looks.{object_read}

@@ -1,6 +1,6 @@
 use Rattle.std.proofs.Common.{◌≡◌, length}
 use Rattle.wy_parser.specs.Symbols.{symbols_seen}
-use Rattle.wy_parser.specs.Choosing.{past, is_bracket}
+use Rattle.wy_parser.specs.Prediction.{past, is_bracket}
 use Rattle.wy_parser.proofs.look.past_brackets.Given as goal
 
 abbrev pub invariant-loop-ahead : goal.invariant-loop-ahead

@@ -1,6 +1,6 @@
 use Rattle.std.proofs.Common.{◌≡◌, length}
 use Rattle.wy_parser.specs.Symbols.{symbols_seen}
-use Rattle.wy_parser.specs.Choosing.{past, modifies}
+use Rattle.wy_parser.specs.Prediction.{past, modifies}
 use Rattle.wy_parser.proofs.look.past_modifiers.Given as goal
 
 abbrev pub invariant-loop-ahead : goal.invariant-loop-ahead

@@ -65,7 +65,7 @@ parts-loop-left-preserved t c = (
   c.loop-left.invariant.3,
   c.loop-left.invariant.4,
   c.loop-left.invariant.5,
-  reads_row _ _ _ _ _ _ _ c.in-Parts.row (reverse c.pop.new.self.items) _ c.loop-left.invariant.6 c.loop-left-test.true (popped _ _ _ _ c.in-Some.ensures.items c.in-Parts.is) c.in_ok-choose-in-Parts.ensures,
+  reads_row _ _ _ _ _ _ _ c.in-Parts.row (reverse c.pop.new.self.items) _ c.loop-left.invariant.6 c.loop-left-test.true (popped _ _ _ _ c.in-Some.ensures.items c.in-Parts.is) c.in_ok-predict-in-Parts.ensures,
 )
 
 pub parts-returns-clause-read : goal.parts-returns-clause-read

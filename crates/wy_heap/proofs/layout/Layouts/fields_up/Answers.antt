@@ -1,6 +1,6 @@
 use Rattle.std.proofs.Common.{◌≡◌, ◌<◌, ◌∙◌, ◌++◌, ap, arith, length}
 use Rattle.std.proofs.lemmas.List.{length-map}
-use Rattle.wy_event.specs.Record.{present}
+use Rattle.wy_kernel.specs.View.{present}
 use Rattle.wy_heap.specs.Layouts.{plan_in}
 use Rattle.wy_heap.proofs.Rows.{goes_up, stops_over, stops_past}
 use Rattle.wy_heap.proofs.layout.Layouts.fields_up.Goals as goal

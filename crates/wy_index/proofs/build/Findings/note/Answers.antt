@@ -1,5 +1,6 @@
 use Rattle.std.proofs.Common.{◌∷◌, [], ◌++◌, ◌∙◌, ap}
-use Rattle.wy_event.specs.Record.{recorded, present}
+use Rattle.wy_event.specs.Record.{recorded}
+use Rattle.wy_kernel.specs.View.{present}
 use Rattle.wy_index.specs.Found.{body_at}
 use Rattle.wy_index.proofs.Findings.{found_more}
 use Rattle.wy_index.proofs.build.Findings.note.Goals as goal

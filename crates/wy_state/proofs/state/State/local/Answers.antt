@@ -1,5 +1,5 @@
 use Rattle.std.proofs.Common.{◌∙◌, ap, sym}
-use Rattle.wy_event.specs.Record.{present}
+use Rattle.wy_kernel.specs.View.{present}
 use Rattle.wy_steps.specs.Steps.{code_of}
 use Rattle.wy_state.proofs.Numbers.{present_some, present_none}
 use Rattle.wy_state.proofs.Slots.{local_goes}

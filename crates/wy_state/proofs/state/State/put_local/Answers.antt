@@ -1,5 +1,5 @@
 use Rattle.std.proofs.Common.{◌∙◌, ap}
-use Rattle.wy_event.specs.Record.{present}
+use Rattle.wy_kernel.specs.View.{present}
 use Rattle.wy_state.proofs.Numbers.{present_some}
 use Rattle.wy_state.proofs.Slots.{put_local_goes}
 use Rattle.wy_state.proofs.state.State.put_local.Goals as goal

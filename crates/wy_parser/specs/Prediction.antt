@@ -89,69 +89,69 @@ is_there _ k = not (same k kinds.Semicolon)
 abbrev pub begun : Bool → List Item → List Item
 begun b items = if b then items else []
 
-unfoldable pub choose_list : Row → List Tok → List Item
-choose_list (rows.Any x) s = begun (comes x (front s)) (Part x ∷ Parts (rows.Any x) ∷ [])
-choose_list (rows.Maybe x) s = begun (is_there x (front s)) (Part x ∷ [])
-choose_list (rows.Series x) s = begun (not (same (front s) kinds.CloseParen)) (Part x ∷ Parts (rows.Further x) ∷ [])
-choose_list (rows.Further x) s = begun (same (front s) kinds.Comma) (a kinds.Comma ∷ Part x ∷ Parts (rows.Further x) ∷ [])
-choose_list rows.Names s = begun (same (front s) kinds.Comma) (a kinds.Comma ∷ name ∷ Parts rows.Names ∷ [])
-choose_list rows.Brackets s = begun (same (front s) kinds.OpenBracket) (a kinds.OpenBracket ∷ a kinds.CloseBracket ∷ Parts rows.Brackets ∷ [])
-choose_list _ s = begun (same (front s) kinds.Final) (a kinds.Final ∷ [])
+unfoldable pub predict_list : Row → List Tok → List Item
+predict_list (rows.Any x) s = begun (comes x (front s)) (Part x ∷ Parts (rows.Any x) ∷ [])
+predict_list (rows.Maybe x) s = begun (is_there x (front s)) (Part x ∷ [])
+predict_list (rows.Series x) s = begun (not (same (front s) kinds.CloseParen)) (Part x ∷ Parts (rows.Further x) ∷ [])
+predict_list (rows.Further x) s = begun (same (front s) kinds.Comma) (a kinds.Comma ∷ Part x ∷ Parts (rows.Further x) ∷ [])
+predict_list rows.Names s = begun (same (front s) kinds.Comma) (a kinds.Comma ∷ name ∷ Parts rows.Names ∷ [])
+predict_list rows.Brackets s = begun (same (front s) kinds.OpenBracket) (a kinds.OpenBracket ∷ a kinds.CloseBracket ∷ Parts rows.Brackets ∷ [])
+predict_list _ s = begun (same (front s) kinds.Final) (a kinds.Final ∷ [])
 
-unfoldable pub choose_method : List Tok → List Item
-choose_method s =
+unfoldable pub predict_method : List Tok → List Item
+predict_method s =
     if same (front s) kinds.CloseBrace then [] else
     (if same (front s) kinds.Semicolon then a kinds.Semicolon ∷ Parts rows.Methods ∷ [] else
     Parts (rows.Any sorts.Mod) ∷ Part sorts.Result ∷ name ∷ Part sorts.Params ∷ Parts (rows.Maybe sorts.Throws) ∷ a kinds.Semicolon ∷ Parts rows.Methods ∷ [])
 
-unfoldable pub choose_declared : List Tok → List Item
-choose_declared s =
+unfoldable pub predict_declared : List Tok → List Item
+predict_declared s =
     if same (front s) kinds.Semicolon then a kinds.Semicolon ∷ [] else
     (if heads_interface s then Part sorts.Interface ∷ [] else Part sorts.Class ∷ [])
 
-unfoldable pub choose_declaration : Row → List Tok → List Item
-choose_declaration rows.Declared s = choose_declared s
-choose_declaration rows.Superclass s = begun (same (front s) kinds.Extends) (a kinds.Extends ∷ name ∷ [])
-choose_declaration rows.Interfaces s = begun (same (front s) kinds.Implements) (a kinds.Implements ∷ name ∷ Parts rows.Names ∷ [])
-choose_declaration rows.Supers s = begun (same (front s) kinds.Extends) (a kinds.Extends ∷ name ∷ Parts rows.Names ∷ [])
-choose_declaration rows.Methods s = choose_method s
-choose_declaration _ s = if same (front s) kinds.At then a kinds.At ∷ a kinds.Override ∷ [] else One Modifying ∷ []
+unfoldable pub predict_declaration : Row → List Tok → List Item
+predict_declaration rows.Declared s = predict_declared s
+predict_declaration rows.Superclass s = begun (same (front s) kinds.Extends) (a kinds.Extends ∷ name ∷ [])
+predict_declaration rows.Interfaces s = begun (same (front s) kinds.Implements) (a kinds.Implements ∷ name ∷ Parts rows.Names ∷ [])
+predict_declaration rows.Supers s = begun (same (front s) kinds.Extends) (a kinds.Extends ∷ name ∷ Parts rows.Names ∷ [])
+predict_declaration rows.Methods s = predict_method s
+predict_declaration _ s = if same (front s) kinds.At then a kinds.At ∷ a kinds.Override ∷ [] else One Modifying ∷ []
 
-unfoldable pub choose_member_form : List Tok → List Item
-choose_member_form s =
+unfoldable pub predict_member_form : List Tok → List Item
+predict_member_form s =
     if same (front s) kinds.Semicolon then a kinds.Semicolon ∷ [] else
     (if same (front s) kinds.OpenBrace then Part sorts.Block ∷ [] else
     (if same (front s) kinds.Static && same (second s) kinds.OpenBrace then a kinds.Static ∷ Part sorts.Block ∷ [] else
     Parts (rows.Any sorts.Mod) ∷ Parts rows.MemberTail ∷ []))
 
-unfoldable pub choose_member_tail : List Tok → List Item
-choose_member_tail s =
+unfoldable pub predict_member_tail : List Tok → List Item
+predict_member_tail s =
     if is_name (front s) && same (second s) kinds.OpenParen then
     name ∷ Part sorts.Params ∷ Parts (rows.Maybe sorts.Throws) ∷ a kinds.OpenBrace ∷ Parts rows.OwnCall ∷ Parts (rows.Any sorts.Local) ∷ a kinds.CloseBrace ∷ [] else
     (if heads_method s then Part sorts.Result ∷ name ∷ Part sorts.Params ∷ Parts (rows.Maybe sorts.Throws) ∷ Parts rows.MethodBody ∷ [] else
     Part sorts.Type ∷ Part sorts.Decls ∷ a kinds.Semicolon ∷ [])
 
-unfoldable pub choose_member : Row → List Tok → List Item
-choose_member rows.MemberForm s = choose_member_form s
-choose_member rows.MemberTail s = choose_member_tail s
-choose_member rows.MethodBody s = if same (front s) kinds.Semicolon then a kinds.Semicolon ∷ [] else Part sorts.Block ∷ []
-choose_member rows.OwnCall s = begun (is_own (front s) && same (second s) kinds.OpenParen) (One Own ∷ Part sorts.Args ∷ a kinds.Semicolon ∷ [])
-choose_member _ s = if same (front s) kinds.Void then a kinds.Void ∷ [] else Part sorts.Type ∷ []
+unfoldable pub predict_member : Row → List Tok → List Item
+predict_member rows.MemberForm s = predict_member_form s
+predict_member rows.MemberTail s = predict_member_tail s
+predict_member rows.MethodBody s = if same (front s) kinds.Semicolon then a kinds.Semicolon ∷ [] else Part sorts.Block ∷ []
+predict_member rows.OwnCall s = begun (is_own (front s) && same (second s) kinds.OpenParen) (One Own ∷ Part sorts.Args ∷ a kinds.Semicolon ∷ [])
+predict_member _ s = if same (front s) kinds.Void then a kinds.Void ∷ [] else Part sorts.Type ∷ []
 
-unfoldable pub choose_elements : List Tok → List Item
-choose_elements s =
+unfoldable pub predict_elements : List Tok → List Item
+predict_elements s =
     if same (front s) kinds.CloseBrace then [] else
     (if same (front s) kinds.Comma then a kinds.Comma ∷ [] else Part sorts.Init ∷ Parts rows.MoreElements ∷ [])
 
-unfoldable pub choose_initial : Row → List Tok → List Item
-choose_initial rows.Initial s = begun (same (front s) kinds.Assign) (a kinds.Assign ∷ Part sorts.Init ∷ [])
-choose_initial rows.InitForm s = if same (front s) kinds.OpenBrace then a kinds.OpenBrace ∷ Parts rows.Elements ∷ a kinds.CloseBrace ∷ [] else Part sorts.Expr ∷ []
-choose_initial rows.Elements s = choose_elements s
-choose_initial rows.MoreElements s = begun (same (front s) kinds.Comma) (a kinds.Comma ∷ Parts rows.AfterComma ∷ [])
-choose_initial _ s = begun (not (same (front s) kinds.CloseBrace)) (Part sorts.Init ∷ Parts rows.MoreElements ∷ [])
+unfoldable pub predict_initial : Row → List Tok → List Item
+predict_initial rows.Initial s = begun (same (front s) kinds.Assign) (a kinds.Assign ∷ Part sorts.Init ∷ [])
+predict_initial rows.InitForm s = if same (front s) kinds.OpenBrace then a kinds.OpenBrace ∷ Parts rows.Elements ∷ a kinds.CloseBrace ∷ [] else Part sorts.Expr ∷ []
+predict_initial rows.Elements s = predict_elements s
+predict_initial rows.MoreElements s = begun (same (front s) kinds.Comma) (a kinds.Comma ∷ Parts rows.AfterComma ∷ [])
+predict_initial _ s = begun (not (same (front s) kinds.CloseBrace)) (Part sorts.Init ∷ Parts rows.MoreElements ∷ [])
 
-unfoldable pub choose_leaving : List Tok → List Item
-choose_leaving s =
+unfoldable pub predict_leaving : List Tok → List Item
+predict_leaving s =
     if same (front s) kinds.Break then a kinds.Break ∷ Parts rows.Label ∷ a kinds.Semicolon ∷ [] else
     (if same (front s) kinds.Continue then a kinds.Continue ∷ Parts rows.Label ∷ a kinds.Semicolon ∷ [] else
     (if same (front s) kinds.Return then a kinds.Return ∷ Parts (rows.Maybe sorts.Expr) ∷ a kinds.Semicolon ∷ [] else
@@ -159,52 +159,52 @@ choose_leaving s =
     (if is_name (front s) && same (second s) kinds.Colon then name ∷ a kinds.Colon ∷ Part sorts.Stmt ∷ [] else
     Part sorts.Effect ∷ a kinds.Semicolon ∷ []))))
 
-unfoldable pub choose_looping : List Tok → List Item
-choose_looping s =
+unfoldable pub predict_looping : List Tok → List Item
+predict_looping s =
     if same (front s) kinds.While then a kinds.While ∷ a kinds.OpenParen ∷ Part sorts.Expr ∷ a kinds.CloseParen ∷ Part sorts.Stmt ∷ [] else
     (if same (front s) kinds.Do then a kinds.Do ∷ Part sorts.Stmt ∷ a kinds.While ∷ a kinds.OpenParen ∷ Part sorts.Expr ∷ a kinds.CloseParen ∷ a kinds.Semicolon ∷ [] else
     (if same (front s) kinds.For then
     a kinds.For ∷ a kinds.OpenParen ∷ Parts (rows.Maybe sorts.ForInit) ∷ a kinds.Semicolon ∷ Parts (rows.Maybe sorts.Expr) ∷ a kinds.Semicolon
     ∷ Parts (rows.Series sorts.Effect) ∷ a kinds.CloseParen ∷ Part sorts.Stmt ∷ [] else
-    choose_leaving s))
+    predict_leaving s))
 
-unfoldable pub choose_statement_form : List Tok → List Item
-choose_statement_form s =
+unfoldable pub predict_statement_form : List Tok → List Item
+predict_statement_form s =
     if same (front s) kinds.OpenBrace then Part sorts.Block ∷ [] else
     (if same (front s) kinds.Semicolon then a kinds.Semicolon ∷ [] else
     (if same (front s) kinds.If then a kinds.If ∷ a kinds.OpenParen ∷ Part sorts.Expr ∷ a kinds.CloseParen ∷ Part sorts.Stmt ∷ Parts rows.Otherwise ∷ [] else
     (if same (front s) kinds.Try then a kinds.Try ∷ Part sorts.Block ∷ Parts rows.Handlers ∷ [] else
-    choose_looping s)))
+    predict_looping s)))
 
-unfoldable pub choose_statement : Row → List Tok → List Item
-choose_statement rows.LocalForm s = if declares s then Parts rows.MaybeFinal ∷ Part sorts.Type ∷ Part sorts.Decls ∷ a kinds.Semicolon ∷ [] else Part sorts.Stmt ∷ []
-choose_statement rows.StmtForm s = choose_statement_form s
-choose_statement rows.Otherwise s = begun (same (front s) kinds.Else) (a kinds.Else ∷ Part sorts.Stmt ∷ [])
-choose_statement rows.Label s = begun (is_name (front s)) (name ∷ [])
-choose_statement rows.Handlers s =
+unfoldable pub predict_statement : Row → List Tok → List Item
+predict_statement rows.LocalForm s = if declares s then Parts rows.MaybeFinal ∷ Part sorts.Type ∷ Part sorts.Decls ∷ a kinds.Semicolon ∷ [] else Part sorts.Stmt ∷ []
+predict_statement rows.StmtForm s = predict_statement_form s
+predict_statement rows.Otherwise s = begun (same (front s) kinds.Else) (a kinds.Else ∷ Part sorts.Stmt ∷ [])
+predict_statement rows.Label s = begun (is_name (front s)) (name ∷ [])
+predict_statement rows.Handlers s =
     if same (front s) kinds.Catch then Part sorts.Catch ∷ Parts (rows.Any sorts.Catch) ∷ Parts rows.Finally ∷ [] else a kinds.Finally ∷ Part sorts.Block ∷ []
-choose_statement rows.Finally s = begun (same (front s) kinds.Finally) (a kinds.Finally ∷ Part sorts.Block ∷ [])
-choose_statement _ s =
+predict_statement rows.Finally s = begun (same (front s) kinds.Finally) (a kinds.Finally ∷ Part sorts.Block ∷ [])
+predict_statement _ s =
     if declares s then Parts rows.MaybeFinal ∷ Part sorts.Type ∷ Part sorts.Decls ∷ [] else Part sorts.Effect ∷ Parts (rows.Further sorts.Effect) ∷ []
 
-unfoldable pub choose_unary : List Tok → List Item
-choose_unary s =
+unfoldable pub predict_unary : List Tok → List Item
+predict_unary s =
     if same (front s) kinds.Minus then a kinds.Minus ∷ Parts rows.Negated ∷ [] else
     (if is_prefixing (front s) then One Prefixing ∷ Part sorts.Unary ∷ [] else
     (if casts s then Part sorts.Cast ∷ [] else Part sorts.Postfix ∷ []))
 
-unfoldable pub choose_operator : Row → List Tok → List Item
-choose_operator rows.Assigned s = begun (is_setting (front s)) (One Setting ∷ Part sorts.Expr ∷ [])
-choose_operator rows.Choice s = begun (same (front s) kinds.Question) (a kinds.Question ∷ Part sorts.Expr ∷ a kinds.Colon ∷ Part sorts.Cond ∷ [])
-choose_operator rows.UnaryForm s = choose_unary s
-choose_operator rows.Negated s = if same (front s) kinds.Big then a kinds.Big ∷ [] else Part sorts.Unary ∷ []
-choose_operator rows.CastForm s =
+unfoldable pub predict_operator : Row → List Tok → List Item
+predict_operator rows.Assigned s = begun (is_setting (front s)) (One Setting ∷ Part sorts.Expr ∷ [])
+predict_operator rows.Choice s = begun (same (front s) kinds.Question) (a kinds.Question ∷ Part sorts.Expr ∷ a kinds.Colon ∷ Part sorts.Cond ∷ [])
+predict_operator rows.UnaryForm s = predict_unary s
+predict_operator rows.Negated s = if same (front s) kinds.Big then a kinds.Big ∷ [] else Part sorts.Unary ∷ []
+predict_operator rows.CastForm s =
     if same (front s) kinds.Prim && same (second s) kinds.CloseParen then a kinds.Prim ∷ a kinds.CloseParen ∷ Part sorts.Unary ∷ []
     else Part sorts.RefType ∷ a kinds.CloseParen ∷ Part sorts.Operand ∷ []
-choose_operator _ s = begun (same (front s) kinds.Step) (a kinds.Step ∷ Parts rows.Steps ∷ [])
+predict_operator _ s = begun (same (front s) kinds.Step) (a kinds.Step ∷ Parts rows.Steps ∷ [])
 
-unfoldable pub choose_primary : List Tok → List Item
-choose_primary s =
+unfoldable pub predict_primary : List Tok → List Item
+predict_primary s =
     if same (front s) kinds.Literal then a kinds.Literal ∷ [] else
     (if same (front s) kinds.This then a kinds.This ∷ [] else
     (if same (front s) kinds.OpenParen then a kinds.OpenParen ∷ Part sorts.Expr ∷ a kinds.CloseParen ∷ [] else
@@ -212,61 +212,61 @@ choose_primary s =
     (if same (front s) kinds.Super then a kinds.Super ∷ a kinds.Dot ∷ name ∷ Parts (rows.Maybe sorts.Args) ∷ [] else
     name ∷ Parts (rows.Maybe sorts.Args) ∷ []))))
 
-unfoldable pub choose_new : List Tok → List Item
-choose_new s =
+unfoldable pub predict_new : List Tok → List Item
+predict_new s =
     if same (second s) kinds.OpenParen then name ∷ Part sorts.Args ∷ [] else
     (if same (third s) kinds.CloseBracket then
     One Element ∷ a kinds.OpenBracket ∷ a kinds.CloseBracket ∷ Parts rows.Brackets ∷ a kinds.OpenBrace ∷ Parts rows.Elements ∷ a kinds.CloseBrace ∷ [] else
     One Element ∷ a kinds.OpenBracket ∷ Part sorts.Expr ∷ a kinds.CloseBracket ∷ Parts rows.Dimensions ∷ [])
 
-unfoldable pub choose_dimension : List Tok → List Item
-choose_dimension s =
+unfoldable pub predict_dimension : List Tok → List Item
+predict_dimension s =
     if same (front s) kinds.OpenBracket then
     (if same (second s) kinds.CloseBracket then a kinds.OpenBracket ∷ a kinds.CloseBracket ∷ Parts rows.Brackets ∷ []
     else a kinds.OpenBracket ∷ Part sorts.Expr ∷ a kinds.CloseBracket ∷ Parts rows.Dimensions ∷ [])
     else []
 
 -- the alternative of a row that the text takes, if it is a text
-abbrev pub choose : Row → List Tok → List Item
-choose (rows.Any x) s = choose_list (rows.Any x) s
-choose (rows.Maybe x) s = choose_list (rows.Maybe x) s
-choose (rows.Series x) s = choose_list (rows.Series x) s
-choose (rows.Further x) s = choose_list (rows.Further x) s
-choose rows.Names s = choose_list rows.Names s
-choose rows.Brackets s = choose_list rows.Brackets s
-choose rows.MaybeFinal s = choose_list rows.MaybeFinal s
-choose rows.Declared s = choose_declaration rows.Declared s
-choose rows.Superclass s = choose_declaration rows.Superclass s
-choose rows.Interfaces s = choose_declaration rows.Interfaces s
-choose rows.Supers s = choose_declaration rows.Supers s
-choose rows.Methods s = choose_declaration rows.Methods s
-choose rows.ModForm s = choose_declaration rows.ModForm s
-choose rows.MemberForm s = choose_member rows.MemberForm s
-choose rows.MemberTail s = choose_member rows.MemberTail s
-choose rows.MethodBody s = choose_member rows.MethodBody s
-choose rows.OwnCall s = choose_member rows.OwnCall s
-choose rows.ResultForm s = choose_member rows.ResultForm s
-choose rows.Initial s = choose_initial rows.Initial s
-choose rows.InitForm s = choose_initial rows.InitForm s
-choose rows.Elements s = choose_initial rows.Elements s
-choose rows.MoreElements s = choose_initial rows.MoreElements s
-choose rows.AfterComma s = choose_initial rows.AfterComma s
-choose rows.LocalForm s = choose_statement rows.LocalForm s
-choose rows.StmtForm s = choose_statement rows.StmtForm s
-choose rows.Otherwise s = choose_statement rows.Otherwise s
-choose rows.Label s = choose_statement rows.Label s
-choose rows.Handlers s = choose_statement rows.Handlers s
-choose rows.Finally s = choose_statement rows.Finally s
-choose rows.ForInitForm s = choose_statement rows.ForInitForm s
-choose rows.Assigned s = choose_operator rows.Assigned s
-choose rows.Choice s = choose_operator rows.Choice s
-choose rows.UnaryForm s = choose_operator rows.UnaryForm s
-choose rows.Negated s = choose_operator rows.Negated s
-choose rows.CastForm s = choose_operator rows.CastForm s
-choose rows.Steps s = choose_operator rows.Steps s
-choose rows.PrimaryForm s = choose_primary s
-choose rows.NewForm s = choose_new s
-choose rows.Dimensions s = choose_dimension s
+abbrev pub predict : Row → List Tok → List Item
+predict (rows.Any x) s = predict_list (rows.Any x) s
+predict (rows.Maybe x) s = predict_list (rows.Maybe x) s
+predict (rows.Series x) s = predict_list (rows.Series x) s
+predict (rows.Further x) s = predict_list (rows.Further x) s
+predict rows.Names s = predict_list rows.Names s
+predict rows.Brackets s = predict_list rows.Brackets s
+predict rows.MaybeFinal s = predict_list rows.MaybeFinal s
+predict rows.Declared s = predict_declaration rows.Declared s
+predict rows.Superclass s = predict_declaration rows.Superclass s
+predict rows.Interfaces s = predict_declaration rows.Interfaces s
+predict rows.Supers s = predict_declaration rows.Supers s
+predict rows.Methods s = predict_declaration rows.Methods s
+predict rows.ModForm s = predict_declaration rows.ModForm s
+predict rows.MemberForm s = predict_member rows.MemberForm s
+predict rows.MemberTail s = predict_member rows.MemberTail s
+predict rows.MethodBody s = predict_member rows.MethodBody s
+predict rows.OwnCall s = predict_member rows.OwnCall s
+predict rows.ResultForm s = predict_member rows.ResultForm s
+predict rows.Initial s = predict_initial rows.Initial s
+predict rows.InitForm s = predict_initial rows.InitForm s
+predict rows.Elements s = predict_initial rows.Elements s
+predict rows.MoreElements s = predict_initial rows.MoreElements s
+predict rows.AfterComma s = predict_initial rows.AfterComma s
+predict rows.LocalForm s = predict_statement rows.LocalForm s
+predict rows.StmtForm s = predict_statement rows.StmtForm s
+predict rows.Otherwise s = predict_statement rows.Otherwise s
+predict rows.Label s = predict_statement rows.Label s
+predict rows.Handlers s = predict_statement rows.Handlers s
+predict rows.Finally s = predict_statement rows.Finally s
+predict rows.ForInitForm s = predict_statement rows.ForInitForm s
+predict rows.Assigned s = predict_operator rows.Assigned s
+predict rows.Choice s = predict_operator rows.Choice s
+predict rows.UnaryForm s = predict_operator rows.UnaryForm s
+predict rows.Negated s = predict_operator rows.Negated s
+predict rows.CastForm s = predict_operator rows.CastForm s
+predict rows.Steps s = predict_operator rows.Steps s
+predict rows.PrimaryForm s = predict_primary s
+predict rows.NewForm s = predict_new s
+predict rows.Dimensions s = predict_dimension s
 
 -- what goes on with a tree of a sort
 unfoldable pub continued_level : Sort → Kind → Option (List Item)
