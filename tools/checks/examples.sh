@@ -21,7 +21,8 @@ expect_line() { # NAME STATUS LINE WORD..
   expect "$name" "$status" "$scratch/wanted" "$@"
 }
 
-for source in examples/*.java; do
+# (tools/checks/java has the corners of operators, casts and texts, with what real Java prints)
+for source in examples/*.java tools/checks/java/*.java; do
   status=0
   [ "$source" = examples/refused.java ] && status=4
   expect "$source" "$status" "${source%.java}.out" run "$source"
@@ -90,13 +91,37 @@ expect_line "the options before the file" 0 $'5\n-- finished\n-- recorded 10 eve
 expect_line "an output of a trace" 0 $'5\n-- finished' output "$trace"
 expect_line "an audit" 0 'audit: equal' audit "$trace"
 expect_line "why" 0 $'#2 line 2 call Main.main\n#4 line 3 set x = 2 *' why "$trace" e4
-expect_line "a word that is no question" 6 'question: not read' why "$trace" x4
-expect_line "an event that isn't there" 6 'question: no such 10' why "$trace" e10
-expect_line "a print that isn't there" 6 'question: no such 1' why "$trace" p1
+for word in x4 q p p12345678901 p4294967296 e4294967296 static:int.x@3 elem:1@9 static:java.util.X.y@3 local:2:2; do
+  expect_line "a word that is no question, '$word'" 6 'question: not read' why "$trace" "$word"
+done
+while read -r word number; do
+  expect_line "a word that names nothing, $word" 6 "question: no such $number" why "$trace" "$word"
+done <<'ROWS'
+p1 1
+e10 10
+local:2:2@5 5
+local:2:2@11 11
+elem:1:0@9 9
+static:Main.y@3 3
+static:Throwable.message@3 3
+ROWS
+while read -r word last; do
+  "$program" why "$trace" "$word" >"$scratch/out" 2>/dev/null
+  [ $? = 0 ] && tail -n 1 "$scratch/out" | grep -q "^#$last " && report "a word that names an event, $word" 1 || report "a word that names an event, $word" 0
+done <<'ROWS'
+p0 8
+e04 4
+local:2:2@7 5
+local:2:2@8 7
+ROWS
 expect_line "what can be asked" 0 'p0 #8 line 8 print 5' questions "$trace"
 expect_line "a statement that ran" 6 'question: line 8.1 ran 1 times, first before #8' whynot "$trace" 8
 expect_line "a line without a statement" 6 'question: no such 99' whynot "$trace" 99
-expect_line "a word that is no statement" 6 'question: not read' whynot "$trace" 0.1
+for word in 0 0.1 5.0 5. 5.1.1 x; do
+  expect_line "a word that is no statement, '$word'" 6 'question: not read' whynot "$trace" "$word"
+done
+expect_line "a place without a statement" 6 'question: no such 8' whynot "$trace" 8.2
+expect_line "a statement with zeros in front" 6 'question: line 8.1 ran 1 times, first before #8' whynot "$trace" 08.01
 expect_line "whynot without a statement" 2 "$usage" whynot "$trace"
 expect_line "questions with a word too many" 2 "$usage" questions "$trace" p0
 printf 'class Main {\n  public static void main(String[] a) {\n    int n = 1;\n    if (n > 3) {\n      System.out.println(n);\n    }\n  }\n  void alone() {\n    alone();\n  }\n}\n' >"$scratch/never.java"
