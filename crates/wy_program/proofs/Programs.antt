@@ -14,10 +14,10 @@ use Rattle.wy_typed_stmt.specs.Typed.{Makes}
 use Rattle.wy_typed.specs.Programs.{BodiesFit, ProgramsAreTyped, TablesHaveRows}
 use Rattle.wy_typed.specs.Rows.{NamesAgreeInTables}
 use Rattle.wy_typed.proofs.Made.{Comes, comes}
-use Rattle.wy_declared.specs.Laws.{ProgramsHaveLibrary}
-use Rattle.wy_standing.specs.Laws.{TreesStand}
-use Rattle.wy_tables.specs.Laws.{AreFew, TreesHaveTables}
-use Rattle.wy_written.specs.Written.{UnitWritten}
+use Rattle.wy_program_parts.specs.DeclaredLaws.{ProgramsHaveLibrary}
+use Rattle.wy_program_parts.specs.MembersLaws.{TreesStand}
+use Rattle.wy_program_parts.specs.TableLaws.{AreFew, TreesHaveTables}
+use Rattle.wy_well_formed.specs.Written.{UnitWritten}
 
 -- the table of a program is that by which it is made
 same_table : (unit : CompilationUnit) (count : ℕ) (p : Program) (c : Comes unit count p) → table_of p c.t.constants ≡ c.t

@@ -14,7 +14,7 @@ use Rattle.wy_program.specs.Laws.{TextsArePrograms}
 use Rattle.wy_program.proofs.Programs.{DeclaresFew, few_parts}
 use Rattle.wy_sites.specs.Laws.{SitesAreTokens}
 use Rattle.wy_sites.specs.Sites.{HasSites}
-use Rattle.wy_tables.specs.Laws.{TreesDeclareFew}
+use Rattle.wy_program_parts.specs.TableLaws.{TreesDeclareFew}
 
 unplaced : (ts : List Spanned) → map (λ (s : Placed). s.token) (map placed ts) ≡ map (λ (s : Spanned). seen s.token) ts
 unplaced [] = refl

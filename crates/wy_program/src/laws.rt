@@ -2,17 +2,17 @@
 
 ghost use Rattle.wy_program.specs.Laws.{TextsArePrograms};
 
-use wy_declared::{
+use wy_program_parts::{
     declarations_stand, each_class_and_each_method_has_a_place, each_method_of_a_tree_has_a_place,
     programs_have_the_library,
 };
-use wy_first_method::programs_have_a_main;
-use wy_has_bodies::methods_of_programs_fit;
-use wy_runs::classes_run_methods;
-use wy_standing::members_stand;
-use wy_tables::{trees_declare_few, trees_have_tables};
+use wy_program_parts::programs_have_a_main;
+use wy_program_parts::methods_of_programs_fit;
+use wy_program_parts::classes_run_methods;
+use wy_program_parts::members_stand;
+use wy_program_parts::{trees_declare_few, trees_have_tables};
 use wy_typed::{the_table_of_a_text_says_what_the_text_says, what_a_text_becomes_fits_its_types};
-use wy_written::texts_are_written;
+use wy_well_formed::texts_are_written;
 
 /// What a text of at most 1,048,576 tokens becomes fits its types: its numbers are those of its parts, its forms have types, objects
 /// are made of classes alone that are neither abstract nor interfaces, and main, each constructor that is called, the method of each

@@ -1,7 +1,0 @@
-pub mod Operands
-pub mod Found
-pub mod Calls
-pub mod Ways
-pub mod Alike
-pub mod Quiet
-pub mod Laws

@@ -1,5 +1,0 @@
-pub mod Written
-pub mod Standing
-pub mod Missteps
-pub mod Members
-pub mod Laws

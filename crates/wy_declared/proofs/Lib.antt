@@ -1,8 +1,0 @@
-mod Rows
-mod Made
-mod Lengths
-mod Interfaces
-mod Texts
-mod Mains
-mod MainRows
-mod TreeMains

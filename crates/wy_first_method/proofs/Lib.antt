@@ -1,4 +1,0 @@
-mod Rising
-mod Names
-mod Alone
-mod Main

@@ -1,0 +1,13 @@
+pub mod Operands
+pub mod Found
+pub mod Calls
+pub mod Ways
+pub mod Alike
+pub mod Quiet
+pub mod ExpressionLaws
+pub mod Standing
+pub mod Missteps
+pub mod Members
+pub mod BodyLaws
+pub mod Units
+pub mod ProgramLaws

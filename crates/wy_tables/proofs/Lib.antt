@@ -1,4 +1,0 @@
-mod Weights
-mod Trees
-mod Rows
-pub mod Tables
