@@ -96,7 +96,7 @@ whole_frame (b ∷ tail) f are e = long_frame b tail f are e
 
 -- ---- the magic
 
-one_agrees : (b : Bool) (n m : ℕ) → cond b (suc n) 0 ≡ suc m → (b ≡ true) × (n ≡ m)
+pub one_agrees : (b : Bool) (n m : ℕ) → cond b (suc n) 0 ≡ suc m → (b ≡ true) × (n ≡ m)
 one_agrees true n m e = (refl, omega (arith, e))
 one_agrees false n m e = absurd (omega (arith, e))
 
@@ -110,15 +110,15 @@ agrees (x ∷ xs) (y ∷ ys) e =
 
 -- ---- the answer
 
-lettered : (b : Bool) (r : Result (Head × ℕ) TraceError) (e : TraceError) (y : Head × ℕ) → cond b r (Err e) ≡ Ok y → (b ≡ true) × (r ≡ Ok y)
+pub lettered : (b : Bool) (r : Result (Head × ℕ) TraceError) (e : TraceError) (y : Head × ℕ) → cond b r (Err e) ≡ Ok y → (b ≡ true) × (r ≡ Ok y)
 lettered true r e y is = (refl, is)
 lettered false r e y is = absurd cc
 
-answered : (end : ℕ) (r : Result Head DamageRule) (y : Head × ℕ) → read_head_as end r ≡ Ok y → (r ≡ Ok y.0) × (end ≡ y.1)
+pub answered : (end : ℕ) (r : Result Head DamageRule) (y : Head × ℕ) → read_head_as end r ≡ Ok y → (r ≡ Ok y.0) × (end ≡ y.1)
 answered end (Ok h) y e = (cc, cc)
 answered end (Err d) y e = absurd cc
 
-refuses : (b : Bool) (r : Result (Head × ℕ) TraceError) (c : Bool) (e f : TraceError) (y : Head × ℕ) → cond b r (cond c (Err e) (Err f)) ≡ Ok y → (b ≡ true) × (r ≡ Ok y)
+pub refuses : (b : Bool) (r : Result (Head × ℕ) TraceError) (c : Bool) (e f : TraceError) (y : Head × ℕ) → cond b r (cond c (Err e) (Err f)) ≡ Ok y → (b ≡ true) × (r ≡ Ok y)
 refuses true r c e f y is = (refl, is)
 refuses false r true e f y is = absurd cc
 refuses false r false e f y is = absurd cc

@@ -8,6 +8,7 @@ pub mod Uses
 pub mod Events
 pub mod Standing
 pub mod Traces
+mod Prefixes
 mod Back
 mod BackParts
 mod BackValues

@@ -82,7 +82,7 @@ none_passed : (t : Tail) (seal rest : List ℕ) → is_passed (stages.Sealed t s
 none_passed t seal [] e = refl
 none_passed t seal (b ∷ rest) e = absurd cc
 
-sealed_waits : (r : Ranges) (steps : ℕ) (s : Standing) (rest : List ℕ) (t : Tail) (seal : List ℕ) → s.stage ≡ stages.Sealed t seal → turn r steps s rest ≡ Waits → rest ≡ []
+pub sealed_waits : (r : Ranges) (steps : ℕ) (s : Standing) (rest : List ℕ) (t : Tail) (seal : List ℕ) → s.stage ≡ stages.Sealed t seal → turn r steps s rest ≡ Waits → rest ≡ []
 unfolding turn next_at
 sealed_waits r steps s rest t seal ended e = by_frame (frame_of rest) e
   where

@@ -1,5 +1,5 @@
 -- What is read is spelled so.
-use Rattle.std.specs.Prelude.{◌≡◌, ℕ, ◌<◌, ◌≤◌, ◌^◌, ◌++◌, length, List, map, take, Ok, slice_index}
+use Rattle.std.specs.Prelude.{◌≡◌, ℕ, ◌<◌, ◌≤◌, ◌^◌, ◌++◌, length, List, map, take, Ok, Err, slice_index}
 use Rattle.std.specs.List.{concat}
 use Rattle.wy_kernel.specs.declared.program.Program.{Program}
 use Rattle.wy_event.specs.declared.record.Head.{Head}
@@ -19,6 +19,7 @@ use Rattle.wy_payload.specs.declared.known.Known.{Known}
 use Rattle.wy_payload.specs.declared.closing.Totals.{Totals}
 use Rattle.wy_payload.specs.Reading.{all_of}
 use Rattle.wy_payload.specs.Closing.{coverage_at, source_limit, tail_at}
+use Rattle.wy_frames.specs.declared.error.TraceError.TheVariants.{Cut}
 use Rattle.wy_frames.specs.Heads.{head_of}
 use Rattle.wy_frames.specs.Traces.{IsReadAs}
 
@@ -47,6 +48,10 @@ EventsAreSpelled = (r : Ranges) (earlier : List Known) (output : ℕ) (payload :
 -- a trace that bytes are read as, all of them
 abbrev pub TracesAreSpelled : Type 0
 TracesAreSpelled = (p : Program) (bytes : List ℕ) (x : Trace) → AreBytes bytes → IsReadAs p bytes (Ok x) → bytes ≡ trace_bytes x
+
+-- of a trace that is cut behind n bytes these are read as cut there
+abbrev pub PrefixesAreCut : Type 0
+PrefixesAreCut = (p : Program) (bytes : List ℕ) (x : Trace) (n : ℕ) → AreBytes bytes → IsReadAs p bytes (Ok x) → n < length bytes → IsReadAs p (take n bytes) (Err (Cut n))
 
 -- the source of a head that bytes begin with is within its limit
 abbrev pub HeadsAreShort : Type 0

@@ -2,7 +2,7 @@
 //! The functions do nothing: their contracts are the laws.
 #![tactic(auto)]
 
-ghost use Rattle.wy_spelled.specs.Laws.{CoveragesAreSpelled, EventsAreSpelled, HeadsAreShort, HeadsAreSpelled, RecordedEndsAreTold, RecordedEventsAreTold, RecordedHeadsAreReadBack, RecordedTracesAreReadBack, SlotsAreSpelled, TailsAreSpelled, TracesAreSpelled};
+ghost use Rattle.wy_spelled.specs.Laws.{CoveragesAreSpelled, EventsAreSpelled, HeadsAreShort, HeadsAreSpelled, PrefixesAreCut, RecordedEndsAreTold, RecordedEventsAreTold, RecordedHeadsAreReadBack, RecordedTracesAreReadBack, SlotsAreSpelled, TailsAreSpelled, TracesAreSpelled};
 
 /// A head that bytes are read to begin with is spelled there, with the magic before it and nothing between.
 pub fn heads_are_spelled()
@@ -32,6 +32,11 @@ pub fn events_are_spelled()
 /// Bytes that are read as a trace are its one spelling.
 pub fn traces_are_spelled()
     ensures { TracesAreSpelled }
+{}
+
+/// A trace that is cut anywhere is read as cut there: of n bytes fewer than all, nothing is wrong but that they end.
+pub fn prefixes_are_cut()
+    ensures { PrefixesAreCut }
 {}
 
 /// The source of a head that bytes are read to begin with is within its limit.
