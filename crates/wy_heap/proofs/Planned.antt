@@ -5,7 +5,6 @@ use Rattle.wy_kernel.specs.declared.types.Class.{Class}
 use Rattle.wy_kernel.specs.declared.types.Field.{Field}
 use Rattle.wy_kernel.specs.declared.program.Program.{Program}
 use Rattle.wy_kernel.specs.View.{class_of, field_of, present}
-use Rattle.wy_kernel.specs.View as kernel
 use Rattle.wy_kernel.specs.Parts.{program_of}
 use Rattle.wy_heap.specs.declared.plan.FieldPlan.{FieldPlan}
 use Rattle.wy_heap.specs.Plan.{plan_of, planned}
@@ -16,7 +15,7 @@ fields_planned [] = refl
 fields_planned (f ∷ fs) = ap (λ xs. planned (field_of f) ∷ xs) (fields_planned fs)
 
 above_planned : (cs : List Class) → map present (map (λ (c : Class). c.above) cs) ≡ map (λ c. c.above) (map class_of cs)
-unfolding present kernel.present
+unfolding present
 above_planned [] = refl
 above_planned (c ∷ cs) = ap (λ xs. present c.above ∷ xs) (above_planned cs)
 

@@ -1,10 +1,8 @@
-//! Tests of programs by their numbers and of the outside, and nothing else. Expected values are those of the system,
-//! not of this code.
+//! Tests of the outside, in memory and of the system, and nothing else. Expected values are those of the system, not of
+//! this code.
 #![tactic(auto)]
 
 #[cfg(test)]
 mod memory;
-#[cfg(test)]
-mod programs;
 #[cfg(test)]
 mod real;

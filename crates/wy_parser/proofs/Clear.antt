@@ -5,7 +5,7 @@ use Rattle.wy_tree.specs.Kinds.{kind_of, same}
 use Rattle.wy_tree.specs.Conditions.{is_open, ends_open, is_array_creation, lacks_else, fine}
 use Rattle.wy_tree.specs.Ast.{Ast, Asts, Leaf, none, more, node, tokens_all}
 use Rattle.wy_tree.specs.Grammar as grammar
-use Rattle.wy_tree.specs.Grammar.{a, name, form_of, rule, Alternative, Suffix, Match, done, token, part, predicted}
+use Rattle.wy_tree.specs.Grammar.{a, name, form_of, rule, Alternative, Suffix, Match, done, token, part, chosen}
 use Rattle.wy_tree.specs.declared.kind.Kind.{Kind}
 use Rattle.wy_tree.specs.declared.kind.Kind.TheVariants as kinds
 use Rattle.wy_tree.specs.declared.grammar.Sort.{Sort}
@@ -33,7 +33,7 @@ abbrev pub clear : {items : List Item} {ts : Asts} → Match items ts → List T
 clear done s = Unit {0}
 clear (token e w) s = clear w s
 clear (part {x} {t} {items} {ts} v w) s = (barred x t (front (tokens_all ts ++ s)) ≡ false) × clear w s
-clear (predicted {r} {way} {items} {ts} y w) s = (lets y (front (tokens_all ts ++ s)) ≡ true) × clear w s
+clear (chosen {r} {way} {items} {ts} y w) s = (lets y (front (tokens_all ts ++ s)) ≡ true) × clear w s
 
 -- sorts and rows without such trees among their parts
 abbrev plain_sort : Sort → Bool
@@ -97,7 +97,7 @@ pub clear_plain : (items : List Item) (ts : Asts) (w : Match items ts) → plain
 clear_plain _ _ done e s = tt
 clear_plain _ _ (token {items} {ts} f w) e s = clear_plain items ts w e s
 clear_plain _ _ (part {x} {t} {items} {ts} v w) e s = (barred_plain x t (front (tokens_all ts ++ s)) (and_left (plain_sort x) (plain items) e), clear_plain items ts w (and_right (plain_sort x) (plain items) e) s)
-clear_plain _ _ (predicted {r} {way} {items} {ts} y w) e s =
+clear_plain _ _ (chosen {r} {way} {items} {ts} y w) e s =
     let f = and_left (plain_row r) (plain items) e in
     (lets_plain y (front (tokens_all ts ++ s)) f, clear_plain (way ++ items) ts w (plain_append way items (plain_way y f) (and_right (plain_row r) (plain items) e)) s)
 
@@ -113,7 +113,7 @@ last_part : (x : Sort) (t : Ast) (all : List Item) (ts : Asts) (w : Match all ts
 last_part x t _ _ done q r s c = (ap (λ z. barred z t (front s)) q ∙ c, tt)
 last_part x t _ _ (token e w) q r s c = absurd (cc)
 last_part x t _ _ (part v w) q r s c = absurd (cc)
-last_part x t _ _ (predicted y w) q r s c = absurd (cc)
+last_part x t _ _ (chosen y w) q r s c = absurd (cc)
 
 -- parts of which a statement is the last
 clear_last : (items : List Item) (all : List Item) (ts : Asts) (w : Match all ts) → all ≡ items ++ (Part sorts.Stmt ∷ []) → plain items ≡ true → (s : List Tok) → closes ts s → clear w s
@@ -131,10 +131,10 @@ clear_last (Part y ∷ items) _ _ (part {x} {t} {items = all} {ts} v w) q e s c 
       clear_last items all ts w (let h : all ≡ items ++ (Part sorts.Stmt ∷ []) = cc in h) (and_right (plain_sort y) (plain items) e) s (closes_later t ts s c),
     )
 clear_last (Parts row ∷ items) _ _ (part v w) q e s c = absurd (cc)
-clear_last [] _ _ (predicted y w) q e s c = absurd (cc)
-clear_last (One d ∷ items) _ _ (predicted y w) q e s c = absurd (cc)
-clear_last (Part x ∷ items) _ _ (predicted y w) q e s c = absurd (cc)
-clear_last (Parts row ∷ items) _ _ (predicted {r} {way} {items = all} {ts} y w) q e s c =
+clear_last [] _ _ (chosen y w) q e s c = absurd (cc)
+clear_last (One d ∷ items) _ _ (chosen y w) q e s c = absurd (cc)
+clear_last (Part x ∷ items) _ _ (chosen y w) q e s c = absurd (cc)
+clear_last (Parts row ∷ items) _ _ (chosen {r} {way} {items = all} {ts} y w) q e s c =
     let h : row ≡ r = cc in
     let g : all ≡ items ++ (Part sorts.Stmt ∷ []) = cc in
     let f = subst (λ z. plain_row z ≡ true) h (and_left (plain_row row) (plain items) e) in (
@@ -168,8 +168,8 @@ bar_right true b true e = absurd (cc)
 bar_right false b c e = e
 
 clear_local : (ts : Asts) (w : Match (rule sorts.Local) ts) (s : List Tok) → meets sorts.Local (front s) ≡ true → clear w s
-clear_local ts (predicted grammar.a_declaration w) s m = (refl, clear_plain _ ts w refl s)
-clear_local _ (predicted grammar.a_statement (part {t} v done)) s m = (refl, (no_bar (is_open t) (same (front s) kinds.Else) (is_false (same (front s) kinds.Else) (local_without_else (front s) m)), tt))
+clear_local ts (chosen grammar.a_declaration w) s m = (refl, clear_plain _ ts w refl s)
+clear_local _ (chosen grammar.a_statement (part {t} v done)) s m = (refl, (no_bar (is_open t) (same (front s) kinds.Else) (is_false (same (front s) kinds.Else) (local_without_else (front s) m)), tt))
 
 clear_postfix : (ts : Asts) (w : Match (rule sorts.Postfix) ts) (s : List Tok) → meets sorts.Postfix (front s) ≡ true → clear w s
 clear_postfix _ (part {t} {ts} v w) s m =
@@ -177,12 +177,12 @@ clear_postfix _ (part {t} {ts} v w) s m =
     (no_bar (is_array_creation t) (same k kinds.OpenBracket) (is_false (same k kinds.OpenBracket) (behind_primary k (front_first (Parts rows.Steps ∷ []) ts w (within after_unary) s m))), clear_plain _ ts w refl s)
 
 clear_primary : (ts : Asts) (w : Match (rule sorts.Primary) ts) (s : List Tok) → barred sorts.Primary (node (form_of sorts.Primary) ts) (front s) ≡ false → clear w s
-clear_primary _ (predicted grammar.created (part v done)) s b = (refl, (b, tt))
-clear_primary ts (predicted grammar.literal w) s b = (refl, clear_plain _ ts w refl s)
-clear_primary ts (predicted grammar.this w) s b = (refl, clear_plain _ ts w refl s)
-clear_primary ts (predicted grammar.named w) s b = (refl, clear_plain _ ts w refl s)
-clear_primary ts (predicted grammar.grouped w) s b = (refl, clear_plain _ ts w refl s)
-clear_primary ts (predicted grammar.inherited w) s b = (refl, clear_plain _ ts w refl s)
+clear_primary _ (chosen grammar.created (part v done)) s b = (refl, (b, tt))
+clear_primary ts (chosen grammar.literal w) s b = (refl, clear_plain _ ts w refl s)
+clear_primary ts (chosen grammar.this w) s b = (refl, clear_plain _ ts w refl s)
+clear_primary ts (chosen grammar.named w) s b = (refl, clear_plain _ ts w refl s)
+clear_primary ts (chosen grammar.grouped w) s b = (refl, clear_plain _ ts w refl s)
+clear_primary ts (chosen grammar.inherited w) s b = (refl, clear_plain _ ts w refl s)
 
 -- without an else an if is open
 if_open : (b c : Bool) (d : Bool) → b ≡ true → (((b && true) || c) && d) ≡ false → d ≡ false
@@ -202,25 +202,25 @@ closed_last (more t none) s b = b
 closed_last (more t (more u ts)) s b = bar_right (lacks_else (more t (more u ts))) (ends_open (more t (more u ts))) (same (front s) kinds.Else) b
 
 clear_statement : (ts : Asts) (w : Match (rule sorts.Stmt) ts) (s : List Tok) → fine sorts.Stmt ts ≡ true → barred sorts.Stmt (node (form_of sorts.Stmt) ts) (front s) ≡ false → clear w s
-clear_statement _ (predicted grammar.an_if (token {o} e (token e' (part v (token e'' (part {t} v' (predicted grammar.no_else done))))))) s f b =
+clear_statement _ (chosen grammar.an_if (token {o} e (token e' (part v (token e'' (part {t} v' (chosen grammar.no_else done))))))) s f b =
     let d : same (front s) kinds.Else ≡ false = if_open (same (kind_of o) kinds.If) (is_open t) (same (front s) kinds.Else) e b in
     (refl, (refl, (no_bar (is_open t) (same (front s) kinds.Else) d, (ap not d, tt))))
-clear_statement _ (predicted grammar.an_if (token {o} e (token {o = p} e' (part {t = c} v (token {o = p'} e'' (part {t} v' (predicted grammar.an_else (token {o = o'} e4 (part {t = t'} v'' done))))))))) s f b =
+clear_statement _ (chosen grammar.an_if (token {o} e (token {o = p} e' (part {t = c} v (token {o = p'} e'' (part {t} v' (chosen grammar.an_else (token {o = o'} e4 (part {t = t'} v'' done))))))))) s f b =
     let g = fine_condition sorts.Stmt (more (Leaf o) (more (Leaf p) (more c (more (Leaf p') (more t (more (Leaf o') (more t' none))))))) f in
     (refl, (refl, (no_bar_left (is_open t) (same (kind_of o') kinds.Else) (else_closes (same (kind_of o) kinds.If) (is_open t) e g), (refl, (bar_right (same (kind_of o) kinds.If && false) (is_open t') (same (front s) kinds.Else) b, tt)))))
-clear_statement ts (predicted grammar.a_while w) s f b = (refl, clear_last (a kinds.While ∷ a kinds.OpenParen ∷ Part sorts.Expr ∷ a kinds.CloseParen ∷ []) _ ts w refl refl s (closed_last ts s b))
-clear_statement ts (predicted grammar.a_for w) s f b = (refl, clear_last (a kinds.For ∷ a kinds.OpenParen ∷ Parts (rows.Maybe sorts.ForInit) ∷ a kinds.Semicolon ∷ Parts (rows.Maybe sorts.Expr) ∷ a kinds.Semicolon ∷ Parts (rows.Series sorts.Effect) ∷ a kinds.CloseParen ∷ []) _ ts w refl refl s (closed_last ts s b))
-clear_statement ts (predicted grammar.labelled w) s f b = (refl, clear_last (name ∷ a kinds.Colon ∷ []) _ ts w refl refl s (closed_last ts s b))
-clear_statement _ (predicted grammar.a_do (token e (part {t} v (token {o} {ts} e' w)))) s f b =
+clear_statement ts (chosen grammar.a_while w) s f b = (refl, clear_last (a kinds.While ∷ a kinds.OpenParen ∷ Part sorts.Expr ∷ a kinds.CloseParen ∷ []) _ ts w refl refl s (closed_last ts s b))
+clear_statement ts (chosen grammar.a_for w) s f b = (refl, clear_last (a kinds.For ∷ a kinds.OpenParen ∷ Parts (rows.Maybe sorts.ForInit) ∷ a kinds.Semicolon ∷ Parts (rows.Maybe sorts.Expr) ∷ a kinds.Semicolon ∷ Parts (rows.Series sorts.Effect) ∷ a kinds.CloseParen ∷ []) _ ts w refl refl s (closed_last ts s b))
+clear_statement ts (chosen grammar.labelled w) s f b = (refl, clear_last (name ∷ a kinds.Colon ∷ []) _ ts w refl refl s (closed_last ts s b))
+clear_statement _ (chosen grammar.a_do (token e (part {t} v (token {o} {ts} e' w)))) s f b =
     (refl, (no_bar (is_open t) (same (kind_of o) kinds.Else) (is_false (same (kind_of o) kinds.Else) (while_is_no_else (kind_of o) e')), clear_plain _ ts w refl s))
-clear_statement ts (predicted grammar.a_block w) s f b = (refl, clear_plain _ ts w refl s)
-clear_statement ts (predicted grammar.empty w) s f b = (refl, clear_plain _ ts w refl s)
-clear_statement ts (predicted grammar.an_effect w) s f b = (refl, clear_plain _ ts w refl s)
-clear_statement ts (predicted grammar.a_break w) s f b = (refl, clear_plain _ ts w refl s)
-clear_statement ts (predicted grammar.a_continue w) s f b = (refl, clear_plain _ ts w refl s)
-clear_statement ts (predicted grammar.a_return w) s f b = (refl, clear_plain _ ts w refl s)
-clear_statement ts (predicted grammar.a_throw w) s f b = (refl, clear_plain _ ts w refl s)
-clear_statement ts (predicted grammar.a_try w) s f b = (refl, clear_plain _ ts w refl s)
+clear_statement ts (chosen grammar.a_block w) s f b = (refl, clear_plain _ ts w refl s)
+clear_statement ts (chosen grammar.empty w) s f b = (refl, clear_plain _ ts w refl s)
+clear_statement ts (chosen grammar.an_effect w) s f b = (refl, clear_plain _ ts w refl s)
+clear_statement ts (chosen grammar.a_break w) s f b = (refl, clear_plain _ ts w refl s)
+clear_statement ts (chosen grammar.a_continue w) s f b = (refl, clear_plain _ ts w refl s)
+clear_statement ts (chosen grammar.a_return w) s f b = (refl, clear_plain _ ts w refl s)
+clear_statement ts (chosen grammar.a_throw w) s f b = (refl, clear_plain _ ts w refl s)
+clear_statement ts (chosen grammar.a_try w) s f b = (refl, clear_plain _ ts w refl s)
 
 -- the parts of a tree
 pub clear_rule : (x : Sort) (ts : Asts) (w : Match (rule x) ts) (s : List Tok) → meets x (front s) ≡ true → fine x ts ≡ true → barred x (node (form_of x) ts) (front s) ≡ false → clear w s

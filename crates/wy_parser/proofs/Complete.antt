@@ -27,7 +27,7 @@ use Rattle.wy_parser.proofs.Decisions.{decides}
 use Rattle.wy_parser.proofs.Clear.{barred, clear, clear_rule, clear_suffix, clear_plain}
 use Rattle.wy_parser.proofs.Suffixes.{goes_on, suffix_meets, suffix_barred}
 use Rattle.wy_parser.proofs.Creations.{sized, listed, sized_bars, listed_bars}
-use Rattle.wy_parser.proofs.Following.{Told, ToldParts, made, grown, done, token, part, predicted}
+use Rattle.wy_parser.proofs.Following.{Told, ToldParts, made, grown, done, token, part, chosen}
 use Rattle.wy_parser.proofs.Whole.{whole_told}
 
 nonempty : (x : Sort) (t : Ast) → Is x t → begins x kinds.Nothing ≡ false → 1 ≤ length (tokens t)
@@ -60,20 +60,20 @@ mutual
       let u = tokens_all ts ++ s in
       let e = l.0 (front u) (front_first items ts w F s f) in
       part (told x t v u (ends_meets x (front u) e) c.0) (no_more x u e) (nonempty x t v l.1) (told_parts items ts w s F l.2 f c.1)
-  told_parts _ _ (grammar.predicted {r} {way} {items} {ts} y w) s F l f c =
-      predicted y (decides y items ts w s F f l.0 l.1 l.2 c.0 (first_of_way r way items ts w F s f l.0))
+  told_parts _ _ (grammar.chosen {r} {way} {items} {ts} y w) s F l f c =
+      chosen y (decides y items ts w s F f l.0 l.1 l.2 c.0 (first_of_way r way items ts w F s f l.0))
       (told_parts (way ++ items) ts w s F (lawful_append way items F (row_meets r) l.0 (way_lawful y items l.1) l.2) f c.1)
 
   -- an object's creation stands before anything, an array's not before a bracket
   told_new : (ts : Asts) → Match (a kinds.New ∷ Parts rows.NewForm ∷ []) ts → (s : List Tok) → barred sorts.New (node (form_of sorts.New) ts) (front s) ≡ false
       → ToldParts (a kinds.New ∷ Parts rows.NewForm ∷ []) ts s
-  told_new _ (grammar.token {o} e (grammar.predicted grammar.an_object (grammar.token {o = o'} e' (grammar.part {t} v grammar.done)))) s b =
-      token e (predicted grammar.an_object (tells_an_object [] (more (Leaf o') (more t none)) (grammar.token e' (grammar.part v grammar.done)) s)
+  told_new _ (grammar.token {o} e (grammar.chosen grammar.an_object (grammar.token {o = o'} e' (grammar.part {t} v grammar.done)))) s b =
+      token e (chosen grammar.an_object (tells_an_object [] (more (Leaf o') (more t none)) (grammar.token e' (grammar.part v grammar.done)) s)
       (token e' (part (told sorts.Args t v s refl refl) (no_more sorts.Args s refl) (nonempty sorts.Args t v refl) done)))
-  told_new _ (grammar.token {o} {ts} e (grammar.predicted grammar.sized w)) s b =
-      token e (predicted grammar.sized (tells_sized _ ts w s) (told_parts sized ts w s (row_meets rows.NewForm) (way_lawful grammar.sized [] refl) (sized_bars ts w o (front s) b) (clear_plain sized ts w refl s)))
-  told_new _ (grammar.token {o} {ts} e (grammar.predicted grammar.listed w)) s b =
-      token e (predicted grammar.listed (tells_listed _ ts w s) (told_parts listed ts w s (row_meets rows.NewForm) (way_lawful grammar.listed [] refl) (listed_bars ts w o (front s) b) (clear_plain listed ts w refl s)))
+  told_new _ (grammar.token {o} {ts} e (grammar.chosen grammar.sized w)) s b =
+      token e (chosen grammar.sized (tells_sized _ ts w s) (told_parts sized ts w s (row_meets rows.NewForm) (way_lawful grammar.sized [] refl) (sized_bars ts w o (front s) b) (clear_plain sized ts w refl s)))
+  told_new _ (grammar.token {o} {ts} e (grammar.chosen grammar.listed w)) s b =
+      token e (chosen grammar.listed (tells_listed _ ts w s) (told_parts listed ts w s (row_meets rows.NewForm) (way_lawful grammar.listed [] refl) (listed_bars ts w o (front s) b) (clear_plain listed ts w refl s)))
 
 pub complete : (t : Ast) → WellFormed t → whole (tokens t) ≡ Some t
 complete t w = whole_told t (told sorts.Unit t w.0 [] refl refl) w.1

@@ -5,7 +5,7 @@ use Rattle.wy_tree.specs.Kinds.{same}
 use Rattle.wy_tree.specs.Ast.{Ast, Asts, Leaf, more, node}
 use Rattle.wy_tree.specs.Conditions.{ends_in_args}
 use Rattle.wy_tree.specs.Grammar as grammar
-use Rattle.wy_tree.specs.Grammar.{a, form_of, Match, done, token, part, predicted}
+use Rattle.wy_tree.specs.Grammar.{a, form_of, Match, done, token, part, chosen}
 use Rattle.wy_tree.specs.declared.kind.Kind.{Kind}
 use Rattle.wy_tree.specs.declared.kind.Kind.TheVariants as kinds
 use Rattle.wy_tree.specs.declared.grammar.Class.{Class}
@@ -20,7 +20,7 @@ no_arguments : (all : List Item) (ts : Asts) → Match all ts → all ≡ [] →
 no_arguments _ _ done q o = refl
 no_arguments _ _ (token e w) q o = absurd (cc)
 no_arguments _ _ (part v w) q o = absurd (cc)
-no_arguments _ _ (predicted y w) q o = absurd (cc)
+no_arguments _ _ (chosen y w) q o = absurd (cc)
 
 ends_in_token : (items all : List Item) (ts : Asts) → Match all ts → (c : Class) → all ≡ items ++ (One c ∷ []) → (l : Ast) → ends_in_args (more l ts) ≡ false
 ends_in_token [] _ _ done c q l = absurd (cc)
@@ -29,19 +29,19 @@ ends_in_token [] _ _ (token {o} {items = all} {ts} e w) c q l = no_arguments all
 ends_in_token (item ∷ items) _ _ (token {o} {items = all} {ts} e w) c q l = ends_in_token items all ts w c (let h : all ≡ items ++ (One c ∷ []) = cc in h) (Leaf o)
 ends_in_token [] _ _ (part v w) c q l = absurd (cc)
 ends_in_token (item ∷ items) _ _ (part {t} {items = all} {ts} v w) c q l = ends_in_token items all ts w c (let h : all ≡ items ++ (One c ∷ []) = cc in h) t
-ends_in_token [] _ _ (predicted y w) c q l = absurd (cc)
-ends_in_token (item ∷ items) _ _ (predicted {way} {items = all} {ts} y w) c q l =
+ends_in_token [] _ _ (chosen y w) c q l = absurd (cc)
+ends_in_token (item ∷ items) _ _ (chosen {way} {items = all} {ts} y w) c q l =
     let h : all ≡ items ++ (One c ∷ []) = cc in
     ends_in_token (way ++ items) (way ++ all) ts w c (ap (λ z. way ++ z) h ∙ sym (append_assoc way items (One c ∷ []))) l
 
 ends_in_brackets : (ts : Asts) → Match (Parts rows.Brackets ∷ []) ts → (o : Tok) → ends_in_args (more (Leaf o) ts) ≡ false
-ends_in_brackets _ (predicted grammar.no_brackets done) o = refl
-ends_in_brackets _ (predicted grammar.brackets (token e (token {o = o'} {ts} f w))) o = ends_in_brackets ts w o'
+ends_in_brackets _ (chosen grammar.no_brackets done) o = refl
+ends_in_brackets _ (chosen grammar.brackets (token e (token {o = o'} {ts} f w))) o = ends_in_brackets ts w o'
 
 ends_in_dimensions : (ts : Asts) → Match (Parts rows.Dimensions ∷ []) ts → (o : Tok) → ends_in_args (more (Leaf o) ts) ≡ false
-ends_in_dimensions _ (predicted grammar.no_dimensions done) o = refl
-ends_in_dimensions _ (predicted grammar.dimension (token e (part v (token {o = o'} {ts} f w)))) o = ends_in_dimensions ts w o'
-ends_in_dimensions _ (predicted grammar.unsized (token e (token {o = o'} {ts} f w))) o = ends_in_brackets ts w o'
+ends_in_dimensions _ (chosen grammar.no_dimensions done) o = refl
+ends_in_dimensions _ (chosen grammar.dimension (token e (part v (token {o = o'} {ts} f w)))) o = ends_in_dimensions ts w o'
+ends_in_dimensions _ (chosen grammar.unsized (token e (token {o = o'} {ts} f w))) o = ends_in_brackets ts w o'
 
 -- the parts behind `new` with sizes, and with elements
 abbrev pub sized : List Item

@@ -5,7 +5,7 @@ use Rattle.wy_tree.specs.Kinds.{kind_of, same}
 use Rattle.wy_tree.specs.Conditions.{is_name, is_reference, is_signed, is_sign, condition, fine}
 use Rattle.wy_tree.specs.Ast.{Ast, Asts, Leaf, none, more, tokens, tokens_all}
 use Rattle.wy_tree.specs.Grammar as grammar
-use Rattle.wy_tree.specs.Grammar.{a, name, is_prefixing, Suffix, Is, made, grown, Match, done, token, part, predicted}
+use Rattle.wy_tree.specs.Grammar.{a, name, is_prefixing, Suffix, Is, made, grown, Match, done, token, part, chosen}
 use Rattle.wy_tree.specs.declared.kind.Kind.{Kind}
 use Rattle.wy_tree.specs.declared.kind.Kind.TheVariants as kinds
 use Rattle.wy_tree.specs.declared.grammar.Class.TheVariants.{Element, Prefixing}
@@ -49,9 +49,9 @@ pub fine_condition : (x : Sort) (ts : Asts) → fine x ts ≡ true → condition
 fine_condition x ts e = and_left (condition x ts) _ e
 
 reference_type : (t : Ast) → Is sorts.Type t → is_reference t ≡ true → (r : List Tok) → Reference (tokens t ++ r) r
-reference_type t (made (token {o} e (predicted grammar.no_brackets done)) f q) i r =
+reference_type t (made (token {o} e (chosen grammar.no_brackets done)) f q) i r =
     subst (λ z. Reference (tokens z ++ r) r) (sym q) (named (sym (ap is_reference q) ∙ i))
-reference_type t (made (token {o} e (predicted grammar.brackets (token {o = o'} e' (token {o = o''} e'' w)))) f q) i r =
+reference_type t (made (token {o} e (chosen grammar.brackets (token {o = o'} e' (token {o = o''} e'' w)))) f q) i r =
     subst (λ z. Reference (tokens z ++ r) r) (sym q) (bracketed e e' e'')
 reference_type t (grown v (grammar.operator f) w e q) i r = absurd (cc)
 
@@ -62,20 +62,20 @@ reference t (grown v (grammar.operator f) w e q) r = absurd (cc)
 
 -- what the operand of a cast to a reference type begins with
 unsigned_unary : (t : Ast) → Is sorts.Unary t → not (is_signed t) ≡ true → (s : List Tok) → begins_operand (front (tokens t ++ s)) ≡ true
-unsigned_unary t (made (predicted grammar.negated (token {o} e (predicted grammar.big (token g done)))) f q) i s =
+unsigned_unary t (made (chosen grammar.negated (token {o} e (chosen grammar.big (token g done)))) f q) i s =
     absurd (let h : not (is_sign (kind_of o)) ≡ true = sym (ap (λ z. not (is_signed z)) q) ∙ i in let j = minus_is_sign (kind_of o) e in let l = is_false (is_sign (kind_of o)) h in cc)
-unsigned_unary t (made (predicted grammar.negated (token {o} e (predicted grammar.small (part v done)))) f q) i s =
+unsigned_unary t (made (chosen grammar.negated (token {o} e (chosen grammar.small (part v done)))) f q) i s =
     absurd (let h : not (is_sign (kind_of o)) ≡ true = sym (ap (λ z. not (is_signed z)) q) ∙ i in let j = minus_is_sign (kind_of o) e in let l = is_false (is_sign (kind_of o)) h in cc)
-unsigned_unary t (made (predicted grammar.prefixed (token {o} e (part v done))) f q) i s =
+unsigned_unary t (made (chosen grammar.prefixed (token {o} e (part v done))) f q) i s =
     let h : not (is_sign (kind_of o)) ≡ true = sym (ap (λ z. not (is_signed z)) q) ∙ i in
     ap (λ z. begins_operand (front (tokens z ++ s))) q ∙ second_of (is_sign (kind_of o)) (begins_operand (kind_of o)) (is_false (is_sign (kind_of o)) h) (prefixing_or_sign (kind_of o) e)
   where
     second_of : (b c : Bool) → b ≡ false → (b || c) ≡ true → c ≡ true
     second_of true c e f = absurd (cc)
     second_of false c e f = f
-unsigned_unary t (made (predicted grammar.a_cast (part {t = t'} v done)) f q) i s =
+unsigned_unary t (made (chosen grammar.a_cast (part {t = t'} v done)) f q) i s =
     ap (λ z. begins_operand (front (tokens z ++ s))) q ∙ cast_operand (front (tokens t' ++ s)) (starts sorts.Cast t' v s)
-unsigned_unary t (made (predicted grammar.a_postfix (part {t = t'} v done)) f q) i s =
+unsigned_unary t (made (chosen grammar.a_postfix (part {t = t'} v done)) f q) i s =
     ap (λ z. begins_operand (front (tokens z ++ s))) q ∙ postfix_operand (front (tokens t' ++ s)) (starts sorts.Postfix t' v s)
 unsigned_unary t (grown v (grammar.operator f) w e q) i s = absurd (cc)
 
@@ -121,9 +121,9 @@ unfolding casts casts_in
 opened o u b e f = ap (λ z. z && (same (front u) kinds.Prim || (is_name (front u) && casts_to_name (rest u)))) e ∙ f
 
 cast_casts : (t : Ast) → Is sorts.Cast t → (s : List Tok) → casts (tokens t ++ s) ≡ true
-cast_casts t (made (token {o} e (predicted grammar.to_primitive (token {o = o'} {ts} e' w))) f q) s =
+cast_casts t (made (token {o} e (chosen grammar.to_primitive (token {o = o'} {ts} e' w))) f q) s =
     ap casts (retell sorts.Cast t (more (Leaf o) (more (Leaf o') ts)) s q) ∙ opened o (o' ∷ (tokens_all ts ++ s)) true e (primitive_casts o' (tokens_all ts ++ s) e')
-cast_casts t (made (token {o} e (predicted grammar.to_reference (part {t = t'} v (token {o = o'} e' (part {t = t''} v' done))))) f q) s =
+cast_casts t (made (token {o} e (chosen grammar.to_reference (part {t = t'} v (token {o = o'} e' (part {t = t''} v' done))))) f q) s =
     let r = o' ∷ (tokens_all (more t'' none) ++ s) in
     ap casts (retell sorts.Cast t (more (Leaf o) (more t' (more (Leaf o') (more t'' none)))) s q) ∙ ap (λ z. casts (o ∷ z)) (append_assoc (tokens t') (o' ∷ tokens_all (more t'' none)) s)
     ∙ opened o (tokens t' ++ r) true e
@@ -238,14 +238,14 @@ unopened u e = is_false (same (front u) kinds.OpenParen && (same (second u) kind
     by false c e = refl
 
 primary_parts : (ts : Asts) → Match (Parts rows.PrimaryForm ∷ []) ts → (s : List Tok) → begins_operand (front s) ≡ false → casts (tokens_all ts ++ s) ≡ false
-primary_parts _ (predicted grammar.literal (token {o} {ts} e w)) s f = unopened (o ∷ (tokens_all ts ++ s)) (literal_opens_nothing (kind_of o) e)
-primary_parts _ (predicted grammar.this (token {o} {ts} e w)) s f = unopened (o ∷ (tokens_all ts ++ s)) (this_opens_nothing (kind_of o) e)
-primary_parts _ (predicted grammar.named (token {o} {ts} e w)) s f = unopened (o ∷ (tokens_all ts ++ s)) (name_opens_nothing (kind_of o) e)
-primary_parts _ (predicted grammar.grouped (token {o} e (part {t} v (token {o = o'} e' done)))) s f =
+primary_parts _ (chosen grammar.literal (token {o} {ts} e w)) s f = unopened (o ∷ (tokens_all ts ++ s)) (literal_opens_nothing (kind_of o) e)
+primary_parts _ (chosen grammar.this (token {o} {ts} e w)) s f = unopened (o ∷ (tokens_all ts ++ s)) (this_opens_nothing (kind_of o) e)
+primary_parts _ (chosen grammar.named (token {o} {ts} e w)) s f = unopened (o ∷ (tokens_all ts ++ s)) (name_opens_nothing (kind_of o) e)
+primary_parts _ (chosen grammar.grouped (token {o} e (part {t} v (token {o = o'} e' done)))) s f =
     opened o ((tokens t ++ (o' ∷ [])) ++ s) false e (ap casts_in (append_assoc (tokens t) (o' ∷ []) s) ∙ group_casts t v o' s e' f)
-primary_parts _ (predicted grammar.created (part {t} {ts} v w)) s f =
+primary_parts _ (chosen grammar.created (part {t} {ts} v w)) s f =
     let u = tokens_all (more t ts) ++ s in unopened u (new_opens_nothing (front u) (part_front sorts.New t ts v s))
-primary_parts _ (predicted grammar.inherited (token {o} {ts} e w)) s f = unopened (o ∷ (tokens_all ts ++ s)) (super_opens_nothing (kind_of o) e)
+primary_parts _ (chosen grammar.inherited (token {o} {ts} e w)) s f = unopened (o ∷ (tokens_all ts ++ s)) (super_opens_nothing (kind_of o) e)
 
 -- what goes on with a primary expression is no operand
 suffix_operand : (items : List Item) → Suffix sorts.Primary items → (ts : Asts) → Match items ts → (s : List Tok) → begins_operand (front (tokens_all ts ++ s)) ≡ false

@@ -4,7 +4,7 @@ use Rattle.wy_tree.specs.Seen.{Tok}
 use Rattle.wy_tree.specs.Kinds.{same}
 use Rattle.wy_tree.specs.Ast.{Ast, Asts, none, more, node, tokens, tokens_all}
 use Rattle.wy_tree.specs.Grammar as grammar
-use Rattle.wy_tree.specs.Grammar.{a, name, allows, form_of, rule, Alternative, Is, made, grown, Match, done, token, part, predicted}
+use Rattle.wy_tree.specs.Grammar.{a, name, allows, form_of, rule, Alternative, Is, made, grown, Match, done, token, part, chosen}
 use Rattle.wy_tree.specs.declared.tree.Form.{Form}
 use Rattle.wy_tree.specs.declared.kind.Kind.{Kind}
 use Rattle.wy_tree.specs.declared.kind.Kind.TheVariants as kinds
@@ -547,6 +547,6 @@ mutual
   front_first _ _ done F s f = f
   front_first _ _ (token {c} {o} {items} {ts} e w) F s f = e
   front_first _ _ (part {x} {t} {items} {ts} v w) F s f = ap (λ z. begins x (front z)) (append_assoc (tokens t) (tokens_all ts) s) ∙ starts x t v (tokens_all ts ++ s)
-  front_first _ _ (predicted {r} {way} {items} {ts} y w) F s f =
+  front_first _ _ (chosen {r} {way} {items} {ts} y w) F s f =
       let k = front (tokens_all ts ++ s) in
       way_first y (first_in items F) k (sym (first_append way items F k) ∙ front_first (way ++ items) ts w F s f)

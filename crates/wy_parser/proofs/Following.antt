@@ -29,7 +29,7 @@ mutual
     token : {c : Class} {o : Tok} {items : List Item} {ts : Asts} {s : List Tok} → allows c (kind_of o) ≡ true → ToldParts items ts s → ToldParts (One c ∷ items) (more (Leaf o) ts) s
     part : {x : Sort} {t : Ast} {items : List Item} {ts : Asts} {s : List Tok} → Told x t (tokens_all ts ++ s) → continued x (tokens_all ts ++ s) ≡ None → 1 ≤ length (tokens t)
         → ToldParts items ts s → ToldParts (Part x ∷ items) (more t ts) s
-    predicted : {row : Row} {way items : List Item} {ts : Asts} {s : List Tok} → Alternative row way → predict row (tokens_all ts ++ s) ≡ way → ToldParts (way ++ items) ts s
+    chosen : {row : Row} {way items : List Item} {ts : Asts} {s : List Tok} → Alternative row way → predict row (tokens_all ts ++ s) ≡ way → ToldParts (way ++ items) ts s
         → ToldParts (Parts row ∷ items) ts s
 
 -- what a reader of trees of depth at most d, of sorts below a height, has to do
@@ -54,7 +54,7 @@ takers_light : (items : List Item) (ts : Asts) (s : List Tok) → ToldParts item
 takers_light _ _ s done = omega arith
 takers_light _ _ s (token {c} {o} {items} {ts} e w) = omega (arith, takers_light items ts s w)
 takers_light _ _ s (part {x} {t} {items} {ts} v q pos w) = omega (arith, takers_light items ts s w, pos, length-append (tokens t) (tokens_all ts))
-takers_light _ _ s (predicted {row} {way} {items} {ts} a e w) = omega (arith, takers_light (way ++ items) ts s w, takers_append way items)
+takers_light _ _ s (chosen {row} {way} {items} {ts} a e w) = omega (arith, takers_light (way ++ items) ts s w, takers_append way items)
 
 -- the parts behind the first
 parts_later : (next : Reader) (d : ℕ) → Follows next d 24 → (items : List Item) (ts : Asts) (s : List Tok) → ToldParts items ts s → deepest ts ≤ d
@@ -72,8 +72,8 @@ parts_later next d g _ _ s (part {x} {t} {items} {ts} v q pos w) short (suc k) l
     ap (λ z. read_then (next x z) go) (append_assoc (tokens t) (tokens_all ts) s)
     ∙ ap (λ z. read_then z go) (g x t (tokens_all ts ++ s) v q (omega (arith, short)) (height_small x))
     ∙ ap (before t) (parts_later next d g items ts s w (omega (arith, short)) k (omega (arith, le, pos, length-append (tokens t) (tokens_all ts))))
-parts_later next d g _ _ s (predicted {row} {way} {items} {ts} a e w) short zero le = absurd (omega (arith, le, takers_light (way ++ items) ts s w, way_light a, weight_append way items, takers_append way items))
-parts_later next d g _ _ s (predicted {row} {way} {items} {ts} a e w) short (suc k) le =
+parts_later next d g _ _ s (chosen {row} {way} {items} {ts} a e w) short zero le = absurd (omega (arith, le, takers_light (way ++ items) ts s w, way_light a, weight_append way items, takers_append way items))
+parts_later next d g _ _ s (chosen {row} {way} {items} {ts} a e w) short (suc k) le =
     ap (λ z. parts next next k (z ++ items) (tokens_all ts ++ s)) e
     ∙ parts_later next d g (way ++ items) ts s w short k (omega (arith, le, way_light a, weight_append way items, takers_append way items))
 
@@ -93,8 +93,8 @@ parts_first first next d h f g _ _ s (part {x} {t} {items} {ts} v q pos w) high 
     ap (λ z. read_then (first x z) go) (append_assoc (tokens t) (tokens_all ts) s)
     ∙ ap (λ z. read_then z go) (f x t (tokens_all ts ++ s) v q fit.0 (omega (arith, high)))
     ∙ ap (before t) (parts_later next d g items ts s w fit.1 k (omega (arith, le, pos, length-append (tokens t) (tokens_all ts))))
-parts_first first next d h f g _ _ s (predicted {row} {way} {items} {ts} a e w) high fit zero le = absurd (omega (arith, le, takers_light (way ++ items) ts s w, way_light a, weight_append way items, takers_append way items))
-parts_first first next d h f g _ _ s (predicted {row} {way} {items} {ts} a e w) high fit (suc k) le =
+parts_first first next d h f g _ _ s (chosen {row} {way} {items} {ts} a e w) high fit zero le = absurd (omega (arith, le, takers_light (way ++ items) ts s w, way_light a, weight_append way items, takers_append way items))
+parts_first first next d h f g _ _ s (chosen {row} {way} {items} {ts} a e w) high fit (suc k) le =
     ap (λ z. parts first next k (z ++ items) (tokens_all ts ++ s)) e
     ∙ parts_first first next d h f g (way ++ items) ts s w (omega (arith, high, way_lead a, lead_append way items)) fit k (omega (arith, le, way_light a, weight_append way items, takers_append way items))
 

@@ -5,7 +5,7 @@ use Rattle.wy_tree.specs.Kinds.{kind_of, same}
 use Rattle.wy_tree.specs.Conditions.{is_name}
 use Rattle.wy_tree.specs.Ast.{Ast, Asts, Leaf, more, node, tokens, tokens_all}
 use Rattle.wy_tree.specs.Grammar as grammar
-use Rattle.wy_tree.specs.Grammar.{a, operates, is_own, allows, form_of, rule, Suffix, Is, made, grown, Match, done, token, part, predicted}
+use Rattle.wy_tree.specs.Grammar.{a, operates, is_own, allows, form_of, rule, Suffix, Is, made, grown, Match, done, token, part, chosen}
 use Rattle.wy_tree.specs.declared.kind.Kind.{Kind}
 use Rattle.wy_tree.specs.declared.kind.Kind.TheVariants as kinds
 use Rattle.wy_tree.specs.declared.grammar.Class.TheVariants.{Prefixing, Setting}
@@ -174,21 +174,21 @@ module _ (A : Kind → Bool) (P : List Tok → Type 0) (words : (k : Kind) → A
   behind_nothing _ done s p = p
 
   behind_cond : (ts : Asts) → Match (Parts rows.Assigned ∷ []) ts → (s : List Tok) → P s → P (tokens_all ts ++ s)
-  behind_cond _ (predicted grammar.not_assigned done) s p = p
-  behind_cond _ (predicted grammar.assigned (token {o} {ts} e w)) s p = joined (o ∷ (tokens_all ts ++ s)) (setting_joins (kind_of o) e)
+  behind_cond _ (chosen grammar.not_assigned done) s p = p
+  behind_cond _ (chosen grammar.assigned (token {o} {ts} e w)) s p = joined (o ∷ (tokens_all ts ++ s)) (setting_joins (kind_of o) e)
 
   behind_or_else : (ts : Asts) → Match (Parts rows.Choice ∷ []) ts → (s : List Tok) → P s → P (tokens_all ts ++ s)
-  behind_or_else _ (predicted grammar.no_choice done) s p = p
-  behind_or_else _ (predicted grammar.choice (token {o} {ts} e w)) s p = joined (o ∷ (tokens_all ts ++ s)) (question_joins (kind_of o) e)
+  behind_or_else _ (chosen grammar.no_choice done) s p = p
+  behind_or_else _ (chosen grammar.choice (token {o} {ts} e w)) s p = joined (o ∷ (tokens_all ts ++ s)) (question_joins (kind_of o) e)
 
   behind_primary : (ts : Asts) → Match (Parts rows.Steps ∷ []) ts → (s : List Tok) → P s → P (tokens_all ts ++ s)
-  behind_primary _ (predicted grammar.no_steps done) s p = p
-  behind_primary _ (predicted grammar.steps (token {o} {ts} e w)) s p = joined (o ∷ (tokens_all ts ++ s)) (step_joins (kind_of o) e)
+  behind_primary _ (chosen grammar.no_steps done) s p = p
+  behind_primary _ (chosen grammar.steps (token {o} {ts} e w)) s p = joined (o ∷ (tokens_all ts ++ s)) (step_joins (kind_of o) e)
 
   -- arguments, behind a name
   behind_name : (k : Kind) → A k ≡ true → is_name k ≡ true → (ts : Asts) → Match (Parts (rows.Maybe sorts.Args) ∷ []) ts → (s : List Tok) → P s → P (tokens_all ts ++ s)
-  behind_name k b n _ (predicted grammar.absent done) s p = p
-  behind_name k b n _ (predicted grammar.present (part {t} {ts} v w)) s p =
+  behind_name k b n _ (chosen grammar.absent done) s p = p
+  behind_name k b n _ (chosen grammar.present (part {t} {ts} v w)) s p =
       let r = tokens_all (more t ts) ++ s in
       called k b n r (arguments_open (front r) (ap (λ z. begins sorts.Args (front z)) (append_assoc (tokens t) (tokens_all ts) s) ∙ starts sorts.Args t v (tokens_all ts ++ s)))
 
@@ -246,41 +246,41 @@ module _ (A : Kind → Bool) (P : List Tok → Type 0) (words : (k : Kind) → A
     leads_cond _ (part {t} {ts} v w) s b p = in_part t ts s (λ c. leads sorts.OrElse t v refl (tokens_all ts ++ s) c (behind_or_else ts w s p)) b
 
     leads_unary : (ts : Asts) → Match (Parts rows.UnaryForm ∷ []) ts → (s : List Tok) → A (front (tokens_all ts ++ s)) ≡ true → P s → P (rest (tokens_all ts ++ s))
-    leads_unary _ (predicted grammar.negated (token {o} e w)) s b p = absurd (minus_is_no_word (kind_of o) e (words (kind_of o) b))
-    leads_unary _ (predicted grammar.prefixed (token {o} e w)) s b p = absurd (prefixing_is_no_word (kind_of o) e (words (kind_of o) b))
-    leads_unary _ (predicted grammar.a_cast (part {t} {ts} v w)) s b p = no_part sorts.Cast t ts s (P (rest (tokens_all (more t ts) ++ s))) cast_is_no_word v b
-    leads_unary _ (predicted grammar.a_postfix (part {t} {ts} v w)) s b p = in_part t ts s (λ c. leads sorts.Postfix t v refl (tokens_all ts ++ s) c (behind_nothing ts w s p)) b
+    leads_unary _ (chosen grammar.negated (token {o} e w)) s b p = absurd (minus_is_no_word (kind_of o) e (words (kind_of o) b))
+    leads_unary _ (chosen grammar.prefixed (token {o} e w)) s b p = absurd (prefixing_is_no_word (kind_of o) e (words (kind_of o) b))
+    leads_unary _ (chosen grammar.a_cast (part {t} {ts} v w)) s b p = no_part sorts.Cast t ts s (P (rest (tokens_all (more t ts) ++ s))) cast_is_no_word v b
+    leads_unary _ (chosen grammar.a_postfix (part {t} {ts} v w)) s b p = in_part t ts s (λ c. leads sorts.Postfix t v refl (tokens_all ts ++ s) c (behind_nothing ts w s p)) b
 
     leads_postfix : (ts : Asts) → Match (Part sorts.Primary ∷ Parts rows.Steps ∷ []) ts → (s : List Tok) → A (front (tokens_all ts ++ s)) ≡ true → P s → P (rest (tokens_all ts ++ s))
     leads_postfix _ (part {t} {ts} v w) s b p = in_part t ts s (λ c. leads sorts.Primary t v refl (tokens_all ts ++ s) c (behind_primary ts w s p)) b
 
     leads_primary : (ts : Asts) → Match (Parts rows.PrimaryForm ∷ []) ts → (s : List Tok) → A (front (tokens_all ts ++ s)) ≡ true → P s → P (rest (tokens_all ts ++ s))
-    leads_primary _ (predicted grammar.literal (token {o} e w)) s b p = absurd (literal_is_no_word (kind_of o) e (words (kind_of o) b))
-    leads_primary _ (predicted grammar.this (token {ts} e w)) s b p = behind_nothing ts w s p
-    leads_primary _ (predicted grammar.named (token {o} {ts} e w)) s b p = behind_name (kind_of o) b e ts w s p
-    leads_primary _ (predicted grammar.grouped (token {o} e w)) s b p = absurd (paren_is_no_word (kind_of o) e (words (kind_of o) b))
-    leads_primary _ (predicted grammar.created (part {t} {ts} v w)) s b p = no_part sorts.New t ts s (P (rest (tokens_all (more t ts) ++ s))) new_is_no_word v b
-    leads_primary _ (predicted grammar.inherited (token e (token {o} {ts} f w))) s b p = joined (o ∷ (tokens_all ts ++ s)) (dot_joins (kind_of o) f)
+    leads_primary _ (chosen grammar.literal (token {o} e w)) s b p = absurd (literal_is_no_word (kind_of o) e (words (kind_of o) b))
+    leads_primary _ (chosen grammar.this (token {ts} e w)) s b p = behind_nothing ts w s p
+    leads_primary _ (chosen grammar.named (token {o} {ts} e w)) s b p = behind_name (kind_of o) b e ts w s p
+    leads_primary _ (chosen grammar.grouped (token {o} e w)) s b p = absurd (paren_is_no_word (kind_of o) e (words (kind_of o) b))
+    leads_primary _ (chosen grammar.created (part {t} {ts} v w)) s b p = no_part sorts.New t ts s (P (rest (tokens_all (more t ts) ++ s))) new_is_no_word v b
+    leads_primary _ (chosen grammar.inherited (token e (token {o} {ts} f w))) s b p = joined (o ∷ (tokens_all ts ++ s)) (dot_joins (kind_of o) f)
 
   no_way : (way : List Item) (ts : Asts) (s : List Tok) (Q : Type 0) → ((k : Kind) → first_in way (λ _. true) k ≡ true → is_word k ≡ true → ⊥) → Match way ts → A (front (tokens_all ts ++ s)) ≡ true → Q
   no_way way ts s Q f w b = let k = front (tokens_all ts ++ s) in absurd (f k (front_first way ts w (λ _. true) s refl) (words k b))
 
   statement_parts : ((r : List Tok) → same (front r) kinds.Semicolon ≡ true → P r) → ((r : List Tok) → same (front r) kinds.Colon ≡ true → P r) → (ts : Asts) → Match (rule sorts.Stmt) ts → (s : List Tok)
       → A (front (tokens_all ts ++ s)) ≡ true → P (rest (tokens_all ts ++ s))
-  statement_parts ended labelled ts (predicted grammar.a_block w) s b = no_way (Part sorts.Block ∷ []) ts s (P (rest (tokens_all ts ++ s))) a_block_is_no_word w b
-  statement_parts ended labelled ts (predicted grammar.empty w) s b = no_way (a kinds.Semicolon ∷ []) ts s (P (rest (tokens_all ts ++ s))) empty_is_no_word w b
-  statement_parts ended labelled _ (predicted grammar.an_effect (part {t} v (token {o} {ts} e w))) s b =
+  statement_parts ended labelled ts (chosen grammar.a_block w) s b = no_way (Part sorts.Block ∷ []) ts s (P (rest (tokens_all ts ++ s))) a_block_is_no_word w b
+  statement_parts ended labelled ts (chosen grammar.empty w) s b = no_way (a kinds.Semicolon ∷ []) ts s (P (rest (tokens_all ts ++ s))) empty_is_no_word w b
+  statement_parts ended labelled _ (chosen grammar.an_effect (part {t} v (token {o} {ts} e w))) s b =
       in_part t (more (Leaf o) ts) s (λ c. leads sorts.Effect t v refl (o ∷ (tokens_all ts ++ s)) c (ended (o ∷ (tokens_all ts ++ s)) e)) b
-  statement_parts ended labelled ts (predicted grammar.an_if w) s b = no_way (a kinds.If ∷ a kinds.OpenParen ∷ Part sorts.Expr ∷ a kinds.CloseParen ∷ Part sorts.Stmt ∷ Parts rows.Otherwise ∷ []) ts s (P (rest (tokens_all ts ++ s))) an_if_is_no_word w b
-  statement_parts ended labelled ts (predicted grammar.a_while w) s b = no_way (a kinds.While ∷ a kinds.OpenParen ∷ Part sorts.Expr ∷ a kinds.CloseParen ∷ Part sorts.Stmt ∷ []) ts s (P (rest (tokens_all ts ++ s))) a_while_is_no_word w b
-  statement_parts ended labelled ts (predicted grammar.a_do w) s b = no_way (a kinds.Do ∷ Part sorts.Stmt ∷ a kinds.While ∷ a kinds.OpenParen ∷ Part sorts.Expr ∷ a kinds.CloseParen ∷ a kinds.Semicolon ∷ []) ts s (P (rest (tokens_all ts ++ s))) a_do_is_no_word w b
-  statement_parts ended labelled ts (predicted grammar.a_for w) s b = no_way (a kinds.For ∷ a kinds.OpenParen ∷ Parts (rows.Maybe sorts.ForInit) ∷ a kinds.Semicolon ∷ Parts (rows.Maybe sorts.Expr) ∷ a kinds.Semicolon ∷ Parts (rows.Series sorts.Effect) ∷ a kinds.CloseParen ∷ Part sorts.Stmt ∷ []) ts s (P (rest (tokens_all ts ++ s))) a_for_is_no_word w b
-  statement_parts ended labelled _ (predicted grammar.labelled (token e (token {o} {ts} f w))) s b = labelled (o ∷ (tokens_all ts ++ s)) f
-  statement_parts ended labelled ts (predicted grammar.a_break w) s b = no_way (a kinds.Break ∷ Parts rows.Label ∷ a kinds.Semicolon ∷ []) ts s (P (rest (tokens_all ts ++ s))) a_break_is_no_word w b
-  statement_parts ended labelled ts (predicted grammar.a_continue w) s b = no_way (a kinds.Continue ∷ Parts rows.Label ∷ a kinds.Semicolon ∷ []) ts s (P (rest (tokens_all ts ++ s))) a_continue_is_no_word w b
-  statement_parts ended labelled ts (predicted grammar.a_return w) s b = no_way (a kinds.Return ∷ Parts (rows.Maybe sorts.Expr) ∷ a kinds.Semicolon ∷ []) ts s (P (rest (tokens_all ts ++ s))) a_return_is_no_word w b
-  statement_parts ended labelled ts (predicted grammar.a_throw w) s b = no_way (a kinds.Throw ∷ Part sorts.Expr ∷ a kinds.Semicolon ∷ []) ts s (P (rest (tokens_all ts ++ s))) a_throw_is_no_word w b
-  statement_parts ended labelled ts (predicted grammar.a_try w) s b = no_way (a kinds.Try ∷ Part sorts.Block ∷ Parts rows.Handlers ∷ []) ts s (P (rest (tokens_all ts ++ s))) a_try_is_no_word w b
+  statement_parts ended labelled ts (chosen grammar.an_if w) s b = no_way (a kinds.If ∷ a kinds.OpenParen ∷ Part sorts.Expr ∷ a kinds.CloseParen ∷ Part sorts.Stmt ∷ Parts rows.Otherwise ∷ []) ts s (P (rest (tokens_all ts ++ s))) an_if_is_no_word w b
+  statement_parts ended labelled ts (chosen grammar.a_while w) s b = no_way (a kinds.While ∷ a kinds.OpenParen ∷ Part sorts.Expr ∷ a kinds.CloseParen ∷ Part sorts.Stmt ∷ []) ts s (P (rest (tokens_all ts ++ s))) a_while_is_no_word w b
+  statement_parts ended labelled ts (chosen grammar.a_do w) s b = no_way (a kinds.Do ∷ Part sorts.Stmt ∷ a kinds.While ∷ a kinds.OpenParen ∷ Part sorts.Expr ∷ a kinds.CloseParen ∷ a kinds.Semicolon ∷ []) ts s (P (rest (tokens_all ts ++ s))) a_do_is_no_word w b
+  statement_parts ended labelled ts (chosen grammar.a_for w) s b = no_way (a kinds.For ∷ a kinds.OpenParen ∷ Parts (rows.Maybe sorts.ForInit) ∷ a kinds.Semicolon ∷ Parts (rows.Maybe sorts.Expr) ∷ a kinds.Semicolon ∷ Parts (rows.Series sorts.Effect) ∷ a kinds.CloseParen ∷ Part sorts.Stmt ∷ []) ts s (P (rest (tokens_all ts ++ s))) a_for_is_no_word w b
+  statement_parts ended labelled _ (chosen grammar.labelled (token e (token {o} {ts} f w))) s b = labelled (o ∷ (tokens_all ts ++ s)) f
+  statement_parts ended labelled ts (chosen grammar.a_break w) s b = no_way (a kinds.Break ∷ Parts rows.Label ∷ a kinds.Semicolon ∷ []) ts s (P (rest (tokens_all ts ++ s))) a_break_is_no_word w b
+  statement_parts ended labelled ts (chosen grammar.a_continue w) s b = no_way (a kinds.Continue ∷ Parts rows.Label ∷ a kinds.Semicolon ∷ []) ts s (P (rest (tokens_all ts ++ s))) a_continue_is_no_word w b
+  statement_parts ended labelled ts (chosen grammar.a_return w) s b = no_way (a kinds.Return ∷ Parts (rows.Maybe sorts.Expr) ∷ a kinds.Semicolon ∷ []) ts s (P (rest (tokens_all ts ++ s))) a_return_is_no_word w b
+  statement_parts ended labelled ts (chosen grammar.a_throw w) s b = no_way (a kinds.Throw ∷ Part sorts.Expr ∷ a kinds.Semicolon ∷ []) ts s (P (rest (tokens_all ts ++ s))) a_throw_is_no_word w b
+  statement_parts ended labelled ts (chosen grammar.a_try w) s b = no_way (a kinds.Try ∷ Part sorts.Block ∷ Parts rows.Handlers ∷ []) ts s (P (rest (tokens_all ts ++ s))) a_try_is_no_word w b
 
   -- also of a statement, with what ends an effect or a label
   pub statement_leads : ((r : List Tok) → same (front r) kinds.Semicolon ≡ true → P r) → ((r : List Tok) → same (front r) kinds.Colon ≡ true → P r) → (t : Ast) → Is sorts.Stmt t → (s : List Tok)

@@ -5,7 +5,7 @@ use Rattle.wy_tree.specs.Kinds.{kind_of, same}
 use Rattle.wy_tree.specs.Conditions.{is_name}
 use Rattle.wy_tree.specs.Ast.{Ast, Asts, Leaf, more, node, tokens, tokens_all}
 use Rattle.wy_tree.specs.Grammar as grammar
-use Rattle.wy_tree.specs.Grammar.{a, name, is_modifying, form_of, Is, made, grown, Match, done, token, part, predicted}
+use Rattle.wy_tree.specs.Grammar.{a, name, is_modifying, form_of, Is, made, grown, Match, done, token, part, chosen}
 use Rattle.wy_tree.specs.declared.kind.Kind.{Kind}
 use Rattle.wy_tree.specs.declared.kind.Kind.TheVariants as kinds
 use Rattle.wy_tree.specs.declared.grammar.Sort.{Sort}
@@ -58,9 +58,9 @@ unfolding every
 class_is_no_interface k e = implied (λ k. same k kinds.Class) (λ k. not (same k kinds.Interface)) refl k e
 
 mod_past : (t : Ast) → Is sorts.Mod t → (r : List Tok) → past modifies (tokens t ++ r) ≡ past modifies r
-mod_past t (made (predicted grammar.modifier (token {o} e done)) f q) r =
+mod_past t (made (chosen grammar.modifier (token {o} e done)) f q) r =
     ap (λ z. past modifies (tokens z ++ r)) q ∙ past_more modifies o r (modifying_modifies (kind_of o) e)
-mod_past t (made (predicted grammar.annotation (token {o} e (token {o = o'} e' done))) f q) r =
+mod_past t (made (chosen grammar.annotation (token {o} e (token {o = o'} e' done))) f q) r =
     ap (λ z. past modifies (tokens z ++ r)) q ∙ past_more modifies o (o' ∷ r) (at_modifies (kind_of o) e) ∙ past_more modifies o' r (override_modifies (kind_of o') e')
 mod_past t (grown v (grammar.operator f) w e q) r = absurd (cc)
 
@@ -71,8 +71,8 @@ record Behind (items : List Item) (ts : Asts) (s : List Tok) : Type 0 where
   same_past : past modifies (tokens_all ts ++ s) ≡ past modifies (tokens_all parts ++ s)
 
 behind_mods : (items : List Item) (ts : Asts) → Match (Parts (rows.Any sorts.Mod) ∷ items) ts → (s : List Tok) → Behind items ts s
-behind_mods items ts (predicted grammar.none_of w) s = record { parts = ts; are = w; same_past = refl }
-behind_mods items _ (predicted grammar.some_of (part {t} {ts} v w)) s =
+behind_mods items ts (chosen grammar.none_of w) s = record { parts = ts; are = w; same_past = refl }
+behind_mods items _ (chosen grammar.some_of (part {t} {ts} v w)) s =
     let i = behind_mods items ts w s in
     record {
       parts = i.parts;
@@ -153,18 +153,18 @@ tells_static_initializer items _ (token {o} e (part {t} {ts} v w)) s =
 -- behind the modifier static stands no block
 static_alone : (items : List Item) (ts : Asts) → Match (Parts (rows.Any sorts.Mod) ∷ Parts rows.MemberTail ∷ items) ts → (s : List Tok) → same (front (tokens_all ts ++ s)) kinds.Static ≡ true
     → same (second (tokens_all ts ++ s)) kinds.OpenBrace ≡ false
-static_alone items ts (predicted grammar.none_of w) s e =
+static_alone items ts (chosen grammar.none_of w) s e =
     let k = front (tokens_all ts ++ s) in
     let f = tail_is_not_static k (front_first (Parts rows.MemberTail ∷ items) ts w (λ _. true) s refl) in
     absurd (let g = is_false (same k kinds.Static) f in cc)
-static_alone items _ (predicted grammar.some_of (part {ts} (made (predicted grammar.modifier (token {o} e' done)) f q) w)) s e =
+static_alone items _ (chosen grammar.some_of (part {ts} (made (chosen grammar.modifier (token {o} e' done)) f q) w)) s e =
     let k = front (tokens_all ts ++ s) in
     ap (λ z. same (second ((tokens z ++ tokens_all ts) ++ s)) kinds.OpenBrace) q
     ∙ is_false (same k kinds.OpenBrace) (tail_is_no_block k (front_first (Parts (rows.Any sorts.Mod) ∷ Parts rows.MemberTail ∷ items) ts w (λ _. true) s refl))
-static_alone items _ (predicted grammar.some_of (part {ts} (made (predicted grammar.annotation (token {o} e' (token {o = o'} f' done))) f q) w)) s e =
+static_alone items _ (chosen grammar.some_of (part {ts} (made (chosen grammar.annotation (token {o} e' (token {o = o'} f' done))) f q) w)) s e =
     let g : same (kind_of o) kinds.Static ≡ true = sym (ap (λ z. same (front ((tokens z ++ tokens_all ts) ++ s)) kinds.Static) q) ∙ e in
     absurd (let h = is_false (same (kind_of o) kinds.Static) (annotation_is_not_static (kind_of o) e') in cc)
-static_alone items _ (predicted grammar.some_of (part (grown v (grammar.operator f) w' e' q) w)) s e = absurd (cc)
+static_alone items _ (chosen grammar.some_of (part (grown v (grammar.operator f) w' e' q) w)) s e = absurd (cc)
 
 pub tells_a_member : (items : List Item) (ts : Asts) → Match (Parts (rows.Any sorts.Mod) ∷ Parts rows.MemberTail ∷ items) ts → (s : List Tok)
     → first_in (Parts (rows.Any sorts.Mod) ∷ Parts rows.MemberTail ∷ []) (row_meets rows.MemberForm) (front (tokens_all ts ++ s)) ≡ true → predict_member rows.MemberForm (tokens_all ts ++ s) ≡ Parts (rows.Any sorts.Mod) ∷ Parts rows.MemberTail ∷ []
@@ -215,8 +215,8 @@ tells_a_constructor items _ (token {o} e (part {t} {ts} v w)) s =
     yes (is_name (front u) && same (second u) kinds.OpenParen) _ _ (both (is_name (front u)) (same (second u) kinds.OpenParen) e (params_open (second u) (part_front sorts.Params t ts v s)))
 
 brackets_past : (ts : Asts) → Match (Parts rows.Brackets ∷ []) ts → (r : List Tok) → past is_bracket (tokens_all ts ++ r) ≡ past is_bracket r
-brackets_past _ (predicted grammar.no_brackets done) r = refl
-brackets_past _ (predicted grammar.brackets (token {o} e (token {o = o'} {ts} f w))) r =
+brackets_past _ (chosen grammar.no_brackets done) r = refl
+brackets_past _ (chosen grammar.brackets (token {o} e (token {o = o'} {ts} f w))) r =
     past_more is_bracket o (o' ∷ (tokens_all ts ++ r)) (open_is_bracket (kind_of o) e) ∙ past_more is_bracket o' (tokens_all ts ++ r) (close_is_bracket (kind_of o') f) ∙ brackets_past ts w r
 
 -- past the brackets of a type comes what follows it
@@ -239,20 +239,20 @@ name_past (o ∷ r) n = past_here is_bracket o r (is_false (is_bracket (kind_of 
 -- a result, before the name and the parameters of a method
 result_heads : (t : Ast) → Is sorts.Result t → (r : List Tok) → is_name (front r) ≡ true → same (second r) kinds.OpenParen ≡ true → heads_method (tokens t ++ r) ≡ true
 unfolding heads_method
-result_heads t (made (predicted grammar.no_result (token {o} e done)) f q) r n p =
+result_heads t (made (chosen grammar.no_result (token {o} e done)) f q) r n p =
     ap (λ z. same (front z) kinds.Void || same (second (past is_bracket (rest z))) kinds.OpenParen) (ap (λ z. tokens z ++ r) q)
     ∙ or_left (same (kind_of o) kinds.Void) (same (second (past is_bracket r)) kinds.OpenParen) e
-result_heads t (made (predicted grammar.a_result (part {t = t'} v done)) f q) r n p =
+result_heads t (made (chosen grammar.a_result (part {t = t'} v done)) f q) r n p =
     ap (λ z. same (front z) kinds.Void || same (second (past is_bracket (rest z))) kinds.OpenParen) (ap (λ z. tokens z ++ r) q)
     ∙ or_right (same (front (tokens t' ++ r)) kinds.Void) (same (second (past is_bracket (rest (tokens t' ++ r)))) kinds.OpenParen)
     (ap (λ z. same (second z) kinds.OpenParen) (type_past t' v r ∙ name_past r n) ∙ p)
 result_heads t (grown v (grammar.operator f) w e q) r n p = absurd (cc)
 
 result_second : (t : Ast) → Is sorts.Result t → (r : List Tok) → is_name (front r) ≡ true → is_name (front (tokens t ++ r)) ≡ true → same (second (tokens t ++ r)) kinds.OpenParen ≡ false
-result_second t (made (predicted grammar.no_result (token {o} e done)) f q) r n b =
+result_second t (made (chosen grammar.no_result (token {o} e done)) f q) r n b =
     let c : is_name (kind_of o) ≡ true = sym (ap (λ z. is_name (front (tokens z ++ r))) q) ∙ b in
     absurd (let d = is_false (is_name (kind_of o)) (void_is_no_name (kind_of o) e) in cc)
-result_second t (made (predicted grammar.a_result (part {t = t'} v done)) f q) r n b = ap (λ z. same (second (tokens z ++ r)) kinds.OpenParen) q ∙ type_second t' v r n
+result_second t (made (chosen grammar.a_result (part {t = t'} v done)) f q) r n b = ap (λ z. same (second (tokens z ++ r)) kinds.OpenParen) q ∙ type_second t' v r n
 result_second t (grown v (grammar.operator f) w e q) r n b = absurd (cc)
 
 pub tells_a_method : (items : List Item) (ts : Asts) → Match (Part sorts.Result ∷ name ∷ Part sorts.Params ∷ items) ts → (s : List Tok) → predict_member rows.MemberTail (tokens_all ts ++ s) ≡ Part sorts.Result ∷ name ∷ Part sorts.Params ∷ Parts (rows.Maybe sorts.Throws) ∷ Parts rows.MethodBody ∷ []

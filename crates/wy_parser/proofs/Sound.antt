@@ -5,7 +5,7 @@ use Rattle.wy_tree.specs.Seen.{Tok}
 use Rattle.wy_tree.specs.Kinds.{kind_of}
 use Rattle.wy_tree.specs.Ast.{Ast, Asts, Leaf, Node, none, more, one, tokens, tokens_all, deep, deepest}
 use Rattle.wy_tree.specs.Conditions.{fine, joins}
-use Rattle.wy_tree.specs.Grammar.{allows, form_of, rule, Is, made, grown, Match, done, token, part, predicted}
+use Rattle.wy_tree.specs.Grammar.{allows, form_of, rule, Is, made, grown, Match, done, token, part, chosen}
 use Rattle.wy_tree.specs.declared.grammar.Class.{Class}
 use Rattle.wy_tree.specs.declared.grammar.Sort.{Sort}
 use Rattle.wy_tree.specs.declared.grammar.Item.{Item}
@@ -90,7 +90,7 @@ parts_sound first next d e f g (suc k) (Part x ∷ items) s y q =
     })
 parts_sound first next d e f g (suc k) (Parts row ∷ items) s y q =
     let i = parts_sound first next d e f g k (predict row s ++ items) s y q in
-    record { are = predicted (predict_is row s) i.are; spelled = i.spelled }
+    record { are = chosen (predict_is row s) i.are; spelled = i.spelled }
 
 parts_later : (next : Reader) (e : ℕ) → Sound next e → (k : ℕ) (items : List Item) (s : List Tok) (y : Asts × List Tok) → parts next next k items s ≡ Some y → deepest y.0 ≤ max e 1
 unfolding parts

@@ -5,7 +5,7 @@ use Rattle.wy_tree.specs.Kinds.{kind_of, same}
 use Rattle.wy_tree.specs.Conditions.{is_name}
 use Rattle.wy_tree.specs.Ast.{Ast, Asts, Leaf, more, tokens, tokens_all}
 use Rattle.wy_tree.specs.Grammar as grammar
-use Rattle.wy_tree.specs.Grammar.{a, name, is_own, Is, made, grown, Match, done, token, part, predicted}
+use Rattle.wy_tree.specs.Grammar.{a, name, is_own, Is, made, grown, Match, done, token, part, chosen}
 use Rattle.wy_tree.specs.declared.kind.Kind.{Kind}
 use Rattle.wy_tree.specs.declared.kind.Kind.TheVariants as kinds
 use Rattle.wy_tree.specs.declared.grammar.Class.TheVariants.{Own}
@@ -93,22 +93,22 @@ unfolding every
 end_is_no_own k e = implied (λ k. not (comes sorts.Local k)) (λ k. not (is_own k)) refl k e
 
 local_no_call : (t : Ast) → Is sorts.Local t → (s : List Tok) → is_own (front (tokens t ++ s)) ≡ true → no_call (rest (tokens t ++ s))
-local_no_call t (made (predicted {ts} grammar.a_declaration w) f q) s b =
+local_no_call t (made (chosen {ts} grammar.a_declaration w) f q) s b =
     let u = tokens_all ts ++ s in
     let same_tokens : tokens t ++ s ≡ u = retell sorts.Local t ts s q in
     let c : is_own (front u) ≡ true = sym (ap (λ z. is_own (front z)) same_tokens) ∙ b in
     absurd (let d = is_false (is_own (front u)) (declaration_is_no_own (front u) (front_first (Parts rows.MaybeFinal ∷ Part sorts.Type ∷ Part sorts.Decls ∷ a kinds.Semicolon ∷ []) ts w (λ _. true) s refl)) in cc)
-local_no_call t (made (predicted grammar.a_statement (part {t = t'} v done)) f q) s b =
+local_no_call t (made (chosen grammar.a_statement (part {t = t'} v done)) f q) s b =
     subst (λ z. is_own (front (tokens z ++ s)) ≡ true → no_call (rest (tokens z ++ s))) (sym q) (statement_no_call t' v s) b
 local_no_call t (grown v (grammar.operator f) w e q) s b = absurd (cc)
 
 locals_no_call : (items : List Item) (ts : Asts) → Match (Parts (rows.Any sorts.Local) ∷ items) ts → (F : Kind → Bool) (s : List Tok) → F (front s) ≡ true
     → ((k : Kind) → first_in items F k ≡ true → not (comes sorts.Local k) ≡ true) → is_own (front (tokens_all ts ++ s)) ≡ true → same (second (tokens_all ts ++ s)) kinds.OpenParen ≡ false
 unfolding no_call
-locals_no_call items ts (predicted grammar.none_of w) F s f ends b =
+locals_no_call items ts (chosen grammar.none_of w) F s f ends b =
     let k = front (tokens_all ts ++ s) in
     absurd (let d = is_false (is_own k) (end_is_no_own k (ends k (front_first items ts w F s f))) in cc)
-locals_no_call items _ (predicted grammar.some_of (part {t} {ts} v w)) F s f ends b =
+locals_no_call items _ (chosen grammar.some_of (part {t} {ts} v w)) F s f ends b =
     subst (λ z. is_own (front z) ≡ true → same (second z) kinds.OpenParen ≡ false) (sym (append_assoc (tokens t) (tokens_all ts) s)) (local_no_call t v (tokens_all ts ++ s)) b
 
 are_locals_ok : (items : List Item) → are_locals items ≡ true → (more : List Item) × (items ≡ Parts (rows.Any sorts.Local) ∷ more)
@@ -198,8 +198,8 @@ abbrev names_or_brackets : List Tok → Bool
 names_or_brackets r = is_name (front r) || (same (front r) kinds.OpenBracket && same (second r) kinds.CloseBracket)
 
 type_declares : (ts : Asts) → Match (Parts rows.Brackets ∷ []) ts → (r : List Tok) → is_name (front r) ≡ true → names_or_brackets (tokens_all ts ++ r) ≡ true
-type_declares _ (predicted grammar.no_brackets done) r n = or_left (is_name (front r)) (same (front r) kinds.OpenBracket && same (second r) kinds.CloseBracket) n
-type_declares _ (predicted grammar.brackets (token {o} e (token {o = o'} f w))) r n =
+type_declares _ (chosen grammar.no_brackets done) r n = or_left (is_name (front r)) (same (front r) kinds.OpenBracket && same (second r) kinds.CloseBracket) n
+type_declares _ (chosen grammar.brackets (token {o} e (token {o = o'} f w))) r n =
     or_right (is_name (kind_of o)) (same (kind_of o) kinds.OpenBracket && same (kind_of o') kinds.CloseBracket) (both (same (kind_of o) kinds.OpenBracket) (same (kind_of o') kinds.CloseBracket) e f)
 
 declares_by : (b n c : Bool) → (b || n) ≡ true → (n ≡ true → c ≡ true) → (b || (n && c)) ≡ true
@@ -218,10 +218,10 @@ type_then_name t (grown v (grammar.operator f) w e q) r n = absurd (cc)
 -- a declaration
 pub declaration_declares : (items : List Item) (ts : Asts) → Match (Parts rows.MaybeFinal ∷ Part sorts.Type ∷ Part sorts.Decls ∷ items) ts → (s : List Tok) → declares (tokens_all ts ++ s) ≡ true
 unfolding declares
-declaration_declares items _ (predicted grammar.is_final (token {o} {ts} e w)) s =
+declaration_declares items _ (chosen grammar.is_final (token {o} {ts} e w)) s =
     let u = o ∷ (tokens_all ts ++ s) in
     or_left (same (front u) kinds.Final || same (front u) kinds.Prim) (is_name (front u) && names_or_brackets (rest u)) (or_left (same (front u) kinds.Final) (same (front u) kinds.Prim) e)
-declaration_declares items _ (predicted grammar.not_final (part {t} v (part {t = t'} {ts} v' w))) s =
+declaration_declares items _ (chosen grammar.not_final (part {t} v (part {t = t'} {ts} v' w))) s =
     let r = tokens_all (more t' ts) ++ s in
     ap declares (append_assoc (tokens t) (tokens_all (more t' ts)) s) ∙ type_then_name t v r (decls_name (front r) (part_front sorts.Decls t' ts v' s))
 
