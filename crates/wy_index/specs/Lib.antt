@@ -4,3 +4,4 @@ pub mod Kept
 pub mod Findings
 pub mod Index
 pub mod Halving
+pub mod Finds

@@ -10,12 +10,14 @@ ghost use Rattle.wy_view.specs.Counts.{RoseAtMost};
 ghost use Rattle.wy_view.specs.View.{Answers, IsRecordOf, Keeps, ReadsOnce};
 ghost use Rattle.wy_index.specs.Found.{earlier, first_from, hits_in, is_call_of, is_init_of, made_at, made_new, maker_of, prints_in};
 ghost use Rattle.wy_index.specs.Findings.{HasFound};
+ghost use Rattle.wy_index.specs.Finds.{IsLastBefore, IsRecent};
 ghost use Rattle.wy_index.specs.Index.{IsIndexOf, IsIndexOfView, owners_of};
 ghost use Rattle.wy_index.specs.Halving.{IsHalvings};
 
 use crate::build::Findings;
 use crate::found::{Hit, Made};
-use crate::posting::{Posting, Postings};
+use crate::posting::{Find, Posting, Postings};
+use crate::recent::Recent;
 use crate::slot::is_same;
 use std::alloc::{AllocError, Global};
 use std::collections::BTreeMap;
@@ -70,6 +72,16 @@ fn owners(alloc: Global, program: &Program) -> Result<Vec<u32>, AllocError>
         .iter()
         .map(|field| field.class)
         .collect(alloc)
+}
+
+/// What a write of the slot at a moment would be.
+fn moment(slot: Slot, before: u32) -> Posting
+    ensures { result ≡ record { slot = slot; event = before } }
+{
+    Posting {
+        slot,
+        event: before,
+    }
 }
 
 impl Index {
@@ -129,31 +141,57 @@ impl Index {
         ensures steps { (l : ℕ) → IsHalvings (length self.now.postings) l
             → steps.new ≤ steps.old + (l + 1) }
     {
-        match self.written(slot, before, steps) {
-            Some(event) => Some(event),
-            None => self.creation(slot, before),
-        }
+        let found = self.postings.last_before(moment(slot, before), None, steps);
+        self.writer(slot, before, found)
     }
 
-    fn written<L: Ledger>(&self, slot: Slot, before: u32, steps: &mut Steps<L>) -> Option<u32>
+    /// The same, and first it looks beside what was found last for the slot.
+    pub fn last_write_near<L: Ledger>(
+        &self,
+        recent: &mut Recent,
+        slot: Slot,
+        before: u32,
+        steps: &mut Steps<L>,
+    ) -> Option<u32>
+        requires recent { IsRecent self.now.postings recent.old }
+        ensures recent { IsRecent self.now.postings recent.new }
         ensures write { (rs : List Recorded) → IsIndexOf self.now rs
-            → result ≡ written rs slot before }
+            → result ≡ last_write (owners_of self.now) rs slot before }
         ensures before { IfSome result (λ event. event < before) }
         ensures forward { steps.old ≤ steps.new }
         ensures steps { (l : ℕ) → IsHalvings (length self.now.postings) l
             → steps.new ≤ steps.old + (l + 1) }
     {
-        let target = Posting {
-            slot,
-            event: before,
-        };
-        let rank = self.postings.rank(target, steps);
-        if rank == 0 {
-            return None;
+        let near = recent.at(slot);
+        let found = self.postings.last_before(moment(slot, before), near, steps);
+        recent.keep(slot, found);
+        self.writer(slot, before, found)
+    }
+
+    /// What wrote the slot last or created it, by the last posting before the moment.
+    fn writer(&self, slot: Slot, before: u32, found: Option<Find>) -> Option<u32>
+        requires last { IsLastBefore self.now.postings (record { slot = slot; event = before }) found }
+        ensures write { (rs : List Recorded) → IsIndexOf self.now rs
+            → result ≡ last_write (owners_of self.now) rs slot before }
+        ensures before { IfSome result (λ event. event < before) }
+    {
+        match self.written(slot, before, found) {
+            Some(event) => Some(event),
+            None => self.creation(slot, before),
         }
-        let last = self.postings.at(rank - 1, steps);
-        if is_same(slot, last.slot) {
-            Some(last.event)
+    }
+
+    fn written(&self, slot: Slot, before: u32, found: Option<Find>) -> Option<u32>
+        requires last { IsLastBefore self.now.postings (record { slot = slot; event = before }) found }
+        ensures write { (rs : List Recorded) → IsIndexOf self.now rs
+            → result ≡ written rs slot before }
+        ensures before { IfSome result (λ event. event < before) }
+    {
+        let Some(find) = found else {
+            return None;
+        };
+        if is_same(slot, find.posting.slot) {
+            Some(find.posting.event)
         } else {
             None
         }

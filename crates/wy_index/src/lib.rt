@@ -6,8 +6,10 @@ mod build;
 pub mod found;
 pub mod index;
 pub mod posting;
+pub mod recent;
 mod slot;
 
 pub use found::{Hit, Made};
 pub use index::Index;
 pub use posting::{Posting, Postings};
+pub use recent::Recent;

@@ -43,10 +43,20 @@ fn part_rank(slot: Slot) -> u32
 pub(crate) fn compare(a: Slot, b: Slot) -> Ordering
     ensures { result ≡ slot_cmp a b }
 {
-    kind_rank(a)
-        .cmp(&kind_rank(b))
-        .then(holder_rank(a).cmp(&holder_rank(b)))
-        .then(part_rank(a).cmp(&part_rank(b)))
+    match kind_rank(a).cmp(&kind_rank(b)) {
+        Ordering::Less => Ordering::Less,
+        Ordering::Equal => holder_rank(a)
+            .cmp(&holder_rank(b))
+            .then(part_rank(a).cmp(&part_rank(b))),
+        Ordering::Greater => Ordering::Greater,
+    }
+}
+
+/// A number of a slot, which few others have.
+pub(crate) fn number(slot: Slot) -> u32 {
+    holder_rank(slot)
+        .wrapping_mul(31)
+        .wrapping_add(part_rank(slot))
 }
 
 fn is_no_slot(slot: Slot) -> bool

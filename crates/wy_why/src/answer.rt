@@ -15,7 +15,7 @@ use crate::mark::{Mark, mark_event};
 use crate::walk::{Walk, step};
 use std::alloc::{AllocError, Global};
 use std::sync::ledger::Ledger;
-use wy_index::Index;
+use wy_index::{Index, Recent};
 use wy_view::{EventView, Steps, ViewError};
 
 /// What an event comes from, itself among it, and those of them that it comes from by data. Both rise.
@@ -69,10 +69,13 @@ pub fn why<V: EventView, L: Ledger>(
         → IsHalvings (length index.now.postings) l → IfOk result (λ answer. steps.new ≤ steps.old
         + (2 * vec_len answer.all + 2 * places_in rs answer.all.items * (l + 1))) }
 {
+    // Slots that share a place only take longer.
+    let places = event as usize / 4 + 1;
     let mut walk = Walk {
         marks: first_marks(alloc, event)?,
         all: Vec::new(alloc),
         flow: Vec::new(alloc),
+        recent: Recent::new(alloc, places)?,
     };
     let mut next = event + 1;
     while next > 0 {

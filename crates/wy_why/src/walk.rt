@@ -6,6 +6,7 @@ ghost use Rattle.wy_event.specs.Record.{Recorded};
 ghost use Rattle.wy_event.specs.Sources.{sources};
 ghost use Rattle.wy_view.specs.View.{Answers, Keeps, ReadsOnce, Told};
 ghost use Rattle.wy_index.specs.Halving.{IsHalvings};
+ghost use Rattle.wy_index.specs.Finds.{IsRecent};
 ghost use Rattle.wy_index.specs.Index.{IsIndexOfView, owners_of};
 ghost use Rattle.wy_why.specs.Marks.{marked, taken};
 ghost use Rattle.wy_why.specs.Uses.{places_of};
@@ -14,15 +15,16 @@ ghost use Rattle.wy_why.specs.Walk.{IsDown, IsVisited};
 use crate::mark::{Mark, mark_sources};
 use std::alloc::AllocError;
 use std::sync::ledger::Ledger;
-use wy_index::Index;
+use wy_index::{Index, Recent};
 use wy_view::{EventView, Steps, ViewError};
 
-/// A mark for each event, and those that were gone through and are marked, from the newest on.
+/// A mark for each event, and those that were gone through and are marked, from the newest on; and what look-ups found last.
 #[derive(Drop)]
 pub(crate) struct Walk {
     pub(crate) marks: Vec<Mark>,
     pub(crate) all: Vec<u32>,
     pub(crate) flow: Vec<u32>,
+    pub(crate) recent: Recent,
 }
 
 impl Walk {
@@ -32,6 +34,7 @@ impl Walk {
         ensures flow { OnOk result (self.new.flow.items
             ≡ (if flow then self.old.flow.items ++ k ∷ [] else self.old.flow.items)) }
         ensures marks { self.new.marks ≡ self.old.marks }
+        ensures recent { self.new.recent ≡ self.old.recent }
     {
         self.all.push(k)?;
         if flow {
@@ -53,6 +56,8 @@ fn visit<V: EventView, L: Ledger>(
     requires there { k < (V.tells view.old).count }
     requires room { k < length walk.old.marks.items }
     requires index { IsIndexOfView index.now (V.tells view.old) }
+    requires recent { IsRecent index.now.postings walk.old.recent }
+    ensures recent { IsRecent index.now.postings walk.new.recent }
     ensures visited { OnOk result (IsVisited index.now (V.tells view.old)
         steps.old steps.new k flow walk.old walk.new) }
     ensures keeps { Keeps (V.tells view.old) (V.tells view.new) }
@@ -61,7 +66,7 @@ fn visit<V: EventView, L: Ledger>(
     ensures forward { steps.old ≤ steps.new }
 {
     let event = view.event(k, steps)?;
-    mark_sources(index, &mut walk.marks, event, flow, steps);
+    mark_sources(index, &mut walk.recent, &mut walk.marks, event, flow, steps);
     walk.take(k, flow)?;
     Ok(())
 }
@@ -77,6 +82,8 @@ pub(crate) fn step<V: EventView, L: Ledger>(
     requires there { k < (V.tells view.old).count }
     requires room { k < length walk.old.marks.items }
     requires index { IsIndexOfView index.now (V.tells view.old) }
+    requires recent { IsRecent index.now.postings walk.old.recent }
+    ensures recent { IsRecent index.now.postings walk.new.recent }
     ensures down { (start : Told) (first n : ℕ)
         → IsDown index.now start (V.tells view.old) first steps.old n (suc k) walk.old
         → OnOk result (IsDown index.now start (V.tells view.new) first steps.new n k walk.new) }

@@ -12,6 +12,7 @@ pub loop-next-init : goal.loop-next-init
 loop-next-init g c = record {
   down = begins_at c.args.index.now (g.V.EventView.tells c.args.view.now) c.args.steps.now c.args.event _ c.in_ok-first_marks.ensures.room c.in_ok-first_marks.ensures.alone c.new.ensures.items c.new-2.ensures.items;
   within = omega arith;
+  recent = c.in_ok-new.ensures c.args.index.now.postings;
 }
 
 pub loop-next-preserved : goal.loop-next-preserved
@@ -22,6 +23,7 @@ loop-next-preserved g c =
     record {
       down = c.in_ok-step.ensures.down first c.args.steps.now c.args.event (subst (λ k. IsDown c.args.index.now first (told c.loop-next.view) c.args.steps.now c.loop-next.steps c.args.event k c.loop-next.walk) next c.loop-next.invariant.down);
       within = omega (arith, c.loop-next.invariant.within);
+      recent = c.step.ensures.recent;
     }
 
 pub returns-clause-all : goal.returns-clause-all

@@ -8,14 +8,14 @@ use Rattle.wy_why.specs.Marks.{marked}
 use Rattle.wy_why.proofs.Marking.{with_parent, without_parent}
 use Rattle.wy_why.proofs.mark.mark_sources.Goals as goal
 
-pub mark_uses-requires : goal.mark_uses-requires
+pub mark_uses-requires-clause-refers : goal.mark_uses-requires-clause-refers
 unfolding recorded
-mark_uses-requires g c = subst (UsesBelow (length c.args.marks.now)) (sym c.as_slice.ensures) c.requires.uses
+mark_uses-requires-clause-refers g c = subst (UsesBelow (length c.args.marks.now)) (sym c.as_slice.ensures) c.requires.refers.uses
 
 pub mark_event-requires : goal.mark_event-requires
 unfolding recorded
 mark_event-requires g c =
-    let below : c.args.event.now.control < length c.args.marks.now = subst (OptionBelow (length c.args.marks.now)) (present_number c.args.event.now.control c.if-event.true) c.requires.control in
+    let below : c.args.event.now.control < length c.args.marks.now = subst (OptionBelow (length c.args.marks.now)) (present_number c.args.event.now.control c.if-event.true) c.requires.refers.control in
     omega (arith, below)
 
 pub returns-then-event-clause-marks : goal.returns-then-event-clause-marks

@@ -14,13 +14,14 @@ use Rattle.wy_why.proofs.mark.mark_uses.Goals as goal
 pub loop-used-init : goal.loop-used-init
 unfolding use_sources
 loop-used-init g c = record {
+  recent = c.requires.recent;
   marks = λ rs is all j. sym (ap (λ b. marked all c.args.marks.now j || b) (nothing_taken all c.args.flow j) ∙ or_no (marked all c.args.marks.now j));
   forward = omega arith;
   steps = λ k is. omega arith;
 }
 
-pub mark_use-requires : goal.mark_use-requires
-mark_use-requires g c = let d = Place None 0 in subst (λ n. UseBelow n (get_or c.args.uses.now c.loop-used.used-index d)) (sym c.loop-used.auto.marks) (use_below (length c.args.marks.now) c.args.uses.now c.loop-used.used-index d c.requires c.loop-used-test.true)
+pub mark_use-requires-clause-refers : goal.mark_use-requires-clause-refers
+mark_use-requires-clause-refers g c = let d = Place None 0 in subst (λ n. UseBelow n (get_or c.args.uses.now c.loop-used.used-index d)) (sym c.loop-used.auto.marks) (use_below (length c.args.marks.now) c.args.uses.now c.loop-used.used-index d c.requires.refers c.loop-used-test.true)
 
 pub loop-used-preserved : goal.loop-used-preserved
 loop-used-preserved g c =
@@ -29,6 +30,7 @@ loop-used-preserved g c =
     let i = c.loop-used.used-index in
     let d = Place None 0 in
     record {
+      recent = c.mark_use.ensures.recent;
       marks = λ rs is all j.
           let owner = owners_of c.args.index.now in
           let flow = c.args.flow in

@@ -14,8 +14,8 @@ use Rattle.wy_why.proofs.Closures.{refers_up, sources_below}
 use Rattle.wy_why.proofs.Walking.{told_one, told_record, sources_at, not_taken, written_back}
 use Rattle.wy_why.proofs.walk.visit.Goals as goal
 
-pub mark_sources-requires : goal.mark_sources-requires
-mark_sources-requires g c = subst (λ n. RefersBelow n (recorded c.in_ok-event.event.now)) (sym (ap length c.deref_mut.ensures.value)) (refers_up c.args.k (length c.args.walk.now.marks.items) (recorded c.in_ok-event.event.now) (omega arith) c.in_ok-event.ensures.refers)
+pub mark_sources-requires-clause-refers : goal.mark_sources-requires-clause-refers
+mark_sources-requires-clause-refers g c = subst (λ n. RefersBelow n (recorded c.in_ok-event.event.now)) (sym (ap length c.deref_mut.ensures.value)) (refers_up c.args.k (length c.args.walk.now.marks.items) (recorded c.in_ok-event.event.now) (omega arith) c.in_ok-event.ensures.refers)
 
 pub returns-clause-visited : goal.returns-clause-visited
 unfolding recorded
