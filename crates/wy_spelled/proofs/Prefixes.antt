@@ -1,5 +1,5 @@
 -- A strict prefix of a trace is cut where it ends.
-use Rattle.std.proofs.Common.{◌≡◌, ◌⊎◌, ℕ, suc, ◌+◌, ◌<◌, ◌≤◌, Bool, true, false, cond, eqb, ltb, List, [], ◌∷◌, ◌++◌, length, ◌-◌, take, drop, Option, Some, Result, Ok, Err, refl, sym, ap, ◌∙◌, subst, inl, inr, arith, length-append}
+use Rattle.std.proofs.Common.{◌≡◌, ◌⊎◌, ℕ, zero, suc, ◌+◌, ◌<◌, ◌≤◌, Bool, true, false, cond, eqb, ltb, List, [], ◌∷◌, ◌++◌, length, ◌-◌, take, drop, Option, Some, Result, Ok, Err, refl, sym, ap, ◌∙◌, subst, inl, inr, arith, length-append}
 use Rattle.std.specs.Prelude.{None as Absent}
 use Rattle.std.specs.Prelude.{MatchResult, slice_index}
 use Rattle.std.specs.Int.{w32, from_be_bytes}
@@ -68,13 +68,15 @@ part_frame bytes size long said short =
 
 -- the first bytes say the length that all of them say
 same_length : (k : ℕ) (bytes : List ℕ) → opening_length ≤ k → said_length (take k bytes) ≡ said_length bytes
-same_length 0 bytes le = absurd (omega (arith, le))
+same_length zero bytes le = absurd (omega (arith, le))
 same_length (suc m) bytes le =
-    ap (λ (l : List ℕ). from_be_bytes w32 (take 4 l)) (drop-take 1 m bytes)
+    let one : suc m ≡ 1 + m = omega arith in
+    ap (λ (j : ℕ). said_length (take j bytes)) one
+    ∙ ap (λ (l : List ℕ). from_be_bytes w32 (take 4 l)) (drop-take 1 m bytes)
     ∙ ap (from_be_bytes w32) (take-take 4 m (drop 1 bytes) (omega (arith, le)))
 
 same_first : (k : ℕ) (bytes : List ℕ) → 0 < k → slice_index (take k bytes) 0 ≡ slice_index bytes 0
-same_first 0 bytes lt = absurd (omega (arith, lt))
+same_first zero bytes lt = absurd (omega (arith, lt))
 same_first (suc m) [] lt = refl
 same_first (suc m) (b ∷ bytes) lt = refl
 
@@ -190,7 +192,7 @@ module _ (r : Ranges) (steps : ℕ) (from : Standing) (bytes : List ℕ) (k : �
       by_frame (Some f) is goes = let there = is_there rest f is in by_length f there goes (ltb kept.m (opening_length + there.size)) refl
 
   leaves_within : (s : Standing) (rest : List ℕ) → Leaves r steps from bytes s rest → Cuts ⊎ Keeps s rest
-  leaves_within _ _ nothing = inr (record { n = 0; m = k; parts = refl; all = refl; leaves = nothing })
+  leaves_within _ _ nothing = inr (record { n = 0; m = k; parts = omega arith; all = omega arith; leaves = nothing })
   leaves_within _ _ (frame s rest t others before e) = after (leaves_within s rest before)
     where
       after : Cuts ⊎ Keeps s rest → Cuts ⊎ Keeps t others
@@ -213,10 +215,10 @@ behind_cut p head fed x k short read = by_end (leaves_within (ranges_of p) head.
 
 agrees_within : (xs ys : List ℕ) (n : ℕ) → agreeing xs ys ≡ length xs → agreeing xs (take n ys) ≡ length (take n xs)
 unfolding agreeing
-agrees_within [] ys 0 e = refl
+agrees_within [] ys zero e = refl
 agrees_within [] ys (suc n) e = refl
 agrees_within (x ∷ xs) [] n e = absurd (omega (arith, e))
-agrees_within (x ∷ xs) (y ∷ ys) 0 e = refl
+agrees_within (x ∷ xs) (y ∷ ys) zero e = refl
 agrees_within (x ∷ xs) (y ∷ ys) (suc n) e =
     let one = one_agrees (eqb x y) (agreeing xs ys) (length xs) e in
     ap (λ (b : Bool). cond b (suc (agreeing xs (take n ys))) 0) one.0 ∙ ap suc (agrees_within xs ys n one.1)
@@ -246,6 +248,9 @@ same_head size m f y other e = e
 
 -- ---- a trace
 
+abbrev refused : TraceError → Result Trace TraceError
+refused e = Err e
+
 module _ (p : Program) (bytes : List ℕ) (x : Trace) (are : AreBytes bytes) (n : ℕ) (less : n < length bytes) where
   with_rest : (y : Head × ℕ) (m : ℕ) → n ≡ y.1 + m → take y.1 bytes ≡ opening y.0 → head_of (take n bytes) ≡ Ok y → IsReadBehind p y.0 (drop y.1 bytes) (Ok x) → IsReadAs p (take n bytes) (Err (Cut n))
   with_rest y m parts spelled is read =
@@ -255,10 +260,10 @@ module _ (p : Program) (bytes : List ℕ) (x : Trace) (are : AreBytes bytes) (n 
       let len : length (opening y.0 ++ take m fed) ≡ n = length-append (opening y.0) (take m fed) ∙ omega (arith, ap length spelled, length-take y.1 bytes, length-take m fed, length-drop y.1 bytes, less, parts) in
       let there : IsReadBehind p y.0 (take m fed) (Err (Cut n)) = subst (λ (j : ℕ). IsReadBehind p y.0 (take m fed) (Err (Cut j))) len (inr cut) in
       let moved : IsReadBehind p y.0 (drop y.1 (take n bytes)) (Err (Cut n)) = subst (λ (l : List ℕ). IsReadBehind p y.0 l (Err (Cut n))) (sym rest) there in
-      subst (λ (h : Result (Head × ℕ) TraceError). MatchResult h (λ z. IsReadBehind p z.0 (drop z.1 (take n bytes)) (Err (Cut n))) (λ e. Err (Cut n) ≡ Err e)) (sym is) moved
+      subst (λ (h : Result (Head × ℕ) TraceError). MatchResult h (λ z. IsReadBehind p z.0 (drop z.1 (take n bytes)) (Err (Cut n))) (λ e. refused (Cut n) ≡ refused e)) (sym is) moved
 
   refused_there : head_of (take n bytes) ≡ Err (Cut n) → IsReadAs p (take n bytes) (Err (Cut n))
-  refused_there is = subst (λ (h : Result (Head × ℕ) TraceError). MatchResult h (λ z. IsReadBehind p z.0 (drop z.1 (take n bytes)) (Err (Cut n))) (λ e. Err (Cut n) ≡ Err e)) (sym is) refl
+  refused_there is = subst (λ (h : Result (Head × ℕ) TraceError). MatchResult h (λ z. IsReadBehind p z.0 (drop z.1 (take n bytes)) (Err (Cut n))) (λ e. refused (Cut n) ≡ refused e)) (sym is) refl
 
   in_frame : (y : Head × ℕ) (f : Frame) (there : IsThere (drop magic_length bytes) f) (m : ℕ) → n ≡ magic_length + m → agreeing magic bytes ≡ magic_length → take y.1 bytes ≡ opening y.0 → y.1 ≡ magic_length + length f.whole
       → head_in (length bytes) (Some f) ≡ Ok y → IsReadBehind p y.0 (drop y.1 bytes) (Ok x) → (b : Bool) → ltb m (opening_length + there.size) ≡ b → IsReadAs p (take n bytes) (Err (Cut n))
