@@ -1,0 +1,4 @@
+pub mod Rules
+pub mod Loops
+pub mod States
+pub mod Induction
