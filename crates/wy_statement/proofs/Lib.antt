@@ -10,3 +10,4 @@ pub mod Clauses
 pub mod Expressed
 pub mod Walks
 pub mod Blocks
+pub mod Printing

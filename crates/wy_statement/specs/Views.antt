@@ -8,12 +8,13 @@ use Rattle.wy_syntax.specs.declared.statement.Block.{Block}
 use Rattle.wy_syntax.specs.Syntax as source
 use Rattle.wy_syntax.specs.View.{statement_of, block_of}
 use Rattle.std.specs.declared.vec.Vec.{Vec}
+use Rattle.wy_kernel.specs.declared.form.Expr.{Expr}
 use Rattle.wy_kernel.specs.declared.form.Stmt.{Stmt}
 use Rattle.wy_kernel.specs.Form as kernel
 use Rattle.wy_kernel.specs.declared.form.Catch.{Catch}
 use Rattle.wy_kernel.specs.declared.form.Body.{Body}
 use Rattle.wy_kernel.specs.Program as plain_program
-use Rattle.wy_kernel.specs.View.{local_of, body_of, statement, statements_of, clause, clauses_of}
+use Rattle.wy_kernel.specs.View.{local_of, body_of, statement, statements_of, clause, clauses_of, test_of}
 use Rattle.wy_constant.specs.declared.rule.TypeError.{TypeError}
 use Rattle.wy_constant.specs.Refusal.{Refusal, Fails}
 use Rattle.wy_constant.specs.Scope.{FixedText}
@@ -64,6 +65,10 @@ around_of a = record {
   innermost_loop = option_map loop_of a.innermost_loop;
   labels = map label_of a.labels.items;
 }
+
+-- a test that stands in another form, if there is one
+abbrev pub inner_test : Option (Box Expr Global) → kernel.Part
+inner_test test = test_of (option_map (λ e. e.value) test)
 
 -- ---- parts of source statements that may be absent
 

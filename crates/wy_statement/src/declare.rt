@@ -33,9 +33,10 @@ fn given_first(
     ensures { (w : PlainSetting) → IsSetting setting.now w → MakesTo statement result (making_of making.new texts.new) (given_first w is_final ty number (named_of name.now) (Some (initial_of initial.now)) (making_of making.old texts.old)) }
 {
     let value = initialized(setting, making, texts, ty, initial, name.token)?;
+    let value = Box::new(setting.alloc, value)?;
     give_constant(setting, making, texts, is_final, ty, initial)?;
     let place = Place::Local { index: number };
-    let form = evaluated_set(setting.alloc, place, value, name.token)?;
+    let form = evaluated_set(setting.alloc, place, Box::into_inner(value), name.token)?;
     Ok(plain(setting, name.token, true, form))
 }
 

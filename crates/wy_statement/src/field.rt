@@ -88,9 +88,9 @@ fn assigned_first(
 ) -> Result<Stmt, TypeError>
     ensures { (w : PlainSetting) → IsSetting setting.now w → MakesTo statement result (making_of making.now texts.new) (assigned_first w class is_static ty (named_of name.now) (initial_of initial.now) (making_of making.now texts.old)) }
 {
-    let value = initialized(setting, making, texts, ty, initial, name.token)?;
     let field = field_number(setting, class, name.name.as_str());
     let place = own_place(setting.alloc, is_static, field, name.token)?;
+    let value = initialized(setting, making, texts, ty, initial, name.token)?;
     let form = evaluated_set(setting.alloc, place, value, name.token)?;
     Ok(plain(setting, name.token, true, form))
 }

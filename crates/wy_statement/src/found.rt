@@ -4,7 +4,7 @@ ghost use Rattle.std.specs.Prelude.{◌≡◌, IfOk, option_and_then, option_map
 ghost use Rattle.wy_constant.specs.Constant.{constant_variable};
 ghost use Rattle.wy_constant.specs.Fields.{class_named};
 ghost use Rattle.wy_elab_expr.specs.Elaboration.{class_for_new, initialized, type_written};
-ghost use Rattle.wy_elab_expr.specs.Views.{GivesAlways};
+ghost use Rattle.wy_elab_expr.specs.Views.{GivesAlways, inner_of};
 ghost use Rattle.wy_statement.specs.Making.{changed, expressed};
 ghost use Rattle.wy_statement.specs.Parts.{caught_class, condition, performed, returned, thrown};
 ghost use Rattle.wy_statement.specs.Statements.{Setting as PlainSetting, constant_if, must_be_throwable, value_of_initial};
@@ -35,8 +35,8 @@ pub fn condition(
     texts: &mut Texts,
     test: &Expression,
     site: u32,
-) -> Result<Expr, TypeError>
-    ensures { (w : PlainSetting) → IsSetting setting.now w → MakesTo kernel_expression result (making_of making.now texts.new) (expressed (condition w.judgement w.table (expression_of test.now) site) (making_of making.now texts.old)) }
+) -> Result<Box<Expr>, TypeError>
+    ensures { (w : PlainSetting) → IsSetting setting.now w → MakesTo inner_of result (making_of making.now texts.new) (expressed (condition w.judgement w.table (expression_of test.now) site) (making_of making.now texts.old)) }
 {
     parts::condition(
         setting.alloc,

@@ -211,13 +211,31 @@ pub fn looping(
 {
     match test {
         Some(test) => {
-            let guarded = targets_in(setting.alloc, around, &body)?;
-            let form = for_form(setting.alloc, inits, Some(test), updates, body)?;
-            Ok(testing(setting, around, site, guarded.as_slice(), form))
+            let body = Box::new(setting.alloc, body)?;
+            tested_loop(setting, around, site, inits, test, updates, body)
         }
         None => {
             let form = for_form(setting.alloc, inits, None, updates, body)?;
             Ok(plain(setting, site, true, form))
         }
     }
+}
+
+// A `for` with a condition.
+#[tactic(auto, using(crate::proofs::Clauses::rows_are))]
+fn tested_loop(
+    setting: &Setting,
+    around: &Around,
+    site: u32,
+    inits: Vec<Stmt>,
+    test: Expr,
+    updates: Vec<Stmt>,
+    body: Box<Stmt>,
+) -> Result<Stmt, AllocError>
+    ensures { IfOk result (λ s. (w : PlainSetting) → IsSetting setting.now w → statement s ≡ testing w (around_of around.now) site (targets_in (around_of around.now) (statement body.value)) (kernel.For (row_of (map statement inits.items)) (kernel.the (expression test)) (row_of (map statement updates.items)) (statement body.value))) }
+{
+    let guarded = targets_in(setting.alloc, around, &body)?;
+    let body = Box::into_inner(body);
+    let form = for_form(setting.alloc, inits, Some(test), updates, body)?;
+    Ok(testing(setting, around, site, guarded.as_slice(), form))
 }

@@ -1,7 +1,7 @@
 //! What statements make of the expressions in them (JLS 14.8, 14.9, 14.12 to 14.14, 14.17, 14.18).
 
 ghost use Rattle.std.specs.Prelude.{◌≡◌, map, option_map};
-ghost use Rattle.wy_elab_expr.specs.Views.{GetsTo, Judged, meaning_of, printed_of, stream_of};
+ghost use Rattle.wy_elab_expr.specs.Views.{GetsTo, Judged, inner_of, meaning_of, printed_of, stream_of};
 ghost use Rattle.wy_statement.specs.Parts.{condition, ends_line, evaluated, is_output, is_output_call, is_throwable, performed, print_of, printing, returned, returned_as, thrown};
 ghost use Rattle.wy_statement.specs.Views.{outcome_of};
 ghost use Rattle.wy_kernel.specs.ClassTable.{table_of};
@@ -14,8 +14,9 @@ use crate::leaf::refused;
 use std::alloc::Global;
 use wy_constant::{Rule, Scope, TypeError};
 use wy_elab_expr::{
-    Meaning, Printed, Stream, Texts, brought, class, elaborated, elaborated_all, formed,
-    is_assignable, is_below, is_boolean, is_void, primitive, print_operand, stream_in, type_of,
+    Meaning, Printed, Stream, Texts, brought, brought_in, class, elaborated, elaborated_all,
+    formed, is_assignable, is_below, is_boolean, is_void, primitive, print_operand, stream_in,
+    type_of,
 };
 use wy_kernel::form::{Expr, StmtForm};
 use wy_kernel::operator::Primitive;
@@ -32,12 +33,12 @@ pub fn condition(
     texts: &mut Texts,
     test: &Expression,
     site: u32,
-) -> Result<Expr, TypeError>
-    ensures { Judged (table_of table.now) (λ j. GetsTo kernel_expression result texts.new (condition j (table_of table.now) (expression_of test.now) site scope.now texts.old)) }
+) -> Result<Box<Expr>, TypeError>
+    ensures { Judged (table_of table.now) (λ j. GetsTo inner_of result texts.new (condition j (table_of table.now) (expression_of test.now) site scope.now texts.old)) }
 {
     let m = elaborated(alloc, table, scope, texts, test)?;
     if is_boolean(type_of(&m)) {
-        brought(alloc, texts, primitive(Primitive::Bool), m)
+        brought_in(alloc, texts, primitive(Primitive::Bool), m)
     } else {
         Err(refused(Rule::BadOperand, site))
     }
@@ -94,7 +95,7 @@ fn is_output(stream: Option<Stream>) -> bool
     }
 }
 
-#[tactic(auto, unfolding(crate::specs::Parts::is_output_call), using(wy_syntax::proofs::ExpressionViews::view_literal, wy_syntax::proofs::ExpressionViews::view_name, wy_syntax::proofs::ExpressionViews::view_this, wy_syntax::proofs::ExpressionViews::view_group, wy_syntax::proofs::ExpressionViews::view_invoke, wy_syntax::proofs::ExpressionViews::view_field, wy_syntax::proofs::ExpressionViews::view_invoke_on, wy_syntax::proofs::ExpressionViews::view_super_field, wy_syntax::proofs::ExpressionViews::view_super_invoke, wy_syntax::proofs::ExpressionViews::view_element, wy_syntax::proofs::ExpressionViews::view_new_object, wy_syntax::proofs::ExpressionViews::view_new_array, wy_syntax::proofs::ExpressionViews::view_new_list, wy_syntax::proofs::ExpressionViews::view_unary, wy_syntax::proofs::ExpressionViews::view_step, wy_syntax::proofs::ExpressionViews::view_binary, wy_syntax::proofs::ExpressionViews::view_both, wy_syntax::proofs::ExpressionViews::view_either, wy_syntax::proofs::ExpressionViews::view_instance_of, wy_syntax::proofs::ExpressionViews::view_cast, wy_syntax::proofs::ExpressionViews::view_choice, wy_syntax::proofs::ExpressionViews::view_assign, wy_syntax::proofs::ExpressionViews::view_update, wy_syntax::proofs::ExpressionViews::view_wrong))]
+#[tactic(auto, unfolding(crate::specs::Parts::is_output_call), using(wy_syntax::proofs::ExpressionViews::view_invoke_on))]
 fn is_output_call(table: &ClassTable, scope: &Scope, e: &Expression) -> bool
     ensures { result ≡ is_output_call (table_of table.now) scope.now (expression_of e.now) }
 {
@@ -105,106 +106,7 @@ fn is_output_call(table: &ClassTable, scope: &Scope, e: &Expression) -> bool
             args: _,
             token: _,
         } => is_output(stream_in(table, scope, object)),
-        Expression::Literal { value: _, token: _ } => false,
-        Expression::Name { name: _, token: _ } => false,
-        Expression::This { token: _ } => false,
-        Expression::Group { inner: _, token: _ } => false,
-        Expression::Invoke {
-            name: _,
-            args: _,
-            token: _,
-        } => false,
-        Expression::Field {
-            object: _,
-            name: _,
-            token: _,
-        } => false,
-        Expression::SuperField { name: _, token: _ } => false,
-        Expression::SuperInvoke {
-            name: _,
-            args: _,
-            token: _,
-        } => false,
-        Expression::Element {
-            array: _,
-            index: _,
-            token: _,
-        } => false,
-        Expression::NewObject {
-            class: _,
-            args: _,
-            token: _,
-        } => false,
-        Expression::NewArray {
-            base: _,
-            base_token: _,
-            sizes: _,
-            brackets: _,
-            token: _,
-        } => false,
-        Expression::NewList {
-            base: _,
-            base_token: _,
-            brackets: _,
-            elements: _,
-            brace: _,
-            token: _,
-        } => false,
-        Expression::Unary {
-            op: _,
-            operand: _,
-            token: _,
-        } => false,
-        Expression::Step {
-            is_before: _,
-            is_up: _,
-            operand: _,
-            token: _,
-        } => false,
-        Expression::Binary {
-            op: _,
-            left: _,
-            right: _,
-            token: _,
-        } => false,
-        Expression::Both {
-            left: _,
-            right: _,
-            token: _,
-        } => false,
-        Expression::Either {
-            left: _,
-            right: _,
-            token: _,
-        } => false,
-        Expression::InstanceOf {
-            left: _,
-            ty: _,
-            token: _,
-        } => false,
-        Expression::Cast {
-            ty: _,
-            operand: _,
-            token: _,
-        } => false,
-        Expression::Choice {
-            test: _,
-            main: _,
-            other: _,
-            token: _,
-        } => false,
-        Expression::Assign {
-            left: _,
-            value: _,
-            token: _,
-        } => false,
-        Expression::Update {
-            op: _,
-            left: _,
-            value: _,
-            token: _,
-        } => false,
-        Expression::Wrong => false,
+        _ => false,
     }
 }
 

@@ -2,7 +2,7 @@
 
 ghost use Rattle.std.specs.Prelude.{◌≡◌, IfOk, map, option_map};
 ghost use Rattle.wy_statement.specs.Statements.{Setting as PlainSetting, block, clause as plain_clause, clauses, in_first_block, last_block, other_statement, several, statement as plain_statement, statements, tested};
-ghost use Rattle.wy_statement.specs.Views.{IsSetting, MakesTo, around_of, clause_seen, clauses_seen, last_seen, making_of, row_seen, statements_seen};
+ghost use Rattle.wy_statement.specs.Views.{IsSetting, MakesTo, around_of, clause_seen, clauses_seen, inner_test, last_seen, making_of, row_seen, statements_seen};
 ghost use Rattle.wy_statement.specs.Views.{other as other_seen};
 ghost use Rattle.wy_kernel.specs.Subtyping.{class_type};
 ghost use Rattle.wy_kernel.specs.View.{other, statement, test_of};
@@ -133,9 +133,10 @@ fn if_statement(
     let inner = around.inside(setting.number(token))?;
     let c = condition(setting, making, texts, test, token)?;
     let yes = statement(setting, &inner, making, texts, main)?;
+    let yes = Box::new(setting.alloc, yes)?;
     let no = other_statement(setting, &inner, making, texts, other)?;
     let guarded = make::targets_in_arms(setting.alloc, around, &yes, &no)?;
-    let form = make::if_form(setting.alloc, c, yes, no)?;
+    let form = make::if_form(setting.alloc, Box::into_inner(c), Box::into_inner(yes), no)?;
     Ok(make::testing(setting, around, token, guarded.as_slice(), form))
 }
 
@@ -155,8 +156,9 @@ fn while_statement(
     let inner = around.in_loop(setting.number(token), setting.number(site_of(body)))?;
     let c = condition(setting, making, texts, test, token)?;
     let x = statement(setting, &inner, making, texts, body)?;
+    let x = Box::new(setting.alloc, x)?;
     let guarded = make::targets_in(setting.alloc, around, &x)?;
-    let form = make::while_form(setting.alloc, c, x)?;
+    let form = make::while_form(setting.alloc, Box::into_inner(c), Box::into_inner(x))?;
     Ok(make::testing(setting, around, token, guarded.as_slice(), form))
 }
 
@@ -175,9 +177,10 @@ fn do_statement(
 {
     let inner = around.in_loop(setting.number(token), setting.number(site_of(body)))?;
     let x = statement(setting, &inner, making, texts, body)?;
+    let x = Box::new(setting.alloc, x)?;
     let c = condition(setting, making, texts, test, token)?;
     let guarded = make::targets_in(setting.alloc, around, &x)?;
-    let form = make::do_form(setting.alloc, x, c)?;
+    let form = make::do_form(setting.alloc, Box::into_inner(x), Box::into_inner(c))?;
     Ok(make::testing(setting, around, token, guarded.as_slice(), form))
 }
 
@@ -302,7 +305,7 @@ fn for_statement(
     let us = effects(setting, making, texts, updates)?;
     let x = statement(setting, &inner, making, texts, body)?;
     making.close_block(texts);
-    Ok(make::looping(setting, around, token, inits, c, us, x)?)
+    Ok(make::looping(setting, around, token, inits, unboxed(c), us, x)?)
 }
 
 #[cycle(statement)]
@@ -323,9 +326,10 @@ fn tried(
     let guarded = in_first_block(around, number, catches)?;
     let inner = around.inside(number)?;
     let x = block(setting, &guarded, making, texts, main)?;
+    let x = Box::new(setting.alloc, x)?;
     let cs = clauses(setting, &inner, making, texts, catches)?;
     let y = last_block(setting, &inner, making, texts, last)?;
-    let form = make::try_form(setting.alloc, x, cs, y)?;
+    let form = make::try_form(setting.alloc, Box::into_inner(x), cs, y)?;
     Ok(make::plain(setting, token, true, form))
 }
 
@@ -423,11 +427,21 @@ fn tested(
     texts: &mut Texts,
     test: &Option<Expression>,
     site: u32,
-) -> Result<Option<Expr>, TypeError>
-    ensures { (w : PlainSetting) → IsSetting setting.now w → MakesTo test_of result (making_of making.now texts.new) (tested w (option_map expression_of test.now) site (making_of making.now texts.old)) }
+) -> Result<Option<Box<Expr>>, TypeError>
+    ensures { (w : PlainSetting) → IsSetting setting.now w → MakesTo inner_test result (making_of making.now texts.new) (tested w (option_map expression_of test.now) site (making_of making.now texts.old)) }
 {
     match test {
         Some(test) => Ok(Some(condition(setting, making, texts, test, site)?)),
         None => Ok(None),
+    }
+}
+
+// A condition that stands in a form itself.
+fn unboxed(test: Option<Box<Expr>>) -> Option<Expr>
+    ensures { test_of result ≡ inner_test test }
+{
+    match test {
+        Some(test) => Some(Box::into_inner(test)),
+        None => None,
     }
 }
