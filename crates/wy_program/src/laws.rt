@@ -3,14 +3,10 @@
 ghost use Rattle.wy_program.specs.Laws.{TextsArePrograms};
 
 use wy_program_parts::{
-    declarations_stand, each_class_and_each_method_has_a_place, each_method_of_a_tree_has_a_place,
-    programs_have_the_library,
+    classes_run_methods, declarations_stand, each_class_and_each_method_has_a_place,
+    each_method_of_a_tree_has_a_place, members_stand, methods_of_programs_fit,
+    programs_have_a_main, programs_have_the_library, trees_declare_few, trees_have_tables,
 };
-use wy_program_parts::programs_have_a_main;
-use wy_program_parts::methods_of_programs_fit;
-use wy_program_parts::classes_run_methods;
-use wy_program_parts::members_stand;
-use wy_program_parts::{trees_declare_few, trees_have_tables};
 use wy_typed::{the_table_of_a_text_says_what_the_text_says, what_a_text_becomes_fits_its_types};
 use wy_well_formed::texts_are_written;
 

@@ -18,8 +18,8 @@ use wy_constant::TypeError;
 use wy_elab_stmt::elaborate;
 use wy_kernel::form::Body;
 use wy_kernel::program::Program;
-use wy_sites::sites_are_tokens;
 use wy_program_parts::trees_declare_few;
+use wy_sites::sites_are_tokens;
 use wy_tree::token::Spanned;
 use wy_tree::tree::Tree;
 
