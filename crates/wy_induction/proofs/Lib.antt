@@ -2,3 +2,8 @@ pub mod Rules
 pub mod Loops
 pub mod States
 pub mod Induction
+pub mod Steps
+pub mod Forms
+pub mod Wholes
+pub mod Programs
+pub mod Theorem

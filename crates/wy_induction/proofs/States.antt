@@ -196,9 +196,6 @@ module _ (A : Sets) (S : StateLaw A) where
 
   -- ---- coverage
 
-  start : State A → ℕ → State A
-  start s k = covering k (begun (length s.noted)) s
-
   ended_kept : (r : Region) (known : Type 0) (k : ℕ) (s t : State A) (given : Type 0) → S.goes (covering k (begun (length s.noted)) s) t → (S.part t → S.inv r (covering k (begun (length s.noted)) s) → known → S.inv r t × given) → Kept r {X = Unit {0}} known (λ t. nothing) s (end_normally k t)
   unfolding end_normally end
   ended_kept r known k s t given g h = record { goes = S.goes_ended s t k g; kept = λ f i p. (S.inv_ended r t k (h (S.part_covered t k _ f) (S.inv_begun r s k i) p).0, tt) }

@@ -1,3 +1,4 @@
 pub mod Law
 pub mod States
 pub mod Forms
+pub mod Uniform

@@ -1,6 +1,3 @@
-pub mod Fits
-pub mod Rules
-pub mod Forms
-pub mod Wholes
-pub mod Programs
-pub mod Theorem
+mod Fits
+mod Instance
+mod Theorem

@@ -11,8 +11,8 @@ use Rattle.wy_steps.specs.Steps.{event_limit, depth_limit}
 use Rattle.wy_meaning.specs.Run.{output, world, main_run, start, outcome, end, covers, tail_of, tail, last_of, last_of_reason, last_of_stop, history, events}
 use Rattle.wy_shaped.specs.Shaped.{uses_in, CountsAreShaped, IsThrow, OptionBelow, Shaped, CoverFits, RecordsAreShaped, CoverageIsShaped, LastIsShaped}
 use Rattle.wy_shaped.proofs.Fits.{used_by, IsFront, Inv, NotedFit, StopFits, cover_start}
-use Rattle.wy_shaped.proofs.Rules.{nothing, both, at, fits, reason_fits, Given}
-use Rattle.wy_shaped.proofs.Programs.{world_keeps, keeps_main_run}
+use Rattle.wy_induction.specs.Law.{both}
+use Rattle.wy_shaped.proofs.Instance.{reason_fits, Given, run_shaped, run_balanced}
 
 slice_get_seam : {X : Type 0} (xs : List X) (y : X) (ys : List X) → slice_get (xs ++ y ∷ ys) (length xs) ≡ Some y
 slice_get_seam [] y ys = refl
@@ -76,7 +76,7 @@ module _ (A : Sets) (records : List Recorded) where
   each_covered Q f h (suc n) i (suc k) c there = each_covered Q f h n (suc i) k c there
 
   last_of_reason_below : (n : ℕ) (why : Reason A) → (reason_fits A records why).holds n → OptionBelow records IsThrow n (last_of_reason why)
-  unfolding last_of_reason reason_fits both at
+  unfolding last_of_reason both
   last_of_reason_below n (Jumped target e) h = tt
   last_of_reason_below n (Returned e v) h = tt
   last_of_reason_below n (Threw e v) h = h.0
@@ -86,7 +86,7 @@ module _ (A : Sets) (records : List Recorded) where
   last_of_stop_below n (InitFailed last) h = h
   last_of_stop_below n _ h = tt
 
-  last_below : (o : Outcome A (Carried A)) → Given A records (fits A records) o → OptionBelow records IsThrow (length (end o).noted) (last_of o)
+  last_below : (o : Outcome A (Carried A)) → Given A records o → OptionBelow records IsThrow (length (end o).noted) (last_of o)
   unfolding last_of end
   last_below (Done x s) h = tt
   last_below (Left why s) h = last_of_reason_below (length s.noted) why h
@@ -105,21 +105,21 @@ module _ (A : Sets) (p : Program) (input : List ℕ) (budget : ℕ) where
   at_end =
       let final = (end (main_run (world {A = A} p depth_limit) (start input budget))).noted in
       let front = subst (λ l. IsFront A l final) (append-nil (in_order A final)) (front_of A final []) in
-      ((keeps_main_run A (in_order A final) (world p depth_limit) (world_keeps A (in_order A final) p depth_limit) nothing).by (start input budget)).inv front (start_fits A (in_order A final) input budget) tt
+      (run_shaped A (in_order A final) p (start input budget) front (start_fits A (in_order A final) input budget)).0
 
-  returned_at_end : Given A all_events (fits A all_events) ends
+  returned_at_end : Given A all_events ends
   unfolding outcome all_events ends
   returned_at_end =
       let final = (end (main_run (world {A = A} p depth_limit) (start input budget))).noted in
       let front = subst (λ l. IsFront A l final) (append-nil (in_order A final)) (front_of A final []) in
-      ((keeps_main_run A (in_order A final) (world p depth_limit) (world_keeps A (in_order A final) p depth_limit) nothing).by (start input budget)).returned front (start_fits A (in_order A final) input budget) tt
+      (run_shaped A (in_order A final) p (start input budget) front (start_fits A (in_order A final) input budget)).1
 
   -- no statement ended more often than it began
   balanced_at_end : (k : ℕ) → ((end ends).coverage k).ends ≤ ((end ends).coverage k).begins
   unfolding outcome ends start
   balanced_at_end k =
       let final = (end (main_run (world {A = A} p depth_limit) (start input budget))).noted in
-      let h = ((keeps_main_run A (in_order A final) (world p depth_limit) (world_keeps A (in_order A final) p depth_limit) nothing).by (start input budget)).balance.at k in
+      let h = (run_balanced A (in_order A final) p (start input budget)).at k in
       omega (arith, h)
 
   count : length (end ends).noted ≡ length all_events

@@ -174,6 +174,3 @@ module _ (G : Ground) (M : Methods G) (i : Frame) where
   -- so does every expression
   pub typed : (e : Expression) → Typed e
   typed e = of_expression Typed step e
-
-  pub gives_typed : (e : Expression) (ty : Ty) → Gives (p G) locals e ty → T G M i (eval w e) ty
-  gives_typed e ty g = given e ty (typed e) g

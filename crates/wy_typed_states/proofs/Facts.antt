@@ -109,9 +109,6 @@ module _ (G : Ground) where
   unfolding class_of_type
   text_class c found e b = subclass_under (p G) string_class c (subst (λ t. is_subclass (p G) (class_of_type t) c ≡ true) e b)
 
-  no_throwable : (ty : Ty) → class_type throwable_class ≡ ty → IsReference ty
-  no_throwable ty e = subst IsReference e tt
-
   -- what is thrown is of the class of a clause that takes it
   pub caught_is : (n : Moment) (v : Value) (found : Ty) (c : ℕ) → Is (p G) n (class_type throwable_class) v → HasFound n v found → is_subclass (p G) (class_of_type found) c ≡ true → Is (p G) n (class_type c) v
   caught_is n (val.Object k) found c i h e =

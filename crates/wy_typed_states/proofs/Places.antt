@@ -26,7 +26,6 @@ use Rattle.wy_induction.specs.Law.{nothing, both, Entails, Frame, Region, In, a_
 use Rattle.wy_induction.proofs.Rules.{newest, before, trivially}
 use Rattle.wy_typed_states.specs.Typed.{Runs, local_types, Refers}
 use Rattle.wy_typed_states.proofs.Values.{updated_is}
-use Rattle.wy_typed_states.proofs.Moments.{Begun}
 use Rattle.wy_typed_states.proofs.Library.{static_of_source, Fails, arithmetic_fails, array_store_fails, array_index_fails, null_pointer_fails}
 use Rattle.wy_typed_states.proofs.Law.{is, begun, current, place, told, read_from, stores, answer, reason}
 use Rattle.wy_typed_states.proofs.Rules.{Ground, A, p, Known, Does, bind, forgets, gives, leaves, stops, either, next, frames, looks, asks, reads, notes, notes_object, sets_slot}
@@ -102,9 +101,6 @@ module _ (G : Ground) (M : Methods G) where
   finds_object ty site c _ e = null_fails site c
 
   -- ---- classes
-
-  begun_or : (c : ℕ) (going : Bool) (n : List (Noted (A G))) → (going ≡ true → Begun n c) → going ≡ true → Begun n c
-  begun_or c going n h e = h e
 
   starts : {r : Region} {P : Known G} (site c : ℕ) (source : Bool) → source ≡ true → Does G r P (initialize_source w site c source) (λ t. begun (A G) (p G) c)
   unfolding initialize_source told begun both
