@@ -64,11 +64,15 @@ fn of_library(alloc: Global) -> Result<Bodies, AllocError>
     })
 }
 
-fn put_made(all: &mut Bodies, mut class: ClassBodies) -> Result<(), AllocError>
+fn put_made(all: &mut Bodies, class: ClassBodies) -> Result<(), AllocError>
     ensures { OnOk result (bodies_view all.new ≡ and_class (bodies_view all.old) (class_bodies_seen class)) }
 {
-    all.methods.append(&mut class.bodies)?;
-    all.initializers.push(class.initializer)?;
+    let ClassBodies {
+        mut bodies,
+        initializer,
+    } = class;
+    all.initializers.push(initializer)?;
+    all.methods.append(&mut bodies)?;
     Ok(())
 }
 
