@@ -11,8 +11,7 @@ use Rattle.wy_syntax.specs.Syntax.{OwnCall, Member, ClassSyntax}
 use Rattle.wy_syntax.specs.Syntax as source
 use Rattle.wy_syntax.specs.Declarations.{unit}
 use Rattle.wy_members.specs.Declarations.{classes_of}
-use Rattle.wy_well_formed.specs.Complete.{IsOne, IsWritten, IsWrittenOption, HasWrittenInitial, IsWrittenDeclarator, IsWrittenEffect, IsWrittenInit, IsWrittenStatement, IsWrittenBlock, AreWrittenStatements, IsWrittenOther, IsWrittenLast, AreWrittenCatches, IsWrittenMember, IsWrittenClass, IsWrittenUnit}
-use Rattle.wy_refusals.specs.BodyLaws.{HasWrittenCall}
+use Rattle.wy_well_formed.specs.Complete.{IsOne, IsWritten, IsWrittenOption, HasWrittenInitial, IsWrittenDeclarator, IsWrittenEffect, IsWrittenInit, IsWrittenStatement, IsWrittenBlock, AreWrittenStatements, IsWrittenOther, IsWrittenLast, AreWrittenCatches, HasWrittenCall, IsWrittenMember, IsWrittenClass, IsWrittenUnit}
 use Rattle.wy_well_formed.proofs.Whole.{Names, IsSound, Whole, WholePart, WholeOption, WholeDeclarators, WholeEffects, WholeInit, WholeStatement, WholeBlock, WholeStatements, WholeOther, WholeLast, WholeCatches, WholeCall, WholeMember}
 use Rattle.wy_well_formed.proofs.Everywhere.{everywhere, everywhere_row, everywhere_initial}
 use Rattle.wy_well_formed.proofs.Leaves.{Worded, AllWorded}
