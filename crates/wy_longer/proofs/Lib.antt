@@ -1,4 +1,3 @@
-pub mod Rules
-pub mod Forms
-pub mod Programs
-pub mod Theorem
+mod Rules
+mod Instance
+mod Theorem

@@ -5,11 +5,10 @@ use Rattle.std.proofs.lemmas.List.{map-append, reverse-append}
 use Rattle.wy_kernel.specs.Program.{Program}
 use Rattle.wy_steps.specs.Sets.{Sets}
 use Rattle.wy_steps.specs.State.{Carried, Noted, State, Stop, StepLimit, Outcome, Done, Left, Stopped}
-use Rattle.wy_steps.specs.Steps.{depth_limit}
-use Rattle.wy_meaning.specs.Run.{world, start, outcome, end, stop_number, stop_of, last_of, tail_of, history, events, output, tail, final_store}
+use Rattle.wy_meaning.specs.Run.{start, outcome, end, stop_number, stop_of, last_of, tail_of, history, events, output, tail, final_store}
 use Rattle.wy_longer.specs.Longer.{IsFrontOf, IsFrontOfLarger, IsSameWithLarger}
 use Rattle.wy_longer.proofs.Rules.{is_at_limit, longer, longer_outcome, at_limit, Grown, Ahead}
-use Rattle.wy_longer.proofs.Programs.{longer_main_run, world_longer}
+use Rattle.wy_longer.proofs.Instance.{run_longer}
 
 not_at_limit : (why : Stop) → (stop_number why ≡ stop_number StepLimit → ⊥) → is_at_limit why ≡ false
 unfolding is_at_limit stop_number
@@ -59,7 +58,7 @@ module _ (A : Sets) (d : ℕ) where
 module _ (A : Sets) (p : Program) (input : List ℕ) (budget d : ℕ) where
   two_runs : Ahead A d (outcome {A = A} p input budget) (outcome {A = A} p input (budget + d))
   unfolding outcome start longer
-  two_runs = (longer_main_run A d (world p depth_limit) (world_longer A d p depth_limit)).by.ahead (start input budget)
+  two_runs = (run_longer A d p).by.ahead (start input budget)
 
   front : IsFrontOfLarger A p input budget (budget + d)
   unfolding events output history
