@@ -1,0 +1,6 @@
+mod Contained
+mod Seen
+mod Quiet
+mod Rules
+mod Forms
+mod Ways

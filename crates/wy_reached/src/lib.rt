@@ -1,0 +1,2 @@
+//! Points that a run executed are reached by links that it crossed.
+#![tactic(auto)]
