@@ -4,3 +4,4 @@ mod Quiet
 mod Rules
 mod Forms
 mod Ways
+mod Expressions
