@@ -5,3 +5,6 @@ mod Rules
 mod Forms
 mod Ways
 mod Expressions
+mod Statements
+mod Bodies
+mod Runs
