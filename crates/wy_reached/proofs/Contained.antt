@@ -46,3 +46,6 @@ pub in_range : (low n k : ℕ) → k < n → Contains (range_with_len low n) (lo
 in_range low zero k l = absurd (omega (arith, l))
 in_range low (suc n) zero l = subst (λ j. Contains (range_with_len low (suc n)) j) (let e : low ≡ low + 0 = omega arith in e) (in_head low (range_with_len (low + 1) n))
 in_range low (suc n) (suc k) l = subst (λ j. Contains (range_with_len low (suc n)) j) (let e : (low + 1) + k ≡ low + suc k = omega arith in e) (in_tail low ((low + 1) + k) (range_with_len (low + 1) n) (in_range (low + 1) n k (omega (arith, l))))
+
+pub in_numbers : (n k : ℕ) → k < n → Contains (range_with_len 0 n) k
+in_numbers n k l = subst (λ j. Contains (range_with_len 0 n) j) (let e : 0 + k ≡ k = omega arith in e) (in_range 0 n k l)

@@ -8,3 +8,6 @@ mod Expressions
 mod Statements
 mod Bodies
 mod Runs
+mod Need
+mod Structure
+mod Ends
