@@ -4,6 +4,8 @@ use Rattle.std.specs.Prelude.{None as Absent}
 use Rattle.std.specs.Prelude.{◌||◌, ◌==◌, nat_eq, reverse, slice_get, get_or, if◌then◌else◌}
 use Rattle.std.specs.List.{Contains, list_any}
 use Rattle.std.proofs.lemmas.Bool.{eqb-true, eq-eqb}
+use Rattle.std.proofs.lemmas.List.{length-map, length-reverse}
+use mathlib.Core.List.{reverse-cons, map-append}
 use Rattle.wy_kernel.specs.Program.{Program}
 use Rattle.wy_kernel.specs.View.{NONE}
 use Rattle.wy_value.specs.declared.value.Value.{Value}
@@ -197,9 +199,125 @@ not_zero zero e = absurd (cc e)
 not_zero (suc n) e = omega arith
 
 zero_not : (n : ℕ) → 0 < n → not (n == 0) ≡ true
-zero_not zero l = absurd (omega (arith, l))
-zero_not (suc n) l = refl
+zero_not n l = go (n == 0) refl
+  where
+    go : (b : Bool) → (n == 0) ≡ b → not (n == 0) ≡ true
+    go true e = let q : n ≡ 0 = eqb-true n 0 e in absurd (omega (arith, l, q))
+    go false e = ap not e
 
 covered_begins : (c : Cover) → (covered_of c).begins ≡ c.begins
 unfolding covered_of
 covered_begins c = refl
+
+-- ---- the end of a run
+
+get_seam : (xs : List Recorded) (x : Recorded) → slice_get (xs ++ x ∷ []) (length xs) ≡ Some x
+get_seam [] x = refl
+get_seam (y ∷ xs) x = get_seam xs x
+
+get_front : (xs : List Recorded) (x : Recorded) (n : ℕ) → (n ≡ length xs → ⊥) → slice_get (xs ++ x ∷ []) n ≡ slice_get xs n
+get_front [] x zero h = absurd (h refl)
+get_front [] x (suc n) h = refl
+get_front (y ∷ xs) x zero h = refl
+get_front (y ∷ xs) x (suc n) h = get_front xs x n (λ e. h (ap suc e))
+
+numbered_at : (xs : List Recorded) (x : Recorded) (n : ℕ) → slice_get (xs ++ x ∷ []) n ≡ (if nat_eq n (length xs) then Some x else slice_get xs n)
+numbered_at xs x n = go (nat_eq n (length xs)) refl
+  where
+    go : (b : Bool) → nat_eq n (length xs) ≡ b → slice_get (xs ++ x ∷ []) n ≡ (if nat_eq n (length xs) then Some x else slice_get xs n)
+    go true e = ap (λ k. slice_get (xs ++ x ∷ []) k) (eqb-true n (length xs) e) ∙ get_seam xs x ∙ ap (λ b. if b then Some x else slice_get xs n) (sym e)
+    go false e = get_front xs x n (λ q. cc (sym (eq-eqb n (length xs) q) ∙ e)) ∙ ap (λ b. if b then Some x else slice_get xs n) (sym e)
+
+module _ {A : Sets} where
+  abbrev pub in_order : List (Noted A) → List Recorded
+  in_order noted = map (λ e. e.event) (reverse noted)
+
+  pub event_at_is : (noted : List (Noted A)) (n : ℕ) → slice_get (in_order noted) n ≡ event_in noted n
+  unfolding event_in
+  event_at_is [] n = refl
+  event_at_is (e ∷ rest) n =
+      ap (λ xs. slice_get xs n) (ap (map (λ (x : Noted A). x.event)) (reverse-cons e rest) ∙ map-append (λ (x : Noted A). x.event) (reverse rest) (e ∷ []))
+      ∙ numbered_at (map (λ (x : Noted A). x.event) (reverse rest)) e.event n
+      ∙ rw (length-map (reverse rest) (λ (x : Noted A). x.event), length-reverse rest) (ap (λ o. if nat_eq n (length rest) then Some e.event else o) (event_at_is rest n))
+
+  -- the records of a state, and covers that are those of its statements
+  module _ (p : Program) (t : State A) (cs : List Cover) (are : map covered_of cs ≡ covers t.coverage 0 p.statements) where
+    abbrev rs : List Recorded
+    rs = in_order t.noted
+
+    at : (k : ℕ) (e : Recorded) → event_in t.noted k ≡ Some e → slice_get rs k ≡ Some e
+    at k e h = event_at_is t.noted k ∙ h
+
+    known : (k : ℕ) (e : Recorded) → slice_get rs k ≡ Some e → event_in t.noted k ≡ Some e
+    known k e h = sym (event_at_is t.noted k) ∙ h
+
+    pub caller_is : (f : Option ℕ) (b : ℕ) → CallerIs t.noted f b → caller_in rs f ≡ b
+    caller_is Absent b h = sym h
+    caller_is (Some f) b h = ap body_of (at f h.0 h.1) ∙ h.2
+
+    happened : {Q : Recorded → Type 0} (x : (k : ℕ) × (r : Recorded) × (slice_get rs k ≡ Some r) × Q r) → Happened t.noted Q
+    happened x = record { number = x.0; event = x.1; there = known x.0 x.1 x.2; is = x.3 }
+
+    began : (n : ℕ) (o : Option Cover) → slice_get cs n ≡ o → not ((cover_or_none o).begins == 0) ≡ true → Executed p t (point.Statement n)
+    began n Absent e h = absurd (cc h)
+    began n (Some c) e h =
+        let m : slice_get (covers t.coverage 0 p.statements) n ≡ Some (covered_of c) = subst (λ xs. slice_get xs n ≡ Some (covered_of c)) are (mapped_at covered_of cs n c e) in
+        let x = covers_at t.coverage 0 p.statements n (covered_of c) m in
+        let same : t.coverage n ≡ covered_of c = ap t.coverage (let q : n ≡ 0 + n = omega arith in q) ∙ x.1 in
+        (subst (λ k. 0 < k) (sym (ap (λ (z : Covered). z.begins) same ∙ covered_begins c)) (not_zero c.begins h), x.0)
+
+    pub was_executed : (q : Point) → executed rs cs q ≡ true → Executed p t q
+    unfolding executed
+    was_executed point.Start h = tt
+    was_executed (point.Entry m) h =
+        let x = any_at (is_call_of m) rs h in
+        let y = and_both (is_call x.1.kind) (is_what x.1.what m) x.3 in
+        happened (x.0, x.1, x.2, (a_call x.1.kind y.0, what_is x.1.what m y.1))
+    was_executed (point.Init c) h =
+        let x = any_at (is_init_of c) rs h in
+        let y = and_both (is_init x.1.kind) (is_what x.1.what c) x.3 in
+        happened (x.0, x.1, x.2, (an_init x.1.kind y.0, what_is x.1.what c y.1))
+    was_executed (point.Statement n) h = began n (slice_get cs n) refl h
+    was_executed (point.Arm site v) h = happened (arm_shown rs site v h)
+    was_executed (point.Catch site) h = happened (catch_shown rs site h)
+
+    begun_there : (n : ℕ) → Executed p t (point.Statement n) → not ((cover_of cs n).begins == 0) ≡ true
+    begun_there n h =
+        let m : slice_get (map covered_of cs) n ≡ Some (t.coverage (0 + n)) = subst (λ xs. slice_get xs n ≡ Some (t.coverage (0 + n))) (sym are) (at_covers t.coverage 0 p.statements n h.1) in
+        let x = at_mapped covered_of cs n (t.coverage (0 + n)) m in
+        let same : t.coverage n ≡ covered_of x.0 = ap t.coverage (let q : n ≡ 0 + n = omega arith in q) ∙ sym x.2 in
+        let begins : 0 < x.0.begins = subst (λ k. 0 < k) (ap (λ (z : Covered). z.begins) same ∙ covered_begins x.0) h.0 in
+        ap (λ (o : Option Cover). not ((cover_or_none o).begins == 0)) x.1 ∙ zero_not x.0.begins begins
+
+    pub is_executed : (q : Point) → Executed p t q → executed rs cs q ≡ true
+    unfolding executed
+    is_executed point.Start h = refl
+    is_executed (point.Entry m) h = any_of (is_call_of m) rs h.number h.event (at h.number h.event h.there) (both_and (is_call h.event.kind) (is_what h.event.what m) (ap is_call h.is.0) (is_its_what h.event.what m h.is.1))
+    is_executed (point.Init c) h = any_of (is_init_of c) rs h.number h.event (at h.number h.event h.there) (both_and (is_init h.event.kind) (is_what h.event.what c) (ap is_init h.is.0) (is_its_what h.event.what c h.is.1))
+    is_executed (point.Statement n) h = begun_there n h
+    is_executed (point.Arm site v) h = shown_arm rs site v h.number h.event (at h.number h.event h.there) h.is
+    is_executed (point.Catch site) h = shown_catch rs site h.number h.event (at h.number h.event h.there) h.is
+
+    begins_there : (q : Point) (e : Recorded) → Begins q e → begins_at q e ≡ true
+    begins_there (point.Entry m) e h = both_and (is_call e.kind) (is_what e.what m) (ap is_call h.0) (is_its_what e.what m h.1)
+    begins_there (point.Init c) e h = both_and (is_init e.kind) (is_what e.what c) (ap is_init h.0) (is_its_what e.what c h.1)
+    begins_there point.Start e h = absurd h
+    begins_there (point.Statement n) e h = absurd h
+    begins_there (point.Arm site v) e h = absurd h
+    begins_there (point.Catch site) e h = absurd h
+
+    is_crossed : (k : LinkKind) (l : Link) → CrossedAs p k t l → IsCrossedAs k p rs cs l
+    is_crossed link_kind.Call l h = record { event = h.event; there = got rs h.number h.event (at h.number h.event h.there); begins = begins_there l.to h.event h.begins; site = h.site; caller = caller_is h.event.frame (method_of p l.from) h.caller }
+    is_crossed link_kind.Into l h = (is_executed l.from h.0, is_executed l.to h.1)
+    is_crossed link_kind.Next l h = (is_executed l.from h.0, is_executed l.to h.1)
+    is_crossed (link_kind.Arm v) l h = (is_executed l.from h.0, is_executed l.to h.1)
+    is_crossed link_kind.Catch l h = (is_executed l.from h.0, is_executed l.to h.1)
+
+    pub reached_by : (q : Point) → Reached p t q → IsReachedByCrossed p rs cs q
+    reached_by q at_start = ([], refl)
+    reached_by q (onward l r i c h e) =
+        let x = reached_by l.from h in
+        (x.0 ++ l ∷ [], subst (Leads (λ l. IsLink p l × IsCrossed p rs cs l) point.Start (x.0 ++ l ∷ [])) e (leads_on (λ l. IsLink p l × IsCrossed p rs cs l) point.Start x.0 l x.1 (i, is_crossed l.kind l c)))
+
+    pub stands_there : (e : Recorded) → Stands p t e → StandsOnLink p rs cs e
+    stands_there e h = record { link = h.link; is_link = h.is_link; is_call = h.is_call; begins = begins_there h.link.to e h.begins; site = h.site; caller = caller_is e.frame (method_of p h.link.from) h.caller; executed = is_executed h.link.from h.executed }

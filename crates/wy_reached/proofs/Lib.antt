@@ -11,3 +11,4 @@ mod Runs
 mod Need
 mod Structure
 mod Ends
+mod Laws
