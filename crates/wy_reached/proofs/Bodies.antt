@@ -1,32 +1,31 @@
 -- Calls and initializations keep what is reached.
-use Rattle.std.proofs.Common.{◌≡◌, ◌<◌, ℕ, suc, Bool, List, [], ◌∷◌, ◌++◌, length, Option, Some, refl, sym, ap, ◌∙◌, subst}
+use Rattle.std.proofs.Common.{◌≡◌, ◌<◌, ℕ, suc, Bool, List, [], ◌∷◌, ◌++◌, Option, Some, refl, sym, ap, subst}
 use Rattle.std.specs.Prelude.{None as Absent}
 use Rattle.std.specs.Prelude.{slice_get}
 use Rattle.std.specs.List.{Contains}
 use Rattle.std.proofs.lemmas.Option.{slice_get_within}
-use Rattle.wy_kernel.specs.declared.types.MethodForm.{MethodForm}
 use Rattle.wy_kernel.specs.Program.{Program, Body, Method, method, class, body, init_body, local_site}
 use Rattle.wy_kernel.specs.Statements.{number_of, statements}
 use Rattle.wy_value.specs.declared.value.Value.TheVariants as val
 use Rattle.wy_event.specs.declared.record.Kind.TheVariants as kind
 use Rattle.wy_event.specs.declared.record.Slot.TheVariants as slot
-use Rattle.wy_steps.specs.State.{Carried, Run, Around, ◌>>◌, return}
-use Rattle.wy_steps.specs.Steps.{Made, Draft, constant}
-use Rattle.wy_meaning.specs.World.{World, plain, about, into}
-use Rattle.wy_meaning.specs.Call.{bound, bind_all, is_void, end_body, run_body, frame_of_call, call_uses, call_method, initialize_above, initialization}
+use Rattle.wy_steps.specs.State.{Carried, Around, ◌>>◌}
+use Rattle.wy_steps.specs.Steps.{constant}
+use Rattle.wy_meaning.specs.World.{World, about, into}
+use Rattle.wy_meaning.specs.Call.{bound, bind_all, is_void, run_body, frame_of_call, call_uses, call_method, initialize_above, initialization}
 use Rattle.wy_meaning.specs.Statement.{exec}
 use Rattle.wy_meaning.specs.Run.{call_body, init_block}
 use Rattle.wy_typing.specs.Expressions.{IsMethod}
 use Rattle.wy_typing.specs.Programs.{this_types, result_of, IsBody, IsBodyOf}
 use Rattle.wy_typing.specs.Statements.{IsTyped}
-use Rattle.wy_induction.specs.Law.{nothing, Entails, OfCall, OfInit, Region, In, Ends}
-use Rattle.wy_induction.proofs.Rules.{newest, before, trivially}
-use Rattle.wy_typed_states.specs.Typed.{local_types, types_of}
+use Rattle.wy_induction.specs.Law.{Entails, OfCall, OfInit, Region, In, Ends}
+use Rattle.wy_induction.proofs.Rules.{newest, before}
+use Rattle.wy_typed_states.specs.Typed.{types_of}
 use Rattle.wy_typed_states.proofs.Subtypes.{part_is}
 use Rattle.wy_typed_states.proofs.Law.{runs}
 use Rattle.wy_typed_states.proofs.Rules.{Ground, A, p, Known, notes_call, notes_init}
 use Rattle.wy_typed_states.proofs.Facts.{all_are, called}
-use Rattle.wy_typed_states.proofs.Places.{Methods, world_of, may_initialize}
+use Rattle.wy_typed_states.proofs.Places.{Methods, world_of}
 use Rattle.wy_typed_states.proofs.Statements.{GivesBack}
 use Rattle.wy_typed_states.proofs.Bodies as typed_body
 use Rattle.wy_typed_states.proofs.Bodies.{part_there, body_there}
@@ -39,7 +38,7 @@ use Rattle.wy_ways.specs.Ways.{ways_of, way, initializing}
 use Rattle.wy_static.specs.Links.{IsLink}
 use Rattle.wy_static.specs.Answers.{method_of}
 use Rattle.wy_reached.proofs.Seen.{ShownBy}
-use Rattle.wy_reached.proofs.Ways.{call_link, Among, way_link}
+use Rattle.wy_reached.proofs.Ways.{call_link, Among}
 use Rattle.wy_reached.proofs.Quiet.{IsQuietDraft, Quiet, q_bind, q_return, q_stop, q_write, note_adds, new_adds, activating_adds}
 use Rattle.wy_reached.proofs.Forms as quietly
 use Rattle.wy_reached.proofs.Expressions.{Links, initializes}

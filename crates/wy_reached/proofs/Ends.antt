@@ -1,13 +1,12 @@
 -- What the end of a run has executed and crossed is what its records and covers show.
-use Rattle.std.proofs.Common.{◌≡◌, ◌≢◌, ◌⊎◌, ◌<◌, ◌≤◌, ◌+◌, ◌&&◌, arith, inl, inr, ⊎_elim, ℕ, zero, suc, Bool, true, false, not, List, [], ◌∷◌, ◌++◌, length, map, Option, Some, refl, sym, ap, ◌∙◌, subst, length-append}
+use Rattle.std.proofs.Common.{◌≡◌, ◌⊎◌, ◌<◌, ◌+◌, ◌&&◌, arith, inl, inr, ⊎_elim, ℕ, zero, suc, Bool, true, false, not, List, [], ◌∷◌, ◌++◌, length, map, Option, Some, refl, sym, ap, ◌∙◌, subst}
 use Rattle.std.specs.Prelude.{None as Absent}
-use Rattle.std.specs.Prelude.{◌||◌, ◌==◌, nat_eq, reverse, slice_get, get_or, if◌then◌else◌}
+use Rattle.std.specs.Prelude.{◌||◌, ◌==◌, nat_eq, reverse, slice_get, if◌then◌else◌}
 use Rattle.std.specs.List.{Contains, list_any}
 use Rattle.std.proofs.lemmas.Bool.{eqb-true, eq-eqb}
 use Rattle.std.proofs.lemmas.List.{length-map, length-reverse}
 use mathlib.Core.List.{reverse-cons, map-append}
 use Rattle.wy_kernel.specs.Program.{Program}
-use Rattle.wy_kernel.specs.View.{NONE}
 use Rattle.wy_value.specs.declared.value.Value.{Value}
 use Rattle.wy_value.specs.declared.value.Value.TheVariants as val
 use Rattle.wy_event.specs.declared.record.Cover.{Cover}
@@ -16,7 +15,7 @@ use Rattle.wy_event.specs.declared.record.Kind.TheVariants as kind
 use Rattle.wy_event.specs.Record.{Recorded}
 use Rattle.wy_event.specs.Sources.{is_what}
 use Rattle.wy_index.specs.declared.found.Hit.{Hit}
-use Rattle.wy_index.specs.Found.{gathered, one_if, is_call, is_init, is_call_of, is_init_of, is_hit, body_of, caller_in, number, hit_from, hit_at, hits_in}
+use Rattle.wy_index.specs.Found.{gathered, one_if, is_call, is_init, is_call_of, is_init_of, is_hit, body_of, caller_in, hit_at, hits_in}
 use Rattle.wy_steps.specs.Sets.{Sets}
 use Rattle.wy_steps.specs.State.{Noted, State, Covered}
 use Rattle.wy_steps.specs.Steps.{event_in}
@@ -34,7 +33,7 @@ use Rattle.wy_whynot.specs.Executed.{cover_of, cover_or_none, is_test, is_catch,
 use Rattle.wy_whynot.proofs.Chaining.{leads_on}
 use Rattle.wy_reached.specs.Laws.{IsReachedByCrossed, StandsOnLink}
 use Rattle.wy_reached.proofs.Contained.{nothing_in, in_head, in_tail, in_cases}
-use Rattle.wy_reached.proofs.Seen.{Happened, arm_number, Shows, Begins, CallerIs, Executed, Taken, Crossed, CrossedAs, Reached, at_start, onward, Stands}
+use Rattle.wy_reached.proofs.Seen.{Happened, arm_number, Shows, Begins, CallerIs, Executed, CrossedAs, Reached, at_start, onward, Stands}
 
 -- ---- lists
 

@@ -1,34 +1,30 @@
 -- Each expression of a body keeps what is reached, where its ways are ways of the program.
-use Rattle.std.proofs.Common.{◌≡◌, ◌<◌, ◌≤◌, ◌+◌, arith, ℕ, zero, suc, Bool, true, false, List, [], ◌∷◌, ◌++◌, length, replicate, inl, inr, ⊎_elim, Option, Some, refl, sym, ap, ◌∙◌, subst}
+use Rattle.std.proofs.Common.{◌≡◌, ◌<◌, ◌≤◌, arith, ℕ, zero, suc, Bool, true, false, List, [], ◌∷◌, ◌++◌, length, replicate, inr, ⊎_elim, Option, Some, refl, sym, ap, ◌∙◌, subst}
 use Rattle.std.specs.Prelude.{None as Absent}
 use Rattle.std.proofs.lemmas.Option.{slice_get_within}
-use Rattle.std.specs.Prelude.{pos, ◌==◌, if◌then◌else◌}
+use Rattle.std.specs.Prelude.{◌==◌, if◌then◌else◌}
 use Rattle.wy_kernel.specs.declared.types.Base.{Base}
-use Rattle.wy_kernel.specs.declared.types.Base.TheVariants.{Primitive as Basic, Class as Named}
 use Rattle.wy_kernel.specs.declared.types.Ty.{Ty}
 use Rattle.wy_kernel.specs.declared.types.Ty.TheVariants.{Of}
-use Rattle.wy_kernel.specs.declared.types.MethodForm.{MethodForm}
 use Rattle.wy_kernel.specs.declared.types.MethodForm.TheVariants as kinds
 use Rattle.wy_kernel.specs.declared.operator.Primitive.{Primitive}
-use Rattle.wy_kernel.specs.declared.operator.Primitive.TheVariants as prim
 use Rattle.wy_kernel.specs.declared.operator.BinOp.{BinOp}
 use Rattle.wy_kernel.specs.declared.operator.UnOp.{UnOp}
 use Rattle.wy_kernel.specs.declared.form.LibOp.{LibOp}
 use Rattle.wy_kernel.specs.declared.form.CondForm.{CondForm}
 use Rattle.wy_kernel.specs.declared.form.CallForm.{CallForm}
 use Rattle.wy_kernel.specs.declared.form.CallForm.TheVariants as call
-use Rattle.wy_kernel.specs.Form.{Constant, Expression, Const, Str, Read, Set, Upd, Un, Bin, Conv, Cast, InstanceOf, Cond, New, NewArray, Call, Cat, Lib, Place, Local, Static, Field, Elem, Part, absent, the, Row, none, more}
-use Rattle.wy_kernel.specs.Program.{Method, method, field, is_source, is_below, dispatch, class_of_type, object_class, string_class, type_of_code, type_code, element_type}
+use Rattle.wy_kernel.specs.Form.{Constant, Expression, Const, Str, Read, Set, Upd, Un, Bin, Conv, Cast, InstanceOf, Cond, New, NewArray, Call, Cat, Lib, Place, Local, Static, Field, Elem, Part, Row, none, more}
+use Rattle.wy_kernel.specs.Program.{Method, method, field, is_source, is_below, dispatch, class_of_type, object_class, string_class, type_of_code, type_code}
 use Rattle.wy_kernel.specs.Subtyping.{class_type, object_type, primitive_type, same}
 use Rattle.wy_kernel.specs.Table.{IsTypeOf}
 use Rattle.wy_value.specs.declared.value.Value.{Value}
 use Rattle.wy_value.specs.declared.value.Value.TheVariants as val
 use Rattle.wy_event.specs.declared.record.Kind.TheVariants as kind
 use Rattle.wy_event.specs.declared.record.Slot.TheVariants as slot
-use Rattle.wy_event.specs.Record.{Recorded}
-use Rattle.wy_steps.specs.State.{Carried, Run, Noted, State, Around, choose, ◌>>=◌, ◌>>◌, return}
-use Rattle.wy_steps.specs.Steps.{Made, constant, tick, with_value, value_of, joined, event_in, note, activating}
-use Rattle.wy_meaning.specs.World.{World, plain, about, into, class_code, is_true, is_null, is_text, all_of}
+use Rattle.wy_steps.specs.State.{Carried, Run, Noted, State, Around, choose, ◌>>=◌, ◌>>◌}
+use Rattle.wy_steps.specs.Steps.{Made, constant, tick, value_of}
+use Rattle.wy_meaning.specs.World.{World, plain, class_code, is_true, is_null, is_text, all_of}
 use Rattle.wy_meaning.specs.Place.{Located, AtLocal, AtStatic, AtField, AtElem, initialize_source, initialize, static_spot, find, read_place, set_place, update_place, operated}
 use Rattle.wy_meaning.specs.Text.{to_string, call_chosen, shown_as, shown, concatenated, cat, append_place}
 use Rattle.wy_meaning.specs.Array.{any_negative, create_array, first_site, rest_sites, set_elements, create_filled, new_array}
@@ -36,22 +32,22 @@ use Rattle.wy_meaning.specs.Library.{library_form}
 use Rattle.wy_meaning.specs.Call.{equals, call_form, call_on, call_static, construct, create}
 use Rattle.wy_meaning.specs.Expression.{part_or, update, unary, binary, convert, cast, instance_of, arm, conditional, eval, locate, eval_part, eval_row}
 use Rattle.wy_meaning.specs.Expression as meaning
-use Rattle.wy_typing.specs.Types.{boolean_type, int_type, text_type, Fits, UpdatesIn}
+use Rattle.wy_typing.specs.Types.{boolean_type, int_type, text_type, Fits}
 use Rattle.wy_typing.specs.Expressions as typing
 use Rattle.wy_typing.specs.Programs.{this_types}
 use Rattle.wy_typing.specs.Expressions.{HasType, Gives, IsPlace, GivesAll, IsMethod, IsMade, MakesReady, MayBeCalled, fitting}
-use Rattle.wy_induction.specs.Law.{nothing, both, Entails, Frame, Region, In}
+use Rattle.wy_induction.specs.Law.{both, Entails, Frame, Region, In}
 use Rattle.wy_induction.specs.Forms.{OfPart, OfRow, OfPlace, Parts}
 use Rattle.wy_induction.proofs.Induction.{of_expression}
-use Rattle.wy_induction.proofs.Rules.{newest, before, trivially}
-use Rattle.wy_typed_states.specs.Typed.{Is, MayStand, local_types, made_type}
-use Rattle.wy_typed_states.proofs.Values.{fits_is, stepped_as}
+use Rattle.wy_induction.proofs.Rules.{newest, before}
+use Rattle.wy_typed_states.specs.Typed.{Is, local_types}
+use Rattle.wy_typed_states.proofs.Values.{fits_is}
 use Rattle.wy_typed_states.proofs.Library.{class_code_is, to_string_method, to_string_is, equals_method, equals_is, text_methods}
-use Rattle.wy_typed_states.proofs.Law.{is, event}
-use Rattle.wy_typed_states.proofs.Rules.{Ground, A, p, Known, Does, gives_less, asks, ticks, notes_test, notes_object, sets_slot}
-use Rattle.wy_typed_states.proofs.Facts.{one_event, HasFound, found_as, new_is, AllAre, all_are, Calls, called}
-use Rattle.wy_typed_states.proofs.Places.{Methods, world_of, of_type, Types, Locates, finds, fetches, finds_type, may_initialize}
-use Rattle.wy_typed_states.proofs.Forms.{T, found_stands, chosen_calls_at, object_is_object, shows, constant_types}
+use Rattle.wy_typed_states.proofs.Law.{is}
+use Rattle.wy_typed_states.proofs.Rules.{Ground, A, p, Known, gives_less, asks, ticks, notes_test, notes_object, sets_slot}
+use Rattle.wy_typed_states.proofs.Facts.{HasFound, found_as, new_is, AllAre, all_are, called}
+use Rattle.wy_typed_states.proofs.Places.{Methods, world_of, of_type, Locates, finds, fetches, finds_type, may_initialize}
+use Rattle.wy_typed_states.proofs.Forms.{T, found_stands, chosen_calls_at, object_is_object, shows}
 use Rattle.wy_typed_states.proofs.Calls.{AllTypes, gives_all, one_method, calls_with, static_calls, Constructs, constructor_calls}
 use Rattle.wy_typed_states.proofs.Arrays.{makes_array, AllAlike, alike, elements_are, element_place, element_stores, made_elements, array_made, one_less}
 use Rattle.wy_typed_states.proofs.Expressions as expression
@@ -61,12 +57,12 @@ use Rattle.wy_ways.specs.declared.point.LinkKind.TheVariants as link_kind
 use Rattle.wy_ways.specs.declared.way.Owner.{Owner}
 use Rattle.wy_ways.specs.declared.way.Goal.TheVariants.{Known as KnownGoal}
 use Rattle.wy_ways.specs.Forms.{arm_owner, forms, forms_within, place_forms, part_forms, row_forms}
-use Rattle.wy_ways.specs.Ways.{way, call_at, initializing, calling, choosing, converting, constructing, placing, updating, called as called_ways, arms, form_ways}
+use Rattle.wy_ways.specs.Ways.{call_at, initializing, calling, choosing, converting, constructing, placing, called as called_ways, arms, form_ways}
 use Rattle.wy_static.specs.Links.{IsLink}
 use Rattle.wy_static.specs.Answers.{method_of}
 use Rattle.wy_reached.proofs.Seen.{ShownBy, arm_number}
 use Rattle.wy_reached.proofs.Ways.{call_link, Among, among_left, among_right, among_head, among_tail, way_link, Each, each_head, each_tail, each_left, each_right, chosen_link}
-use Rattle.wy_reached.proofs.Quiet.{Quiet, q_bind, q_after, q_return, q_choose, q_is_begun, q_tick, q_note, q_write, q_new, note_adds, activating_adds}
+use Rattle.wy_reached.proofs.Quiet.{Quiet, q_bind, q_return, q_choose, q_is_begun, q_tick, q_write, q_new, note_adds, activating_adds}
 use Rattle.wy_reached.proofs.Forms as quietly
 use Rattle.wy_reached.proofs.Rules.{body_number, At, Ours, Edge, bind, after, where_at, at_owner, either, quiet, then_quiet, quiet_first, scopes, records}
 

@@ -1,22 +1,21 @@
 -- Parts of forms that execute no point, whatever their values are.
-use Rattle.std.proofs.Common.{◌≡◌, ℕ, zero, suc, Bool, true, false, List, [], ◌∷◌, Option, Some, refl, sym, ap, ◌∙◌, subst}
+use Rattle.std.proofs.Common.{◌≡◌, ℕ, zero, suc, Bool, true, false, List, [], ◌∷◌, Option, Some, sym, ◌∙◌}
 use Rattle.std.specs.Prelude.{None as Absent}
 use Rattle.std.specs.Prelude.{ℤ, pos}
 use Rattle.wy_kernel.specs.declared.types.Ty.{Ty}
-use Rattle.wy_kernel.specs.declared.types.Ty.TheVariants.{Of}
 use Rattle.wy_kernel.specs.declared.form.LibOp.{LibOp}
 use Rattle.wy_kernel.specs.declared.form.LibOp.TheVariants as op
-use Rattle.wy_kernel.specs.Program.{string_class, type_of_code, type_code, element_type, is_below}
+use Rattle.wy_kernel.specs.Program.{string_class, type_of_code, type_code, element_type}
 use Rattle.wy_kernel.specs.Subtyping.{class_type}
 use Rattle.wy_value.specs.declared.value.Value.{Value}
 use Rattle.wy_value.specs.declared.value.Value.TheVariants as val
 use Rattle.wy_event.specs.declared.record.Kind.TheVariants as kind
 use Rattle.wy_event.specs.declared.record.Slot.{Slot}
 use Rattle.wy_event.specs.declared.record.Slot.TheVariants as slot
-use Rattle.wy_steps.specs.State.{Carried, Run, Reason, Jumped, Returned, Threw, ◌>>=◌, ◌>>◌, return, leave, stop}
-use Rattle.wy_steps.specs.Steps.{Made, constant, value_of, code_of, take_elements}
+use Rattle.wy_steps.specs.State.{Carried, Run, Reason, Jumped, Returned, Threw}
+use Rattle.wy_steps.specs.Steps.{constant, code_of}
 use Rattle.wy_meaning.specs.World.{World, plain, about, into, spelling, class_code, throwing, fail, type_of, units_of, length_of, object_of, natural_of, null_pointer, arithmetic, array_store, array_index, number_format, string_index, negative_size, class_cast}
-use Rattle.wy_meaning.specs.Place.{Spot, local_spot, field_spot, checked_index, element_spot, lacks_value, fetch, assign, may_store, check_store, store, divided}
+use Rattle.wy_meaning.specs.Place.{Spot, local_spot, field_spot, checked_index, element_spot, lacks_value, fetch, assign, check_store, store, divided}
 use Rattle.wy_meaning.specs.Array.{make_array, for_each, subarrays, make_arrays}
 use Rattle.wy_meaning.specs.Text.{spelled_as, make_text, print, print_nothing}
 use Rattle.wy_meaning.specs.Library.{text_arg, unit_or_fail, part_or_fail, int_or_fail, parse, byte_value, read_byte, library_one, library_two, library_three, library}

@@ -1,18 +1,15 @@
 -- In every run executed points are reached, each item is needed, and calls stand on links.
-use Rattle.std.proofs.Common.{◌≡◌, ◌∙◌, ℕ, List, reverse, map, sym, subst}
-use Rattle.std.specs.List.{Contains}
+use Rattle.std.proofs.Common.{◌≡◌, ◌∙◌, ℕ, List, map, sym}
 use Rattle.wy_kernel.specs.Program.{Program}
 use Rattle.wy_event.specs.declared.record.Cover.{Cover}
 use Rattle.wy_event.specs.declared.record.Kind.{Kind}
 use Rattle.wy_event.specs.declared.record.Kind.TheVariants as kind
-use Rattle.wy_event.specs.Record.{Recorded}
 use Rattle.wy_steps.specs.Sets.{Sets}
 use Rattle.wy_meaning.specs.Run.{covers, outcome, end, history, events, tail, tail_of}
 use Rattle.wy_meaning.specs.Kept.{covered_of}
 use Rattle.wy_typing.specs.Programs.{IsProgram}
 use Rattle.wy_typed_states.specs.Typed.{KeepsLibrary}
-use Rattle.wy_typed_states.proofs.Rules.{Ground}
-use Rattle.wy_reached.specs.Laws.{StandsApart, AreCoversOf, ExecutedAreReached, ExecutedPointsAreReached, EachItemIsNeeded, IsCallOrInit, StandsOnLink, CallsStandOnLinks, RunsReach}
+use Rattle.wy_reached.specs.Laws.{StandsApart, AreCoversOf, ExecutedAreReached, ExecutedPointsAreReached, EachItemIsNeeded, IsCallOrInit, CallsStandOnLinks}
 use Rattle.wy_reached.proofs.Seen as seen
 use Rattle.wy_reached.proofs.Need.{needed}
 use Rattle.wy_reached.proofs.Structure.{built}
@@ -20,9 +17,6 @@ use Rattle.wy_reached.proofs.Ends.{in_order, event_at_is, place_in, was_executed
 use Rattle.wy_reached.proofs.Runs.{run_kept}
 
 module _ (A : Sets) (p : Program) (fits : IsProgram p) (library : KeepsLibrary p) (apart : StandsApart p) where
-  ground : Ground
-  ground = record { sets = A; program = p; fits = fits; library = library }
-
   kept : (input : List ℕ) (budget : ℕ) → seen.Inv p (end (outcome {A = A} p input budget))
   kept input budget = run_kept (record { sets = A; program = p; fits = fits; library = library }) (built p apart fits) input budget
 
@@ -40,7 +34,7 @@ module _ (A : Sets) (p : Program) (fits : IsProgram p) (library : KeepsLibrary p
   executed_reached input budget cs h q i e =
       let t = end (outcome {A = A} p input budget) in
       let are = are_covers input budget cs h in
-      reached_by p t cs are q ((kept input budget).reached q (record { link = i.link; is_link = i.is_link; is_end = i.is_end }) (was_executed p t cs are q e))
+      reached_by p t cs are q ((kept input budget).reached q i (was_executed p t cs are q e))
 
   pub points_reached : ExecutedPointsAreReached A p
   unfolding events history
@@ -56,6 +50,3 @@ module _ (A : Sets) (p : Program) (fits : IsProgram p) (library : KeepsLibrary p
       let t = end (outcome {A = A} p input budget) in
       let x = place_in (in_order t.noted) r i in
       stands_there p t cs (are_covers input budget cs h) r (((kept input budget).sound x.0 r (sym (event_at_is t.noted x.0) ∙ x.1)).stands (calling r.kind k))
-
-pub runs_reach : (A : Sets) (p : Program) → IsProgram p → KeepsLibrary p → StandsApart p → RunsReach A p
-runs_reach A p fits library apart = record { reached = points_reached A p fits library apart; needed = items_needed A p fits library apart; calls = calls_stand A p fits library apart }

@@ -1,5 +1,5 @@
 -- Where the executed points are reached by crossed links, each item is needed.
-use Rattle.std.proofs.Common.{◌≡◌, ◌⊎◌, ◌∙◌, ◌++◌, ◌∷◌, [], inl, inr, ⊎_elim, ℕ, Bool, true, false, List, refl, sym, ap, subst}
+use Rattle.std.proofs.Common.{◌≡◌, ◌∙◌, ◌++◌, ◌∷◌, [], inl, ⊎_elim, ℕ, Bool, true, false, List, refl, sym, ap, subst}
 use Rattle.std.specs.List.{Contains}
 use Rattle.wy_kernel.specs.Program.{Program}
 use Rattle.wy_event.specs.declared.record.Cover.{Cover}
@@ -8,12 +8,12 @@ use Rattle.wy_ways.specs.declared.point.Point.{Point}
 use Rattle.wy_ways.specs.declared.point.Point.TheVariants as point
 use Rattle.wy_ways.specs.declared.point.Link.{Link}
 use Rattle.wy_static.specs.Links.{IsLink}
-use Rattle.wy_whynot.specs.Chains.{IsChain, Leads}
+use Rattle.wy_whynot.specs.Chains.{Leads}
 use Rattle.wy_whynot.specs.Evidence.{Evidence}
 use Rattle.wy_whynot.specs.Executed.{executed, IsCrossed}
 use Rattle.wy_whynot.specs.Items.{AreItems, IsBlocked, IsIdle, links_of}
 use Rattle.wy_whynot.proofs.Chaining.{leads_append, leads_weaker}
-use Rattle.wy_reached.specs.Laws.{IsPoint, ExecutedAreReached, IsNeeded}
+use Rattle.wy_reached.specs.Laws.{ExecutedAreReached, IsNeeded}
 use Rattle.wy_reached.proofs.Contained.{nothing_in, in_head, in_cases, in_right, in_either}
 
 module _ (p : Program) (rs : List Recorded) (covers : List Cover) (n : ℕ) where

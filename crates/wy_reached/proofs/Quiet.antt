@@ -1,23 +1,18 @@
 -- Parts of a run that execute no point: they record neither a test nor a call, an initialization or a catch, begin no statement and make no
 -- String.
-use Rattle.std.proofs.Common.{◌≡◌, ℕ, zero, suc, Bool, true, false, List, [], ◌∷◌, length, ◌⊎◌, inl, inr, ⊎_elim, Option, Some, refl, sym, ap, ◌∙◌, subst}
-use Rattle.std.specs.Prelude.{None as Absent}
+use Rattle.std.proofs.Common.{◌≡◌, ℕ, zero, suc, Bool, true, false, List, [], ◌∷◌, length, ◌⊎◌, inl, inr, ⊎_elim, Some, refl, sym, ◌∙◌, subst}
 use Rattle.std.specs.Prelude.{nat_lt, nat_le, ◌+◌}
-use Rattle.wy_kernel.specs.declared.types.Ty.{Ty}
 use Rattle.wy_kernel.specs.Program.{Program, type_of_code}
-use Rattle.wy_kernel.specs.Subtyping.{class_type}
-use Rattle.wy_value.specs.declared.value.Value.TheVariants as val
-use Rattle.wy_event.specs.declared.record.Kind.{Kind}
 use Rattle.wy_event.specs.declared.record.Kind.TheVariants as kind
 use Rattle.wy_event.specs.declared.record.Slot.{Slot}
 use Rattle.wy_event.specs.Record.{Recorded}
 use Rattle.wy_steps.specs.Sets.{Sets}
-use Rattle.wy_steps.specs.State.{Carried, Covered, Reach, Noted, State, Stop, Reason, Outcome, Done, Left, Stopped, Run, go_on, ◌>>=◌, ◌>>◌, return, leave, stop, go_on_left, catching, choose}
+use Rattle.wy_steps.specs.State.{Carried, Reach, State, Stop, Reason, Outcome, Done, Left, Stopped, Run, go_on, ◌>>=◌, ◌>>◌, return, leave, stop, choose}
 use Rattle.wy_steps.specs.Steps.{event_limit, use_limit, element_limit, unit_limit, output_limit, Draft, Made, pay, tick, steps_left, frame, event_at, is_begun, read, declare, code_of, event_in, next_event, with_event, with_stored, with_created, room_for, noting, note, writing, note_write, creating, note_new, with_active, entered, go_in, activating, with_elements, take_elements, with_units, take_units, room_for_output, write_out, take_byte, next_byte}
 use Rattle.wy_meaning.specs.Run.{end}
 use Rattle.wy_typing.specs.Types.{text_type}
 use Rattle.wy_induction.specs.Law.{IsControl}
-use Rattle.wy_typed_states.proofs.Moments.{Later, later_one, newest_there, one_of_longer}
+use Rattle.wy_typed_states.proofs.Moments.{Later, later_one, one_of_longer}
 use Rattle.wy_reached.proofs.Seen.{MakesText}
 
 pub record IsQuiet (e : Recorded) : Type 0 where

@@ -1,15 +1,14 @@
 -- What the parts of a run do to what is reached, from typed states, as rules that a goal determines.
-use Rattle.std.proofs.Common.{◌≡◌, ◌<◌, arith, ℕ, zero, suc, Bool, true, false, List, [], ◌∷◌, length, ◌⊎◌, inl, inr, ⊎_elim, Option, Some, refl, sym, ap, ◌∙◌, subst}
+use Rattle.std.proofs.Common.{◌≡◌, ◌<◌, arith, ℕ, zero, suc, Bool, true, false, List, ◌∷◌, length, ◌⊎◌, inl, inr, ⊎_elim, Option, Some, refl, sym, ap, ◌∙◌, subst}
 use Rattle.std.specs.Prelude.{None as Absent}
 use Rattle.std.specs.Prelude.{nat_eq, if◌then◌else◌}
 use Rattle.std.proofs.lemmas.Bool.{eqb-true, eq-eqb}
-use Rattle.wy_value.specs.declared.value.Value.TheVariants as val
 use Rattle.wy_event.specs.declared.record.Kind.{Kind}
 use Rattle.wy_event.specs.declared.record.Kind.TheVariants as kind
 use Rattle.wy_event.specs.Record.{Recorded}
 use Rattle.wy_index.specs.Found.{body_as, number}
-use Rattle.wy_steps.specs.State.{Active, Carried, Covered, Reach, Noted, State, Stop, StepLimit, Reason, Outcome, Done, Left, Stopped, Run, go_on, ◌>>=◌, ◌>>◌, return, leave, stop, go_on_left, catching, choose}
-use Rattle.wy_steps.specs.Steps.{Draft, Made, tick, steps_left, event_in, next_event, activating, scoped, active_again, reaching, end_reaches, without, in_frame, frame_again, covered, covering, cover_with, begun, ended, left_by, stop_cause, event_of, arrives, cover_end, end_normally, be_left}
+use Rattle.wy_steps.specs.State.{Active, Carried, Covered, State, Stop, StepLimit, Reason, Outcome, Done, Left, Stopped, Run, go_on, ◌>>=◌, ◌>>◌, go_on_left, catching, choose}
+use Rattle.wy_steps.specs.Steps.{Draft, Made, steps_left, event_in, next_event, scoped, active_again, reaching, end_reaches, without, in_frame, frame_again, covered, covering, cover_with, begun, ended, left_by, stop_cause, event_of, arrives, cover_end, end_normally, be_left}
 use Rattle.wy_meaning.specs.Run.{end}
 use Rattle.wy_meaning.specs.Statement.{statement, turns, while_form, do_form}
 use Rattle.wy_induction.specs.Law.{nothing, both, Entails, IsControl, Frame, OfCall, OfInit, Region, Outside, In, Ends}
@@ -28,7 +27,8 @@ use Rattle.wy_ways.specs.declared.point.Link.{Link}
 use Rattle.wy_ways.specs.Standings.{initializer_number}
 use Rattle.wy_static.specs.Links.{IsLink}
 use Rattle.wy_static.specs.Answers.{method_of}
-use Rattle.wy_reached.proofs.Seen.{Happened, ShownBy, BegunBy, Shows, Begins, IsCalling, MakesText, CallerIs, caller_up, Grows, grows_nowhere, grows_on, Executed, Wider, executed_up, Taken, Crossed, CrossedAs, Reached, onward, reached_up, IsPoint, Stands, Sound, Inv, inv_on}
+use Rattle.wy_reached.specs.Laws.{IsPoint}
+use Rattle.wy_reached.proofs.Seen.{Happened, ShownBy, BegunBy, Shows, Begins, IsCalling, CallerIs, caller_up, Grows, grows_nowhere, grows_on, Executed, Wider, executed_up, Taken, CrossedAs, Reached, onward, reached_up, Sound, Inv, inv_on}
 use Rattle.wy_reached.proofs.Quiet.{Quiet, Quietly, IsQuiet, Adds, q_tick, q_stop, q_return}
 
 some_same : {X : Type 0} {x y : X} → Some x ≡ Some y → x ≡ y

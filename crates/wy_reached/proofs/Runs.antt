@@ -1,17 +1,16 @@
 -- Every run keeps what is reached, at each depth of calls.
-use Rattle.std.proofs.Common.{◌≡◌, ◌<◌, arith, ℕ, zero, suc, List, [], ◌∷◌, length, Option, Some, refl, ap, subst, inl}
+use Rattle.std.proofs.Common.{◌≡◌, ◌<◌, arith, ℕ, zero, suc, List, [], length, refl, ap, subst}
 use Rattle.std.specs.Prelude.{None as Absent}
 use Rattle.std.proofs.lemmas.Option.{slice_get_within}
 use Rattle.wy_kernel.specs.declared.types.Base.TheVariants.{Class as Named}
-use Rattle.wy_kernel.specs.Program.{Program, method, class, body, init_body, string_class}
+use Rattle.wy_kernel.specs.Program.{method, class, body, init_body, string_class}
 use Rattle.wy_kernel.specs.View.{NONE}
-use Rattle.wy_value.specs.declared.value.Value.TheVariants as val
-use Rattle.wy_steps.specs.State.{Noted, Run, State, DepthLimit, stop, ◌>>◌}
-use Rattle.wy_steps.specs.Steps.{constant, value_of, event_in, depth_limit}
+use Rattle.wy_steps.specs.State.{DepthLimit, stop, ◌>>◌}
+use Rattle.wy_steps.specs.Steps.{value_of, event_in, depth_limit}
 use Rattle.wy_meaning.specs.World.{World}
 use Rattle.wy_meaning.specs.Call.{initialization}
 use Rattle.wy_meaning.specs.Run.{call_body, init_block, world, strings, main_run, start, outcome, end}
-use Rattle.wy_induction.specs.Law.{nothing, Entails, Region, Outside}
+use Rattle.wy_induction.specs.Law.{nothing, Outside}
 use Rattle.wy_induction.proofs.Rules.{newest}
 use Rattle.wy_typed_states.proofs.Library.{text_made}
 use Rattle.wy_typed_states.proofs.Law.{is}
@@ -26,9 +25,9 @@ use Rattle.wy_ways.specs.declared.point.Point.TheVariants as point
 use Rattle.wy_ways.specs.declared.point.LinkKind.TheVariants as link_kind
 use Rattle.wy_ways.specs.declared.way.Owner.{Owner}
 use Rattle.wy_ways.specs.declared.way.Goal.TheVariants.{Known as KnownGoal}
-use Rattle.wy_ways.specs.Ways.{ways_of, call_at, calling, initializing, start_ways}
+use Rattle.wy_ways.specs.Ways.{call_at, calling, initializing, start_ways}
 use Rattle.wy_reached.proofs.Contained.{in_left}
-use Rattle.wy_reached.proofs.Seen.{Executed, IsPoint, Reached, at_start, Inv}
+use Rattle.wy_reached.proofs.Seen.{Executed, Reached, at_start, Inv}
 use Rattle.wy_reached.proofs.Ways.{Among, among_left, among_right, among_head, way_link}
 use Rattle.wy_reached.proofs.Quiet.{q_stop}
 use Rattle.wy_reached.proofs.Forms as quietly
@@ -81,9 +80,6 @@ module _ (G : Ground) (built : Built (p G)) where
 
   -- ---- whole runs
 
-  start_owner : Owner
-  start_owner = record { point = point.Start; site = (method (p G) (p G).main).site }
-
   module _ (M : Methods G) (L : Links G M) where
     abbrev w : World (A G)
     w = world_of G M
@@ -118,10 +114,6 @@ module _ (G : Ground) (built : Built (p G)) where
       by_point (point.Init c) e = absurd (cc e.there)
       by_point (point.Arm site v) e = absurd (cc e.there)
       by_point (point.Catch site) e = absurd (cc e.there)
-
-  start_noted : (input : List ℕ) (budget : ℕ) → (start {A = A G} input budget).frame ≡ Absent
-  unfolding start
-  start_noted input budget = refl
 
   -- in each run the executed points are reached
   pub run_kept : (input : List ℕ) (budget : ℕ) → Inv (p G) (end (outcome {A = A G} (p G) input budget))

@@ -1,7 +1,6 @@
 -- What a state of a run has executed and crossed, and what is reached in it; all of this stays.
-use Rattle.std.proofs.Common.{◌≡◌, ◌<◌, ◌∙◌, ◌⊎◌, inl, inr, ⊎_elim, ℕ, Bool, true, false, List, ◌∷◌, Option, Some, refl, sym, ap, subst}
+use Rattle.std.proofs.Common.{◌≡◌, ◌<◌, ◌∙◌, ◌⊎◌, ⊎_elim, ℕ, Bool, true, false, List, Option, Some, refl}
 use Rattle.std.specs.Prelude.{None as Absent}
-use Rattle.wy_kernel.specs.declared.types.Ty.{Ty}
 use Rattle.wy_kernel.specs.Program.{Program}
 use Rattle.wy_kernel.specs.View.{NONE}
 use Rattle.wy_value.specs.declared.value.Value.{Value}
@@ -23,6 +22,7 @@ use Rattle.wy_ways.specs.declared.point.LinkKind.TheVariants as link_kind
 use Rattle.wy_ways.specs.declared.point.Link.{Link}
 use Rattle.wy_static.specs.Links.{IsLink}
 use Rattle.wy_static.specs.Answers.{method_of}
+use Rattle.wy_reached.specs.Laws.{IsPoint}
 
 -- ---- events
 
@@ -69,12 +69,6 @@ IsCalling _ = ⊥
 -- a New that makes a String
 abbrev pub MakesText : Recorded → Type 0
 MakesText e = (e.kind ≡ kind.New) × (made_type e ≡ text_type)
-
--- a point at which a link of the program begins or ends
-pub record IsPoint (p : Program) (q : Point) : Type 0 where
-  pub link : Link
-  pub is_link : IsLink p link
-  pub is_end : (link.from ≡ q) ⊎ (link.to ≡ q)
 
 module _ {A : Sets} where
   -- the frame is of the body of this number

@@ -1,8 +1,8 @@
 -- Each statement of a body keeps what is reached, from where a way leads to it.
-use Rattle.std.proofs.Common.{◌≡◌, ◌<◌, ℕ, Bool, true, false, List, [], ◌∷◌, ◌++◌, Option, Some, refl, sym, ap, ◌∙◌, subst}
+use Rattle.std.proofs.Common.{◌≡◌, ℕ, Bool, true, List, [], ◌++◌, Option, Some, refl, sym, ap, subst}
 use Rattle.std.specs.Prelude.{None as Absent}
 use Rattle.std.specs.Prelude.{slice_get}
-use Rattle.std.specs.List.{Contains, flat_map}
+use Rattle.std.specs.List.{Contains}
 use Rattle.wy_kernel.specs.declared.types.Ty.{Ty}
 use Rattle.wy_kernel.specs.Form.{Expression, Part, absent, the, Statement, Stmt, Act, Block, Eval, Declare, If, While, Do, For, Labelled, Jump, Return, Throw, Try, Print, Other, nothing as no_statement, this, Statements, done, first, Catches, uncaught, catch}
 use Rattle.wy_kernel.specs.Statements.{number_of, statements, statements_within, statements_of_all, statements_of_other, statements_of_catches}
@@ -13,17 +13,17 @@ use Rattle.wy_value.specs.declared.value.Value.{Value}
 use Rattle.wy_value.specs.declared.value.Value.TheVariants as val
 use Rattle.wy_event.specs.declared.record.Kind.TheVariants as kind
 use Rattle.wy_event.specs.declared.record.Slot.TheVariants as slot
-use Rattle.wy_steps.specs.State.{Carried, Run, Noted, Through, Reason, Jumped, Returned, Threw, ◌>>=◌, ◌>>◌, leave, catching, choose}
-use Rattle.wy_steps.specs.Steps.{Made, code_of, note, note_write, activating, value_of as carried_of}
+use Rattle.wy_steps.specs.State.{Carried, Run, Through, Reason, Jumped, Returned, Threw, ◌>>=◌, ◌>>◌, leave, catching, choose}
+use Rattle.wy_steps.specs.Steps.{code_of, note, value_of as carried_of}
 use Rattle.wy_meaning.specs.World.{World, plain, into, fail, throwing, null_pointer, is_null}
 use Rattle.wy_meaning.specs.Text.{print_value}
 use Rattle.wy_meaning.specs.Expression.{eval, eval_part, part_or}
-use Rattle.wy_meaning.specs.Statement.{tested, evaluated, if_form, for_test, for_form, return_form, throw_form, Clause, caught, handle, at_throw, finally, try_form, print_form, other_or, exec, exec_act, exec_other, exec_all, exec_catches}
+use Rattle.wy_meaning.specs.Statement.{tested, evaluated, if_form, for_test, for_form, return_form, throw_form, caught, handle, at_throw, finally, try_form, print_form, other_or, exec, exec_act, exec_other, exec_all, exec_catches}
 use Rattle.wy_typing.specs.Types.{boolean_type}
 use Rattle.wy_typing.specs.Expressions.{HasType, fitting}
 use Rattle.wy_typing.specs.Statements.{Within, IsTyped, Acts, OtherTyped, AllTyped, CatchesTyped, IsTest, IsResult, IsOperand}
 use Rattle.wy_induction.specs.Law.{nothing, both, Entails, Frame, In}
-use Rattle.wy_induction.specs.Forms.{OfPart, OfOther, OfStatements, OfCatches, ActParts}
+use Rattle.wy_induction.specs.Forms.{OfOther, OfStatements, OfCatches, ActParts}
 use Rattle.wy_induction.proofs.Induction.{of_statement}
 use Rattle.wy_induction.proofs.Rules.{newest, before, trivially}
 use Rattle.wy_typed_states.specs.Typed.{Runs as HasFrame, local_types}
@@ -32,7 +32,6 @@ use Rattle.wy_typed_states.proofs.Rules as typed_rule
 use Rattle.wy_typed_states.proofs.Rules.{Ground, A, p, Known, Does, forgets, frames, catches_local}
 use Rattle.wy_typed_states.proofs.Facts.{found_as, caught_is}
 use Rattle.wy_typed_states.proofs.Places.{Methods, of_type, world_of, finds_type}
-use Rattle.wy_typed_states.proofs.Forms.{T, shows}
 use Rattle.wy_typed_states.proofs.Statements as typed_statement
 use Rattle.wy_typed_states.proofs.Statements.{GivesBack, leaves_typed, place}
 use Rattle.wy_typed_states.proofs.Expressions as expression
@@ -47,21 +46,13 @@ use Rattle.wy_ways.specs.Ways as ways
 use Rattle.wy_ways.specs.Ways.{owner_of, way, to, to_other, to_catch, to_catches, catch_owner, in_order, by_test, flow, printing, converting, owned_ways, act_forms, in_part, statement_ways}
 use Rattle.wy_static.specs.Answers.{method_of}
 use Rattle.wy_reached.proofs.Contained.{in_head, in_tail, in_left, in_right}
-use Rattle.wy_reached.proofs.Seen.{ShownBy, IsPoint}
+use Rattle.wy_reached.specs.Laws.{IsPoint, HasTest}
+use Rattle.wy_reached.proofs.Seen.{ShownBy}
 use Rattle.wy_reached.proofs.Ways.{Among, among_left, among_right, among_head, among_tail, way_link, Each}
-use Rattle.wy_reached.proofs.Quiet.{Quiet, q_bind, q_after, q_return, q_leave, q_choose, q_frame, q_note, note_adds, write_adds, activating_adds}
+use Rattle.wy_reached.proofs.Quiet.{Quiet, q_bind, q_return, q_leave, q_choose, q_frame, q_note, note_adds, write_adds, activating_adds}
 use Rattle.wy_reached.proofs.Forms as quietly
 use Rattle.wy_reached.proofs.Expressions.{Links, Fine, keeps, shows_fine}
-use Rattle.wy_reached.proofs.Rules as rule
-use Rattle.wy_reached.proofs.Rules.{body_number, At, Ours, Edge, Apart, Way, IsPlainLink, bind, after, where_at, at_owner, either, quiet, then_quiet, quiet_first, catches, records, records_apart, numbered, whiles, dos}
-
--- a statement that has a test
-abbrev pub HasTest : Act → Type 0
-HasTest (If test a b) = Unit {0}
-HasTest (While test body) = Unit {0}
-HasTest (Do body test) = Unit {0}
-HasTest (For inits (the e) updates body) = Unit {0}
-HasTest _ = ⊥
+use Rattle.wy_reached.proofs.Rules.{body_number, Ours, Edge, Apart, Way, IsPlainLink, bind, after, at_owner, either, quiet, then_quiet, quiet_first, catches, records, records_apart, numbered, whiles, dos}
 
 -- its ways are ways of the program, it and its arms stand in the body, and no arm has the site of its test
 pub record GoodAct (p : Program) (b : ℕ) (o : Owner) (act : Act) : Type 0 where

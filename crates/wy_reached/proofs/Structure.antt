@@ -1,5 +1,5 @@
 -- What the parts of a program lead to are ways of it, and each statement and each arm stands in its body.
-use Rattle.std.proofs.Common.{◌≡◌, ◌⊎◌, ◌<◌, ◌+◌, inl, inr, ⊎_elim, ℕ, zero, suc, Bool, true, false, List, [], ◌∷◌, ◌++◌, length, Option, Some, refl, sym, ap, ◌∙◌, subst}
+use Rattle.std.proofs.Common.{◌≡◌, ◌⊎◌, ◌<◌, inl, inr, ⊎_elim, ℕ, zero, suc, Bool, true, false, List, [], ◌∷◌, ◌++◌, length, Option, Some, refl, sym, ap, ◌∙◌, subst}
 use Rattle.std.specs.Prelude.{None as Absent}
 use Rattle.std.specs.Prelude.{slice_get, slice_index_or, if◌then◌else◌}
 use Rattle.std.specs.List.{Contains, flat_map, range_with_len, find}
@@ -10,7 +10,7 @@ use Rattle.std.specs.Ordering.{is_eq}
 use Rattle.std.proofs.lemmas.Option.{slice_get_within}
 use Rattle.wy_kernel.specs.declared.form.CondForm.{CondForm}
 use Rattle.wy_kernel.specs.Form.{Expression, Cond, Part, Statement, Stmt, Act}
-use Rattle.wy_kernel.specs.Program.{Program, Class, Body, class, method, body, init_body}
+use Rattle.wy_kernel.specs.Program.{Program, Class, Body, class, body, init_body}
 use Rattle.wy_kernel.specs.Statements.{number_of, statements, statements_of, statements_of_bodies, statements_of_body}
 use Rattle.wy_kernel.specs.View.{NONE}
 use Rattle.wy_typing.specs.Programs.{IsProgram}
@@ -21,18 +21,17 @@ use Rattle.wy_ways.specs.declared.point.LinkKind.TheVariants as link_kind
 use Rattle.wy_ways.specs.declared.way.Owner.{Owner}
 use Rattle.wy_ways.specs.declared.way.Way.{Way}
 use Rattle.wy_ways.specs.declared.standing.Standing.{Standing}
-use Rattle.wy_ways.specs.Ways.{ways_of, owner_of, flow, printing, owned_ways, act_forms, form_ways, statement_ways, start_ways, entry_ways, init_ways, into_body, above_ways, initializing, way}
-use Rattle.wy_ways.specs.Standings.{initializer_number, standing, both_arms, form_standings, arm_standings, try_standings, standings_in, body_standings, method_standings, initializer_standings, standings_of}
+use Rattle.wy_ways.specs.Ways.{ways_of, owner_of, flow, printing, owned_ways, act_forms, statement_ways, start_ways, entry_ways, init_ways, into_body, above_ways, initializing, way}
+use Rattle.wy_ways.specs.Standings.{initializer_number, standing, form_standings, arm_standings, try_standings, standings_in, body_standings, method_standings, initializer_standings, standings_of}
 use Rattle.wy_static.specs.Order.{same_point, point_cmp}
 use Rattle.wy_static.specs.Answers.{method_of, standing_at}
 use Rattle.wy_static.proofs.Orders.{same_points, point_total}
 use Rattle.std.proofs.lemmas.Cmp.{tied_itself}
-use Rattle.wy_reached.specs.Laws.{IsStatementOrArm, IsTestAt, StandsApart}
-use Rattle.wy_reached.specs.Laws as laws
+use Rattle.wy_reached.specs.Laws.{IsStatementOrArm, HasTest, IsTestAt, StandsApart}
 use Rattle.wy_reached.proofs.Contained.{nothing_in, in_head, in_tail, in_cases, in_left, in_right, in_flat, in_numbers}
-use Rattle.wy_reached.proofs.Seen.{IsPoint, arm_number}
-use Rattle.wy_reached.proofs.Ways.{Among, among_left, among_right, Good, Each}
-use Rattle.wy_reached.proofs.Statements.{HasTest, GoodAct, GoodStatement, Whole}
+use Rattle.wy_reached.proofs.Seen.{arm_number}
+use Rattle.wy_reached.proofs.Ways.{Among, among_left, among_right, Good}
+use Rattle.wy_reached.proofs.Statements.{GoodStatement, Whole}
 use Rattle.wy_reached.proofs.Bodies.{BuiltBody, Built, entry_owner, init_owner}
 
 -- ---- where a point stands
@@ -120,7 +119,7 @@ module _ (p : Program) (apart : StandsApart p) where
             prints = among_left p (printing p o act) (flat_map (owned_ways p) (act_forms o act)) (among_right p (flow o act) (printing p o act ++ flat_map (owned_ways p) (act_forms o act)) all);
             forms = record { by = good_form b number site askable reach act x h i };
             stands = stands_in (point.Statement number) b number (h.stands _ (in_flat (standings_in b) (statements x.block) t _ i (statement_there b t))) tt;
-            apart = λ k v q. apart.tests t site v (h.among t i) (tests_at number site askable reach act k) (record { link = q.link; is_link = q.is_link; is_end = q.is_end });
+            apart = λ k v q. apart.tests t site v (h.among t i) (tests_at number site askable reach act k) q;
           }
 
   -- ---- bodies

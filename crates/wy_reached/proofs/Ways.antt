@@ -1,8 +1,8 @@
 -- The ways of a program that lead on from the parts of its bodies.
-use Rattle.std.proofs.Common.{◌≡◌, ◌⊎◌, inl, inr, ⊎_elim, ℕ, zero, suc, Bool, true, false, List, [], ◌∷◌, ◌++◌, length, Option, Some, refl, sym, ap, ◌∙◌, subst}
+use Rattle.std.proofs.Common.{◌≡◌, ◌⊎◌, inl, inr, ⊎_elim, ℕ, zero, suc, Bool, List, [], ◌∷◌, ◌++◌, Some, refl, sym, ap, ◌∙◌, subst}
 use Rattle.std.specs.Prelude.{slice_get, slice_index_or}
 use Rattle.std.specs.List.{Contains}
-use Rattle.std.proofs.lemmas.Option.{slice_get_within, get_or_from_slice_get}
+use Rattle.std.proofs.lemmas.Option.{slice_get_within}
 use Rattle.wy_kernel.specs.declared.types.Base.{Base}
 use Rattle.wy_kernel.specs.declared.types.Base.TheVariants.{Primitive as Basic, Class as Named}
 use Rattle.wy_kernel.specs.declared.types.Ty.{Ty}
@@ -10,14 +10,14 @@ use Rattle.wy_kernel.specs.declared.types.Ty.TheVariants.{Void, Null as OfNull, 
 use Rattle.wy_kernel.specs.declared.form.CondForm.{CondForm}
 use Rattle.wy_kernel.specs.Form.{Expression, Cond, Part}
 use Rattle.wy_kernel.specs.Program.{Program, Class, class, class_of_type, dispatch, object_class, string_class}
-use Rattle.wy_kernel.specs.Subtyping.{Below, same, transitive, declared, byte_short, short_int, int_long, char_int, of_null, to_object, of_arrays, Supertype, itself, further, class_type, direct_supertypes}
+use Rattle.wy_kernel.specs.Subtyping.{Below, same, transitive, declared, byte_short, short_int, int_long, char_int, of_null, to_object, of_arrays, Supertype, itself, further, class_type}
 use Rattle.wy_typing.specs.Types.{text_type}
 use Rattle.wy_typing.specs.Expressions.{IsMade}
 use Rattle.wy_typed_states.specs.Typed.{MayStand}
 use Rattle.wy_typed_states.proofs.Subtypes.{Top, above_class}
 use Rattle.wy_typed_states.proofs.Rules.{Ground, p}
-use Rattle.wy_typed_states.proofs.Facts.{Receiver, receiver}
-use Rattle.wy_typed_states.proofs.Library.{object_is_top, object_made}
+use Rattle.wy_typed_states.proofs.Facts.{receiver}
+use Rattle.wy_typed_states.proofs.Library.{object_is_top}
 use Rattle.wy_ways.specs.declared.point.Point.{Point}
 use Rattle.wy_ways.specs.declared.point.Point.TheVariants as point
 use Rattle.wy_ways.specs.declared.point.LinkKind.{LinkKind}
@@ -25,10 +25,9 @@ use Rattle.wy_ways.specs.declared.point.LinkKind.TheVariants as link_kind
 use Rattle.wy_ways.specs.declared.point.Link.{Link}
 use Rattle.wy_ways.specs.declared.way.Owner.{Owner}
 use Rattle.wy_ways.specs.declared.way.Goal.TheVariants.{Known, Chosen}
-use Rattle.wy_ways.specs.declared.way.Decides.TheVariants.{Class as ByClass, Object as ByObject, Nothing as ByNothing}
 use Rattle.wy_ways.specs.declared.way.Way.{Way}
-use Rattle.wy_ways.specs.Ways.{ways_of, way, call_at, choosing, calling, form_ways}
-use Rattle.wy_static.specs.Links.{IsLink, IsAtOrBelow, MayReceive, IsTarget}
+use Rattle.wy_ways.specs.Ways.{ways_of, call_at, choosing, form_ways}
+use Rattle.wy_static.specs.Links.{IsLink, MayReceive}
 use Rattle.wy_static.specs.Answers.{method_of}
 use Rattle.wy_reached.proofs.Contained.{in_head, in_tail, in_left, in_right}
 use Rattle.wy_reached.proofs.Seen.{arm_number}

@@ -108,8 +108,3 @@ abbrev pub CallsStandOnLinks : Sets → Program → Type 0
 CallsStandOnLinks A p =
     (input : List ℕ) (budget : ℕ) (covers : List Cover) → AreCoversOf A p input budget covers
     → (r : Recorded) → Contains (events A p input budget) r → IsCallOrInit r.kind → StandsOnLink p (events A p input budget) covers r
-
-pub record RunsReach (A : Sets) (p : Program) : Type 0 where
-  pub reached : ExecutedPointsAreReached A p
-  pub needed : EachItemIsNeeded A p
-  pub calls : CallsStandOnLinks A p

@@ -35,10 +35,10 @@ AllAlike [] ty = Unit {0}
 AllAlike (t ∷ ts) ty = (t ≡ ty) × AllAlike ts ty
 
 module _ (G : Ground) (M : Methods G) where
-  abbrev pub w : World (A G)
+  abbrev w : World (A G)
   w = world_of G M
 
-  abbrev pub array_draft : ℕ → Ty → ℕ → Draft
+  abbrev array_draft : ℕ → Ty → ℕ → Draft
   array_draft site ty n = about kind.New site (type_code ty) (val.Int (pos n))
 
   pub makes_array : {r : Region} {P : Known G} (site : ℕ) (ty : Ty) (n : ℕ) (c : Carried (A G)) → Does G r P (make_array w site ty n c) (event (A G) (p G) (array_draft site ty n))
@@ -52,7 +52,7 @@ module _ (G : Ground) (M : Methods G) where
     pub is_new : array.kind ≡ kind.New
     pub elements : element_type (made_type array) ≡ ty
 
-  pub elements_up : (m n : List (Noted (A G))) (k : ℕ) (ty : Ty) → Later m n → ElementsAre m k ty → ElementsAre n k ty
+  elements_up : (m n : List (Noted (A G))) (k : ℕ) (ty : Ty) → Later m n → ElementsAre m k ty → ElementsAre n k ty
   elements_up m n k ty le h = record { array = h.array; there = le k h.array h.there; is_new = h.is_new; elements = h.elements }
 
   unfoldable pub elements_are : ℕ → Ty → Known G
@@ -79,14 +79,14 @@ module _ (G : Ground) (M : Methods G) where
   -- ---- arrays of arrays
 
   -- so many dimensions may be made, of elements of the type
-  abbrev pub Nested : Ty → List (Carried (A G)) → Type 0
+  abbrev Nested : Ty → List (Carried (A G)) → Type 0
   Nested ty [] = Unit {0}
   Nested ty (d ∷ ds) = IsMadeAs ty × Nested (element_type ty) ds
 
-  unfoldable pub nested : Ty → List (Carried (A G)) → Known G
+  unfoldable nested : Ty → List (Carried (A G)) → Known G
   nested ty ds = record { holds = λ n. Nested ty ds; up = λ m n le h. h }
 
-  pub repeats : {r : Region} {P : Known G} (n k : ℕ) (f : ℕ → Run (A G) Unit) → ((j : ℕ) → Does G r P (f j) (λ t. nothing)) → Does G r P (for_each k n f) (λ t. nothing)
+  repeats : {r : Region} {P : Known G} (n k : ℕ) (f : ℕ → Run (A G) Unit) → ((j : ℕ) → Does G r P (f j) (λ t. nothing)) → Does G r P (for_each k n f) (λ t. nothing)
   unfolding for_each
   repeats zero k f h = gives G tt trivially
   repeats (suc n) k f h = after G (h k) (repeats n (suc k) f h)
@@ -95,25 +95,25 @@ module _ (G : Ground) (M : Methods G) where
   unfolding is
   made_is e site ty n h c = record { by = λ m q. let x = c m q in (new_is G e site (type_code ty) (val.Int (pos n)) ty ty h x.code x.stands).by m q }
 
-  pub fills : (ds : List (Carried (A G))) {r : Region} (site : ℕ) (ty : Ty) (parent n : ℕ) (P : Known G) → Entails P (elements_are parent ty) → Entails P (nested ty ds) → Does G r P (subarrays w site ty ds parent n) (λ t. nothing)
+  fills : (ds : List (Carried (A G))) {r : Region} (site : ℕ) (ty : Ty) (parent n : ℕ) (P : Known G) → Entails P (elements_are parent ty) → Entails P (nested ty ds) → Does G r P (subarrays w site ty ds parent n) (λ t. nothing)
   unfolding subarrays nested both
   fills [] site ty parent n P e h = gives G tt trivially
   fills (d ∷ ds) site ty parent n P e h = repeats n 0 _ (λ j. bind G (makes_array site ty (natural_of d.value) d) (λ sub.
       next G (sets_slot G site (slot.Elem parent j) (val.Object sub.number) _ (element_place parent j ty (before _ _ e)) (element_stores parent j ty (val.Object sub.number) (before _ _ e) (made_is sub site ty (natural_of d.value) (newest _ _) (λ m q. (h.by m q.0).0)))) (λ set.
       fills ds site (element_type ty) sub.number (natural_of d.value) _ (made_elements sub site ty (natural_of d.value) (element_type ty) (newest _ _) (λ m q. ((h.by m q.0).0.code, refl))) (record { by = λ m q. (h.by m q.0).1 }))))
 
-  pub makes_arrays : {r : Region} {P : Known G} (site : ℕ) (ty : Ty) (ds : List (Carried (A G))) → Entails P (nested ty ds) → ((n : List (Noted (A G))) → P.holds n → 0 < length ds) → Does G r P (make_arrays w site ty ds) (λ u. of_type G ty u.value)
+  makes_arrays : {r : Region} {P : Known G} (site : ℕ) (ty : Ty) (ds : List (Carried (A G))) → Entails P (nested ty ds) → ((n : List (Noted (A G))) → P.holds n → 0 < length ds) → Does G r P (make_arrays w site ty ds) (λ u. of_type G ty u.value)
   unfolding make_arrays nested both value_of
   makes_arrays site ty [] h some = gives G _ (record { by = λ n q. let l = some n q in absurd (omega (arith, l)) })
   makes_arrays site ty (d ∷ ds) h some = bind G (makes_array site ty (natural_of d.value) d) (λ e.
       after G (fills ds site (element_type ty) e.number (natural_of d.value) _ (made_elements e site ty (natural_of d.value) (element_type ty) (newest _ _) (λ m q. ((h.by m q.0).0.code, refl))) (record { by = λ m q. (h.by m q.0).1 }))
       (gives G _ (made_is e site ty (natural_of d.value) (newest _ _) (λ m q. (h.by m q.0).0))))
 
-  pub array_reference : (b : Base) (n : ℕ) → IsReference (Of b (suc n))
+  array_reference : (b : Base) (n : ℕ) → IsReference (Of b (suc n))
   array_reference (Basic q) n = tt
   array_reference (Named c) n = tt
 
-  pub known_array : (many : ℕ) (b : Base) (m n : ℕ) → IsTypeOf many (Of b m) → IsTypeOf many (Of b n)
+  known_array : (many : ℕ) (b : Base) (m n : ℕ) → IsTypeOf many (Of b m) → IsTypeOf many (Of b n)
   known_array many (Basic q) m n h = tt
   known_array many (Named c) m n h = h
 
@@ -123,23 +123,23 @@ module _ (G : Ground) (M : Methods G) where
   pub one_less : (b : Base) (n : ℕ) → element_type (Of b (suc n)) ≡ Of b n
   one_less b n = element_of G (Of b (suc n)) b n refl
 
-  pub nested_from : (n : List (Noted (A G))) (b : Base) (m brackets k : ℕ) (ds : List (Carried (A G))) → IsTypeOf (length (p G).classes) (Of b k) → m ≤ brackets → AllAre G n (replicate m int_type) ds → Nested (Of b brackets) ds
+  nested_from : (n : List (Noted (A G))) (b : Base) (m brackets k : ℕ) (ds : List (Carried (A G))) → IsTypeOf (length (p G).classes) (Of b k) → m ≤ brackets → AllAre G n (replicate m int_type) ds → Nested (Of b brackets) ds
   nested_from n b m brackets k [] known le h = tt
   nested_from n b zero brackets k (d ∷ ds) known le h = absurd h
   nested_from n b (suc m) zero k (d ∷ ds) known le h = absurd (omega (arith, le))
   nested_from n b (suc m) (suc brackets) k (d ∷ ds) known le h = (array_made b brackets k known, subst (λ t. Nested t ds) (sym (one_less b brackets)) (nested_from n b m brackets k ds known (omega (arith, le)) h.1))
 
-  pub some_dimension : (n : List (Noted (A G))) (m : ℕ) (ds : List (Carried (A G))) → AllAre G n (replicate (suc m) int_type) ds → 0 < length ds
+  some_dimension : (n : List (Noted (A G))) (m : ℕ) (ds : List (Carried (A G))) → AllAre G n (replicate (suc m) int_type) ds → 0 < length ds
   some_dimension n m [] h = absurd h
   some_dimension n m (d ∷ ds) h = omega arith
 
   module _ (i : Frame) where
-    pub creates_array : {P : Known G} (b : Base) (brackets n : ℕ) (dims : List (Run (A G) (Carried (A G)))) (site : ℕ) → n < brackets → IsTypeOf (length (p G).classes) (Of b brackets) → AllTypes G M i dims (replicate (suc n) int_type) → Does G (In i) P (create_array w (Of b brackets) dims site) (λ u. of_type G (Of b brackets) u.value)
+    creates_array : {P : Known G} (b : Base) (brackets n : ℕ) (dims : List (Run (A G) (Carried (A G)))) (site : ℕ) → n < brackets → IsTypeOf (length (p G).classes) (Of b brackets) → AllTypes G M i dims (replicate (suc n) int_type) → Does G (In i) P (create_array w (Of b brackets) dims site) (λ u. of_type G (Of b brackets) u.value)
     unfolding create_array all_are both nested
     creates_array b brackets n dims site lt known d = bind G (gives_all G M i dims _ _ d) (λ ds. either G (any_negative ds) (λ e. fails G M negative_size site _ (negative_size_fails (p G) G.fits.declarations.library_classes)) (λ e.
         makes_arrays site (Of b brackets) ds (record { by = λ m q. nested_from m b (suc n) brackets brackets ds known (omega (arith, lt)) q.1 }) (λ m q. some_dimension m n ds q.1)))
 
-    pub sets_elements : (ms : List (Run (A G) (Carried (A G)))) (ts : List Ty) (e : Made (A G)) (k : ℕ) (sites : List ℕ) (ty : Ty) (P : Known G) → AllAlike ts ty → Entails P (elements_are e.number ty) → AllTypes G M i ms ts → Does G (In i) P (set_elements e k sites ms) (λ t. nothing)
+    sets_elements : (ms : List (Run (A G) (Carried (A G)))) (ts : List Ty) (e : Made (A G)) (k : ℕ) (sites : List ℕ) (ty : Ty) (P : Known G) → AllAlike ts ty → Entails P (elements_are e.number ty) → AllTypes G M i ms ts → Does G (In i) P (set_elements e k sites ms) (λ t. nothing)
     unfolding set_elements
     sets_elements [] ts e k sites ty P same_types h d = gives G tt trivially
     sets_elements (m ∷ ms) [] e k sites ty P same_types h d = absurd d.0
@@ -150,7 +150,7 @@ module _ (G : Ground) (M : Methods G) where
     alike zero ty = tt
     alike (suc n) ty = (refl, alike n ty)
 
-    pub creates_filled : {P : Known G} (b : Base) (brackets n : ℕ) (ms : List (Run (A G) (Carried (A G)))) (sites : List ℕ) (site : ℕ) → IsTypeOf (length (p G).classes) (Of b brackets) → AllTypes G M i ms (replicate n (Of b brackets)) → Does G (In i) P (create_filled w (Of b (suc brackets)) ms sites site) (λ u. of_type G (Of b (suc brackets)) u.value)
+    creates_filled : {P : Known G} (b : Base) (brackets n : ℕ) (ms : List (Run (A G) (Carried (A G)))) (sites : List ℕ) (site : ℕ) → IsTypeOf (length (p G).classes) (Of b brackets) → AllTypes G M i ms (replicate n (Of b brackets)) → Does G (In i) P (create_filled w (Of b (suc brackets)) ms sites site) (λ u. of_type G (Of b (suc brackets)) u.value)
     unfolding create_filled value_of
     creates_filled b brackets n ms sites site known d =
         let made = array_made b brackets brackets known in

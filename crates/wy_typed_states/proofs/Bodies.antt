@@ -30,11 +30,11 @@ use Rattle.wy_typed_states.proofs.Facts.{AllAre, all_are, Calls, called}
 use Rattle.wy_typed_states.proofs.Places.{Methods, of_type, world_of, may_initialize}
 use Rattle.wy_typed_states.proofs.Statements.{GivesBack, leaves_typed}
 
-pub seam : {X : Type 0} (xs : List X) (y : X) (ys : List X) → slice_get (xs ++ y ∷ ys) (length xs) ≡ Some y
+seam : {X : Type 0} (xs : List X) (y : X) (ys : List X) → slice_get (xs ++ y ∷ ys) (length xs) ≡ Some y
 seam [] y ys = refl
 seam (x ∷ xs) y ys = seam xs y ys
 
-pub some_same : {X : Type 0} {x y : X} → Some x ≡ Some y → x ≡ y
+some_same : {X : Type 0} {x y : X} → Some x ≡ Some y → x ≡ y
 some_same e = cc e
 
 pub part_there : {X : Type 0} (xs : List X) (k : ℕ) → k < length xs → (x : X) × (slice_get xs k ≡ Some x)
@@ -42,12 +42,12 @@ part_there [] k lt = absurd (omega (arith, lt))
 part_there (x ∷ xs) zero lt = (x, refl)
 part_there (x ∷ xs) (suc k) lt = part_there xs k (omega (arith, lt))
 
-pub length_last : (xs : List Ty) (y : Ty) → length (xs ++ y ∷ []) ≡ suc (length xs)
+length_last : (xs : List Ty) (y : Ty) → length (xs ++ y ∷ []) ≡ suc (length xs)
 length_last [] y = refl
 length_last (x ∷ xs) y = ap suc (length_last xs y)
 
 module _ (G : Ground) (M : Methods G) where
-  abbrev pub w : World (A G)
+  abbrev w : World (A G)
   w = world_of G M
 
   -- ---- the events that bodies run by
@@ -60,21 +60,21 @@ module _ (G : Ground) (M : Methods G) where
   unfolding event runs about
   runs_init e site c h = record { by = λ n q. let x = h.by n q in record { event = x.event; there = x.there; runs = ap (λ k. running_as k x.event.what) x.kind ∙ ap (λ o. running_as kind.Init o) x.what } }
 
-  pub begun_init : {P : Known G} (e : Made (A G)) (site c : ℕ) → Entails P (event (A G) (p G) (about kind.Init site c val.None) e) → Entails P (begun (A G) (p G) c)
+  begun_init : {P : Known G} (e : Made (A G)) (site c : ℕ) → Entails P (event (A G) (p G) (about kind.Init site c val.None) e) → Entails P (begun (A G) (p G) c)
   unfolding event begun about
   begun_init e site c h = record { by = λ n q. let x = h.by n q in record { number = e.number; event = x.event; there = x.there; is_init = x.kind; of_class = x.what } }
 
   -- ---- the body of a method
 
   module _ (m : ℕ) (b : Body) (is_body : body (p G) m ≡ Some b) where
-    pub bind_fits : (n : List (Noted (A G))) (f : ℕ) (pre : List Ty) (t : Ty) (rest : List Ty) (v : Value) → Runs n f (OfCall m) → types b ≡ pre ++ t ∷ rest → Is (p G) n t v → FitsLocal (p G) n f (length pre) v
+    bind_fits : (n : List (Noted (A G))) (f : ℕ) (pre : List Ty) (t : Ty) (rest : List Ty) (v : Value) → Runs n f (OfCall m) → types b ≡ pre ++ t ∷ rest → Is (p G) n t v → FitsLocal (p G) n f (length pre) v
     bind_fits n f pre t rest v r e h = record {
       body = OfCall m;
       runs = r;
       typed = λ ty q. inr (subst (λ u. Is (p G) n u v) (some_same (sym (seam pre t rest) ∙ subst (λ (ts : List Ty). slice_get ts (length pre) ≡ Some ty) e (subst (λ o. slice_get (types_of o) (length pre) ≡ Some ty) is_body q))) h);
     }
 
-    pub never_binds : (vs : List (Carried (A G))) (f k : ℕ) (P : Known G) → ((n : List (Noted (A G))) → P.holds n → ⊥) → Does G (Ends (OfCall m)) P (bind_all b f k vs) (λ t. nothing)
+    never_binds : (vs : List (Carried (A G))) (f k : ℕ) (P : Known G) → ((n : List (Noted (A G))) → P.holds n → ⊥) → Does G (Ends (OfCall m)) P (bind_all b f k vs) (λ t. nothing)
     unfolding bind_all
     never_binds [] f k P h = gives G tt trivially
     never_binds (v ∷ vs) f k P h = next G (binds_local G (local_site b k) f k v.value v (record { by = λ n q. absurd (h n q) })) (λ e. never_binds vs f (suc k) P h)
@@ -88,16 +88,16 @@ module _ (G : Ground) (M : Methods G) where
         binds ts vs (pre ++ t ∷ []) rest f (suc k) P (e ∙ sym (append_assoc pre (t ∷ []) (ts ++ rest))) (length_last pre t ∙ ap suc l) r (record { by = λ n q. (h.by n q).1 }))
 
     module _ (md : Method) (found : IsMethod (p G) m md) (typed_body : IsBodyOf (p G) md b) where
-      pub same_method : (r : Method) → IsMethod (p G) m r → md ≡ r
+      same_method : (r : Method) → IsMethod (p G) m r → md ≡ r
       same_method r e = some_same (sym found ∙ e)
 
-      pub same_result : (f : MethodForm) (r ty : Ty) → result_of f r ≡ Some ty → ty ≡ r
+      same_result : (f : MethodForm) (r ty : Ty) → result_of f r ≡ Some ty → ty ≡ r
       same_result kinds.Fields r ty e = absurd (cc e)
       same_result kinds.Static r ty e = some_same (sym e)
       same_result kinds.Instance r ty e = some_same (sym e)
       same_result kinds.Constructor r ty e = some_same (sym e)
 
-      pub answers : {P : Known G} (v : Value) → Entails P (of_type G md.result v) → Entails P (answer (A G) (p G) m v)
+      answers : {P : Known G} (v : Value) → Entails P (of_type G md.result v) → Entails P (answer (A G) (p G) m v)
       unfolding answer is
       answers v h = record { by = λ n q r e. subst (λ (x : Method). Is (p G) n x.result v) (same_method r e) (h.by n q) }
 
@@ -108,31 +108,31 @@ module _ (G : Ground) (M : Methods G) where
       pub block_typed : IsTyped (record { program = p G; locals = local_types (p G) (OfCall m); result = result_of md.form md.result }) b.block
       block_typed = subst (λ o. IsTyped (record { program = p G; locals = types_of o; result = result_of md.form md.result }) b.block) (sym is_body) typed_body.block
 
-      pub nothing_is : (ty : Ty) → is_void ty ≡ true → (n : List (Noted (A G))) → Is (p G) n ty val.None
+      nothing_is : (ty : Ty) → is_void ty ≡ true → (n : List (Noted (A G))) → Is (p G) n ty val.None
       unfolding is_void
       nothing_is Void e n = refl
       nothing_is OfNull e n = absurd (cc e)
       nothing_is (Of base k) e n = absurd (cc e)
 
-      pub ends : {P : Known G} (c : Bool) (site : ℕ) → is_void md.result ≡ c → Does G (In (OfCall m)) P (end_body c site) (λ v. answer (A G) (p G) m v.value)
+      ends : {P : Known G} (c : Bool) (site : ℕ) → is_void md.result ≡ c → Does G (In (OfCall m)) P (end_body c site) (λ v. answer (A G) (p G) m v.value)
       unfolding end_body value_of is
       ends false site e = stops G _ tt
       ends true site e = next G (forgets G (notes G (plain kind.Return site val.None) (constant val.None) (a_return site val.None _))) (λ r. gives G _ (answers val.None (record { by = λ n q. nothing_is md.result e n })))
 
-      pub at_returns : {P : Known G} (why : Reason (A G)) → Entails P (reason (A G) (p G) (In (OfCall m)) why) → Does G (Ends (OfCall m)) P (at_return why) (λ v. answer (A G) (p G) m v.value)
+      at_returns : {P : Known G} (why : Reason (A G)) → Entails P (reason (A G) (p G) (In (OfCall m)) why) → Does G (Ends (OfCall m)) P (at_return why) (λ v. answer (A G) (p G) m v.value)
       unfolding at_return reason
       at_returns (Jumped target e) h = leaves G _ h
       at_returns (Returned e v) h = gives G v h
       at_returns (Threw e v) h = leaves G _ h
 
-      pub runs_body : {P : Known G} (site : ℕ) → Does G (Ends (OfCall m)) P (run_body (exec w b.block) (is_void md.result) site) (λ v. answer (A G) (p G) m v.value)
+      runs_body : {P : Known G} (site : ℕ) → Does G (Ends (OfCall m)) P (run_body (exec w b.block) (is_void md.result) site) (λ v. answer (A G) (p G) m v.value)
       unfolding run_body
       runs_body site = catches_last G (after G ((leaves_typed G M (OfCall m) (result_of md.form md.result) gives_back b.block block_typed).by _) (ends (is_void md.result) site refl)) (λ why. at_returns why (newest _ _))
 
       pub given_at : (n : List (Noted (A G))) (r : Option (Carried (A G))) (args : List (Carried (A G))) → Calls G n m r args → AllAre G n (this_types md.form md.class ++ md.params) (bound r args)
       given_at n r args c = subst (λ (x : Method). AllAre G n (this_types x.form x.class ++ x.params) (bound r args)) (sym (same_method c.method c.found)) c.given
 
-      pub in_frame_does : {P : Known G} (f : ℕ) (r : Option (Carried (A G))) (args : List (Carried (A G))) → Entails P (runs (A G) (p G) (OfCall m) f) → Entails P (called G m r args) → Does G (Ends (OfCall m)) P (frame_of_call b (exec w b.block) (is_void md.result) f (bound r args)) (λ v. answer (A G) (p G) m v.value)
+      in_frame_does : {P : Known G} (f : ℕ) (r : Option (Carried (A G))) (args : List (Carried (A G))) → Entails P (runs (A G) (p G) (OfCall m) f) → Entails P (called G m r args) → Does G (Ends (OfCall m)) P (frame_of_call b (exec w b.block) (is_void md.result) f (bound r args)) (λ v. answer (A G) (p G) m v.value)
       unfolding frame_of_call called all_are
       in_frame_does {P = P} f r args e h = after G (binds (this_types md.form md.class ++ md.params) (bound r args) [] typed_body.begins.0 f 0 P typed_body.begins.1 refl e (record { by = λ n q. given_at n r args (h.by n q) })) (runs_body b.end)
 
@@ -158,7 +158,7 @@ module _ (G : Ground) (M : Methods G) where
     pub no_result : GivesBack G M (OfInit c) Absent
     no_result ty e P k v h = absurd (cc e)
 
-    pub init_block_does : (o : Option Body) → init_body (p G) c ≡ o → (P : Known G) → Does G (In (OfInit c)) P (init_block w o) (λ t. nothing)
+    init_block_does : (o : Option Body) → init_body (p G) c ≡ o → (P : Known G) → Does G (In (OfInit c)) P (init_block w o) (λ t. nothing)
     unfolding init_block init_body
     init_block_does Absent e P = gives G tt trivially
     init_block_does (Some b) e P =
@@ -170,7 +170,7 @@ module _ (G : Ground) (M : Methods G) where
     above_does site Absent = gives G tt trivially
     above_does site (Some k) = may_initialize G M site k
 
-    pub at_fails : {P : Known G} (why : Reason (A G)) → Entails P (reason (A G) (p G) (In (OfInit c)) why) → Does G (Ends (OfInit c)) P (at_failure why) (λ t. nothing)
+    at_fails : {P : Known G} (why : Reason (A G)) → Entails P (reason (A G) (p G) (In (OfInit c)) why) → Does G (Ends (OfInit c)) P (at_failure why) (λ t. nothing)
     unfolding at_failure reason
     at_fails (Jumped target e) h = leaves G _ h
     at_fails (Returned e v) h = leaves G _ h

@@ -35,11 +35,11 @@ one_method xs k a b e h = some_same (sym e ∙ h)
     some_same : {x y : Method} → Some x ≡ Some y → x ≡ y
     some_same e = cc e
 
-pub class_same : (c d : ℕ) → class_type c ≡ class_type d → c ≡ d
+class_same : (c d : ℕ) → class_type c ≡ class_type d → c ≡ d
 class_same c d e = cc e
 
 module _ (G : Ground) (M : Methods G) (i : Frame) where
-  abbrev pub w : World (A G)
+  abbrev w : World (A G)
   w = world_of G M
 
   -- ---- rows of arguments
@@ -59,46 +59,46 @@ module _ (G : Ground) (M : Methods G) (i : Frame) where
 
   -- ---- calls on texts
 
-  pub text_is : (n : List (Noted (A G))) (v : Value) → is_text v ≡ true → Is (p G) n text_type v
+  text_is : (n : List (Noted (A G))) (v : Value) → is_text v ≡ true → Is (p G) n text_type v
   unfolding is_text
   text_is n (val.Text k) e = text_is_text G M i
   text_is n (val.Fixed k) e = text_is_text G M i
   text_is n _ e = absurd (cc e)
 
-  pub text_stands : (n : List (Noted (A G))) (v : Value) (ty : Ty) → is_text v ≡ true → Is (p G) n ty v → MayStand (p G) text_type ty
+  text_stands : (n : List (Noted (A G))) (v : Value) (ty : Ty) → is_text v ≡ true → Is (p G) n ty v → MayStand (p G) text_type ty
   unfolding is_text
   text_stands n (val.Text k) ty e h = h
   text_stands n (val.Fixed k) ty e h = h
   text_stands n _ ty e h = absurd (cc e)
 
   -- what an operation on a text gives is of the type, where this holds
-  abbrev pub OnText : Known G → Ty → Value → Bool → List (Carried (A G)) → Type 0
+  abbrev OnText : Known G → Ty → Value → Bool → List (Carried (A G)) → Type 0
   OnText P ty r true (v ∷ vs) = (z : Bool) → Entails P (of_type G ty (val.Bool z))
   OnText P ty r true [] = Entails P (of_type G ty r)
   OnText P ty r false args = Entails P (of_type G ty r)
 
-  pub on_text : {P : Known G} (ty : Ty) (r : Carried (A G)) (b : Bool) (args : List (Carried (A G))) → OnText P ty r.value b args → Does G (In i) P (call_on_text w b r args) (λ u. of_type G ty u.value)
+  on_text : {P : Known G} (ty : Ty) (r : Carried (A G)) (b : Bool) (args : List (Carried (A G))) → OnText P ty r.value b args → Does G (In i) P (call_on_text w b r args) (λ u. of_type G ty u.value)
   unfolding call_on_text text_equals joined
   on_text ty r true (v ∷ vs) h = next G (some_units G M r.value) (λ x. next G (some_units G M v.value) (λ y. gives G _ (h _)))
   on_text ty r true [] h = gives G r h
   on_text ty r false args h = gives G r h
 
-  pub never_on_text : (P : Known G) (ty : Ty) (r : Value) (b : Bool) (args : List (Carried (A G))) → ((n : List (Noted (A G))) → P.holds n → ⊥) → OnText P ty r b args
+  never_on_text : (P : Known G) (ty : Ty) (r : Value) (b : Bool) (args : List (Carried (A G))) → ((n : List (Noted (A G))) → P.holds n → ⊥) → OnText P ty r b args
   never_on_text P ty r true (v ∷ vs) h = λ z. record { by = λ n q. absurd (h n q) }
   never_on_text P ty r true [] h = record { by = λ n q. absurd (h n q) }
   never_on_text P ty r false args h = record { by = λ n q. absurd (h n q) }
 
-  pub equals_on_text : {P : Known G} (md : Method) (r : Value) (args : List (Carried (A G))) → md ≡ equals_method → Entails P (all_are G md.params args) → OnText P md.result r true args
+  equals_on_text : {P : Known G} (md : Method) (r : Value) (args : List (Carried (A G))) → md ≡ equals_method → Entails P (all_are G md.params args) → OnText P md.result r true args
   unfolding all_are is
   equals_on_text md r (v ∷ vs) e a = λ z. record { by = λ n q. ap (λ (m : Method). m.result) e }
   equals_on_text md r [] e a = record { by = λ n q. absurd (subst (λ (ts : List Ty). AllAre G n ts []) (ap (λ (m : Method). m.params) e) (a.by n q)) }
 
   module _ (k : ℕ) (md : Method) (found : IsMethod (p G) k md) (is_instance : md.form ≡ kinds.Instance) where
-    pub few : (n : List (Noted (A G))) (v : Value) → is_text v ≡ true → Is (p G) n (class_type md.class) v → k < 2
+    few : (n : List (Noted (A G))) (v : Value) → is_text v ≡ true → Is (p G) n (class_type md.class) v → k < 2
     few n v t h = text_methods (p G) G.library G.fits.declarations.library_methods k md found (⊎_elim (λ e. inl (class_same md.class object_class e)) (λ e. inr (class_same md.class string_class e))
         (above_text (p G).classes (object_is_top (p G) G.fits.declarations.library_classes) (text_below_object (p G) G.fits.declarations.library_classes) _ _ (text_stands n v _ t h).below refl))
 
-    pub text_operation : {P : Known G} (r : Value) (args : List (Carried (A G))) → is_text r ≡ true → Entails P (of_type G (class_type md.class) r) → Entails P (all_are G md.params args) → OnText P md.result r (k == equals) args
+    text_operation : {P : Known G} (r : Value) (args : List (Carried (A G))) → is_text r ≡ true → Entails P (of_type G (class_type md.class) r) → Entails P (all_are G md.params args) → OnText P md.result r (k == equals) args
     unfolding is
     text_operation {P = P} r args t e a = go k refl
       where
@@ -108,11 +108,11 @@ module _ (G : Ground) (M : Methods G) (i : Frame) where
         go (suc (suc j)) q = never_on_text P md.result r _ args (λ n h. let l = few n r t (e.by n h) in omega (arith, l, q))
 
     module _ (public : md.is_private ≡ false) where
-      pub never_chosen : {P : Known G} (site : ℕ) (v : Carried (A G)) (args : List (Carried (A G))) (Q : Carried (A G) → Known G) → ((n : List (Noted (A G))) → P.holds n → ⊥) → Does G (In i) P (call_chosen w site k v args) Q
+      never_chosen : {P : Known G} (site : ℕ) (v : Carried (A G)) (args : List (Carried (A G))) (Q : Carried (A G) → Known G) → ((n : List (Noted (A G))) → P.holds n → ⊥) → Does G (In i) P (call_chosen w site k v args) Q
       unfolding call_chosen both
       never_chosen site v args Q h = bind G (some_type G M v.value) (λ ty. gives_less G (M.calls (In i) site (dispatch (p G) k (class_of_type ty)) (Some v) args _ (record { by = λ n q. absurd (h n q.0) })) (λ u. record { by = λ n q. absurd (h n q.0.0) }))
 
-      pub object_chosen : {P : Known G} (site : ℕ) (v : Carried (A G)) (args : List (Carried (A G))) (x : Value) → v.value ≡ x → is_text x ≡ false → is_null x ≡ false → Entails P (of_type G (class_type md.class) v.value) → Entails P (all_are G md.params args) → Does G (In i) P (call_chosen w site k v args) (λ u. of_type G md.result u.value)
+      object_chosen : {P : Known G} (site : ℕ) (v : Carried (A G)) (args : List (Carried (A G))) (x : Value) → v.value ≡ x → is_text x ≡ false → is_null x ≡ false → Entails P (of_type G (class_type md.class) v.value) → Entails P (all_are G md.params args) → Does G (In i) P (call_chosen w site k v args) (λ u. of_type G md.result u.value)
       unfolding is is_text is_null
       object_chosen site v args (val.Object o) e t u h a = chosen_gives G M i k md found is_instance public site v args o e h a
       object_chosen site v args (val.Text o) e t u h a = absurd (cc t)
@@ -169,7 +169,7 @@ module _ (G : Ground) (M : Methods G) (i : Frame) where
   unfolding bound
   constructor_calls n c k md params v args e t q h a = record { method = md; found = e; given = subst (λ (ts : List Ty). AllAre G n (ts ++ md.params) (v ∷ args)) (sym t) (h, subst (λ (ts : List Ty). AllAre G n ts args) (sym q) a) }
 
-  pub constructs : {P : Known G} (site c : ℕ) (o : Option ℕ) (params : List Ty) (v : Carried (A G)) (args : List (Carried (A G))) → Constructs c o params → Entails P (of_type G (class_type c) v.value) → Entails P (all_are G params args) → Does G (In i) P (construct w site o v args) (λ t. nothing)
+  constructs : {P : Known G} (site c : ℕ) (o : Option ℕ) (params : List Ty) (v : Carried (A G)) (args : List (Carried (A G))) → Constructs c o params → Entails P (of_type G (class_type c) v.value) → Entails P (all_are G params args) → Does G (In i) P (construct w site o v args) (λ t. nothing)
   unfolding construct called is all_are
   constructs site c Absent params v args h e a = gives G tt trivially
   constructs site c (Some k) params v args h e a = next G (forgets G (M.calls (In i) site k (Some v) args _ (record { by = λ n q. constructor_calls n c k h.0 params v args h.1 h.2 h.3 (e.by n q) (a.by n q) }))) (λ u. gives G tt trivially)

@@ -34,13 +34,13 @@ use Rattle.wy_typed_states.proofs.Facts.{found_as, HasFound, below_is, receiver,
 use Rattle.wy_typed_states.proofs.Places.{Methods, of_type, world_of, fails, finds_type, some_type, some_units, Types, Locates, finds, fetches, stores_value, divides}
 
 module _ (G : Ground) (M : Methods G) (i : Frame) where
-  abbrev pub w : World (A G)
+  abbrev w : World (A G)
   w = world_of G M
 
   abbrev pub T : Run (A G) (Carried (A G)) → Ty → Type 1
   T m ty = Types G M i m ty
 
-  pub text_here : IsMade (p G) string_class
+  text_here : IsMade (p G) string_class
   text_here = text_made (p G) G.fits.declarations.library_classes
 
   pub text_is_text : MayStand (p G) text_type text_type
@@ -74,7 +74,7 @@ module _ (G : Ground) (M : Methods G) (i : Frame) where
   unfolding convert with_value is both
   convert_types to from m t f d = record { by = λ P. bind G (d.by P) (λ v. gives G _ (record { by = λ n h. converted_is (p G) n to from v.value t f h.1 })) }
 
-  pub null_is : (n : List (Noted (A G))) (ty : Ty) (v : Value) → IsReference ty → is_null v ≡ true → Is (p G) n ty v
+  null_is : (n : List (Noted (A G))) (ty : Ty) (v : Value) → IsReference ty → is_null v ≡ true → Is (p G) n ty v
   unfolding is_null
   null_is n ty val.Null r e = inr r
   null_is n ty _ r e = absurd (cc e)
@@ -96,7 +96,7 @@ module _ (G : Ground) (M : Methods G) (i : Frame) where
   ArmOf Absent ty = (boolean_type ≡ ty) × Unit {1}
   ArmOf (Some m) ty = T m ty
 
-  pub arm_gives : {P : Known G} (e : Made (A G)) (v : Value) (o : Option (Run (A G) (Carried (A G)))) (ty : Ty) → Entails P (of_type G boolean_type v) → ArmOf o ty → Does G (In i) P (arm e v o) (λ u. of_type G ty u.value)
+  arm_gives : {P : Known G} (e : Made (A G)) (v : Value) (o : Option (Run (A G) (Carried (A G)))) (ty : Ty) → Entails P (of_type G boolean_type v) → ArmOf o ty → Does G (In i) P (arm e v o) (λ u. of_type G ty u.value)
   unfolding arm value_of chosen
   arm_gives {P = P} e v Absent ty f h = gives G _ (subst (λ t. Entails P (of_type G t v)) h.0 f)
   arm_gives e v (Some m) ty f h = bind G (h.by _) (λ c. gives G _ (newest _ _))
@@ -112,7 +112,7 @@ module _ (G : Ground) (M : Methods G) (i : Frame) where
   unfolding answer is both
   answered k md e d = gives_less G d (λ v. record { by = λ n h. h.1 md e })
 
-  pub substitutes : (a b : Ty) → Substitutable (p G).classes a b → Fits (p G).classes a b
+  substitutes : (a b : Ty) → Substitutable (p G).classes a b → Fits (p G).classes a b
   substitutes a b (inl e) = inl e
   substitutes a b (inr h) = inr (reference_above (p G).classes a b h.1 h.0, h.1)
 
@@ -120,11 +120,11 @@ module _ (G : Ground) (M : Methods G) (i : Frame) where
   pub on_receiver : (n : List (Noted (A G))) (f : MethodForm) (c : ℕ) (params : List Ty) (v : Carried (A G)) (args : List (Carried (A G))) → this_types f c ≡ class_type c ∷ [] → Is (p G) n (class_type c) v.value → AllAre G n params args → AllAre G n (this_types f c ++ params) (v ∷ args)
   on_receiver n f c params v args e h a = subst (λ (ts : List Ty). AllAre G n (ts ++ params) (v ∷ args)) (sym e) (h, a)
 
-  abbrev pub runs_for : (found : Ty) (k : ℕ) (m : Method) → Type 0
+  abbrev runs_for : (found : Ty) (k : ℕ) (m : Method) → Type 0
   runs_for found k m = RunsFor (p G) (class_of_type found) m (dispatch (p G) k (class_of_type found))
 
   -- what runs for an object takes it
-  pub chosen_calls : (n : List (Noted (A G))) (found : Ty) (k : ℕ) (m : Method) (v : Carried (A G)) (args : List (Carried (A G))) (o : ℕ) → v.value ≡ val.Object o → HasFound G n (val.Object o) found → runs_for found k m → MayStand (p G) found (class_type (class_of_type found)) → AllAre G n m.params args → Calls G n (dispatch (p G) k (class_of_type found)) (Some v) args
+  chosen_calls : (n : List (Noted (A G))) (found : Ty) (k : ℕ) (m : Method) (v : Carried (A G)) (args : List (Carried (A G))) (o : ℕ) → v.value ≡ val.Object o → HasFound G n (val.Object o) found → runs_for found k m → MayStand (p G) found (class_type (class_of_type found)) → AllAre G n m.params args → Calls G n (dispatch (p G) k (class_of_type found)) (Some v) args
   unfolding bound
   chosen_calls n found k m v args o is h r s a =
       let stands : MayStand (p G) (made_type h.0) (class_type r.run.class) = subst (λ t. MayStand (p G) t (class_type r.run.class)) h.4 (record { reference = tt; concrete = s.concrete; below = transitive s.below r.receiver }) in
@@ -141,10 +141,10 @@ module _ (G : Ground) (M : Methods G) (i : Frame) where
   found_stands n ty found o r h = subst (λ t. MayStand (p G) t ty) (sym (h.4 ∙ ap made_type (one_event n o h.0 r.event h.1 r.there))) r.stands
 
   module _ (k : ℕ) (md : Method) (found_method : IsMethod (p G) k md) (is_instance : md.form ≡ kinds.Instance) (public : md.is_private ≡ false) where
-    pub runs_where : (found : Ty) → MayStand (p G) found (class_type md.class) → runs_for found k md
+    runs_where : (found : Ty) → MayStand (p G) found (class_type md.class) → runs_for found k md
     runs_where found s = let r = receiver G found md.class s in G.fits.runs (class_of_type found) k md r.made found_method is_instance public r.below
 
-    pub stands_where : (n : List (Noted (A G))) (v : Value) (o : ℕ) (found : Ty) → v ≡ val.Object o → Is (p G) n (class_type md.class) v → HasFound G n v found → MayStand (p G) found (class_type md.class)
+    stands_where : (n : List (Noted (A G))) (v : Value) (o : ℕ) (found : Ty) → v ≡ val.Object o → Is (p G) n (class_type md.class) v → HasFound G n v found → MayStand (p G) found (class_type md.class)
     stands_where n v o found is h f = found_stands n (class_type md.class) found o (subst (λ u. Is (p G) n (class_type md.class) u) is h) (subst (λ u. HasFound G n u found) is f)
 
     pub chosen_calls_at : (n : List (Noted (A G))) (v : Carried (A G)) (args : List (Carried (A G))) (o : ℕ) (found : Ty) → v.value ≡ val.Object o → Is (p G) n (class_type md.class) v.value → HasFound G n v.value found → AllAre G n md.params args → Calls G n (dispatch (p G) k (class_of_type found)) (Some v) args
@@ -152,7 +152,7 @@ module _ (G : Ground) (M : Methods G) (i : Frame) where
         let s = stands_where n v.value o found is h f in
         chosen_calls n found k md v args o is (subst (λ u. HasFound G n u found) is f) (runs_where found s) (receiver G found md.class s).stands a
 
-    pub chosen_answers : (n : List (Noted (A G))) (v u : Value) (o : ℕ) (found : Ty) → v ≡ val.Object o → Is (p G) n (class_type md.class) v → HasFound G n v found → ((run : Method) → IsMethod (p G) (dispatch (p G) k (class_of_type found)) run → Is (p G) n run.result u) → Is (p G) n md.result u
+    chosen_answers : (n : List (Noted (A G))) (v u : Value) (o : ℕ) (found : Ty) → v ≡ val.Object o → Is (p G) n (class_type md.class) v → HasFound G n v found → ((run : Method) → IsMethod (p G) (dispatch (p G) k (class_of_type found)) run → Is (p G) n run.result u) → Is (p G) n md.result u
     chosen_answers n v u o found is h f a = let r = runs_where found (stands_where n v o found is h f) in fits_is (p G) n _ _ u (substitutes r.run.result md.result r.result) (a r.run r.found)
 
     -- a call of an object's method
@@ -167,7 +167,7 @@ module _ (G : Ground) (M : Methods G) (i : Frame) where
   pub object_is_object : (n : List (Noted (A G))) (ty : Ty) (o : ℕ) → Is (p G) n ty (val.Object o) → Is (p G) n object_type (val.Object o)
   object_is_object n ty o h = record { event = h.event; there = h.there; is_new = h.is_new; stands = record { reference = tt; concrete = h.stands.concrete; below = transitive h.stands.below (to_object h.stands.reference) } }
 
-  pub shows_as : {P : Known G} (site : ℕ) (v : Carried (A G)) (x : Value) (ty : Ty) → v.value ≡ x → Entails P (of_type G ty v.value) → Does G (In i) P (shown_as w site v x) (λ u. nothing)
+  shows_as : {P : Known G} (site : ℕ) (v : Carried (A G)) (x : Value) (ty : Ty) → v.value ≡ x → Entails P (of_type G ty v.value) → Does G (In i) P (shown_as w site v x) (λ u. nothing)
   unfolding shown_as is all_are
   shows_as site v (val.Object o) ty e h = forgets G (chosen_gives to_string to_string_method (to_string_is (p G) G.fits.declarations.library_methods) refl refl site v [] o e
       (record { by = λ n q. subst (λ u. Is (p G) n object_type u) (sym e) (object_is_object n ty o (subst (λ u. Is (p G) n ty u) e (h.by n q))) }) (record { by = λ n q. tt }))

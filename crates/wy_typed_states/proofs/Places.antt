@@ -47,7 +47,7 @@ module _ (G : Ground) where
   world_of M = record { program = p G; call = M.call; enter = M.enter }
 
 module _ (G : Ground) (M : Methods G) where
-  abbrev pub w : World (A G)
+  abbrev w : World (A G)
   w = world_of G M
 
   -- ---- exceptions
@@ -68,7 +68,7 @@ module _ (G : Ground) (M : Methods G) where
   pub looks_up : {r : Region} {P : Known G} (n : ℕ) → Does G r P (event_at n) (λ o. nothing)
   looks_up n = looks G n (λ o. nothing) (λ o m h e. tt)
 
-  pub object_found : (m : List (Noted (A G))) (ty : Ty) (k : ℕ) (o : Option Recorded) → Refers (p G) m ty k → o ≡ event_in m k → HasFound G m (val.Object k) (type_in o)
+  object_found : (m : List (Noted (A G))) (ty : Ty) (k : ℕ) (o : Option Recorded) → Refers (p G) m ty k → o ≡ event_in m k → HasFound G m (val.Object k) (type_in o)
   unfolding type_in
   object_found m ty k o h e = (h.event, h.there, h.is_new, h.stands.concrete, ap type_in (e ∙ h.there))
 
@@ -103,10 +103,10 @@ module _ (G : Ground) (M : Methods G) where
 
   -- ---- classes
 
-  pub begun_or : (c : ℕ) (going : Bool) (n : List (Noted (A G))) → (going ≡ true → Begun n c) → going ≡ true → Begun n c
+  begun_or : (c : ℕ) (going : Bool) (n : List (Noted (A G))) → (going ≡ true → Begun n c) → going ≡ true → Begun n c
   begun_or c going n h e = h e
 
-  pub starts : {r : Region} {P : Known G} (site c : ℕ) (source : Bool) → source ≡ true → Does G r P (initialize_source w site c source) (λ t. begun (A G) (p G) c)
+  starts : {r : Region} {P : Known G} (site c : ℕ) (source : Bool) → source ≡ true → Does G r P (initialize_source w site c source) (λ t. begun (A G) (p G) c)
   unfolding initialize_source told begun both
   starts site c false e = absurd (cc e)
   starts {r = r} site c true e = bind G (asks G c) (λ going. either G going (λ q. gives G tt (record { by = λ n h. h.1 q })) (λ q. M.enters r site c _))
@@ -115,7 +115,7 @@ module _ (G : Ground) (M : Methods G) where
   unfolding initialize
   initializes site c e = starts site c (is_source c) e
 
-  pub may_start : {r : Region} {P : Known G} (site c : ℕ) (source : Bool) → Does G r P (initialize_source w site c source) (λ t. nothing)
+  may_start : {r : Region} {P : Known G} (site c : ℕ) (source : Bool) → Does G r P (initialize_source w site c source) (λ t. nothing)
   unfolding initialize_source
   may_start site c false = gives G tt trivially
   may_start {r = r} site c true = forgets G (starts site c true refl)
@@ -136,36 +136,36 @@ module _ (G : Ground) (M : Methods G) where
     Locates (AtField object k site) ty = (f : Field) × IsField (p G) k f × (f.ty ≡ ty) × Types object (class_type f.class)
     Locates (AtElem array index site) ty = (base : Base) × (b : ℕ) × (Of base b ≡ ty) × Types array (Of base (suc b)) × Types index int_type
 
-    abbrev pub SpotOf : Ty → Spot (A G) → Known G
+    abbrev SpotOf : Ty → Spot (A G) → Known G
     SpotOf ty x = holds_type G i ty x.slot
 
-    pub finds_local : {P : Known G} (k : ℕ) (ty : Ty) → slice_get (local_types (p G) i) k ≡ Some ty → Does G (In i) P (local_spot k) (SpotOf ty)
+    finds_local : {P : Known G} (k : ℕ) (ty : Ty) → slice_get (local_types (p G) i) k ≡ Some ty → Does G (In i) P (local_spot k) (SpotOf ty)
     unfolding local_spot current holds_type both code_of
     finds_local k ty e = bind G (frames G) (λ o. gives G _ (record { by = λ n h. let c = h.1 in a_local (subst (λ f. Runs n f i) (sym (ap code_of c.1)) c.2) e }))
 
-    pub field_found : (xs : List Field) (k : ℕ) (f d : Field) → slice_get xs k ≡ Some f → slice_index_or xs k d ≡ f
+    field_found : (xs : List Field) (k : ℕ) (f d : Field) → slice_get xs k ≡ Some f → slice_index_or xs k d ≡ f
     field_found [] k f d e = absurd (cc e)
     field_found (x ∷ xs) zero f d e = cc e
     field_found (x ∷ xs) (suc k) f d e = field_found xs k f d e
 
-    pub source_of : (k : ℕ) (f : Field) → IsField (p G) k f → f.is_static ≡ true → is_source (field (p G) k).class ≡ true
+    source_of : (k : ℕ) (f : Field) → IsField (p G) k f → f.is_static ≡ true → is_source (field (p G) k).class ≡ true
     unfolding field
     source_of k f e s = subst (λ (z : Field). is_source z.class ≡ true) (sym (field_found (p G).fields k f _ e)) (static_of_source (p G) G.library G.fits.declarations.library_fields k f e s)
 
-    pub finds_static : {P : Known G} (k site : ℕ) (f : Field) (ty : Ty) → IsField (p G) k f → f.is_static ≡ true → f.ty ≡ ty → Does G (In i) P (static_spot w k site) (SpotOf ty)
+    finds_static : {P : Known G} (k site : ℕ) (f : Field) (ty : Ty) → IsField (p G) k f → f.is_static ≡ true → f.ty ≡ ty → Does G (In i) P (static_spot w k site) (SpotOf ty)
     unfolding static_spot holds_type begun both ◌>>◌
     finds_static k site f ty e s t = bind G (initializes site (field (p G) k).class (source_of k f e s)) (λ u. gives G _ (record { by = λ n h. a_static f h.1 e t }))
 
-    pub finds_field : {P : Known G} (k site : ℕ) (o : Carried (A G)) (f : Field) (ty : Ty) → IsField (p G) k f → f.ty ≡ ty → Entails P (of_type G (class_type f.class) o.value) → Does G (In i) P (field_spot w k site o) (SpotOf ty)
+    finds_field : {P : Known G} (k site : ℕ) (o : Carried (A G)) (f : Field) (ty : Ty) → IsField (p G) k f → f.ty ≡ ty → Entails P (of_type G (class_type f.class) o.value) → Does G (In i) P (field_spot w k site o) (SpotOf ty)
     unfolding field_spot holds_type is both
     finds_field k site o f ty e t h = bind G (finds_object (class_type f.class) site o o.value h) (λ n. gives G _ (record { by = λ m q. let r = q.1 in a_field f (record { event = r.event; there = r.there; is_new = r.is_new }) e t }))
 
-    pub checks_index : {P : Known G} (site : ℕ) (c : Carried (A G)) (o : Option ℕ) → Does G (In i) P (checked_index w site c o) (λ n. nothing)
+    checks_index : {P : Known G} (site : ℕ) (c : Carried (A G)) (o : Option ℕ) → Does G (In i) P (checked_index w site c o) (λ n. nothing)
     unfolding checked_index
     checks_index site c (Some k) = gives G k trivially
     checks_index site c Absent = fails array_index site c (array_index_fails (p G) G.fits.declarations.library_classes)
 
-    pub finds_element : {P : Known G} (site : ℕ) (a k : Carried (A G)) (base : Base) (b : ℕ) (ty : Ty) → Of base b ≡ ty → Entails P (of_type G (Of base (suc b)) a.value) → Does G (In i) P (element_spot w site a k) (SpotOf ty)
+    finds_element : {P : Known G} (site : ℕ) (a k : Carried (A G)) (base : Base) (b : ℕ) (ty : Ty) → Of base b ≡ ty → Entails P (of_type G (Of base (suc b)) a.value) → Does G (In i) P (element_spot w site a k) (SpotOf ty)
     unfolding element_spot holds_type is both
     finds_element site a k base b ty t h = bind G (finds_object (Of base (suc b)) site _ a.value h) (λ n. next G (some_length n) (λ l. next G (checks_index site _ _) (λ j. gives G _ (record { by = λ m q. an_element base b t q.1 }))))
 
@@ -192,20 +192,20 @@ module _ (G : Ground) (M : Methods G) where
     unfolding assign value_of
     assigns site x v ty e f h = next G (sets_slot G site x.slot v.value _ e f) (λ u. gives G _ h)
 
-    pub array_found : (m : List (Noted (A G))) (ty : Ty) (a j : ℕ) (o : Option Recorded) → HoldsType G i m ty (slot.Elem a j) → o ≡ event_in m a → HasFound G m (val.Object a) (type_in o)
+    array_found : (m : List (Noted (A G))) (ty : Ty) (a j : ℕ) (o : Option Recorded) → HoldsType G i m ty (slot.Elem a j) → o ≡ event_in m a → HasFound G m (val.Object a) (type_in o)
     array_found m ty a j o (an_element base b t r) e = object_found m (Of base (suc b)) a o r e
 
-    pub looks_array : {P : Known G} (a j : ℕ) (ty : Ty) → Entails P (holds_type G i ty (slot.Elem a j)) → Does G (In i) P (type_of (val.Object a)) (found_as G (val.Object a))
+    looks_array : {P : Known G} (a j : ℕ) (ty : Ty) → Entails P (holds_type G i ty (slot.Elem a j)) → Does G (In i) P (type_of (val.Object a)) (found_as G (val.Object a))
     unfolding type_of holds_type found_as
     looks_array a j ty e = bind G (looks G a (λ o. found_as G (val.Object a) (type_in o)) (λ o m q s. array_found m ty a j o (e.by m q) s)) (λ o. gives G (type_in o) (newest _ _))
 
-    pub checks_element : {P : Known G} (site : ℕ) (x : Spot (A G)) (v : Carried (A G)) (a j : ℕ) (ty : Ty) → Entails P (holds_type G i ty (slot.Elem a j)) → Entails P (of_type G ty v.value) → Does G (In i) P (check_store w site x v (slot.Elem a j)) (λ t. stores (A G) (p G) (slot.Elem a j) v.value)
+    checks_element : {P : Known G} (site : ℕ) (x : Spot (A G)) (v : Carried (A G)) (a j : ℕ) (ty : Ty) → Entails P (holds_type G i ty (slot.Elem a j)) → Entails P (of_type G ty v.value) → Does G (In i) P (check_store w site x v (slot.Elem a j)) (λ t. stores (A G) (p G) (slot.Elem a j) v.value)
     unfolding check_store holds_type is both found_as stores
     checks_element {P = P} site x v a j ty e h =
         bind G (looks_array a j ty e) (λ whole. bind G (finds_type ty v.value (before _ _ h)) (λ found.
         either G (may_store (p G) (element_type whole) found v.value) (λ m. gives G tt (record { by = λ n q. checked_fits G i n ty a j v.value whole found (e.by n q.0.0) (h.by n q.0.0) q.0.1 q.1 m })) (λ m. fails array_store site _ (array_store_fails (p G) G.fits.declarations.library_classes))))
 
-    pub checks : {P : Known G} (site : ℕ) (x : Spot (A G)) (v : Carried (A G)) (y : Slot) (ty : Ty) → Entails P (holds_type G i ty y) → Entails P (of_type G ty v.value) → Does G (In i) P (check_store w site x v y) (λ t. stores (A G) (p G) y v.value)
+    checks : {P : Known G} (site : ℕ) (x : Spot (A G)) (v : Carried (A G)) (y : Slot) (ty : Ty) → Entails P (holds_type G i ty y) → Entails P (of_type G ty v.value) → Does G (In i) P (check_store w site x v y) (λ t. stores (A G) (p G) y v.value)
     unfolding check_store holds_type is stores
     checks site x v (slot.Elem a j) ty e h = checks_element site x v a j ty e h
     checks site x v (slot.Local f k) ty e h = gives G tt (record { by = λ n q. store_fits G i n ty (slot.Local f k) v.value tt (e.by n q) (h.by n q) })
@@ -232,11 +232,11 @@ module _ (G : Ground) (M : Methods G) where
     divides site c (Some x) Q h = gives G _ (h x refl)
     divides site c Absent Q h = fails arithmetic site c (arithmetic_fails (p G) G.fits.declarations.library_classes)
 
-    pub if_is : {P : Known G} (b : Bool) (x y : Carried (A G)) (ty : Ty) → Entails P (of_type G ty x.value) → Entails P (of_type G ty y.value) → Entails P (of_type G ty (if b then x else y).value)
+    if_is : {P : Known G} (b : Bool) (x y : Carried (A G)) (ty : Ty) → Entails P (of_type G ty x.value) → Entails P (of_type G ty y.value) → Entails P (of_type G ty (if b then x else y).value)
     if_is true x y ty e f = e
     if_is false x y ty e f = f
 
-    pub assigns_primitive : {P : Known G} (site : ℕ) (x : Spot (A G)) (v : Carried (A G)) (q : Primitive) → Entails P (SpotOf (primitive_type q) x) → Entails P (of_type G (primitive_type q) v.value) → Does G (In i) P (assign site x v) (λ u. of_type G (primitive_type q) u.value)
+    assigns_primitive : {P : Known G} (site : ℕ) (x : Spot (A G)) (v : Carried (A G)) (q : Primitive) → Entails P (SpotOf (primitive_type q) x) → Entails P (of_type G (primitive_type q) v.value) → Does G (In i) P (assign site x v) (λ u. of_type G (primitive_type q) u.value)
     unfolding stores holds_type is
     assigns_primitive site x v q e h = assigns site x v (primitive_type q) (may_read G i (primitive_type q) x.slot e) (record { by = λ n k. primitive_fits G i n q x.slot v.value (e.by n k) (h.by n k) }) h
 

@@ -39,11 +39,11 @@ use Rattle.wy_typed_states.proofs.Bodies.{body_called, initialized}
 
 module _ (G : Ground) where
   -- the calls and initializations of the world at a depth
-  pub record At (depth : ℕ) : Type 1 where
+  record At (depth : ℕ) : Type 1 where
     pub methods : Methods G
     pub is : world_of G methods ≡ world (p G) depth
 
-  pub at_depth : (depth : ℕ) → At depth
+  at_depth : (depth : ℕ) → At depth
   unfolding world
   at_depth zero = record {
     methods = record {
@@ -72,7 +72,7 @@ module _ (G : Ground) where
       }
 
   module _ (M : Methods G) where
-    abbrev pub w : World (A G)
+    abbrev w : World (A G)
     w = world_of G M
 
     pub main_calls : (n : List (Noted (A G))) (v : Carried (A G)) → Is (p G) n strings v.value → Calls G n (p G).main Absent (v ∷ [])
@@ -83,7 +83,7 @@ module _ (G : Ground) where
       given = subst (λ f. AllAre G n (this_types f m.method.class ++ m.method.params) (v ∷ [])) (sym m.static) (subst (λ (ts : List Ty). AllAre G n ts (v ∷ [])) (sym m.params) (h, tt));
     }
 
-    pub runs_main : {P : Known G} → Does G Outside P (main_run w) (λ v. nothing)
+    runs_main : {P : Known G} → Does G Outside P (main_run w) (λ v. nothing)
     unfolding main_run ◌>>◌ value_of called is
     runs_main =
         let text = text_made (p G) G.fits.declarations.library_classes in
@@ -94,36 +94,36 @@ module _ (G : Ground) where
   -- ---- from rules to states
 
   -- what is known of an outcome
-  abbrev pub Given : {X : Type 0} → Region → (X → Known G) → Outcome (A G) X → Type 0
+  abbrev Given : {X : Type 0} → Region → (X → Known G) → Outcome (A G) X → Type 0
   Given r Q (Done x t) = (Q x).holds t.noted
   Given r Q (Left why t) = (reason (A G) (p G) r why).holds t.noted
   Given r Q (Stopped why t) = Unit {0}
 
-  unfoldable pub GivenByLaw : {X : Type 0} → Region → (X → Known G) → Outcome (A G) X → Type 0
+  unfoldable GivenByLaw : {X : Type 0} → Region → (X → Known G) → Outcome (A G) X → Type 0
   unfolding law
   GivenByLaw r Q o = state.Given (A G) (law (A G) (p G) G.fits) r Q o
 
-  pub given : {X : Type 0} (r : Region) (Q : X → Known G) (o : Outcome (A G) X) → GivenByLaw r Q o → Given r Q o
+  given : {X : Type 0} (r : Region) (Q : X → Known G) (o : Outcome (A G) X) → GivenByLaw r Q o → Given r Q o
   unfolding law GivenByLaw
   given r Q (Done x t) h = h
   given r Q (Left why t) h = h
   given r Q (Stopped why t) h = tt
 
-  pub ends : {r : Region} {X : Type 0} {m : Run (A G) X} {Q : X → Known G} → Does G r nothing m Q → (s : State (A G)) → IsTypedState (p G) s → Standing (A G) (p G) r s → (IsTypedState (p G) (end (m s)) × Standing (A G) (p G) r (end (m s))) × Given r Q (m s)
+  ends : {r : Region} {X : Type 0} {m : Run (A G) X} {Q : X → Known G} → Does G r nothing m Q → (s : State (A G)) → IsTypedState (p G) s → Standing (A G) (p G) r s → (IsTypedState (p G) (end (m s)) × Standing (A G) (p G) r (end (m s))) × Given r Q (m s)
   unfolding Kept typed law_of counted steps_of law GivenByLaw
   ends {r = r} {m = m} {Q = Q} d s i t = let h = (d.by.by.by s).kept tt (i, t) tt in (h.0, given r Q (m s) h.1)
 
-  pub stands : (i : Frame) (t : State (A G)) → Standing (A G) (p G) (In i) t → RunsIn i t
+  stands : (i : Frame) (t : State (A G)) → Standing (A G) (p G) (In i) t → RunsIn i t
   stands i t h = record { number = h.0; frame = h.1; runs = h.2 }
 
-  pub reasoned : (i : Frame) (why : Reason (A G)) (n : List (Noted (A G))) → (reason (A G) (p G) (In i) why).holds n → IsTypedReason (p G) n i why
+  reasoned : (i : Frame) (why : Reason (A G)) (n : List (Noted (A G))) → (reason (A G) (p G) (In i) why).holds n → IsTypedReason (p G) n i why
   unfolding reason answer is never
   reasoned i (Jumped target e) n h = tt
   reasoned (OfCall m) (Returned e v) n h = h
   reasoned (OfInit c) (Returned e v) n h = h
   reasoned i (Threw e v) n h = h
 
-  pub ends_typed : {X : Type 0} (i : Frame) (Q : X → Known G) (o : Outcome (A G) X) → (IsTypedState (p G) (end o) × Standing (A G) (p G) (In i) (end o)) × Given (In i) Q o → EndsTyped (p G) i (λ noted x. (Q x).holds noted) o
+  ends_typed : {X : Type 0} (i : Frame) (Q : X → Known G) (o : Outcome (A G) X) → (IsTypedState (p G) (end o) × Standing (A G) (p G) (In i) (end o)) × Given (In i) Q o → EndsTyped (p G) i (λ noted x. (Q x).holds noted) o
   unfolding end
   ends_typed i Q (Done x t) h = (h.0.0, stands i t h.0.1, h.1)
   ends_typed i Q (Left why t) h = (h.0.0, stands i t h.0.1, reasoned i why t.noted h.1)
@@ -136,7 +136,7 @@ module _ (G : Ground) where
       subst (λ x. EndsTyped (p G) i (λ noted v. Is (p G) noted ty v.value) (eval x e s)) M.is
       (ends_typed i (λ v. of_type G ty v.value) _ (ends (((expression.typed G M.methods i e).by ty h).by nothing) s t (r.number, r.frame, r.runs)))
 
-  pub body_result : (md : Method) (ty : Ty) → result_of md.form md.result ≡ Some ty → ty ≡ md.result
+  body_result : (md : Method) (ty : Ty) → result_of md.form md.result ≡ Some ty → ty ≡ md.result
   body_result md ty e = by_form md.form e
     where
       some_same : {x y : Ty} → Some x ≡ Some y → x ≡ y
@@ -148,10 +148,10 @@ module _ (G : Ground) where
       by_form kinds.Instance e = some_same (sym e)
       by_form kinds.Constructor e = some_same (sym e)
 
-  pub result_known : (m : ℕ) (md : Method) (ty : Ty) → IsMethod (p G) m md → result_in (p G) (OfCall m) ≡ Some ty → ty ≡ md.result
+  result_known : (m : ℕ) (md : Method) (ty : Ty) → IsMethod (p G) m md → result_in (p G) (OfCall m) ≡ Some ty → ty ≡ md.result
   result_known m md ty e h = body_result md ty (subst (λ (o : Option Method). option_and_then (λ (x : Method). result_of x.form x.result) o ≡ Some ty) e h)
 
-  pub gives_back : (M : Methods G) (i : Frame) → GivesBack G M i (result_in (p G) i)
+  gives_back : (M : Methods G) (i : Frame) → GivesBack G M i (result_in (p G) i)
   unfolding reason answer is
   gives_back M (OfCall m) ty e P k v h = record { by = λ n q md found. subst (λ t. Is (p G) n t v.value) (result_known m md ty found e) (h.by n q) }
   gives_back M (OfInit c) ty e P k v h = absurd (cc e)

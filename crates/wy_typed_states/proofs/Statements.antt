@@ -32,7 +32,7 @@ use Rattle.wy_typed_states.proofs.Forms.{T, shows, spells, constant_types}
 use Rattle.wy_typed_states.proofs.Expressions.{Typed, step, given}
 
 module _ (G : Ground) (M : Methods G) (i : Frame) (result : Option Ty) where
-  abbrev pub w : World (A G)
+  abbrev w : World (A G)
   w = world_of G M
 
   abbrev pub place : Within
@@ -51,33 +51,33 @@ module _ (G : Ground) (M : Methods G) (i : Frame) (result : Option Ty) where
     unfolding tested
     tests site reach m d = record { by = λ P. next G (forgets G (d.by P)) (λ v. next G (forgets G (frames G)) (λ f. next G (notes_test G (Through f reach) site v.value v) (λ e. gives G _ trivially))) }
 
-    pub declares_local : (k : ℕ) → Leaves (declaration k)
+    declares_local : (k : ℕ) → Leaves (declaration k)
     unfolding declaration
     declares_local k = record { by = λ P. next G (forgets G (frames G)) (λ f. declares G (code_of f) k) }
 
-    pub one_then : (a b : Run (A G) Unit) → Leaves a → Leaves b → Leaves (a >> b)
+    one_then : (a b : Run (A G) Unit) → Leaves a → Leaves b → Leaves (a >> b)
     one_then a b h k = record { by = λ P. after G (h.by P) (k.by P) }
 
-    pub ifs : (test : Run (A G) Bool) (a b : Run (A G) Unit) → Leaves test → Leaves a → Leaves b → Leaves (if_form test a b)
+    ifs : (test : Run (A G) Bool) (a b : Run (A G) Unit) → Leaves test → Leaves a → Leaves b → Leaves (if_form test a b)
     unfolding if_form
     ifs test a b ht ha hb = record { by = λ P. next G (ht.by P) (λ c. chooses G c (ha.by P) (hb.by P)) }
 
-    pub loops : (test : Run (A G) Bool) (m : Run (A G) Unit) → Leaves test → Leaves m → Leaves (while_form test m)
+    loops : (test : Run (A G) Bool) (m : Run (A G) Unit) → Leaves test → Leaves m → Leaves (while_form test m)
     loops test m ht hm = record { by = λ P. whiles G test m ht.by hm.by }
 
-    pub for_forms : (inits : Run (A G) Unit) (test : Run (A G) Bool) (updates m : Run (A G) Unit) → Leaves inits → Leaves test → Leaves updates → Leaves m → Leaves (for_form inits test updates m)
+    for_forms : (inits : Run (A G) Unit) (test : Run (A G) Bool) (updates m : Run (A G) Unit) → Leaves inits → Leaves test → Leaves updates → Leaves m → Leaves (for_form inits test updates m)
     unfolding for_form
     for_forms inits test updates m hi ht hu hm = one_then inits _ hi (loops test _ ht (one_then m updates hm hu))
 
-    pub jumps : (site target : ℕ) → Leaves (jump site target)
+    jumps : (site target : ℕ) → Leaves (jump site target)
     unfolding jump reason
     jumps site target = record { by = λ P. next G (forgets G (notes G (plain kind.Jump site val.None) (constant val.None) (a_jump site))) (λ e. leaves G (Jumped target e.number) trivially) }
 
-    pub returns : (site : ℕ) (m : Run (A G) (Carried (A G))) (ty : Ty) → result ≡ Some ty → T G M i m ty → Leaves (return_form site m)
+    returns : (site : ℕ) (m : Run (A G) (Carried (A G))) (ty : Ty) → result ≡ Some ty → T G M i m ty → Leaves (return_form site m)
     unfolding return_form value_of
     returns site m ty e d = record { by = λ P. bind G (d.by P) (λ v. next G (forgets G (notes G (plain kind.Return site v.value) v (a_return site v.value v))) (λ r. leaves G _ (back ty e _ r.number (value_of r v.value) (newest _ _)))) }
 
-    pub throws_value : (site : ℕ) (m : Run (A G) (Carried (A G))) → T G M i m (class_type throwable_class) → Leaves (throw_form w site m)
+    throws_value : (site : ℕ) (m : Run (A G) (Carried (A G))) → T G M i m (class_type throwable_class) → Leaves (throw_form w site m)
     unfolding throw_form
     throws_value site m d = record { by = λ P. bind G (d.by P) (λ v. chooses G (is_null v.value) (null_fails G M site v) (throws G M site v (newest _ _))) }
 
@@ -87,28 +87,28 @@ module _ (G : Ground) (M : Methods G) (i : Frame) (result : Option Ty) where
     ClausesLeave [] = Unit {1}
     ClausesLeave (c ∷ rest) = (slice_get (local_types (p G) i) c.local ≡ Some (class_type c.class)) × Leaves c.block × ClausesLeave rest
 
-    pub some_same : {x y : Ty} → Some x ≡ Some y → x ≡ y
+    some_same : {x y : Ty} → Some x ≡ Some y → x ≡ y
     some_same e = cc e
 
     pub binds : (n : List (Noted (A G))) (f k : ℕ) (v : Value) (ty : Ty) → slice_get (local_types (p G) i) k ≡ Some ty → Runs n f i → Is (p G) n ty v → FitsLocal (p G) n f k v
     binds n f k v ty e r h = record { body = i; runs = r; typed = λ t q. inr (subst (λ u. Is (p G) n u v) (some_same (sym e ∙ q)) h) }
 
-    pub takes : {P : Known G} (c : Clause (A G)) (v : Carried (A G)) → slice_get (local_types (p G) i) c.local ≡ Some (class_type c.class) → Leaves c.block → Entails P (of_type G (class_type c.class) v.value) → Does G (In i) P (caught c v) (λ t. nothing)
+    takes : {P : Known G} (c : Clause (A G)) (v : Carried (A G)) → slice_get (local_types (p G) i) c.local ≡ Some (class_type c.class) → Leaves c.block → Entails P (of_type G (class_type c.class) v.value) → Does G (In i) P (caught c v) (λ t. nothing)
     unfolding caught current stores is both code_of
     takes c v e h q = bind G (frames G) (λ o. next G (catches_local G (Through o c.number) c.site (code_of o) c.local v.value v (record { by = λ n k. let r = k.1 in binds n (code_of o) c.local v.value (class_type c.class) e (subst (λ f. Runs n f i) (sym (ap code_of r.1)) r.2) (q.by n k.0) })) (λ x. h.by _))
 
-    pub handles : (clauses : List (Clause (A G))) (P : Known G) (found : Ty) (e : ℕ) (v : Carried (A G)) → ClausesLeave clauses → Entails P (of_type G (class_type throwable_class) v.value) → Entails P (found_as G v.value found) → Does G (In i) P (handle (p G) clauses (class_of_type found) e v) (λ t. nothing)
+    handles : (clauses : List (Clause (A G))) (P : Known G) (found : Ty) (e : ℕ) (v : Carried (A G)) → ClausesLeave clauses → Entails P (of_type G (class_type throwable_class) v.value) → Entails P (found_as G v.value found) → Does G (In i) P (handle (p G) clauses (class_of_type found) e v) (λ t. nothing)
     unfolding handle is found_as reason
     handles [] P found e v h q f = leaves G (Threw e v) q
     handles (c ∷ rest) P found e v h q f = either G (is_subclass (p G) (class_of_type found) c.class)
         (λ s. takes c v h.0 h.1 (record { by = λ n k. caught_is G n v.value found c.class (q.by n k) (f.by n k) s }))
         (λ s. handles rest P found e v h.2 q f)
 
-    pub thrown : {P : Known G} (e : ℕ) (v : Carried (A G)) → Entails P (reason (A G) (p G) (In i) (Threw e v)) → Entails P (of_type G (class_type throwable_class) v.value)
+    thrown : {P : Known G} (e : ℕ) (v : Carried (A G)) → Entails P (reason (A G) (p G) (In i) (Threw e v)) → Entails P (of_type G (class_type throwable_class) v.value)
     unfolding reason
     thrown e v q = q
 
-    pub at_throws : {P : Known G} (clauses : List (Clause (A G))) (why : Reason (A G)) → ClausesLeave clauses → Entails P (reason (A G) (p G) (In i) why) → Does G (In i) P (at_throw w clauses why) (λ t. nothing)
+    at_throws : {P : Known G} (clauses : List (Clause (A G))) (why : Reason (A G)) → ClausesLeave clauses → Entails P (reason (A G) (p G) (In i) why) → Does G (In i) P (at_throw w clauses why) (λ t. nothing)
     unfolding at_throw
     at_throws clauses (Jumped target e) h q = leaves G _ q
     at_throws clauses (Returned e v) h q = leaves G _ q
@@ -117,71 +117,71 @@ module _ (G : Ground) (M : Methods G) (i : Frame) (result : Option Ty) where
     pub tries : (m : Run (A G) Unit) (clauses : List (Clause (A G))) → Leaves m → ClausesLeave clauses → Leaves (catching m (at_throw w clauses))
     tries m clauses h hc = record { by = λ P. catches G (h.by P) (λ why. at_throws clauses why hc (newest _ _)) }
 
-    pub lasts : (m last : Run (A G) Unit) → Leaves m → Leaves last → Leaves (finally m last)
+    lasts : (m last : Run (A G) Unit) → Leaves m → Leaves last → Leaves (finally m last)
     unfolding finally
     lasts m last h k = record { by = λ P. after G (catches G (h.by P) (λ why. after G (k.by _) (leaves G why (newest _ _)))) (k.by P) }
 
-    abbrev pub OptionLeaves : Option (Run (A G) Unit) → Type 1
+    abbrev OptionLeaves : Option (Run (A G) Unit) → Type 1
     OptionLeaves Absent = Unit {1}
     OptionLeaves (Some m) = Leaves m
 
-    pub try_forms : (m : Run (A G) Unit) (clauses : List (Clause (A G))) (o : Option (Run (A G) Unit)) → Leaves m → ClausesLeave clauses → OptionLeaves o → Leaves (try_form w m clauses o)
+    try_forms : (m : Run (A G) Unit) (clauses : List (Clause (A G))) (o : Option (Run (A G) Unit)) → Leaves m → ClausesLeave clauses → OptionLeaves o → Leaves (try_form w m clauses o)
     unfolding try_form
     try_forms m clauses Absent h hc k = tries m clauses h hc
     try_forms m clauses (Some last) h hc k = lasts _ last (tries m clauses h hc) k
 
-    pub others : (o : Option (Run (A G) Unit)) → OptionLeaves o → Leaves (other_or o)
+    others : (o : Option (Run (A G) Unit)) → OptionLeaves o → Leaves (other_or o)
     unfolding other_or
     others Absent h = record { by = λ P. gives G tt trivially }
     others (Some m) h = h
 
-    pub prints_value : (m : Run (A G) (Carried (A G))) (ty : Ty) (ends_line : Bool) (site : ℕ) → T G M i m ty → Leaves (print_value w m ends_line site)
+    prints_value : (m : Run (A G) (Carried (A G))) (ty : Ty) (ends_line : Bool) (site : ℕ) → T G M i m ty → Leaves (print_value w m ends_line site)
     unfolding print_value print
     prints_value m ty ends_line site d = record { by = λ P. bind G (d.by P) (λ v. next G (shows G M i site v ty (newest _ _)) (λ s. next G (spells G M i s.value) (λ us. prints G site s.value s _))) }
 
-    pub prints_nothing : (ends_line : Bool) (site : ℕ) → Leaves (print_nothing ends_line site)
+    prints_nothing : (ends_line : Bool) (site : ℕ) → Leaves (print_nothing ends_line site)
     unfolding print_nothing print
     prints_nothing ends_line site = record { by = λ P. prints G site _ _ _ }
 
     -- ---- each statement, from its parts
 
-    abbrev pub E : Expression → Type 1
+    abbrev E : Expression → Type 1
     E e = Typed G M i e
 
     pub record Fine (x : Statement) : Type 1 where
       pub by : IsTyped place x → Leaves (exec w x)
 
-    pub of_other : (x : Other) → OfOther Fine x → OtherTyped place x → OptionLeaves (exec_other w x)
+    of_other : (x : Other) → OfOther Fine x → OtherTyped place x → OptionLeaves (exec_other w x)
     unfolding exec_other
     of_other no_statement d h = tt
     of_other (this s) d h = d.by h
 
-    pub of_all : (x : Statements) → OfStatements Fine x → AllTyped place x → Leaves (exec_all w x)
+    of_all : (x : Statements) → OfStatements Fine x → AllTyped place x → Leaves (exec_all w x)
     unfolding exec_all
     of_all done d h = record { by = λ P. gives G tt trivially }
     of_all (first s rest) d h = one_then _ _ (d.0.by h.0) (of_all rest d.1 h.1)
 
-    pub of_catches : (x : Catches) → OfCatches Fine x → CatchesTyped place x → ClausesLeave (exec_catches w x)
+    of_catches : (x : Catches) → OfCatches Fine x → CatchesTyped place x → ClausesLeave (exec_catches w x)
     unfolding exec_catches
     of_catches uncaught d h = tt
     of_catches (catch c local site block rest) d h = (h.0.bound, d.0.by h.1, of_catches rest d.1 h.2)
 
-    pub of_test : (site reach : ℕ) (x : Part) → OfPart E x → IsTest place x → Leaves (for_test site reach (eval_part w x))
+    of_test : (site reach : ℕ) (x : Part) → OfPart E x → IsTest place x → Leaves (for_test site reach (eval_part w x))
     unfolding for_test eval_part
     of_test site reach absent d h = record { by = λ P. gives G true trivially }
     of_test site reach (the e) d h = tests site reach (eval w e) (d.by boolean_type h)
 
-    pub of_return : (site : ℕ) (x : Part) → OfPart E x → IsResult place x → Leaves (return_form site (part_or val.None (eval_part w x)))
+    of_return : (site : ℕ) (x : Part) → OfPart E x → IsResult place x → Leaves (return_form site (part_or val.None (eval_part w x)))
     unfolding part_or eval_part
     of_return site absent d h = returns site _ Void h (constant_types G M i val.None Void (λ n. refl))
     of_return site (the e) d h = returns site (eval w e) h.0 h.1 (given G M i e h.0 d h.3)
 
-    pub of_print : (x : Part) (ty : Ty) (ends_line : Bool) (site : ℕ) → OfPart E x → IsOperand place x ty ends_line → Leaves (print_form w (eval_part w x) ends_line site)
+    of_print : (x : Part) (ty : Ty) (ends_line : Bool) (site : ℕ) → OfPart E x → IsOperand place x ty ends_line → Leaves (print_form w (eval_part w x) ends_line site)
     unfolding print_form eval_part
     of_print absent ty ends_line site d h = prints_nothing ends_line site
     of_print (the e) ty ends_line site d h = prints_value (eval w e) ty ends_line site (d.by ty h.1)
 
-    pub of_act : (site reach : ℕ) (x : Act) → ActParts E Fine x → Acts place x → Leaves (exec_act w site reach x)
+    of_act : (site reach : ℕ) (x : Act) → ActParts E Fine x → Acts place x → Leaves (exec_act w site reach x)
     unfolding exec_act evaluated
     of_act site reach (Block parts) d h = of_all parts d h
     of_act site reach (Eval value) d h = record { by = λ P. next G (forgets G ((d.by h.0 h.1).by P)) (λ v. gives G tt trivially) }
@@ -197,11 +197,11 @@ module _ (G : Ground) (M : Methods G) (i : Frame) (result : Option Ty) where
     of_act site reach (Try main catches last) d h = try_forms _ _ _ (d.0.by h.0) (of_catches catches d.1 h.1) (of_other last d.2 h.2)
     of_act site reach (Print operand ty ends_line at) d h = of_print operand ty ends_line at d h
 
-    pub numbered : (number : ℕ) (m : Run (A G) Unit) → Leaves m → Leaves (statement number m)
+    numbered : (number : ℕ) (m : Run (A G) Unit) → Leaves m → Leaves (statement number m)
     unfolding statement
     numbered number m h = record { by = λ P. after G (ticks G) (reaches G number (covers G number (h.by P))) }
 
-    pub acts : (number site : ℕ) (askable : Bool) (reach : ℕ) (x : Act) → ActParts E Fine x → Fine (Stmt number site askable reach x)
+    acts : (number site : ℕ) (askable : Bool) (reach : ℕ) (x : Act) → ActParts E Fine x → Fine (Stmt number site askable reach x)
     unfolding exec
     acts number site askable reach x d = record { by = λ h. numbered number _ (of_act site reach x d h.2) }
 
