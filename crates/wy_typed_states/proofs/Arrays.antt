@@ -30,7 +30,7 @@ use Rattle.wy_typed_states.proofs.Places.{Methods, of_type, world_of, fails}
 use Rattle.wy_typed_states.proofs.Forms.{T}
 use Rattle.wy_typed_states.proofs.Calls.{AllTypes, gives_all}
 
-abbrev AllAlike : List Ty → Ty → Type 0
+abbrev pub AllAlike : List Ty → Ty → Type 0
 AllAlike [] ty = Unit {0}
 AllAlike (t ∷ ts) ty = (t ≡ ty) × AllAlike ts ty
 
@@ -55,7 +55,7 @@ module _ (G : Ground) (M : Methods G) where
   elements_up : (m n : List (Noted (A G))) (k : ℕ) (ty : Ty) → Later m n → ElementsAre m k ty → ElementsAre n k ty
   elements_up m n k ty le h = record { array = h.array; there = le k h.array h.there; is_new = h.is_new; elements = h.elements }
 
-  unfoldable elements_are : ℕ → Ty → Known G
+  unfoldable pub elements_are : ℕ → Ty → Known G
   unfolding elements_up
   elements_are k ty = record { holds = λ n. ElementsAre n k ty; up = λ m n. elements_up m n k ty }
 
@@ -64,15 +64,15 @@ module _ (G : Ground) (M : Methods G) where
     pub stands : MayStand (p G) ty ty
     pub code : type_of_code (type_code ty) ≡ ty
 
-  made_elements : {P : Known G} (e : Made (A G)) (site : ℕ) (ty : Ty) (n : ℕ) (element : Ty) → Entails P (event (A G) (p G) (array_draft site ty n) e) → ((m : List (Noted (A G))) → P.holds m → (type_of_code (type_code ty) ≡ ty) × (element_type ty ≡ element)) → Entails P (elements_are e.number element)
+  pub made_elements : {P : Known G} (e : Made (A G)) (site : ℕ) (ty : Ty) (n : ℕ) (element : Ty) → Entails P (event (A G) (p G) (array_draft site ty n) e) → ((m : List (Noted (A G))) → P.holds m → (type_of_code (type_code ty) ≡ ty) × (element_type ty ≡ element)) → Entails P (elements_are e.number element)
   unfolding event elements_are about code_of
   made_elements e site ty n element h c = record { by = λ m q. let x = h.by m q in let y = c m q in record { array = x.event; there = x.there; is_new = x.kind; elements = ap element_type (ap (λ o. type_of_code (code_of o)) x.what ∙ y.0) ∙ y.1 } }
 
-  element_place : {P : Known G} (k j : ℕ) (ty : Ty) → Entails P (elements_are k ty) → Entails P (place (A G) (p G) (slot.Elem k j))
+  pub element_place : {P : Known G} (k j : ℕ) (ty : Ty) → Entails P (elements_are k ty) → Entails P (place (A G) (p G) (slot.Elem k j))
   unfolding elements_are place object
   element_place k j ty e = record { by = λ n q. let h = e.by n q in record { event = h.array; there = h.there; is_new = h.is_new } }
 
-  element_stores : {P : Known G} (k j : ℕ) (ty : Ty) (v : Value) → Entails P (elements_are k ty) → Entails P (of_type G ty v) → Entails P (stores (A G) (p G) (slot.Elem k j) v)
+  pub element_stores : {P : Known G} (k j : ℕ) (ty : Ty) (v : Value) → Entails P (elements_are k ty) → Entails P (of_type G ty v) → Entails P (stores (A G) (p G) (slot.Elem k j) v)
   unfolding elements_are stores is
   element_stores k j ty v e f = record { by = λ n q. let h = e.by n q in element_fits G n k j h.array v h.there (subst (λ t. Is (p G) n t v) (sym h.elements) (f.by n q)) }
 
@@ -120,7 +120,7 @@ module _ (G : Ground) (M : Methods G) where
   pub array_made : (b : Base) (n m : ℕ) → IsTypeOf (length (p G).classes) (Of b m) → IsMadeAs (Of b (suc n))
   array_made b n m h = record { stands = record { reference = array_reference b n; concrete = tt; below = same }; code = code_is (length (p G).classes) b (suc n) G.library.few (known_array (length (p G).classes) b m (suc n) h) }
 
-  one_less : (b : Base) (n : ℕ) → element_type (Of b (suc n)) ≡ Of b n
+  pub one_less : (b : Base) (n : ℕ) → element_type (Of b (suc n)) ≡ Of b n
   one_less b n = element_of G (Of b (suc n)) b n refl
 
   nested_from : (n : List (Noted (A G))) (b : Base) (m brackets k : ℕ) (ds : List (Carried (A G))) → IsTypeOf (length (p G).classes) (Of b k) → m ≤ brackets → AllAre G n (replicate m int_type) ds → Nested (Of b brackets) ds
@@ -146,7 +146,7 @@ module _ (G : Ground) (M : Methods G) where
     sets_elements (m ∷ ms) (t ∷ ts) e k sites ty P same_types h d = bind G (d.0.by P) (λ v. next G (sets_slot G (first_site sites) (slot.Elem e.number k) v.value _ (element_place e.number k ty (before _ _ h)) (element_stores e.number k ty v.value (before _ _ h) (subst (λ u. Entails (both P (of_type G t v.value)) (of_type G u v.value)) same_types.0 (newest _ _)))) (λ s.
         sets_elements ms ts e (suc k) (rest_sites sites) ty _ same_types.1 (before _ _ h) d.1))
 
-    alike : (n : ℕ) (ty : Ty) → AllAlike (replicate n ty) ty
+    pub alike : (n : ℕ) (ty : Ty) → AllAlike (replicate n ty) ty
     alike zero ty = tt
     alike (suc n) ty = (refl, alike n ty)
 

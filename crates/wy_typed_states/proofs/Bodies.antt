@@ -37,7 +37,7 @@ seam (x ∷ xs) y ys = seam xs y ys
 some_same : {X : Type 0} {x y : X} → Some x ≡ Some y → x ≡ y
 some_same e = cc e
 
-part_there : {X : Type 0} (xs : List X) (k : ℕ) → k < length xs → (x : X) × (slice_get xs k ≡ Some x)
+pub part_there : {X : Type 0} (xs : List X) (k : ℕ) → k < length xs → (x : X) × (slice_get xs k ≡ Some x)
 part_there [] k lt = absurd (omega (arith, lt))
 part_there (x ∷ xs) zero lt = (x, refl)
 part_there (x ∷ xs) (suc k) lt = part_there xs k (omega (arith, lt))
@@ -52,11 +52,11 @@ module _ (G : Ground) (M : Methods G) where
 
   -- ---- the events that bodies run by
 
-  runs_call : {P : Known G} (e : Made (A G)) (site m : ℕ) → Entails P (event (A G) (p G) (about kind.Call site m val.None) e) → Entails P (runs (A G) (p G) (OfCall m) e.number)
+  pub runs_call : {P : Known G} (e : Made (A G)) (site m : ℕ) → Entails P (event (A G) (p G) (about kind.Call site m val.None) e) → Entails P (runs (A G) (p G) (OfCall m) e.number)
   unfolding event runs about
   runs_call e site m h = record { by = λ n q. let x = h.by n q in record { event = x.event; there = x.there; runs = ap (λ k. running_as k x.event.what) x.kind ∙ ap (λ o. running_as kind.Call o) x.what } }
 
-  runs_init : {P : Known G} (e : Made (A G)) (site c : ℕ) → Entails P (event (A G) (p G) (about kind.Init site c val.None) e) → Entails P (runs (A G) (p G) (OfInit c) e.number)
+  pub runs_init : {P : Known G} (e : Made (A G)) (site c : ℕ) → Entails P (event (A G) (p G) (about kind.Init site c val.None) e) → Entails P (runs (A G) (p G) (OfInit c) e.number)
   unfolding event runs about
   runs_init e site c h = record { by = λ n q. let x = h.by n q in record { event = x.event; there = x.there; runs = ap (λ k. running_as k x.event.what) x.kind ∙ ap (λ o. running_as kind.Init o) x.what } }
 
@@ -79,7 +79,7 @@ module _ (G : Ground) (M : Methods G) where
     never_binds [] f k P h = gives G tt trivially
     never_binds (v ∷ vs) f k P h = next G (binds_local G (local_site b k) f k v.value v (record { by = λ n q. absurd (h n q) })) (λ e. never_binds vs f (suc k) P h)
 
-    binds : (ts : List Ty) (vs : List (Carried (A G))) (pre rest : List Ty) (f k : ℕ) (P : Known G) → types b ≡ pre ++ (ts ++ rest) → length pre ≡ k → Entails P (runs (A G) (p G) (OfCall m) f) → Entails P (all_are G ts vs) → Does G (Ends (OfCall m)) P (bind_all b f k vs) (λ t. nothing)
+    pub binds : (ts : List Ty) (vs : List (Carried (A G))) (pre rest : List Ty) (f k : ℕ) (P : Known G) → types b ≡ pre ++ (ts ++ rest) → length pre ≡ k → Entails P (runs (A G) (p G) (OfCall m) f) → Entails P (all_are G ts vs) → Does G (Ends (OfCall m)) P (bind_all b f k vs) (λ t. nothing)
     unfolding bind_all all_are runs stores is
     binds ts [] pre rest f k P e l r h = gives G tt trivially
     binds [] (v ∷ vs) pre rest f k P e l r h = never_binds (v ∷ vs) f k P (λ n q. h.by n q)
@@ -101,11 +101,11 @@ module _ (G : Ground) (M : Methods G) where
       unfolding answer is
       answers v h = record { by = λ n q r e. subst (λ (x : Method). Is (p G) n x.result v) (same_method r e) (h.by n q) }
 
-      gives_back : GivesBack G M (OfCall m) (result_of md.form md.result)
+      pub gives_back : GivesBack G M (OfCall m) (result_of md.form md.result)
       unfolding reason
       gives_back ty e P k v h = answers v.value (subst (λ t. Entails P (of_type G t v.value)) (same_result md.form md.result ty e) h)
 
-      block_typed : IsTyped (record { program = p G; locals = local_types (p G) (OfCall m); result = result_of md.form md.result }) b.block
+      pub block_typed : IsTyped (record { program = p G; locals = local_types (p G) (OfCall m); result = result_of md.form md.result }) b.block
       block_typed = subst (λ o. IsTyped (record { program = p G; locals = types_of o; result = result_of md.form md.result }) b.block) (sym is_body) typed_body.block
 
       nothing_is : (ty : Ty) → is_void ty ≡ true → (n : List (Noted (A G))) → Is (p G) n ty val.None
@@ -129,7 +129,7 @@ module _ (G : Ground) (M : Methods G) where
       unfolding run_body
       runs_body site = catches_last G (after G ((leaves_typed G M (OfCall m) (result_of md.form md.result) gives_back b.block block_typed).by _) (ends (is_void md.result) site refl)) (λ why. at_returns why (newest _ _))
 
-      given_at : (n : List (Noted (A G))) (r : Option (Carried (A G))) (args : List (Carried (A G))) → Calls G n m r args → AllAre G n (this_types md.form md.class ++ md.params) (bound r args)
+      pub given_at : (n : List (Noted (A G))) (r : Option (Carried (A G))) (args : List (Carried (A G))) → Calls G n m r args → AllAre G n (this_types md.form md.class ++ md.params) (bound r args)
       given_at n r args c = subst (λ (x : Method). AllAre G n (this_types x.form x.class ++ x.params) (bound r args)) (sym (same_method c.method c.found)) c.given
 
       in_frame_does : {P : Known G} (f : ℕ) (r : Option (Carried (A G))) (args : List (Carried (A G))) → Entails P (runs (A G) (p G) (OfCall m) f) → Entails P (called G m r args) → Does G (Ends (OfCall m)) P (frame_of_call b (exec w b.block) (is_void md.result) f (bound r args)) (λ v. answer (A G) (p G) m v.value)
@@ -140,7 +140,7 @@ module _ (G : Ground) (M : Methods G) where
       unfolding call_method
       method_called site r args h = scopes G (bind G (notes_call G Around site m (call_uses md.form r)) (λ e. runs_in G e.number (runs_call e site m (newest _ _)) (in_frame_does e.number r args (runs_call e site m (newest _ _)) (before _ _ h))))
 
-  body_there : (xs : List (Option Body)) (m : ℕ) (b : Body) → slice_index_or xs m Absent ≡ Some b → slice_get xs m ≡ Some (Some b)
+  pub body_there : (xs : List (Option Body)) (m : ℕ) (b : Body) → slice_index_or xs m Absent ≡ Some b → slice_get xs m ≡ Some (Some b)
   body_there xs m b e = ⊎_elim (λ h. absurd (cc (sym h.1 ∙ e))) (λ h. h.1 ∙ ap Some (sym h.2 ∙ e)) (part_at xs m Absent)
 
   pub body_called : {d : Region} {P : Known G} (site m : ℕ) (o : Option Body) (r : Option (Carried (A G))) (args : List (Carried (A G))) → body (p G) m ≡ o → Entails P (called G m r args) → Does G d P (call_body w site m o r args) (λ v. answer (A G) (p G) m v.value)
@@ -155,7 +155,7 @@ module _ (G : Ground) (M : Methods G) where
   -- ---- initializations
 
   module _ (c : ℕ) where
-    no_result : GivesBack G M (OfInit c) Absent
+    pub no_result : GivesBack G M (OfInit c) Absent
     no_result ty e P k v h = absurd (cc e)
 
     init_block_does : (o : Option Body) → init_body (p G) c ≡ o → (P : Known G) → Does G (In (OfInit c)) P (init_block w o) (λ t. nothing)
@@ -165,7 +165,7 @@ module _ (G : Ground) (M : Methods G) where
         let typed_body : IsBody (p G) [] Absent b = G.fits.initializers c b (body_there (p G).init_bodies c b e) in
         (leaves_typed G M (OfInit c) Absent no_result b.block (subst (λ o. IsTyped (record { program = p G; locals = types_of o; result = Absent }) b.block) (sym e) typed_body.block)).by P
 
-    above_does : {d : Region} {P : Known G} (site : ℕ) (o : Option ℕ) → Does G d P (initialize_above w site o) (λ t. nothing)
+    pub above_does : {d : Region} {P : Known G} (site : ℕ) (o : Option ℕ) → Does G d P (initialize_above w site o) (λ t. nothing)
     unfolding initialize_above
     above_does site Absent = gives G tt trivially
     above_does site (Some k) = may_initialize G M site k

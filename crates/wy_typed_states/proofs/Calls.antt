@@ -29,7 +29,7 @@ use Rattle.wy_typed_states.proofs.Facts.{new_is, AllAre, all_are, Calls, called}
 use Rattle.wy_typed_states.proofs.Places.{Methods, of_type, world_of, null_fails, some_type, some_units, may_initialize}
 use Rattle.wy_typed_states.proofs.Forms.{T, answered, on_receiver, chosen_gives, text_is_text}
 
-one_method : (xs : List Method) (k : ℕ) (a b : Method) → slice_get xs k ≡ Some a → slice_get xs k ≡ Some b → a ≡ b
+pub one_method : (xs : List Method) (k : ℕ) (a b : Method) → slice_get xs k ≡ Some a → slice_get xs k ≡ Some b → a ≡ b
 one_method xs k a b e h = some_same (sym e ∙ h)
   where
     some_same : {x y : Method} → Some x ≡ Some y → x ≡ y
@@ -136,7 +136,7 @@ module _ (G : Ground) (M : Methods G) (i : Frame) where
 
   -- ---- calls of the method itself
 
-  calls_with : (n : List (Noted (A G))) (k : ℕ) (md : Method) (v : Carried (A G)) (args : List (Carried (A G))) → IsMethod (p G) k md → this_types md.form md.class ≡ class_type md.class ∷ [] → Is (p G) n (class_type md.class) v.value → AllAre G n md.params args → Calls G n k (Some v) args
+  pub calls_with : (n : List (Noted (A G))) (k : ℕ) (md : Method) (v : Carried (A G)) (args : List (Carried (A G))) → IsMethod (p G) k md → this_types md.form md.class ≡ class_type md.class ∷ [] → Is (p G) n (class_type md.class) v.value → AllAre G n md.params args → Calls G n k (Some v) args
   unfolding bound
   calls_with n k md v args e t h a = record { method = md; found = e; given = on_receiver G M i n md.form md.class md.params v args t h a }
 
@@ -147,7 +147,7 @@ module _ (G : Ground) (M : Methods G) (i : Frame) where
         either G (is_null r.value) (λ q. null_fails G M site r) (λ q. answered G M i k md e (M.calls (In i) site k (Some r) vs _ (record { by = λ n h. calls_with n k md r vs e t h.0.1 h.1 })))));
   }
 
-  static_calls : (n : List (Noted (A G))) (k : ℕ) (md : Method) (args : List (Carried (A G))) → IsMethod (p G) k md → md.form ≡ kinds.Static → AllAre G n md.params args → Calls G n k Absent args
+  pub static_calls : (n : List (Noted (A G))) (k : ℕ) (md : Method) (args : List (Carried (A G))) → IsMethod (p G) k md → md.form ≡ kinds.Static → AllAre G n md.params args → Calls G n k Absent args
   unfolding bound
   static_calls n k md args e s a = record { method = md; found = e; given = subst (λ f. AllAre G n (this_types f md.class ++ md.params) args) (sym s) a }
 
@@ -161,11 +161,11 @@ module _ (G : Ground) (M : Methods G) (i : Frame) where
   -- ---- creation
 
   -- the constructor, where there is one, takes the object
-  abbrev Constructs : ℕ → Option ℕ → List Ty → Type 0
+  abbrev pub Constructs : ℕ → Option ℕ → List Ty → Type 0
   Constructs c Absent params = Unit {0}
   Constructs c (Some k) params = (md : Method) × IsMethod (p G) k md × (this_types md.form md.class ≡ class_type c ∷ []) × (md.params ≡ params)
 
-  constructor_calls : (n : List (Noted (A G))) (c k : ℕ) (md : Method) (params : List Ty) (v : Carried (A G)) (args : List (Carried (A G))) → IsMethod (p G) k md → this_types md.form md.class ≡ class_type c ∷ [] → md.params ≡ params → Is (p G) n (class_type c) v.value → AllAre G n params args → Calls G n k (Some v) args
+  pub constructor_calls : (n : List (Noted (A G))) (c k : ℕ) (md : Method) (params : List Ty) (v : Carried (A G)) (args : List (Carried (A G))) → IsMethod (p G) k md → this_types md.form md.class ≡ class_type c ∷ [] → md.params ≡ params → Is (p G) n (class_type c) v.value → AllAre G n params args → Calls G n k (Some v) args
   unfolding bound
   constructor_calls n c k md params v args e t q h a = record { method = md; found = e; given = subst (λ (ts : List Ty). AllAre G n (ts ++ md.params) (v ∷ args)) (sym t) (h, subst (λ (ts : List Ty). AllAre G n ts args) (sym q) a) }
 

@@ -51,21 +51,21 @@ module _ (G : Ground) (M : Methods G) (i : Frame) where
   pub given : (e : Expression) (ty : Ty) → Typed e → Gives (p G) locals e ty → T G M i (eval w e) ty
   given e ty d (fitting {a = a} h f) = fitting_types G M i (eval w e) a ty (d.by a h) f
 
-  given_all : (row : Row) (ts : List Ty) → OfRow Typed row → GivesAll (p G) locals row ts → AllTypes G M i (eval_row w row) ts
+  pub given_all : (row : Row) (ts : List Ty) → OfRow Typed row → GivesAll (p G) locals row ts → AllTypes G M i (eval_row w row) ts
   unfolding eval_row
   given_all none [] d typing.nothing = tt
   given_all none (t ∷ ts) d h = elim h [ ]
   given_all (more e rest) [] d h = elim h [ ]
   given_all (more e rest) (t ∷ ts) d (typing.and_more h hs) = (given e t d.0 h, given_all rest ts d.1 hs)
 
-  located : (x : Place) (ty : Ty) → OfPlace Typed x → IsPlace (p G) locals x ty → Locates G M i (locate w x) ty
+  pub located : (x : Place) (ty : Ty) → OfPlace Typed x → IsPlace (p G) locals x ty → Locates G M i (locate w x) ty
   unfolding locate
   located (Local k) ty d (typing.local e) = (e, tt)
   located (Static k site) ty d (typing.static {f = f} e s) = (f, e, s, refl, tt)
   located (Field object k site) ty d (typing.field {f = f} e s g) = (f, e, refl, given object _ d g)
   located (Elem array index site) ty d (typing.element {base = b} {brackets = n} h k) = (b, n, refl, d.0.by _ h, d.1.by _ k)
 
-  not_static : (f : MethodForm) (c : ℕ) → MakesReady f → this_types f c ≡ class_type c ∷ []
+  pub not_static : (f : MethodForm) (c : ℕ) → MakesReady f → this_types f c ≡ class_type c ∷ []
   not_static f c (inl e) = ap (λ g. this_types g c) e
   not_static f c (inr e) = ap (λ g. this_types g c) e
 

@@ -137,7 +137,7 @@ module _ (G : Ground) (M : Methods G) (i : Frame) where
       }
 
   -- an object that was found stands for what is known of it
-  found_stands : (n : List (Noted (A G))) (ty found : Ty) (o : ℕ) → Is (p G) n ty (val.Object o) → HasFound G n (val.Object o) found → MayStand (p G) found ty
+  pub found_stands : (n : List (Noted (A G))) (ty found : Ty) (o : ℕ) → Is (p G) n ty (val.Object o) → HasFound G n (val.Object o) found → MayStand (p G) found ty
   found_stands n ty found o r h = subst (λ t. MayStand (p G) t ty) (sym (h.4 ∙ ap made_type (one_event n o h.0 r.event h.1 r.there))) r.stands
 
   module _ (k : ℕ) (md : Method) (found_method : IsMethod (p G) k md) (is_instance : md.form ≡ kinds.Instance) (public : md.is_private ≡ false) where
@@ -147,7 +147,7 @@ module _ (G : Ground) (M : Methods G) (i : Frame) where
     stands_where : (n : List (Noted (A G))) (v : Value) (o : ℕ) (found : Ty) → v ≡ val.Object o → Is (p G) n (class_type md.class) v → HasFound G n v found → MayStand (p G) found (class_type md.class)
     stands_where n v o found is h f = found_stands n (class_type md.class) found o (subst (λ u. Is (p G) n (class_type md.class) u) is h) (subst (λ u. HasFound G n u found) is f)
 
-    chosen_calls_at : (n : List (Noted (A G))) (v : Carried (A G)) (args : List (Carried (A G))) (o : ℕ) (found : Ty) → v.value ≡ val.Object o → Is (p G) n (class_type md.class) v.value → HasFound G n v.value found → AllAre G n md.params args → Calls G n (dispatch (p G) k (class_of_type found)) (Some v) args
+    pub chosen_calls_at : (n : List (Noted (A G))) (v : Carried (A G)) (args : List (Carried (A G))) (o : ℕ) (found : Ty) → v.value ≡ val.Object o → Is (p G) n (class_type md.class) v.value → HasFound G n v.value found → AllAre G n md.params args → Calls G n (dispatch (p G) k (class_of_type found)) (Some v) args
     chosen_calls_at n v args o found is h f a =
         let s = stands_where n v.value o found is h f in
         chosen_calls n found k md v args o is (subst (λ u. HasFound G n u found) is f) (runs_where found s) (receiver G found md.class s).stands a
@@ -164,7 +164,7 @@ module _ (G : Ground) (M : Methods G) (i : Frame) where
 
   -- ---- texts
 
-  object_is_object : (n : List (Noted (A G))) (ty : Ty) (o : ℕ) → Is (p G) n ty (val.Object o) → Is (p G) n object_type (val.Object o)
+  pub object_is_object : (n : List (Noted (A G))) (ty : Ty) (o : ℕ) → Is (p G) n ty (val.Object o) → Is (p G) n object_type (val.Object o)
   object_is_object n ty o h = record { event = h.event; there = h.there; is_new = h.is_new; stands = record { reference = tt; concrete = h.stands.concrete; below = transitive h.stands.below (to_object h.stands.reference) } }
 
   shows_as : {P : Known G} (site : ℕ) (v : Carried (A G)) (x : Value) (ty : Ty) → v.value ≡ x → Entails P (of_type G ty v.value) → Does G (In i) P (shown_as w site v x) (λ u. nothing)

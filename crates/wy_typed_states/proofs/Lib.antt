@@ -1,18 +1,18 @@
-mod Subtypes
-mod Values
-mod Moments
-mod Library
-mod States
-mod Law
-mod Rules
-mod Facts
-mod Places
-mod Forms
-mod Calls
-mod Arrays
-mod Offered
-mod Expressions
-mod Statements
-mod Bodies
-mod Chains
-mod Runs
+pub mod Subtypes
+pub mod Values
+pub mod Moments
+pub mod Library
+pub mod States
+pub mod Law
+pub mod Rules
+pub mod Facts
+pub mod Places
+pub mod Forms
+pub mod Calls
+pub mod Arrays
+pub mod Offered
+pub mod Expressions
+pub mod Statements
+pub mod Bodies
+pub mod Chains
+pub mod Runs

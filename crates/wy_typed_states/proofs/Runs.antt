@@ -75,7 +75,7 @@ module _ (G : Ground) where
     abbrev w : World (A G)
     w = world_of G M
 
-    main_calls : (n : List (Noted (A G))) (v : Carried (A G)) → Is (p G) n strings v.value → Calls G n (p G).main Absent (v ∷ [])
+    pub main_calls : (n : List (Noted (A G))) (v : Carried (A G)) → Is (p G) n strings v.value → Calls G n (p G).main Absent (v ∷ [])
     unfolding bound
     main_calls n v h = let m = G.fits.main in record {
       method = m.method;
@@ -162,7 +162,7 @@ module _ (G : Ground) where
       subst (λ w. EndsTyped (p G) i (λ noted u. Unit {0}) (exec w x s)) M.is
       (ends_typed i (λ u. nothing) _ (ends ((leaves_typed G M.methods i (result_in (p G) i) (gives_back M.methods i) x h).by nothing) s t (r.number, r.frame, r.runs)))
 
-  start_typed : (input : List ℕ) (budget : ℕ) → IsTypedState (p G) (start {A = A G} input budget)
+  pub start_typed : (input : List ℕ) (budget : ℕ) → IsTypedState (p G) (start {A = A G} input budget)
   unfolding start event_in
   start_typed input budget = record { store = λ x h e. absurd (cc e); created = λ n e x h c. absurd (cc h); past = tt }
 

@@ -47,7 +47,7 @@ module _ (G : Ground) (M : Methods G) (i : Frame) (result : Option Ty) where
     pub record Leaves {X : Type 0} (m : Run (A G) X) : Type 1 where
       pub by : (P : Known G) → Does G (In i) P m (λ x. nothing)
 
-    tests : (site reach : ℕ) (m : Run (A G) (Carried (A G))) → T G M i m boolean_type → Leaves (tested site reach m)
+    pub tests : (site reach : ℕ) (m : Run (A G) (Carried (A G))) → T G M i m boolean_type → Leaves (tested site reach m)
     unfolding tested
     tests site reach m d = record { by = λ P. next G (forgets G (d.by P)) (λ v. next G (forgets G (frames G)) (λ f. next G (notes_test G (Through f reach) site v.value v) (λ e. gives G _ trivially))) }
 
@@ -83,14 +83,14 @@ module _ (G : Ground) (M : Methods G) (i : Frame) (result : Option Ty) where
 
     -- ---- try
 
-    abbrev ClausesLeave : List (Clause (A G)) → Type 1
+    abbrev pub ClausesLeave : List (Clause (A G)) → Type 1
     ClausesLeave [] = Unit {1}
     ClausesLeave (c ∷ rest) = (slice_get (local_types (p G) i) c.local ≡ Some (class_type c.class)) × Leaves c.block × ClausesLeave rest
 
     some_same : {x y : Ty} → Some x ≡ Some y → x ≡ y
     some_same e = cc e
 
-    binds : (n : List (Noted (A G))) (f k : ℕ) (v : Value) (ty : Ty) → slice_get (local_types (p G) i) k ≡ Some ty → Runs n f i → Is (p G) n ty v → FitsLocal (p G) n f k v
+    pub binds : (n : List (Noted (A G))) (f k : ℕ) (v : Value) (ty : Ty) → slice_get (local_types (p G) i) k ≡ Some ty → Runs n f i → Is (p G) n ty v → FitsLocal (p G) n f k v
     binds n f k v ty e r h = record { body = i; runs = r; typed = λ t q. inr (subst (λ u. Is (p G) n u v) (some_same (sym e ∙ q)) h) }
 
     takes : {P : Known G} (c : Clause (A G)) (v : Carried (A G)) → slice_get (local_types (p G) i) c.local ≡ Some (class_type c.class) → Leaves c.block → Entails P (of_type G (class_type c.class) v.value) → Does G (In i) P (caught c v) (λ t. nothing)
@@ -114,7 +114,7 @@ module _ (G : Ground) (M : Methods G) (i : Frame) (result : Option Ty) where
     at_throws clauses (Returned e v) h q = leaves G _ q
     at_throws clauses (Threw e v) h q = bind G (finds_type G M (class_type throwable_class) v.value (thrown e v q)) (λ found. handles clauses _ found e v h (before _ _ (thrown e v q)) (newest _ _))
 
-    tries : (m : Run (A G) Unit) (clauses : List (Clause (A G))) → Leaves m → ClausesLeave clauses → Leaves (catching m (at_throw w clauses))
+    pub tries : (m : Run (A G) Unit) (clauses : List (Clause (A G))) → Leaves m → ClausesLeave clauses → Leaves (catching m (at_throw w clauses))
     tries m clauses h hc = record { by = λ P. catches G (h.by P) (λ why. at_throws clauses why hc (newest _ _)) }
 
     lasts : (m last : Run (A G) Unit) → Leaves m → Leaves last → Leaves (finally m last)

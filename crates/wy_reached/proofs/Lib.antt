@@ -1,0 +1,14 @@
+mod Contained
+mod Seen
+mod Quiet
+mod Rules
+mod Forms
+mod Ways
+mod Expressions
+mod Statements
+mod Bodies
+mod Runs
+mod Need
+mod Structure
+mod Ends
+mod Laws

@@ -1,0 +1,32 @@
+//! What a run executed is reached by what it crossed, and none of the items of why-not can be left out.
+#![tactic(auto)]
+
+ghost use Rattle.wy_kernel.specs.Program.{Program};
+ghost use Rattle.wy_steps.specs.Sets.{nothing, numbers};
+ghost use Rattle.wy_typing.specs.Programs.{IsProgram};
+ghost use Rattle.wy_typed_states.specs.Typed.{KeepsLibrary};
+ghost use Rattle.wy_reached.specs.Laws.{CallsStandOnLinks, EachItemIsNeeded, ExecutedPointsAreReached, StandsApart};
+
+/// In every run of a program that fits its types each point of the program that the run executed is Start, or is reached from it by
+/// links of the program that the run crossed, one after another.
+///
+/// A statement is executed if it began, an entry, an initialization and a catch if its event is there, and an arm if its test gave its
+/// value. A call is crossed if it was made at its site, in the body of its owner; every other link if both its ends are executed.
+pub fn executed_points_are_reached()
+    ensures reached { (p : Program) → IsProgram p → KeepsLibrary p → StandsApart p → ExecutedPointsAreReached nothing p }
+    ensures reached_carrying { (p : Program) → IsProgram p → KeepsLibrary p → StandsApart p → ExecutedPointsAreReached numbers p }
+{}
+
+/// In every run, for each item of a statement that never began, there is a chain to the statement that has the item's link and no link
+/// of any other item: so no item can be left out.
+pub fn each_item_is_needed()
+    ensures needed { (p : Program) → IsProgram p → KeepsLibrary p → StandsApart p → EachItemIsNeeded nothing p }
+    ensures needed_carrying { (p : Program) → IsProgram p → KeepsLibrary p → StandsApart p → EachItemIsNeeded numbers p }
+{}
+
+/// In every run each event of kind Call or Init stands at the site of a link of the program to what it begins, in the body of the
+/// link's owner, which is executed. So the method that ran is among the possible targets of its call.
+pub fn calls_stand_on_links()
+    ensures calls { (p : Program) → IsProgram p → KeepsLibrary p → StandsApart p → CallsStandOnLinks nothing p }
+    ensures calls_carrying { (p : Program) → IsProgram p → KeepsLibrary p → StandsApart p → CallsStandOnLinks numbers p }
+{}
