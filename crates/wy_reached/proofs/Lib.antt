@@ -12,3 +12,4 @@ mod Need
 mod Structure
 mod Ends
 mod Laws
+mod Apart
