@@ -7,6 +7,7 @@ use Rattle.std.proofs.lemmas.Bool.{eqb-true, eq-eqb}
 use Rattle.wy_kernel.specs.declared.form.CondForm.{CondForm}
 use Rattle.wy_kernel.specs.Form.{Expression, Const, Str, Read, Set, Upd, Un, Bin, Conv, Cast, InstanceOf, Cond, New, NewArray, Call, Cat, Lib, Place, Local, Static, Field, Elem, Part, absent, the, Row, none, more, Statement, Stmt, Act, Block, Eval, Declare, If, While, Do, For, Labelled, Jump, Return, Throw, Try, Print}
 use Rattle.wy_structure.specs.Sites.{deciding, deciding_in_place, deciding_in_part, deciding_in_row, deciding_in_act}
+use Rattle.wy_ways.specs.declared.point.Point.{Point}
 use Rattle.wy_ways.specs.declared.point.Point.TheVariants as point
 use Rattle.wy_ways.specs.declared.way.Owner.{Owner}
 use Rattle.wy_ways.specs.Forms.{arm_owner, forms, forms_within, place_forms, part_forms, row_forms}
@@ -253,3 +254,92 @@ module _ (p : Program) (c : Statement → ℕ) (once : total c (statements_of p)
   one_number true false m n x y t u e f i j a b = let q = of_body c p.init_bodies m x t e i in let r = of_body c p.bodies n y u f j in let s = all_once in absurd (omega (arith, a, b, q, r, s))
   one_number false false m n x y t u e f i j a b = same_index false m n x y t u e f i j a b
   one_number true true m n x y t u e f i j a b = ap initializer_number (same_index true m n x y t u e f i j a b)
+
+-- ---- numbers and sites
+
+when_true : (b : Bool) → b ≡ true → cond {A = ℕ} b 1 0 ≡ 1
+when_true true e = refl
+when_true false e = absurd (cc e)
+
+when_false : (b : Bool) → b ≡ false → cond {A = ℕ} b 1 0 ≡ 0
+when_false true e = absurd (cc e)
+when_false false e = refl
+
+abbrev occurs : ℕ → List ℕ → ℕ
+occurs n [] = 0
+occurs n (x ∷ xs) = cond (x == n) 1 0 + occurs n xs
+
+numbers_total : (n : ℕ) (xs : List Statement) → total (λ t. cond (has_number n t) 1 0) xs ≡ count_by (has_number n) xs
+numbers_total n [] = refl
+numbers_total n (x ∷ xs) = let h = numbers_total n xs in ap (λ k. cond (has_number n x) 1 0 + k) h ∙ sym (sum_by-cons (λ t. cond (has_number n t) 1 0) x xs)
+
+occurs_both : (n : ℕ) (xs ys : List ℕ) → occurs n (xs ++ ys) ≡ occurs n xs + occurs n ys
+occurs_both n [] ys = omega arith
+occurs_both n (x ∷ xs) ys = let h = occurs_both n xs ys in omega (arith, h)
+
+sites_total : (n : ℕ) (xs : List Statement) → total (λ t. occurs n (deciding_in_statement t)) xs ≡ occurs n (flat_map deciding_in_statement xs)
+sites_total n [] = refl
+sites_total n (x ∷ xs) = let h = sites_total n xs in let k = occurs_both n (deciding_in_statement x) (flat_map deciding_in_statement xs) in ap (λ z. occurs n (deciding_in_statement x) + z) h ∙ sym k
+
+none_occurs : (n x : ℕ) (xs : List ℕ) → x ≡ n → AllByRecursion (λ y. nat_eq x y ≡ false) xs → occurs n xs ≡ 0
+none_occurs n x [] e h = refl
+none_occurs n x (y ∷ xs) e h = go (none_occurs n x xs e h.1) (y == n) refl
+  where
+    go : occurs n xs ≡ 0 → (b : Bool) → (y == n) ≡ b → cond (y == n) 1 0 + occurs n xs ≡ 0
+    go r true q = let t : y ≡ n = eqb-true y n q in absurd (cc (sym (eq-eqb x y (e ∙ sym t)) ∙ h.0))
+    go r false q = let k = when_false (y == n) q in omega (arith, r, k)
+
+occurs_in : (n : ℕ) (xs : List ℕ) → Contains xs n → 1 ≤ occurs n xs
+occurs_in n [] i = nothing_in n i
+occurs_in n (x ∷ xs) i = ⊎_elim (λ (e : x ≡ n). let k = when_true (x == n) (eq-eqb x n e) in omega (arith, k)) (λ (j : Contains xs n). let h = occurs_in n xs j in omega (arith, h)) (in_cases x n xs i)
+
+once_distinct : (n : ℕ) (xs : List ℕ) → IsDistinct nat_eq xs → occurs n xs ≤ 1
+unfolding IsDistinct
+once_distinct n [] d = omega arith
+once_distinct n (x ∷ xs) d = go (once_distinct n xs d.1) (λ e. none_occurs n x xs e d.0) (x == n) refl
+  where
+    go : occurs n xs ≤ 1 → (x ≡ n → occurs n xs ≡ 0) → (b : Bool) → (x == n) ≡ b → cond (x == n) 1 0 + occurs n xs ≤ 1
+    go r f true q = let z = f (eqb-true x n q) in let k = when_true (x == n) q in omega (arith, z, k)
+    go r f false q = let k = when_false (x == n) q in omega (arith, r, k)
+
+in_bodies : (xs : List (Option Body)) (m : ℕ) (x : Body) (t : Statement) → slice_get xs m ≡ Some (Some x) → Contains (statements x.block) t → Contains (statements_of_bodies xs) t
+in_bodies [] m x t e i = absurd (cc e)
+in_bodies (y ∷ xs) zero x t e i = in_left (statements_of_body y) (statements_of_bodies xs) t (subst (λ (z : Option Body). Contains (statements_of_body z) t) (sym (some_same e)) i)
+in_bodies (y ∷ xs) (suc m) x t e i = in_right (statements_of_body y) (statements_of_bodies xs) t (in_bodies xs m x t e i)
+
+in_program : (p : Program) (half : Bool) (m : ℕ) (x : Body) (t : Statement) → slice_get (bodies_in p half) m ≡ Some (Some x) → Contains (statements x.block) t → Contains (statements_of p) t
+in_program p false m x t e i = in_left (statements_of_bodies p.bodies) (statements_of_bodies p.init_bodies) t (in_bodies p.bodies m x t e i)
+in_program p true m x t e i = in_right (statements_of_bodies p.bodies) (statements_of_bodies p.init_bodies) t (in_bodies p.init_bodies m x t e i)
+
+-- where statements are numbered once and choices have sites of their own, each statement and each arm stands in one body
+pub in_one_body : (p : Program) → AreDense p → ChoicesStandApart p → (x y : Standing) → Contains (standings_of p) x → Contains (standings_of p) y → x.point ≡ y.point → IsStatementOrArm x.point → x.method ≡ y.method
+in_one_body p dense apart x y i j e k = by_point x.point refl k
+  where
+    hx : Home p x
+    hx = home p x i
+
+    hy : Home p y
+    hy = home p y j
+
+    methods : number_in hx.half hx.index ≡ number_in hy.half hy.index → x.method ≡ y.method
+    methods q = hx.facts.method ∙ q ∙ sym hy.facts.method
+
+    weighs : (n : ℕ) (t : Statement) → number_of t ≡ n → 1 ≤ cond (has_number n t) 1 0
+    weighs n t q = let h = when_true (has_number n t) (eq-eqb (number_of t) n q) in omega (arith, h)
+
+    by_point : (q : Point) → x.point ≡ q → IsStatementOrArm q → x.method ≡ y.method
+    by_point (point.Statement n) q k =
+        let a = hx.facts.number n q in
+        let c = hy.facts.number n (sym e ∙ q) in
+        let below : n < p.statements = subst (λ z. z < p.statements) a (dense.below hx.statement (in_program p hx.half hx.index hx.body hx.statement hx.there hx.within)) in
+        let once : total (λ t. cond (has_number n t) 1 0) (statements_of p) ≤ 1 = (let h = numbers_total n (statements_of p) in let r = dense.each n below in omega (arith, h, r)) in
+        methods (one_number p (λ t. cond (has_number n t) 1 0) once hx.half hy.half hx.index hy.index hx.body hy.body hx.statement hy.statement hx.there hy.there hx.within hy.within (weighs n hx.statement a) (weighs n hy.statement c))
+    by_point (point.Arm site v) q k =
+        let a = hx.facts.arm site v q in
+        let c = hy.facts.arm site v (sym e ∙ q) in
+        let once : total (λ t. occurs site (deciding_in_statement t)) (statements_of p) ≤ 1 = (let h = sites_total site (statements_of p) in let r = once_distinct site (flat_map deciding_in_statement (statements_of p)) apart in omega (arith, h, r)) in
+        methods (one_number p (λ t. occurs site (deciding_in_statement t)) once hx.half hy.half hx.index hy.index hx.body hy.body hx.statement hy.statement hx.there hy.there hx.within hy.within (occurs_in site (deciding_in_statement hx.statement) a) (occurs_in site (deciding_in_statement hy.statement) c))
+    by_point point.Start q k = absurd k
+    by_point (point.Entry m) q k = absurd k
+    by_point (point.Init m) q k = absurd k
+    by_point (point.Catch m) q k = absurd k
