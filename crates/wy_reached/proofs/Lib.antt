@@ -13,3 +13,4 @@ mod Structure
 mod Ends
 mod Laws
 mod Apart
+mod Arms
