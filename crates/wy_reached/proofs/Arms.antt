@@ -162,3 +162,83 @@ form_way p q (Cond f t a c site) w i = ⊎_elim (λ e. at_arm 1 e) (λ j. ⊎_el
     at_arm : (u : ℕ) → way (link_kind.Arm u) q (point.Arm site u) ≡ w → FormWay q (Cond f t a c site) w
     at_arm u e = record { from = ap (λ (z : Way). z.from) (sym e); goal = λ s v k. (f, t, a, c, ap (λ z. Cond f t a c z) (arm_site (ap (λ (z : Way). z.goal) e ∙ k))) }
 form_way p q _ w i = nothing_in w i
+
+-- ---- all ways
+
+print_from : (p : Program) (o : Owner) (x : Act) → AllFrom o.point (printing p o x)
+print_from p o (Print operand ty ends_line site) = choose_from p o _ ty site
+print_from p o _ = f_nil o.point
+
+body_bare : (o : Owner) (x : Option Body) → NoArm o.point → AllBare (into_body o x)
+body_bare o Absent h = b_nil
+body_bare o (Some x) h = to_bare link_kind.Into o x.block h
+
+above_bare : (o : Owner) (x : Option ℕ) → NoArm o.point → AllBare (above_ways o x)
+above_bare o Absent h = b_nil
+above_bare o (Some d) h = bare o.point (initializing o d o.site) h (init_from o d o.site)
+
+-- the way begins or ends at an arm of this site
+abbrev Touches : Way → ℕ → ℕ → Type 0
+Touches w s v = (w.from ≡ point.Arm s v) ⊎ (w.goal ≡ Known (point.Arm s v))
+
+-- then a choice of the program has the site
+abbrev IsChoice : Program → ℕ → Type 0
+IsChoice p s = (t : Statement) × Contains (statements_of p) t × Contains (deciding_in_statement t) s
+
+never : {X : Type 0} (w : Way) (s v : ℕ) → NoArm w.from × NoArmGoal w.goal → Touches w s v → X
+never w s v h (inl e) = absurd (subst NoArm e h.0)
+never w s v h (inr e) = absurd (no_arm w.goal s v h.1 e)
+
+arm_of : {s t v u : ℕ} → point.Arm s v ≡ point.Arm t u → s ≡ t
+arm_of e = cc e
+
+in_statement : (p : Program) (t : Statement) (w : Way) (s v : ℕ) → Contains (statements_of p) t → Contains (statement_ways p t) w → Touches w s v → IsChoice p s
+in_statement p (Stmt n site askable reach act) w s v there i k =
+    let t = Stmt n site askable reach act in
+    let o = owner_of t in
+    ⊎_elim
+    (λ j. never w s v ((flow_bare act o tt).by w j) k)
+    (λ j. ⊎_elim
+        (λ l. never w s v ((bare o.point (printing p o act) tt (print_from p o act)).by w l) k)
+        (λ l. let y = of_flat (owned_ways p) (act_forms o act) w l in let z = of_act act o y.0 y.1 in let f = form_way p y.0.0 y.0.1 w y.2 in (t, there, ⊎_elim
+            (λ e. ⊎_elim (λ q. absurd (subst NoArm (sym f.from ∙ e) (subst (λ (x : Owner). NoArm x.point) (sym q) tt))) (λ q. subst (λ x. Contains (deciding_in_act act) x) (arm_of (sym q.2 ∙ sym f.from ∙ e)) q.3) z.owner)
+            (λ e. let g = f.goal s v e in z.choice g.0 g.1 g.2 g.3 s g.4)
+            k))
+        (in_either (printing p o act) (flat_map (owned_ways p) (act_forms o act)) w j))
+    (in_either (flow o act) (printing p o act ++ flat_map (owned_ways p) (act_forms o act)) w i)
+
+in_program : (p : Program) (w : Way) (s v : ℕ) → Contains (ways_of p) w → Touches w s v → IsChoice p s
+in_program p w s v i k =
+    let entries = flat_map (entry_ways p) (range_with_len 0 (length p.bodies)) in
+    let inits = flat_map (init_ways p) (range_with_len 0 (length p.init_bodies)) in
+    let rest = flat_map (statement_ways p) (statements_of p) in
+    let o : Owner = record { point = point.Start; site = (method p p.main).site } in
+    ⊎_elim
+    (λ j. never w s v ((bare point.Start (start_ways p) tt (f_both point.Start (calling o p.main o.site) (initializing o (method p p.main).class (class p (method p p.main).class).site) (call_from o p.main o.site) (init_from o (method p p.main).class (class p (method p p.main).class).site))).by w j) k)
+    (λ j. ⊎_elim
+        (λ l. let y = of_flat (entry_ways p) (range_with_len 0 (length p.bodies)) w l in never w s v ((body_bare (record { point = point.Entry y.0; site = (method p y.0).site }) (body p y.0) tt).by w y.2) k)
+        (λ l. ⊎_elim
+            (λ m. let y = of_flat (init_ways p) (range_with_len 0 (length p.init_bodies)) w m in let c : Owner = record { point = point.Init y.0; site = (class p y.0).site } in never w s v ((b_both (into_body c (init_body p y.0)) (above_ways c (class p y.0).above) (body_bare c (init_body p y.0) tt) (above_bare c (class p y.0).above tt)).by w y.2) k)
+            (λ m. let y = of_flat (statement_ways p) (statements_of p) w m in in_statement p y.0 w s v y.1 y.2 k)
+            (in_either inits rest w l))
+        (in_either entries (inits ++ rest) w j))
+    (in_either (start_ways p) (entries ++ (inits ++ rest)) w i)
+
+reaches_arm : (p : Program) (g : Goal) (q : Point) (s v : ℕ) → Meets p g q → q ≡ point.Arm s v → g ≡ Known (point.Arm s v)
+reaches_arm p (Known r) q s v h e = ap Known (sym h ∙ e)
+reaches_arm p (Chosen m d) q s v h e = absurd (let r = sym h.2 ∙ e in cc r)
+
+tested : (act : Act) → HasTest act → is_testing_act act ≡ true
+tested (If test a c) h = refl
+tested (While test s) h = refl
+tested (Do s test) h = refl
+tested (For inits (the e) updates s) h = refl
+tested (For inits absent updates s) h = absurd h
+tested _ h = absurd h
+
+-- where choices have other sites than the tests of statements, no link begins or ends at an arm of such a site
+pub no_arm_at_test : (p : Program) → TestsStandApart p → (x : Statement) (site value : ℕ) → Contains (statements_of p) x → IsTestAt x site → IsPoint p (point.Arm site value) → ⊥
+no_arm_at_test p apart (Stmt n at askable reach act) site value i t q =
+    let a = q.is_link.along in
+    let c = in_program p q.is_link.way site value q.is_link.among (⊎_elim (λ e. inl (sym a.from ∙ e)) (λ e. inr (reaches_arm p q.is_link.way.goal q.link.to site value a.to e)) q.is_end) in
+    apart (Stmt n at askable reach act) c.0 site i c.1 (tested act t.0) c.2 t.1
