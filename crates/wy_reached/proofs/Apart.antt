@@ -1,7 +1,7 @@
 -- Where the numbers of statements and the sites of choices are distinct, each statement and each arm stands in one body.
 use Rattle.std.proofs.Common.{◌≡◌, ◌⊎◌, ◌<◌, ◌≤◌, ◌+◌, arith, inl, inr, ⊎_elim, ℕ, zero, suc, Bool, true, false, cond, List, [], ◌∷◌, ◌++◌, length, Option, Some, refl, sym, ap, ◌∙◌, subst}
 use Rattle.std.specs.Prelude.{None as Absent}
-use Rattle.std.specs.Prelude.{◌==◌, nat_eq, slice_get, slice_index_or, if◌then◌else◌}
+use Rattle.std.specs.Prelude.{◌==◌, nat_eq, slice_get, slice_index_or}
 use Rattle.std.specs.List.{Contains, IsDistinct, AllByRecursion, count_by, flat_map, range_with_len}
 use Rattle.std.proofs.lemmas.Bool.{eqb-true, eq-eqb}
 use Rattle.wy_kernel.specs.declared.form.CondForm.{CondForm}
@@ -12,7 +12,6 @@ use Rattle.wy_ways.specs.declared.point.Point.TheVariants as point
 use Rattle.wy_ways.specs.declared.way.Owner.{Owner}
 use Rattle.wy_ways.specs.Forms.{arm_owner, forms, forms_within, place_forms, part_forms, row_forms}
 use Rattle.wy_ways.specs.Ways.{in_part, act_forms}
-use Rattle.std.specs.Prelude.{sum_by}
 use Rattle.std.proofs.lemmas.List.Sums.{sum_by-cons}
 use Rattle.wy_kernel.specs.Form.{Catches, uncaught, catch}
 use Rattle.wy_kernel.specs.Program.{Program, Body, body, init_body}
@@ -23,7 +22,7 @@ use Rattle.wy_structure.specs.Sites.{deciding_in_statement}
 use Rattle.wy_choices.specs.Choices.{ChoicesStandApart}
 use Rattle.wy_typed_states.proofs.Subtypes.{part_at}
 use Rattle.wy_ways.specs.declared.standing.Standing.{Standing}
-use Rattle.wy_ways.specs.Standings.{initializer_number, standing, both_arms, form_standings, arm_standings, catch_standings, try_standings, standings_in, body_standings, method_standings, initializer_standings, standings_of}
+use Rattle.wy_ways.specs.Standings.{initializer_number, standing, form_standings, arm_standings, catch_standings, try_standings, standings_in, body_standings, method_standings, initializer_standings, standings_of}
 use Rattle.wy_ways.specs.Ways.{owner_of}
 use Rattle.wy_reached.specs.Laws.{IsStatementOrArm}
 use Rattle.wy_reached.proofs.Contained.{nothing_in, in_head, in_tail, in_cases, in_left, in_right, in_either, of_flat}
@@ -74,9 +73,9 @@ mutual
       ⊎_elim
       (λ j. wider o (deciding t) all x (λ s k. in_tail site s (deciding t ++ rest) (in_left (deciding t) rest s k)) (of_it o t x (of_within t o x) j))
       (λ j. ⊎_elim
-          (λ k. in_arm o site 1 (deciding_in_part a) all x (λ s l. in_tail site s (deciding t ++ rest) (in_right (deciding t) rest s (in_left (deciding_in_part a) (deciding_in_part c) s l))) (in_head site (deciding t ++ rest)) (of_part a (arm_owner site 1) x k))
-          (λ k. in_arm o site 0 (deciding_in_part c) all x (λ s l. in_tail site s (deciding t ++ rest) (in_right (deciding t) rest s (in_right (deciding_in_part a) (deciding_in_part c) s l))) (in_head site (deciding t ++ rest)) (of_part c (arm_owner site 0) x k))
-          (in_either (part_forms (arm_owner site 1) a) (part_forms (arm_owner site 0) c) x j))
+      (λ k. in_arm o site 1 (deciding_in_part a) all x (λ s l. in_tail site s (deciding t ++ rest) (in_right (deciding t) rest s (in_left (deciding_in_part a) (deciding_in_part c) s l))) (in_head site (deciding t ++ rest)) (of_part a (arm_owner site 1) x k))
+      (λ k. in_arm o site 0 (deciding_in_part c) all x (λ s l. in_tail site s (deciding t ++ rest) (in_right (deciding t) rest s (in_right (deciding_in_part a) (deciding_in_part c) s l))) (in_head site (deciding t ++ rest)) (of_part c (arm_owner site 0) x k))
+      (in_either (part_forms (arm_owner site 1) a) (part_forms (arm_owner site 0) c) x j))
       (in_either (forms o t) (part_forms (arm_owner site 1) a ++ part_forms (arm_owner site 0) c) x i)
   of_within (New class constructor args site) o x i = of_row args o x i
   of_within (NewArray ty dims elements sites site) o x i = of_two o (row_forms o dims) (row_forms o elements) (deciding_in_row dims) (deciding_in_row elements) x (of_row dims o x) (of_row elements o x) i
@@ -194,9 +193,9 @@ facts b (Stmt number site askable reach act) s i =
     ⊎_elim
     (λ q. record { method = ap (λ (z : Standing). z.method) (sym q); number = λ m e. number_same (ap (λ (z : Standing). z.point) q ∙ e); arm = λ a v e. absurd (let r = ap (λ (z : Standing). z.point) q ∙ e in cc r) })
     (λ j. ⊎_elim
-        (λ k. let y = of_flat (arm_standings b number) (act_forms o act) s k in form_facts b number t s y.0.1 (of_act act o y.0 y.1).choice y.2)
-        (λ k. try_facts b t s act k)
-        (in_either (flat_map (arm_standings b number) (act_forms o act)) (try_standings b act) s j))
+    (λ k. let y = of_flat (arm_standings b number) (act_forms o act) s k in form_facts b number t s y.0.1 (of_act act o y.0 y.1).choice y.2)
+    (λ k. try_facts b t s act k)
+    (in_either (flat_map (arm_standings b number) (act_forms o act)) (try_standings b act) s j))
     (in_cases (standing b number (point.Statement number)) s (flat_map (arm_standings b number) (act_forms o act) ++ try_standings b act) i)
 
 -- ---- in which body

@@ -9,11 +9,10 @@ use Rattle.wy_kernel.specs.declared.types.Ty.TheVariants.{Void, Null as OfNull, 
 use Rattle.wy_kernel.specs.declared.form.CondForm.{CondForm}
 use Rattle.wy_kernel.specs.declared.form.CallForm.{CallForm}
 use Rattle.wy_kernel.specs.declared.form.CallForm.TheVariants as call
-use Rattle.wy_kernel.specs.Form.{Expression, Const, Str, Read, Set, Upd, Un, Bin, Conv, Cast, InstanceOf, Cond, New, NewArray, Call, Cat, Lib, Place, Local, Static, Field, Elem, Part, absent, the, Statement, Stmt, Act, Block, Eval, Declare, If, While, Do, For, Labelled, Jump, Return, Throw, Try, Print, Other, nothing, this, Statements, done, first, Catches, uncaught, catch}
+use Rattle.wy_kernel.specs.Form.{Expression, Read, Set, Upd, Cond, New, Call, Cat, Place, Static, Part, absent, the, Statement, Stmt, Act, Block, Eval, Declare, If, While, Do, For, Labelled, Jump, Return, Throw, Try, Print, Other, nothing, this, Statements, done, first, Catches, uncaught, catch}
 use Rattle.wy_kernel.specs.Program.{Program, Body, class, method, field, body, init_body, is_source}
 use Rattle.wy_kernel.specs.Statements.{number_of, statements_of}
-use Rattle.wy_structure.specs.Numbers.{site_of}
-use Rattle.wy_structure.specs.Reaches.{is_testing, is_testing_act}
+use Rattle.wy_structure.specs.Reaches.{is_testing_act}
 use Rattle.wy_structure.specs.Sites.{deciding_in_statement, deciding_in_act, TestsStandApart}
 use Rattle.wy_ways.specs.declared.point.Point.{Point}
 use Rattle.wy_ways.specs.declared.point.Point.TheVariants as point
@@ -23,10 +22,10 @@ use Rattle.wy_ways.specs.declared.way.Owner.{Owner}
 use Rattle.wy_ways.specs.declared.way.Goal.{Goal}
 use Rattle.wy_ways.specs.declared.way.Goal.TheVariants.{Known, Chosen}
 use Rattle.wy_ways.specs.declared.way.Way.{Way}
-use Rattle.wy_ways.specs.Ways.{ways_of, way, call_at, owner_of, in_order, to, to_other, to_catch, to_catches, catch_owner, by_test, flow, initializing, calling, choosing, converting, constructing, placing, updating, is_absent, called, arms, form_ways, owned_ways, act_forms, printing, statement_ways, start_ways, into_body, entry_ways, above_ways, init_ways}
-use Rattle.wy_static.specs.Links.{IsLink, Meets}
+use Rattle.wy_ways.specs.Ways.{ways_of, way, call_at, owner_of, in_order, to, to_other, to_catch, to_catches, catch_owner, by_test, flow, initializing, calling, choosing, converting, constructing, placing, updating, is_absent, called, form_ways, owned_ways, act_forms, printing, statement_ways, start_ways, into_body, entry_ways, above_ways, init_ways}
+use Rattle.wy_static.specs.Links.{Meets}
 use Rattle.wy_reached.specs.Laws.{IsPoint, HasTest, IsTestAt}
-use Rattle.wy_reached.proofs.Contained.{nothing_in, in_head, in_cases, in_either, of_flat}
+use Rattle.wy_reached.proofs.Contained.{nothing_in, in_cases, in_either, of_flat}
 use Rattle.wy_reached.proofs.Apart.{of_act}
 
 abbrev NoArm : Point → Type 0
@@ -199,12 +198,16 @@ in_statement p (Stmt n site askable reach act) w s v there i k =
     ⊎_elim
     (λ j. never w s v ((flow_bare act o tt).by w j) k)
     (λ j. ⊎_elim
-        (λ l. never w s v ((bare o.point (printing p o act) tt (print_from p o act)).by w l) k)
-        (λ l. let y = of_flat (owned_ways p) (act_forms o act) w l in let z = of_act act o y.0 y.1 in let f = form_way p y.0.0 y.0.1 w y.2 in (t, there, ⊎_elim
-            (λ e. ⊎_elim (λ q. absurd (subst NoArm (sym f.from ∙ e) (subst (λ (x : Owner). NoArm x.point) (sym q) tt))) (λ q. subst (λ x. Contains (deciding_in_act act) x) (arm_of (sym q.2 ∙ sym f.from ∙ e)) q.3) z.owner)
-            (λ e. let g = f.goal s v e in z.choice g.0 g.1 g.2 g.3 s g.4)
-            k))
-        (in_either (printing p o act) (flat_map (owned_ways p) (act_forms o act)) w j))
+    (λ l. never w s v ((bare o.point (printing p o act) tt (print_from p o act)).by w l) k)
+    (λ l. let y = of_flat (owned_ways p) (act_forms o act) w l in let z = of_act act o y.0 y.1 in let f = form_way p y.0.0 y.0.1 w y.2 in (
+      t,
+      there,
+      ⊎_elim
+          (λ e. ⊎_elim (λ q. absurd (subst NoArm (sym f.from ∙ e) (subst (λ (x : Owner). NoArm x.point) (sym q) tt))) (λ q. subst (λ x. Contains (deciding_in_act act) x) (arm_of (sym q.2 ∙ sym f.from ∙ e)) q.3) z.owner)
+          (λ e. let g = f.goal s v e in z.choice g.0 g.1 g.2 g.3 s g.4)
+          k,
+    ))
+    (in_either (printing p o act) (flat_map (owned_ways p) (act_forms o act)) w j))
     (in_either (flow o act) (printing p o act ++ flat_map (owned_ways p) (act_forms o act)) w i)
 
 in_program : (p : Program) (w : Way) (s v : ℕ) → Contains (ways_of p) w → Touches w s v → IsChoice p s
@@ -216,12 +219,12 @@ in_program p w s v i k =
     ⊎_elim
     (λ j. never w s v ((bare point.Start (start_ways p) tt (f_both point.Start (calling o p.main o.site) (initializing o (method p p.main).class (class p (method p p.main).class).site) (call_from o p.main o.site) (init_from o (method p p.main).class (class p (method p p.main).class).site))).by w j) k)
     (λ j. ⊎_elim
-        (λ l. let y = of_flat (entry_ways p) (range_with_len 0 (length p.bodies)) w l in never w s v ((body_bare (record { point = point.Entry y.0; site = (method p y.0).site }) (body p y.0) tt).by w y.2) k)
-        (λ l. ⊎_elim
-            (λ m. let y = of_flat (init_ways p) (range_with_len 0 (length p.init_bodies)) w m in let c : Owner = record { point = point.Init y.0; site = (class p y.0).site } in never w s v ((b_both (into_body c (init_body p y.0)) (above_ways c (class p y.0).above) (body_bare c (init_body p y.0) tt) (above_bare c (class p y.0).above tt)).by w y.2) k)
-            (λ m. let y = of_flat (statement_ways p) (statements_of p) w m in in_statement p y.0 w s v y.1 y.2 k)
-            (in_either inits rest w l))
-        (in_either entries (inits ++ rest) w j))
+    (λ l. let y = of_flat (entry_ways p) (range_with_len 0 (length p.bodies)) w l in never w s v ((body_bare (record { point = point.Entry y.0; site = (method p y.0).site }) (body p y.0) tt).by w y.2) k)
+    (λ l. ⊎_elim
+    (λ m. let y = of_flat (init_ways p) (range_with_len 0 (length p.init_bodies)) w m in let c : Owner = record { point = point.Init y.0; site = (class p y.0).site } in never w s v ((b_both (into_body c (init_body p y.0)) (above_ways c (class p y.0).above) (body_bare c (init_body p y.0) tt) (above_bare c (class p y.0).above tt)).by w y.2) k)
+    (λ m. let y = of_flat (statement_ways p) (statements_of p) w m in in_statement p y.0 w s v y.1 y.2 k)
+    (in_either inits rest w l))
+    (in_either entries (inits ++ rest) w j))
     (in_either (start_ways p) (entries ++ (inits ++ rest)) w i)
 
 reaches_arm : (p : Program) (g : Goal) (q : Point) (s v : ℕ) → Meets p g q → q ≡ point.Arm s v → g ≡ Known (point.Arm s v)
