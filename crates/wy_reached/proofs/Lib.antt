@@ -12,3 +12,5 @@ mod Need
 mod Structure
 mod Ends
 mod Laws
+mod Apart
+mod Arms

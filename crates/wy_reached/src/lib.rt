@@ -3,6 +3,9 @@
 
 ghost use Rattle.wy_kernel.specs.Program.{Program};
 ghost use Rattle.wy_steps.specs.Sets.{nothing, numbers};
+ghost use Rattle.wy_structure.specs.Numbers.{AreDense};
+ghost use Rattle.wy_structure.specs.Sites.{TestsStandApart};
+ghost use Rattle.wy_choices.specs.Choices.{ChoicesStandApart};
 ghost use Rattle.wy_typing.specs.Programs.{IsProgram};
 ghost use Rattle.wy_typed_states.specs.Typed.{KeepsLibrary};
 ghost use Rattle.wy_reached.specs.Laws.{CallsStandOnLinks, EachItemIsNeeded, ExecutedPointsAreReached, StandsApart};
@@ -29,4 +32,10 @@ pub fn each_item_is_needed()
 pub fn calls_stand_on_links()
     ensures calls { (p : Program) → IsProgram p → KeepsLibrary p → StandsApart p → CallsStandOnLinks nothing p }
     ensures calls_carrying { (p : Program) → IsProgram p → KeepsLibrary p → StandsApart p → CallsStandOnLinks numbers p }
+{}
+
+/// Where each number is that of one statement, and the choices of a program have sites of their own, which no test of a statement has,
+/// each statement and each arm stands in one body, and no link begins or ends at an arm at the site of a statement's test.
+pub fn programs_stand_apart()
+    ensures { (p : Program) → AreDense p → ChoicesStandApart p → TestsStandApart p → StandsApart p }
 {}
