@@ -114,6 +114,12 @@ e04 4
 local:2:2@7 5
 local:2:2@8 7
 ROWS
+printf 'class S {\n  static int x;\n  public static void main(String[] a) {\n    Object e = new Exception();\n    System.out.println(x);\n  }\n}\n' >"$scratch/made.java"
+"$program" record "$scratch/made.java" -o "$scratch/made.trace" >/dev/null 2>&1
+expect_line "a static field, made by its class's initialization" 0 '#0 line 1 init S *' why "$scratch/made.trace" static:S.x@3
+expect_line "an inherited field, made with its object" 0 $'#2 line 3 call S.main\n#4 line 4 new java.lang.Exception *' why "$scratch/made.trace" field:4:java.lang.Throwable.message@5
+expect_line "a field before its object" 6 'question: no such 4' why "$scratch/made.trace" field:4:java.lang.Throwable.message@4
+expect_line "a field of an array" 6 'question: no such 2' why "$scratch/made.trace" field:1:java.lang.Throwable.message@2
 expect_line "what can be asked" 0 'p0 #8 line 8 print 5' questions "$trace"
 expect_line "a statement that ran" 6 'question: line 8.1 ran 1 times, first before #8' whynot "$trace" 8
 expect_line "a line without a statement" 6 'question: no such 99' whynot "$trace" 99

@@ -11,6 +11,8 @@ use Rattle.wy_event.specs.Record.{Recorded}
 use Rattle.wy_steps.specs.Sets.{Sets}
 use Rattle.wy_meaning.specs.Run.{events, tail}
 use Rattle.wy_meaning.specs.Kept.{covered_of}
+use Rattle.wy_typing.specs.Programs.{IsProgram}
+use Rattle.wy_typed_states.specs.Typed.{KeepsLibrary}
 use Rattle.wy_index.specs.Found.{caller_in}
 use Rattle.wy_ways.specs.declared.point.Point.{Point}
 use Rattle.wy_ways.specs.declared.point.Point.TheVariants as point
@@ -54,6 +56,10 @@ IsTestAt (Stmt number site askable reach act) s = HasTest act × (site ≡ s)
 pub record StandsApart (p : Program) : Type 0 where
   pub bodies : (x y : Standing) → Contains (standings_of p) x → Contains (standings_of p) y → x.point ≡ y.point → IsStatementOrArm x.point → x.method ≡ y.method
   pub tests : (x : Statement) (site value : ℕ) → Contains (statements_of p) x → IsTestAt x site → IsPoint p (point.Arm site value) → ⊥
+
+-- it holds of each program that fits its types, keeps the library and has its points apart, as the program of each text does
+abbrev pub OfPrograms : (Program → Type 0) → Type 0
+OfPrograms Q = (p : Program) → IsProgram p → KeepsLibrary p → StandsApart p → Q p
 
 -- ---- runs
 

@@ -6,32 +6,31 @@ ghost use Rattle.wy_steps.specs.Sets.{nothing, numbers};
 ghost use Rattle.wy_structure.specs.Numbers.{AreDense};
 ghost use Rattle.wy_structure.specs.Sites.{TestsStandApart};
 ghost use Rattle.wy_choices.specs.Choices.{ChoicesStandApart};
-ghost use Rattle.wy_typing.specs.Programs.{IsProgram};
-ghost use Rattle.wy_typed_states.specs.Typed.{KeepsLibrary};
-ghost use Rattle.wy_reached.specs.Laws.{CallsStandOnLinks, EachItemIsNeeded, ExecutedPointsAreReached, StandsApart};
+ghost use Rattle.wy_reached.specs.Laws.{CallsStandOnLinks, EachItemIsNeeded, ExecutedPointsAreReached, OfPrograms, StandsApart};
 
-/// In every run of a program that fits its types each point of the program that the run executed is Start, or is reached from it by
-/// links of the program that the run crossed, one after another.
+/// In every run of a program that fits its types, keeps the library and has its points apart, each point at which a link of the
+/// program begins or ends, and which the run executed, is Start, or is reached from it by links of the program that the run crossed,
+/// one after another.
 ///
 /// A statement is executed if it began, an entry, an initialization and a catch if its event is there, and an arm if its test gave its
 /// value. A call is crossed if it was made at its site, in the body of its owner; every other link if both its ends are executed.
 pub fn executed_points_are_reached()
-    ensures reached { (p : Program) → IsProgram p → KeepsLibrary p → StandsApart p → ExecutedPointsAreReached nothing p }
-    ensures reached_carrying { (p : Program) → IsProgram p → KeepsLibrary p → StandsApart p → ExecutedPointsAreReached numbers p }
+    ensures reached { OfPrograms (ExecutedPointsAreReached nothing) }
+    ensures reached_carrying { OfPrograms (ExecutedPointsAreReached numbers) }
 {}
 
-/// In every run, for each item of a statement that never began, there is a chain to the statement that has the item's link and no link
-/// of any other item: so no item can be left out.
+/// In every run of such a program, for each item of a statement that never began, there is a chain to the statement that has the
+/// item's link and no link of any other item: so no item can be left out.
 pub fn each_item_is_needed()
-    ensures needed { (p : Program) → IsProgram p → KeepsLibrary p → StandsApart p → EachItemIsNeeded nothing p }
-    ensures needed_carrying { (p : Program) → IsProgram p → KeepsLibrary p → StandsApart p → EachItemIsNeeded numbers p }
+    ensures needed { OfPrograms (EachItemIsNeeded nothing) }
+    ensures needed_carrying { OfPrograms (EachItemIsNeeded numbers) }
 {}
 
-/// In every run each event of kind Call or Init stands at the site of a link of the program to what it begins, in the body of the
-/// link's owner, which is executed. So the method that ran is among the possible targets of its call.
+/// In every run of such a program each event of kind Call or Init stands at the site of a link of the program to what it begins, in
+/// the body of the link's owner, which is executed. So the method that ran is among the possible targets of its call.
 pub fn calls_stand_on_links()
-    ensures calls { (p : Program) → IsProgram p → KeepsLibrary p → StandsApart p → CallsStandOnLinks nothing p }
-    ensures calls_carrying { (p : Program) → IsProgram p → KeepsLibrary p → StandsApart p → CallsStandOnLinks numbers p }
+    ensures calls { OfPrograms (CallsStandOnLinks nothing) }
+    ensures calls_carrying { OfPrograms (CallsStandOnLinks numbers) }
 {}
 
 /// Where each number is that of one statement, and the choices of a program have sites of their own, which no test of a statement has,
