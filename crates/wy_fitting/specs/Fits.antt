@@ -9,6 +9,8 @@ use Rattle.wy_event.specs.declared.record.Slot.{Slot}
 use Rattle.wy_event.specs.declared.record.Slot.TheVariants as slots
 use Rattle.wy_event.specs.declared.record.Use.{Use}
 use Rattle.wy_event.specs.declared.record.Use.TheVariants as used
+use Rattle.wy_event.specs.declared.record.Cover.{Cover}
+use Rattle.wy_event.specs.declared.record.Tail.{Tail}
 use Rattle.wy_event.specs.Record.{Recorded}
 use Rattle.wy_kernel.specs.View.{NONE}
 
@@ -59,6 +61,22 @@ pub record Fits (e : Recorded) : Type 0 where
 
 abbrev pub AllFit : List Recorded → Type 0
 AllFit rs = All Fits rs
+
+-- ---- the end of a run
+
+pub record CoverFits (c : Cover) : Type 0 where
+  pub begins : IsNumber c.begins
+  pub ends : IsNumber c.ends
+  pub first : IsNumber c.first
+  pub cause : IsNumber c.cause
+
+pub record EndFits (t : Tail) : Type 0 where
+  pub covers : All CoverFits t.coverage.statements
+  pub last : IsNumber t.last
+  pub steps : IsNumber t.steps
+  pub events : IsNumber t.events
+  pub uses : IsNumber t.uses
+  pub output : IsNumber t.output
 
 -- ---- what bytes tell
 

@@ -4,9 +4,9 @@
 ghost use Rattle.std.specs.Prelude.{All, map};
 ghost use Rattle.wy_event.specs.Record.{recorded};
 ghost use Rattle.wy_kernel.specs.View.{present};
-ghost use Rattle.wy_fitting.specs.Fits.{AllFit, Fits, IsPresent, IsUnit, SlotFits, UseFits, ValueFits};
+ghost use Rattle.wy_fitting.specs.Fits.{AllFit, CoverFits, EndFits, Fits, IsPresent, IsUnit, SlotFits, UseFits, ValueFits};
 
-use wy_event::record::{Event, Slot, Use};
+use wy_event::record::{Cover, Event, Slot, Tail, Use};
 use wy_value::Value;
 
 fn slot_fits(slot: Slot)
@@ -88,4 +88,33 @@ pub fn events_fit(events: &[Event])
     for event in events {
         event_fits(event);
     }
+}
+
+fn cover_fits(cover: &Cover)
+    ensures { CoverFits cover.now }
+{
+    let _begins = cover.begins;
+    let _ends = cover.ends;
+    let _first = cover.first;
+    let _cause = cover.cause;
+}
+
+fn covers_fit(covers: &[Cover])
+    ensures { All CoverFits covers.now }
+{
+    for cover in covers {
+        cover_fits(cover);
+    }
+}
+
+/// The numbers of the end of a run fit.
+pub fn end_fits(tail: &Tail)
+    ensures { EndFits tail.now }
+{
+    covers_fit(tail.coverage.statements.as_slice());
+    let _last = tail.last;
+    let _steps = tail.steps;
+    let _events = tail.events;
+    let _uses = tail.uses;
+    let _output = tail.output;
 }

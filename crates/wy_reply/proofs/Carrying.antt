@@ -1,7 +1,6 @@
 -- What why tells over the trace of a run is what the run carried.
-use Rattle.std.proofs.Common.{◌≡◌, ◌∙◌, sym, ap, subst, refl, ℕ, zero, suc, ◌<◌, ◌≤◌, ◌^◌, Bool, true, false, cond, List, [], ◌∷◌, length, map, drop, Option, Some, None, Result, Ok, Err, IfOk, arith}
-use Rattle.std.specs.Prelude.{All, MatchResult, slice_get, nat_le, nat_lt}
-use Rattle.std.specs.declared.alloc.AllocError.{AllocError}
+use Rattle.std.proofs.Common.{◌≡◌, ◌∙◌, sym, subst, refl, ℕ, zero, suc, ◌<◌, ◌≤◌, Bool, true, false, cond, List, [], ◌∷◌, length, map, Option, Some, None, Result, Ok, Err, arith}
+use Rattle.std.specs.Prelude.{All, slice_get, nat_le, nat_lt}
 use Rattle.std.proofs.lemmas.Bool.{leb-true, ltb-true}
 use Rattle.std.proofs.lemmas.List.{length-map}
 use Rattle.wy_kernel.specs.declared.program.Program as memory
@@ -15,13 +14,7 @@ use Rattle.wy_event.specs.declared.record.Kind.{Kind}
 use Rattle.wy_event.specs.declared.record.Kind.TheVariants as kind
 use Rattle.wy_event.specs.declared.record.Slot.{Slot}
 use Rattle.wy_event.specs.declared.record.Slot.TheVariants as slot
-use Rattle.wy_event.specs.declared.record.Head.{Head}
 use Rattle.wy_event.specs.declared.record.Trace.{Trace}
-use Rattle.wy_spelling.specs.Spelling.{trace_limit}
-use Rattle.wy_frames.specs.Heads.{head_of}
-use Rattle.wy_frames.specs.Traces.{IsReadAs, IsReadBehind}
-use Rattle.wy_frames.specs.declared.error.TraceError.{TraceError}
-use Rattle.wy_spelled.specs.Laws.{AreBytes, RecordedHeadsAreReadBack, RecordedTracesAreReadBack}
 use Rattle.wy_fitting.specs.Fits.{AllTold, IsTold, told, told_value, told_units}
 use Rattle.wy_steps.specs.Sets.{nothing, numbers}
 use Rattle.wy_steps.specs.State.{Held, Noted}
@@ -32,16 +25,12 @@ use Rattle.wy_shaped.specs.Shaped.{RecordsAreShaped, Shaped, UnitsOf, ValueOf, I
 use Rattle.wy_why.specs.Answer.{up_to}
 use Rattle.wy_ask.specs.Asked.{event_of, owners, static_place, field_place, element_place, stored}
 use Rattle.wy_ask.specs.Reading.{and_then}
-use Rattle.wy_ask.specs.Questions.{Asked, Asks}
+use Rattle.wy_ask.specs.Questions.{Asked}
 use Rattle.wy_ask.specs.Questions as question
 use Rattle.wy_ask.proofs.Stores.{print_below}
 use Rattle.wy_telling.specs.Why.{WhyIs, Refused, NotRead, NoSuch, answered, not_there, not_read, marked_lines, why_text}
-use Rattle.wy_reply.specs.declared.answer.Answer.{Answer}
-use Rattle.wy_reply.specs.declared.status.Status.TheVariants.{Done}
-use Rattle.wy_reply.specs.Statuses.{code_of}
-use Rattle.wy_reply.specs.Recordings.{IsTraceOf, trace_spelling}
-use Rattle.wy_reply.specs.Tellings.{Wanted, Why, RefusesTrace, Tells, why, whynot, questions, explore, audit, output}
-use Rattle.wy_reply.specs.Carried.{CarriedAnswer, CarriesBy, HasSource, Means, SameSets, static, field, element, local}
+use Rattle.wy_reply.specs.Tellings.{Wanted, Why, Tells, why, whynot, questions, explore, audit, output}
+use Rattle.wy_reply.specs.Carried.{CarriedAnswer, Means, SameSets, static, field, element, local}
 
 -- ---- bytes tell all of a run's records
 
@@ -287,69 +276,3 @@ told_carried p t w s x input steps run read tells done asks same =
     let r = tells_why p t w s x tells asks same done in
     answer_carried (program_of p) p.lines.items input steps asks x run r.0 r.1
     (subst (λ (rs : List Recorded). WhyIs (program_of p) p.lines.items rs asks r.0) (read ∙ sym run.same) r.2)
-
--- ---- the bytes of a run's trace
-
--- what is known of runs and of what is read of their traces
-pub record Laws : Type 0 where
-  pub back : RecordedTracesAreReadBack
-  pub heads : RecordedHeadsAreReadBack
-  pub shaped : (p : Program) (input : List ℕ) (steps : ℕ) → RecordsAreShaped nothing p input steps
-  pub same : (p : Program) (input : List ℕ) (steps : ℕ) → events numbers p input steps ≡ events nothing p input steps
-  pub carried : (p : Program) (input : List ℕ) (steps : ℕ) → BackwardIsForward p input steps
-  pub stores : (p : Program) (input : List ℕ) (steps : ℕ) → StoredIsLastWrite p input steps
-
-pub known : RecordedTracesAreReadBack → RecordedHeadsAreReadBack → ((p : Program) (input : List ℕ) (steps : ℕ) → RecordsAreShaped nothing p input steps) →
-    ((p : Program) (input : List ℕ) (steps : ℕ) → events numbers p input steps ≡ events nothing p input steps) → ((p : Program) (input : List ℕ) (steps : ℕ) → BackwardIsForward p input steps) →
-    ((p : Program) (input : List ℕ) (steps : ℕ) → StoredIsLastWrite p input steps) → Laws
-known back heads shaped same carried stores = record { back = back; heads = heads; shaped = shaped; same = same; carried = carried; stores = stores }
-
-run_of : Laws → (p : Program) (input : List ℕ) (steps : ℕ) → Runs p input steps
-run_of laws p input steps = record { same = laws.same p input steps; carried = laws.carried p input steps; stores = laws.stores p input steps }
-
--- the records that are read are those of the run
-read_back : Laws → (p q : memory.Program) (source input : List ℕ) (steps : ℕ) (bytes : List ℕ) (x : Trace) → AreBytes bytes → length bytes ≤ trace_limit → IsTraceOf trace_spelling (program_of q) source input steps bytes →
-    IsReadAs p bytes (Ok x) → map recorded x.events ≡ events nothing (program_of q) input steps
-read_back laws p q source input steps bytes x are short is reads =
-    laws.back p is.head (events nothing (program_of q) input steps) is.end bytes x are short is.events_fit is.spelled reads (all_told (program_of q) input steps (laws.shaped (program_of q) input steps))
-
-carries : Laws → (p : memory.Program) (bytes : List ℕ) (w : Wanted) (t : Trace) (s : ℕ) (text : List ℕ) → AreBytes bytes → length bytes ≤ trace_limit → IsReadAs p bytes (Ok t) → Tells p t w s text → s ≡ 0 → CarriesBy p bytes w text
-carries laws p bytes w t s text are short reads tells done = λ asks same source input steps is.
-    told_carried p t w s text input steps (run_of laws (program_of p) input steps) (read_back laws p p source input steps bytes t are short is reads) tells done asks same
-
-pub under_carries : Laws → (p : memory.Program) (bytes : List ℕ) (w : Wanted) (t : Trace) (r : Result Answer AllocError) → AreBytes bytes → length bytes ≤ trace_limit → IsReadAs p bytes (Ok t) →
-    IfOk r (λ answer. Tells p t w (code_of answer.status) answer.text.items) → IfOk r (λ answer. answer.status ≡ Done → CarriesBy p bytes w answer.text.items)
-under_carries laws p bytes w t (Ok answer) are short reads tells = λ done. carries laws p bytes w t (code_of answer.status) answer.text.items are short reads tells (ap code_of done)
-under_carries laws p bytes w t (Err e) are short reads tells = tt
-
-abbrev headed : Head × ℕ → Result (Head × ℕ) TraceError
-headed y = Ok y
-
-one_head : (y z : Head × ℕ) → headed y ≡ headed z → y ≡ z
-one_head y z e = cc
-
-head_in_trace : (p : memory.Program) (bytes : List ℕ) (x : Trace) (h : Result (Head × ℕ) TraceError) (head : Head) (end : ℕ) → MatchResult h (λ y. IsReadBehind p y.0 (drop y.1 bytes) (Ok x)) (λ e. Ok x ≡ Err e) →
-    h ≡ Ok (head, end) → x.head ≡ head
-head_in_trace p bytes x (Ok y) head end (t, stand, has) is = has.head_is ∙ ap (λ (z : Head × ℕ). z.0) (one_head y (head, end) is)
-head_in_trace p bytes x (Err e) head end reads is = absurd (cc)
-
-has_source : Laws → (p : memory.Program) (bytes : List ℕ) (x : Trace) → AreBytes bytes → length bytes ≤ trace_limit → IsReadAs p bytes (Ok x) → HasSource bytes
-has_source laws p bytes x are short reads = λ q source input steps is head end at.
-    let few : is.head.steps < 2 ^ 32 = subst (λ n. n < 2 ^ 32) (sym is.steps_are) is.steps_fit in
-    let read : x.head ≡ is.head = laws.heads p is.head (events nothing q input steps) is.end bytes x are short is.events_fit is.spelled reads few in
-    ap (λ (h : Head). h.source) (sym (head_in_trace p bytes x (head_of bytes) head end reads at) ∙ read) ∙ is.source_is
-
-pub under_source : Laws → (p : memory.Program) (bytes : List ℕ) (x : Trace) (r : Result Answer AllocError) → AreBytes bytes → length bytes ≤ trace_limit → IsReadAs p bytes (Ok x) →
-    IfOk r (λ answer. answer.status ≡ Done → HasSource bytes)
-under_source laws p bytes x (Ok answer) are short reads = λ done. has_source laws p bytes x are short reads
-under_source laws p bytes x (Err e) are short reads = tt
-
--- a trace that is refused isn't done
-pub refused_carries : (X : Type 0) (e : TraceError) (r : Result Answer AllocError) → IfOk r (λ answer. RefusesTrace e answer) → IfOk r (λ answer. answer.status ≡ Done → X)
-refused_carries X e (Ok answer) h = λ done. absurd (let s = sym h.0 ∙ done in cc)
-refused_carries X e (Err x) h = tt
-
-pub refused_carries_by : (p : memory.Program) (bytes : List ℕ) (w : Wanted) (e : TraceError) (r : Result Answer AllocError) → IfOk r (λ answer. RefusesTrace e answer) →
-    IfOk r (λ answer. answer.status ≡ Done → CarriesBy p bytes w answer.text.items)
-refused_carries_by p bytes w e (Ok answer) h = λ done. absurd (let s = sym h.0 ∙ done in cc)
-refused_carries_by p bytes w e (Err x) h = tt

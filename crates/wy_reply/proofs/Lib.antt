@@ -1,4 +1,6 @@
 pub mod Reports
 pub mod Tellings
 pub mod Carrying
+mod Blocking
+mod ByRun
 mod Sizes

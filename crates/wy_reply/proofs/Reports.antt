@@ -6,7 +6,7 @@ use Rattle.wy_kernel.specs.Program.{Program}
 use Rattle.wy_kernel.specs.Parts.{program_of}
 use Rattle.wy_kernel.specs.View.{present}
 use Rattle.wy_event.specs.declared.record.Head.{Head}
-use Rattle.wy_fitting.specs.Fits.{AllFit}
+use Rattle.wy_fitting.specs.Fits.{AllFit, EndFits}
 use Rattle.wy_steps.specs.Sets.{nothing}
 use Rattle.wy_meaning.specs.Run as meaning
 use Rattle.wy_meaning.specs.Kept.{kept_tail, kept_thrown}
@@ -41,17 +41,17 @@ recorded p lines input steps e is = λ i. reported p lines input steps e is i ++
 abbrev bytes_of : Spelling → Program → Head → Ended → List ℕ
 bytes_of s p head e = let front = s.opening head ++ concat (map s.frame (meaning.events nothing p head.input head.steps)) in front ++ s.closing e.tail front
 
-traced : (s : Spelling) (p : Program) (head : Head) (e : Ended) → IsEndOf p head.input head.steps e → head.steps < 2 ^ 32 → AllFit (meaning.events nothing p head.input head.steps) →
+traced : (s : Spelling) (p : Program) (head : Head) (e : Ended) → IsEndOf p head.input head.steps e → head.steps < 2 ^ 32 → AllFit (meaning.events nothing p head.input head.steps) → EndFits e.tail →
     IsTraceOf s p head.source head.input head.steps (bytes_of s p head e)
-traced s p head e is few fit = record { head = head; steps_are = refl; input_is = refl; source_is = refl; end = e.tail; end_is = is.tail; steps_fit = few; events_fit = fit; spelled = refl }
+traced s p head e is few fit ends = record { head = head; steps_are = refl; input_is = refl; source_is = refl; end = e.tail; end_is = is.tail; steps_fit = few; events_fit = fit; end_fits = ends; spelled = refl }
 
-pub records : (s : Spelling) (p : memory.Program) (head : Head) (e : Ended) (old new : Mirrors) (n m : ℕ) (answer : Answer) → IsEndOf (program_of p) head.input head.steps e → head.steps < 2 ^ 32 → AllFit (meaning.events nothing (program_of p) head.input head.steps) →
+pub records : (s : Spelling) (p : memory.Program) (head : Head) (e : Ended) (old new : Mirrors) (n m : ℕ) (answer : Answer) → IsEndOf (program_of p) head.input head.steps e → head.steps < 2 ^ 32 → AllFit (meaning.events nothing (program_of p) head.input head.steps) → EndFits e.tail →
     new ≡ closed (s.closing e.tail) (s.opening head ++ concat (map s.frame (meaning.events nothing (program_of p) head.input head.steps))) old → m ≡ n →
     answer.status ≡ Done → answer.text.items ≡ recorded_of_end (program_of p) p.lines.items e → RecordsAs s p head old new n m answer
-records s p head e old new n m answer is few fit holds same done text =
+records s p head e old new n m answer is few fit ends holds same done text =
     inr (
       done,
       text ∙ recorded (program_of p) p.lines.items head.input head.steps e is,
-      record { bytes = bytes_of s (program_of p) head e; is_trace = traced s (program_of p) head e is few fit; held = holds },
+      record { bytes = bytes_of s (program_of p) head e; is_trace = traced s (program_of p) head e is few fit ends; held = holds },
       same,
     )

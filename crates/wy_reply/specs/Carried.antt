@@ -1,12 +1,6 @@
 -- What a run carried to the event that a question asks about.
-use Rattle.std.specs.Prelude.{◌≡◌, ℕ, List, Some, Ok, slice_get}
+use Rattle.std.specs.Prelude.{◌≡◌, ℕ, List, Some, slice_get}
 use Rattle.wy_kernel.specs.Program.{Program}
-use Rattle.wy_kernel.specs.declared.program.Program as memory
-use Rattle.wy_kernel.specs.Parts.{program_of}
-use Rattle.wy_event.specs.declared.record.Head.{Head}
-use Rattle.wy_frames.specs.Heads.{head_of}
-use Rattle.wy_reply.specs.Recordings.{IsTraceOf, trace_spelling}
-use Rattle.wy_reply.specs.Tellings.{Wanted, Why}
 use Rattle.wy_event.specs.declared.record.Slot.{Slot}
 use Rattle.wy_event.specs.declared.record.Slot.TheVariants as slot
 use Rattle.wy_event.specs.Record.{Recorded}
@@ -44,12 +38,3 @@ pub record CarriedAnswer (p : Program) (lines input : List ℕ) (steps : ℕ) (a
   pub lists : text ≡ marked_lines p lines (events numbers p input steps) noted.from_data (up_to event noted.from_all)
   pub stored : (x : Slot) (moment : ℕ) → Means p (events numbers p input steps) asked x moment →
       (h : Held numbers) × (stored_at p input steps moment x ≡ Some h) × SameSets h noted
-
--- a why over the bytes of a run's trace is answered by what the run carried
-abbrev pub CarriesBy : memory.Program → List ℕ → Wanted → List ℕ → Type 0
-CarriesBy p bytes w text = (asks : List ℕ) → w ≡ Why asks → (source input : List ℕ) (steps : ℕ) → IsTraceOf trace_spelling (program_of p) source input steps bytes →
-    CarriedAnswer (program_of p) p.lines.items input steps asks text
-
--- the head that the bytes of a run's trace are read to begin with has the source of the run
-abbrev pub HasSource : List ℕ → Type 0
-HasSource bytes = (p : Program) (source input : List ℕ) (steps : ℕ) → IsTraceOf trace_spelling p source input steps bytes → (head : Head) (end : ℕ) → head_of bytes ≡ Ok (head, end) → head.source ≡ source

@@ -5,4 +5,6 @@ pub mod Report
 pub mod Tellings
 pub mod Recordings
 pub mod Carried
+pub mod Blocked
+pub mod ByRun
 pub mod Generated

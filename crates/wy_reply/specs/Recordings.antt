@@ -7,7 +7,7 @@ use Rattle.wy_kernel.specs.Parts.{program_of}
 use Rattle.wy_event.specs.Record.{Recorded}
 use Rattle.wy_event.specs.declared.record.Head.{Head}
 use Rattle.wy_event.specs.declared.record.Tail.{Tail}
-use Rattle.wy_fitting.specs.Fits.{AllFit}
+use Rattle.wy_fitting.specs.Fits.{AllFit, EndFits}
 use Rattle.wy_spelling.specs.Spelling as bytes_of
 use Rattle.wy_steps.specs.Sets.{nothing}
 use Rattle.wy_meaning.specs.Run as meaning
@@ -41,6 +41,7 @@ pub record IsTraceOf (s : Spelling) (p : Program) (source input : List ℕ) (ste
   pub end_is : kept_tail end ≡ meaning.tail nothing p input steps
   pub steps_fit : steps < 2 ^ 32
   pub events_fit : AllFit (meaning.events nothing p input steps)
+  pub end_fits : EndFits end
   pub spelled : bytes ≡ (let front = s.opening head ++ concat (map s.frame (meaning.events nothing p input steps)) in front ++ s.closing end front)
 
 -- each mirror that tells its bytes holds the trace

@@ -11,6 +11,7 @@ use crate::running::report;
 use crate::status::Status;
 use std::alloc::{AllocError, Global};
 use wy_event::record::Head;
+use wy_fitting::end_fits;
 use wy_kernel::program::Program;
 use wy_machine::{Ended, record};
 use wy_record::{RecordError, Recorder};
@@ -43,6 +44,7 @@ pub fn answer_to_recording<R: Recorder>(
 {
     match record(alloc, program, name, head, Vec::new(alloc), recorder) {
         Ok(ended) => {
+            end_fits(&ended.tail);
             let text = recorded_report(alloc, program, ended)?;
             Ok(Answer::done(text))
         }

@@ -3,7 +3,7 @@ ghost use Rattle.std.specs.Prelude.{◌≡◌, ◌<◌, ◌≤◌, ◌^◌, IfOk
 ghost use Rattle.wy_frames.specs.Traces.{IsReadAs};
 ghost use Rattle.wy_spelling.specs.Spelling.{trace_limit};
 ghost use Rattle.wy_reply.specs.declared.status.Status.TheVariants.{Done};
-ghost use Rattle.wy_reply.specs.Carried.{CarriesBy, HasSource};
+ghost use Rattle.wy_reply.specs.ByRun.{HasSource, TellsRun};
 ghost use Rattle.wy_reply.specs.Statuses.{code_of, is_of_files};
 ghost use Rattle.wy_reply.specs.Tellings.{DeniesAs, DueUnder, RefusesTrace, Tells, wanted_of};
 ghost use Rattle.wy_reply.specs.Tellings as wanted;
@@ -19,12 +19,15 @@ use wy_backward::backward_is_forward;
 use wy_carriers::carrying_changes_nothing;
 use wy_event::record::Trace;
 use wy_event::sequence::Sequence;
+use wy_fitting::end_fits;
 use wy_frames::{TraceError, decode};
 use wy_kernel::program::Program;
 use wy_machine::{Verdict, audit};
 use wy_referring::{decoded_events_refer_below, few_events_are_decoded};
 use wy_shaped::references_point_below;
-use wy_spelled::{recorded_heads_are_read_back, recorded_traces_are_read_back};
+use wy_spelled::{
+    recorded_ends_are_read_back, recorded_heads_are_read_back, recorded_traces_are_read_back,
+};
 use wy_telling::{output_text, questions_text, why_text};
 
 /// What a trace is to tell.
@@ -198,19 +201,23 @@ pub fn answer_to_trace(
     ensures due { IfOk result (λ answer. DueUnder program.now bytes.now (wanted_of wanted.entry)
         (code_of answer.status) answer.text.items) }
     ensures settled { IfOk result (λ answer. is_of_files answer.status ≡ false) }
-    ensures carried { IfOk result (λ answer. answer.status ≡ Done
-        → CarriesBy program.now bytes.now (wanted_of wanted.entry) answer.text.items) }
+    ensures by_run { IfOk result (λ answer. answer.status ≡ Done
+        → TellsRun program.now bytes.now (wanted_of wanted.entry) answer.text.items) }
     ensures source { IfOk result (λ answer. answer.status ≡ Done → HasSource bytes.now) }
 {
     decoded_events_refer_below();
     few_events_are_decoded();
     recorded_traces_are_read_back();
     recorded_heads_are_read_back();
+    recorded_ends_are_read_back();
     references_point_below();
     carrying_changes_nothing();
     backward_is_forward();
     match decode(alloc, bytes, program) {
-        Ok(trace) => tell(alloc, program, trace, wanted),
+        Ok(trace) => {
+            end_fits(&trace.tail);
+            tell(alloc, program, trace, wanted)
+        }
         Err(error) => answer_to_trace_error(alloc, error),
     }
 }

@@ -15,3 +15,4 @@ mod BackValues
 mod BackEvents
 mod BackTraces
 mod BackEnds
+mod EndsApart

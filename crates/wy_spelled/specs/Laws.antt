@@ -5,7 +5,7 @@ use Rattle.wy_kernel.specs.declared.program.Program.{Program}
 use Rattle.wy_event.specs.declared.record.Head.{Head}
 use Rattle.wy_event.specs.declared.record.Trace.{Trace}
 use Rattle.wy_spelling.specs.Spelling.{closing, coverage_payload, event_frame, event_payload, opening, slot_bytes, tail_frames, tail_payload, trace_bytes, trace_limit}
-use Rattle.wy_fitting.specs.Fits.{AllFit, AllTold, told}
+use Rattle.wy_fitting.specs.Fits.{AllFit, AllTold, EndFits, told}
 use Rattle.wy_event.specs.declared.record.Coverage.{Coverage}
 use Rattle.wy_event.specs.declared.record.Tail.{Tail}
 use Rattle.wy_event.specs.declared.record.Slot.{Slot}
@@ -82,3 +82,7 @@ RecordedHeadsAreReadBack = OfReadRuns (λ head rs end x. head.steps < 2 ^ 32 →
 -- its coverage and its end are read, so far as their bytes tell
 abbrev pub RecordedEndsAreTold : Type 0
 RecordedEndsAreTold = OfReadRuns (λ head rs end x. tail_frames x.tail ≡ tail_frames end)
+
+-- just its end is read where the numbers of both fit
+abbrev pub RecordedEndsAreReadBack : Type 0
+RecordedEndsAreReadBack = OfReadRuns (λ head rs end x. EndFits end → EndFits x.tail → x.tail ≡ end)

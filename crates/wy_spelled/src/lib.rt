@@ -2,7 +2,7 @@
 //! The functions do nothing: their contracts are the laws.
 #![tactic(auto)]
 
-ghost use Rattle.wy_spelled.specs.Laws.{CoveragesAreSpelled, EventsAreSpelled, HeadsAreShort, HeadsAreSpelled, PrefixesAreCut, RecordedEndsAreTold, RecordedEventsAreTold, RecordedHeadsAreReadBack, RecordedTracesAreReadBack, SlotsAreSpelled, TailsAreSpelled, TracesAreSpelled};
+ghost use Rattle.wy_spelled.specs.Laws.{CoveragesAreSpelled, EventsAreSpelled, HeadsAreShort, HeadsAreSpelled, PrefixesAreCut, RecordedEndsAreReadBack, RecordedEndsAreTold, RecordedEventsAreTold, RecordedHeadsAreReadBack, RecordedTracesAreReadBack, SlotsAreSpelled, TailsAreSpelled, TracesAreSpelled};
 
 /// A head that bytes are read to begin with is spelled there, with the magic before it and nothing between.
 pub fn heads_are_spelled()
@@ -55,7 +55,8 @@ pub fn recorded_heads_are_read_back()
     ensures { RecordedHeadsAreReadBack }
 {}
 
-/// What the bytes of a run's own trace tell of its coverage and its end is read back from it.
-pub fn recorded_ends_are_told()
-    ensures { RecordedEndsAreTold }
+/// The coverage and the end of a run's own trace are read back from it, by their bytes and, as their numbers fit these, whole.
+pub fn recorded_ends_are_read_back()
+    ensures told { RecordedEndsAreTold }
+    ensures whole { RecordedEndsAreReadBack }
 {}

@@ -6,7 +6,7 @@ pub mod AnswerLemmas
 pub mod Delivered
 pub mod OneText
 pub mod OneTrace
-pub mod CarriedLemmas
+pub mod RunAnswers
 pub mod Sessions
 pub mod Opened
 pub mod Requests

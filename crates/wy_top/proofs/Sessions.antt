@@ -9,7 +9,7 @@ use Rattle.wy_outside.specs.Shelf.{Files}
 use Rattle.wy_outside.specs.Sink.{appended}
 use Rattle.wy_words.specs.Views.{command_of}
 use Rattle.wy_words.specs.declared.commands.Command.{Command}
-use Rattle.wy_words.specs.Words.{Asks, AskOneCommand, Explore, Gen, Why}
+use Rattle.wy_words.specs.Words.{Asks, AskOneCommand, Command, Explore, Gen, Why, WhyNot}
 use Rattle.wy_session.specs.Desk.{scene_of}
 use Rattle.wy_session.specs.Talk.{Talks}
 use Rattle.wy_session.specs.Ways.{BreaksOff, Closed, Closes, TakesManyFor, TookMany, WritesPart, keys_fault_line}
@@ -23,7 +23,7 @@ use Rattle.wy_reply.specs.Statuses.{code_of}
 use Rattle.wy_reply.specs.Tellings.{Wanted, covers_of}
 use Rattle.wy_reply.specs.Tellings as wanted
 use Rattle.wy_top.specs.Answers.{IsAnswer, Knows, counts}
-use Rattle.wy_top.specs.Call.{BeginsDue, Carries, Failures, IsFaultBehind, IsOpened, Traces, WritesCarried, WritesDue, WritesFaultLine, WritesFront, failures, of_keys}
+use Rattle.wy_top.specs.Call.{BeginsDue, AnswersEach, Carries, Cuts, Failures, IsFaultBehind, IsOpened, Traces, WritesAll, WritesCarried, WritesCut, WritesDue, WritesFaultLine, WritesFront, failures, of_keys}
 use Rattle.wy_top.specs.Call as call
 use Rattle.wy_top.specs.Deliveries.{Delivers}
 use Rattle.wy_top.specs.Due.{Due, DueForTrace}
@@ -217,10 +217,19 @@ delivered_all answer s n m before after (inl (as_answered, kept, all)) is = all
 delivered_all answer s n m before after (inr (inl (fault, rose, part))) is = absurd (let e = sym fault ∙ is in cc)
 delivered_all answer s n m before after (inr (inr (lack, kept, part))) is = absurd (let e = sym lack ∙ is in cc)
 
-carries_none : (words : List (List ℕ)) (name : List ℕ) (held : Option Files) (text : List ℕ) → Session words name → Carries words held text
-carries_none words name held text x = λ trace question asks. absurd (let e = x.one words (Explore name) (Why trace question) x.asks asks in cc)
+each_none : (command : List ℕ → List ℕ → Command) (w : List ℕ → Wanted) → ((name trace word : List ℕ) → Explore name ≡ command trace word → ⊥) → (words : List (List ℕ)) (name : List ℕ) (held : Option Files) (text : List ℕ) → Session words name →
+    AnswersEach command w words held text
+each_none command w other words name held text x = λ trace word asks. absurd (other name trace word (x.one words (Explore name) (command trace word) x.asks asks))
+
+-- what a session wrote answers no why and no whynot of the words
+explored_so : (is_so : List ℕ → Type 0) → ((text : List ℕ) → is_so text) → (words : List (List ℕ)) (name : List ℕ) (held : Option Files) (sb sa : ShelfCounts) (kb ka : Keys) (b a : Output) (s : Status) → Explores held name sb sa kb ka b a s → s ≡ Done →
+    WritesAll is_so b.written a.written
+explored_so is_so any words name held sb sa kb ka b a _ (refused answer s cause other stayed delivers) is = (answer.text.items, delivered_all answer s b.faults a.faults b.written a.written delivers is, any answer.text.items)
+explored_so is_so any words name held sb sa kb ka b a _ (opening.session p t e same opened closed takes) is = (closed.said ++ closed.line, closed.written, any (closed.said ++ closed.line))
+explored_so is_so any words name held sb sa kb ka b a _ (memory stayed kept) is = absurd cc
 
 pub explored_carried : (words : List (List ℕ)) (name : List ℕ) (held : Option Files) (sb sa : ShelfCounts) (kb ka : Keys) (b a : Output) (s : Status) → Session words name → Explores held name sb sa kb ka b a s → s ≡ Done → WritesCarried words held b.written a.written
-explored_carried words name held sb sa kb ka b a _ x (refused answer s cause any stayed delivers) is = (answer.text.items, delivered_all answer s b.faults a.faults b.written a.written delivers is, carries_none words name held answer.text.items x)
-explored_carried words name held sb sa kb ka b a _ x (opening.session p t e same opened closed takes) is = (closed.said ++ closed.line, closed.written, carries_none words name held (closed.said ++ closed.line) x)
-explored_carried words name held sb sa kb ka b a _ x (memory stayed kept) is = absurd cc
+explored_carried words name held sb sa kb ka b a s x explores is = explored_so (Carries words held) (λ text. each_none Why wanted.Why (λ n t q e. cc) words name held text x) words name held sb sa kb ka b a s explores is
+
+pub explored_cut : (words : List (List ℕ)) (name : List ℕ) (held : Option Files) (sb sa : ShelfCounts) (kb ka : Keys) (b a : Output) (s : Status) → Session words name → Explores held name sb sa kb ka b a s → s ≡ Done → WritesCut words held b.written a.written
+explored_cut words name held sb sa kb ka b a s x explores is = explored_so (Cuts words held) (λ text. each_none WhyNot wanted.WhyNot (λ n t q e. cc) words name held text x) words name held sb sa kb ka b a s explores is

@@ -13,11 +13,12 @@ use Rattle.wy_record.specs.Answers.{Mirrors}
 use Rattle.wy_session.specs.Desk.{scene_of}
 use Rattle.wy_session.specs.Talk.{BeginsTalk, IsFrontOf}
 use Rattle.wy_session.specs.Ways.{keys_fault_line}
-use Rattle.wy_words.specs.Words.{Asked, Asks, Explore, Record, Why}
+use Rattle.wy_words.specs.Words.{Asked, Asks, Command, Explore, Record, Why, WhyNot}
 use Rattle.wy_reply.specs.Carried.{CarriedAnswer}
 use Rattle.wy_reply.specs.Recordings.{HoldTrace, IsTraceOf, Spelling, trace_spelling}
 use Rattle.wy_reply.specs.Tellings.{Wanted, covers_of}
 use Rattle.wy_reply.specs.Tellings as wanted
+use Rattle.wy_top.specs.Cuts.{CutAnswer}
 use Rattle.wy_top.specs.Due.{Due}
 use Rattle.wy_top.specs.Answers.{AsksToExplore, Counts, IsFaultLine, Knows, counts}
 use Rattle.wy_top.specs.Held.{Holds, IsInput, source_limit, trace_limit}
@@ -88,21 +89,40 @@ Traces s words held old new = (a : Asked) (trace : List ℕ) (files : Files) →
 abbrev pub RecordsNothing : List (List ℕ) → Type 0
 RecordsNothing words = (a : Asked) (trace : List ℕ) → ¬ Asks words (Record a trace)
 
--- ---- what a run carried
+-- ---- what a run did
 
--- the text answers the question over the trace of each run that has these bytes by what that run carried
+-- a why tells what the run carried, and a whynot a least cut of what it reached and did not cross
+abbrev pub IsRunAnswer : Program → List ℕ → ℕ → Wanted → List ℕ → Type 0
+IsRunAnswer p input steps (wanted.Why question) text = CarriedAnswer (program_of p) p.lines.items input steps question text
+IsRunAnswer p input steps (wanted.WhyNot word) text = CutAnswer (program_of p) p.lines.items input steps word text
+IsRunAnswer p input steps _ text = Unit {0}
+
+-- so the text does by each run that has these bytes as its trace
 abbrev pub AnswersRun : List ℕ → Wanted → List ℕ → Type 0
-AnswersRun bytes w text = (question : List ℕ) → w ≡ wanted.Why question → (source input : List ℕ) (steps : ℕ) (p : Program) → IsProgramOf source p →
-    IsTraceOf trace_spelling (program_of p) source input steps bytes → CarriedAnswer (program_of p) p.lines.items input steps question text
+AnswersRun bytes w text = (source input : List ℕ) (steps : ℕ) (p : Program) → IsProgramOf source p → IsTraceOf trace_spelling (program_of p) source input steps bytes → IsRunAnswer p input steps w text
 
 -- the same for the file of a name
 abbrev pub AnswersRunOf : Option Files → List ℕ → Wanted → List ℕ → Type 0
 AnswersRunOf held name w text = (files : Files) (bytes : List ℕ) → held ≡ Some files → files name ≡ Some bytes → AnswersRun bytes w text
 
--- each why that the words ask over the trace of a run is answered by what that run carried
+-- so each such question is answered that the words ask over the trace of a run
+abbrev pub AnswersEach : (List ℕ → List ℕ → Command) → (List ℕ → Wanted) → List (List ℕ) → Option Files → List ℕ → Type 0
+AnswersEach command w words held text = (trace word : List ℕ) → Asks words (command trace word) → AnswersRunOf held trace (w word) text
+
+-- each why is answered by what the run carried
 abbrev pub Carries : List (List ℕ) → Option Files → List ℕ → Type 0
-Carries words held text = (trace question : List ℕ) → Asks words (Why trace question) → AnswersRunOf held trace (wanted.Why question) text
+Carries = AnswersEach Why wanted.Why
+
+-- each whynot is answered by a least cut
+abbrev pub Cuts : List (List ℕ) → Option Files → List ℕ → Type 0
+Cuts = AnswersEach WhyNot wanted.WhyNot
 
 -- such a text was written, all of it
+abbrev pub WritesAll : (List ℕ → Type 0) → Option (List ℕ) → Option (List ℕ) → Type 0
+WritesAll is_so before after = (text : List ℕ) × (after ≡ appended before text) × is_so text
+
 abbrev pub WritesCarried : List (List ℕ) → Option Files → Option (List ℕ) → Option (List ℕ) → Type 0
-WritesCarried words held before after = (text : List ℕ) × (after ≡ appended before text) × Carries words held text
+WritesCarried words held before after = WritesAll (Carries words held) before after
+
+abbrev pub WritesCut : List (List ℕ) → Option Files → Option (List ℕ) → Option (List ℕ) → Type 0
+WritesCut words held before after = WritesAll (Cuts words held) before after

@@ -6,6 +6,7 @@ pub mod Due
 pub mod Answers
 pub mod Reads
 pub mod Call
+pub mod Cuts
 pub mod Deliveries
 pub mod Replies
 pub mod Recorder

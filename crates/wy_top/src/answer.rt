@@ -6,7 +6,7 @@ ghost use Rattle.wy_record.specs.declared.recorder.Phase.TheVariants.{Ready};
 ghost use Rattle.wy_reply.specs.declared.status.Status.TheVariants.{Absent, Done, TooLong, Usage, Fault};
 ghost use Rattle.wy_reply.specs.Tellings.{wanted_of};
 ghost use Rattle.wy_top.specs.Answers.{AsksToExplore, IsAnswer, IsFault, counts};
-ghost use Rattle.wy_top.specs.Call.{AnswersRunOf, Carries, RecordsNothing, Traced, Traces};
+ghost use Rattle.wy_top.specs.Call.{AnswersRunOf, Carries, Cuts, RecordsNothing, Traced, Traces};
 ghost use Rattle.wy_top.specs.Reads.{Tells};
 ghost use Rattle.wy_top.specs.Replies.{AnswersBy, HasCause, at_shelf};
 ghost use Rattle.wy_top.specs.Due.{DueForRun, DueForTrace};
@@ -101,7 +101,7 @@ fn answer_from<S: Shelf>(
     ensures due { (n : ℕ) → IfOk result (λ answer.
         AnswersBy (λ files. DueForTrace files trace.now (wanted_of wanted.entry))
         (S.held shelf.old) (counts (S.faults shelf.old) n) (counts (S.faults shelf.new) n) answer) }
-    ensures carried { IfOk result (λ answer. answer.status ≡ Done → AnswersRunOf
+    ensures by_run { IfOk result (λ answer. answer.status ≡ Done → AnswersRunOf
         (S.held shelf.old) trace.now (wanted_of wanted.entry) answer.text.items) }
     ensures causes { IfOk result (λ answer. HasCause
         (at_shelf (S.faults shelf.old) (S.misses shelf.old) (S.fulls shelf.old))
@@ -133,6 +133,8 @@ pub fn answer_to<S: Shelf, R: Recorder>(
         (S.held shelf.old) (R.mirrors recorder.old) (R.mirrors recorder.new)) }
     ensures carried { IfOk result (λ answer. answer.status ≡ Done
         → Carries (map string_bytes words.now) (S.held shelf.old) answer.text.items) }
+    ensures cut { IfOk result (λ answer. answer.status ≡ Done
+        → Cuts (map string_bytes words.now) (S.held shelf.old) answer.text.items) }
     ensures absent { IfOk result (λ answer.
         answer.status ≡ Absent → Rose (S.misses shelf.old) (S.misses shelf.new)) }
     ensures too_long { IfOk result (λ answer.

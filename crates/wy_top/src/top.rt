@@ -7,7 +7,7 @@ ghost use Rattle.wy_words.specs.Views.{command_of};
 ghost use Rattle.wy_words.specs.Words.{Explore, IsNoCommand};
 ghost use Rattle.wy_top.specs.Answers.{AsksToExplore, Knows};
 ghost use Rattle.wy_session.specs.Ways.{TookMany};
-ghost use Rattle.wy_top.specs.Call.{RecordsNothing, Traces, WritesCarried, WritesDue, WritesFaultLine, WritesFront, failures};
+ghost use Rattle.wy_top.specs.Call.{RecordsNothing, Traces, WritesCarried, WritesCut, WritesDue, WritesFaultLine, WritesFront, failures};
 ghost use Rattle.wy_top.specs.Recorder.{faults_of, mirrors_of};
 ghost use Rattle.wy_reply.specs.Recordings.{trace_spelling};
 
@@ -78,6 +78,8 @@ pub fn whyline<S: Shelf, K: Source, O: Sink, T: TraceSink + Drop>(
     ensures traces { result ≡ 0 → Traces trace_spelling (map string_bytes words.now)
         (S.held shelf.old) (mirrors_of T.bytes recorder.old.sinks.items) (mirrors_of T.bytes recorder.new.sinks.items) }
     ensures carried { result ≡ 0 → WritesCarried (map string_bytes words.now)
+        (S.held shelf.old) (O.written out.old) (O.written out.new) }
+    ensures cut { result ≡ 0 → WritesCut (map string_bytes words.now)
         (S.held shelf.old) (O.written out.old) (O.written out.new) }
     ensures records_nothing { RecordsNothing (map string_bytes words.now)
         → recorder.new ≡ recorder.old }

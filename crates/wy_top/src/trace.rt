@@ -15,10 +15,14 @@ use crate::reading::{FrontError, front};
 use std::alloc::{AllocError, Global};
 use wy_elab_stmt::laws::a_text_has_one_program;
 use wy_frames::read_head;
+use wy_kept_library::runs_of_texts;
 use wy_parser::laws::a_token_list_has_one_tree;
 use wy_reply::{Answer, Status, Wanted, answer_to_trace, answer_to_trace_error};
 use wy_spelled::heads_are_short;
-use wy_tree::laws::{a_refused_text_has_no_tokens, a_text_has_one_token_list};
+use wy_tree::laws::{
+    a_refused_text_has_no_tokens, a_text_has_one_token_list, tokens_stand_in_order,
+};
+use wy_whynot::laws::items_are_a_cut;
 
 /// The answer to a trace whose source is no program.
 pub(crate) fn answer_to_error(alloc: Global, error: FrontError) -> Result<Answer, AllocError>
@@ -42,7 +46,7 @@ fn answer_under(
     ensures due { IfOk result (λ answer.
         AnswersUnder source.now bytes.now (wanted_of wanted.entry) answer) }
     ensures settled { IfOk result (λ answer. is_of_files answer.status ≡ false) }
-    ensures carried { (head : Head) (end : ℕ) → head_of bytes.now ≡ Ok (head, end)
+    ensures by_run { (head : Head) (end : ℕ) → head_of bytes.now ≡ Ok (head, end)
         → head.source ≡ source.now → IfOk result (λ answer. answer.status ≡ Done
         → AnswersRun bytes.now (wanted_of wanted.entry) answer.text.items) }
 {
@@ -50,6 +54,9 @@ fn answer_under(
     a_refused_text_has_no_tokens();
     a_token_list_has_one_tree();
     a_text_has_one_program();
+    tokens_stand_in_order();
+    items_are_a_cut();
+    runs_of_texts();
     match front(alloc, source) {
         Ok(typed) => answer_to_trace(alloc, &typed.program, bytes, wanted),
         Err(error) => answer_to_error(alloc, error),
@@ -67,7 +74,7 @@ pub fn answer_to_bytes(
     ensures due { IfOk result (λ answer. DueForBytes bytes.now (wanted_of wanted.entry)
         (code_of answer.status) answer.text.items) }
     ensures settled { IfOk result (λ answer. is_of_files answer.status ≡ false) }
-    ensures carried { IfOk result (λ answer. answer.status ≡ Done
+    ensures by_run { IfOk result (λ answer. answer.status ≡ Done
         → AnswersRun bytes.now (wanted_of wanted.entry) answer.text.items) }
 {
     heads_are_short();

@@ -1,4 +1,4 @@
-use Rattle.wy_top.proofs.CarriedLemmas.{file_answered, lack_answered}
+use Rattle.wy_top.proofs.RunAnswers.{file_answered, lack_answered}
 use Rattle.wy_top.proofs.AnswerLemmas.{trace_answers, trace_lack}
 use Rattle.wy_top.proofs.answer.answer_from.Goals as goal
 
@@ -9,8 +9,8 @@ returns-in-Ok-clause-due g c = λ k.
 pub returns-in-Err-clause-due : goal.returns-in-Err-clause-due
 returns-in-Err-clause-due g c = λ k. trace_lack _ _ _ c.in-Err.error _ _ k c.answer_to_lack.result c.in-Err.ensures.content c.in-Err.ensures.fault c.answer_to_lack.ensures
 
-pub returns-in-Ok-clause-carried : goal.returns-in-Ok-clause-carried
-returns-in-Ok-clause-carried g c = file_answered _ _ _ c.in-Ok.bytes _ c.answer_to_bytes.result c.in-Ok.ensures.content c.as_slice.ensures.value c.answer_to_bytes.ensures.carried
+pub returns-in-Ok-clause-by_run : goal.returns-in-Ok-clause-by_run
+returns-in-Ok-clause-by_run g c = file_answered _ _ _ c.in-Ok.bytes _ c.answer_to_bytes.result c.in-Ok.ensures.content c.as_slice.ensures.value c.answer_to_bytes.ensures.by_run
 
-pub returns-in-Err-clause-carried : goal.returns-in-Err-clause-carried
-returns-in-Err-clause-carried g c = lack_answered _ _ _ c.in-Err.error c.answer_to_lack.result c.answer_to_lack.ensures
+pub returns-in-Err-clause-by_run : goal.returns-in-Err-clause-by_run
+returns-in-Err-clause-by_run g c = lack_answered _ _ _ c.in-Err.error c.answer_to_lack.result c.answer_to_lack.ensures

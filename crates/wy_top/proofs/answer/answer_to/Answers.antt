@@ -1,6 +1,6 @@
 use Rattle.wy_words.specs.Views.{asked_of}
 use Rattle.wy_words.specs.Words.{Run, Record, Output, Questions, Why, WhyNot, Audit, Gen}
-use Rattle.wy_top.proofs.CarriedLemmas.{no_command_carries, other_command_carries, why_carries}
+use Rattle.wy_top.proofs.RunAnswers.{no_command_carries, no_command_cuts, other_command_carries, other_command_cuts, why_carries, whynot_cuts}
 use Rattle.wy_top.proofs.AnswerLemmas.{usage_due, command_due, fault_named, generated_due, generated_settled, traces_due}
 use Rattle.wy_top.proofs.Requests.{methods_asked}
 use Rattle.wy_top.proofs.answer.answer_to.Goals as goal
@@ -66,26 +66,26 @@ pub returns-in-None-clause-carried : goal.returns-in-None-clause-carried
 returns-in-None-clause-carried g c = no_command_carries _ _ c.refused.result (c.in_ok-request.ensures.refused c.in-None.is)
 
 pub returns-in-Run-clause-carried : goal.returns-in-Run-clause-carried
-returns-in-Run-clause-carried g c = other_command_carries c.words_ask_one_command.ensures _ _ (Run (asked_of c.in-Run.asked)) c.answer_to_run.result (rw (c.in-Some.is, c.in-Run.is) at c.in_ok-request.ensures.asked) (λ trace question e. cc)
+returns-in-Run-clause-carried g c = other_command_carries c.words_ask_one_command.ensures _ _ (Run (asked_of c.in-Run.asked)) c.answer_to_run.result (rw (c.in-Some.is, c.in-Run.is) at c.in_ok-request.ensures.asked) (λ trace word e. cc)
 
 pub returns-in-Record-clause-carried : goal.returns-in-Record-clause-carried
-returns-in-Record-clause-carried g c = other_command_carries c.words_ask_one_command.ensures _ _ (Record (asked_of c.in-Record.asked) c.in-Record.trace.now) c.answer_to_record.result (rw (c.in-Some.is, c.in-Record.is) at c.in_ok-request.ensures.asked) (λ trace question e. cc)
+returns-in-Record-clause-carried g c = other_command_carries c.words_ask_one_command.ensures _ _ (Record (asked_of c.in-Record.asked) c.in-Record.trace.now) c.answer_to_record.result (rw (c.in-Some.is, c.in-Record.is) at c.in_ok-request.ensures.asked) (λ trace word e. cc)
 
 pub returns-in-Output-clause-carried : goal.returns-in-Output-clause-carried
-returns-in-Output-clause-carried g c = other_command_carries c.words_ask_one_command.ensures _ _ (Output c.in-Output.trace.now) c.answer_from.result (rw (c.in-Some.is, c.in-Output.is) at c.in_ok-request.ensures.asked) (λ trace question e. cc)
+returns-in-Output-clause-carried g c = other_command_carries c.words_ask_one_command.ensures _ _ (Output c.in-Output.trace.now) c.answer_from.result (rw (c.in-Some.is, c.in-Output.is) at c.in_ok-request.ensures.asked) (λ trace word e. cc)
 
 pub returns-in-Questions-clause-carried : goal.returns-in-Questions-clause-carried
-returns-in-Questions-clause-carried g c = other_command_carries c.words_ask_one_command.ensures _ _ (Questions c.in-Questions.trace.now) c.answer_from-in-Questions.result (rw (c.in-Some.is, c.in-Questions.is) at c.in_ok-request.ensures.asked) (λ trace question e. cc)
+returns-in-Questions-clause-carried g c = other_command_carries c.words_ask_one_command.ensures _ _ (Questions c.in-Questions.trace.now) c.answer_from-in-Questions.result (rw (c.in-Some.is, c.in-Questions.is) at c.in_ok-request.ensures.asked) (λ trace word e. cc)
 
 pub returns-in-WhyNot-clause-carried : goal.returns-in-WhyNot-clause-carried
-returns-in-WhyNot-clause-carried g c = other_command_carries c.words_ask_one_command.ensures _ _ (WhyNot c.in-WhyNot.trace.now c.in-WhyNot.statement.now) c.answer_from-in-WhyNot.result (rw (c.in-Some.is, c.in-WhyNot.is) at c.in_ok-request.ensures.asked) (λ trace question e. cc)
+returns-in-WhyNot-clause-carried g c = other_command_carries c.words_ask_one_command.ensures _ _ (WhyNot c.in-WhyNot.trace.now c.in-WhyNot.statement.now) c.answer_from-in-WhyNot.result (rw (c.in-Some.is, c.in-WhyNot.is) at c.in_ok-request.ensures.asked) (λ trace word e. cc)
 
 pub returns-in-Audit-clause-carried : goal.returns-in-Audit-clause-carried
-returns-in-Audit-clause-carried g c = other_command_carries c.words_ask_one_command.ensures _ _ (Audit c.in-Audit.trace.now) c.answer_from-in-Audit.result (rw (c.in-Some.is, c.in-Audit.is) at c.in_ok-request.ensures.asked) (λ trace question e. cc)
+returns-in-Audit-clause-carried g c = other_command_carries c.words_ask_one_command.ensures _ _ (Audit c.in-Audit.trace.now) c.answer_from-in-Audit.result (rw (c.in-Some.is, c.in-Audit.is) at c.in_ok-request.ensures.asked) (λ trace word e. cc)
 
 pub returns-in-Why-clause-carried : goal.returns-in-Why-clause-carried
 returns-in-Why-clause-carried g c =
-    why_carries c.words_ask_one_command.ensures _ _ c.in-Why.trace.now c.in-Why.question.now c.answer_from-in-Why.result (rw (c.in-Some.is, c.in-Why.is) at c.in_ok-request.ensures.asked) c.answer_from-in-Why.ensures.carried
+    why_carries c.words_ask_one_command.ensures _ _ c.in-Why.trace.now c.in-Why.question.now c.answer_from-in-Why.result (rw (c.in-Some.is, c.in-Why.is) at c.in_ok-request.ensures.asked) c.answer_from-in-Why.ensures.by_run
 
 pub returns-in-Gen-clause-due : goal.returns-in-Gen-clause-due
 returns-in-Gen-clause-due g c = λ keys. generated_due _ _ keys c.in-Gen.number _ c.run_generated.result (rw (c.in-Some.is, c.in-Gen.is) at c.in_ok-request.ensures.asked) c.run_generated.ensures.due
@@ -94,10 +94,38 @@ pub returns-in-Gen-clause-fault : goal.returns-in-Gen-clause-fault
 returns-in-Gen-clause-fault g c = generated_settled _ c.run_generated.result c.run_generated.ensures.settled
 
 pub returns-in-Gen-clause-carried : goal.returns-in-Gen-clause-carried
-returns-in-Gen-clause-carried g c = other_command_carries c.words_ask_one_command.ensures _ _ (Gen c.in-Gen.number) c.run_generated.result (rw (c.in-Some.is, c.in-Gen.is) at c.in_ok-request.ensures.asked) (λ trace question e. cc)
+returns-in-Gen-clause-carried g c = other_command_carries c.words_ask_one_command.ensures _ _ (Gen c.in-Gen.number) c.run_generated.result (rw (c.in-Some.is, c.in-Gen.is) at c.in_ok-request.ensures.asked) (λ trace word e. cc)
 
 pub run_generated-requires-clause-some : goal.run_generated-requires-clause-some
 run_generated-requires-clause-some g c = (methods_asked _ _ (rw (c.in-Some.is, c.in-Gen.is) at c.in_ok-request.ensures.asked)).0
 
 pub run_generated-requires-clause-few : goal.run_generated-requires-clause-few
 run_generated-requires-clause-few g c = (methods_asked _ _ (rw (c.in-Some.is, c.in-Gen.is) at c.in_ok-request.ensures.asked)).1
+
+pub returns-in-None-clause-cut : goal.returns-in-None-clause-cut
+returns-in-None-clause-cut g c = no_command_cuts _ _ c.refused.result (c.in_ok-request.ensures.refused c.in-None.is)
+
+pub returns-in-Run-clause-cut : goal.returns-in-Run-clause-cut
+returns-in-Run-clause-cut g c = other_command_cuts c.words_ask_one_command.ensures _ _ (Run (asked_of c.in-Run.asked)) c.answer_to_run.result (rw (c.in-Some.is, c.in-Run.is) at c.in_ok-request.ensures.asked) (λ trace word e. cc)
+
+pub returns-in-Record-clause-cut : goal.returns-in-Record-clause-cut
+returns-in-Record-clause-cut g c = other_command_cuts c.words_ask_one_command.ensures _ _ (Record (asked_of c.in-Record.asked) c.in-Record.trace.now) c.answer_to_record.result (rw (c.in-Some.is, c.in-Record.is) at c.in_ok-request.ensures.asked) (λ trace word e. cc)
+
+pub returns-in-Output-clause-cut : goal.returns-in-Output-clause-cut
+returns-in-Output-clause-cut g c = other_command_cuts c.words_ask_one_command.ensures _ _ (Output c.in-Output.trace.now) c.answer_from.result (rw (c.in-Some.is, c.in-Output.is) at c.in_ok-request.ensures.asked) (λ trace word e. cc)
+
+pub returns-in-Questions-clause-cut : goal.returns-in-Questions-clause-cut
+returns-in-Questions-clause-cut g c = other_command_cuts c.words_ask_one_command.ensures _ _ (Questions c.in-Questions.trace.now) c.answer_from-in-Questions.result (rw (c.in-Some.is, c.in-Questions.is) at c.in_ok-request.ensures.asked) (λ trace word e. cc)
+
+pub returns-in-Why-clause-cut : goal.returns-in-Why-clause-cut
+returns-in-Why-clause-cut g c = other_command_cuts c.words_ask_one_command.ensures _ _ (Why c.in-Why.trace.now c.in-Why.question.now) c.answer_from-in-Why.result (rw (c.in-Some.is, c.in-Why.is) at c.in_ok-request.ensures.asked) (λ trace word e. cc)
+
+pub returns-in-Audit-clause-cut : goal.returns-in-Audit-clause-cut
+returns-in-Audit-clause-cut g c = other_command_cuts c.words_ask_one_command.ensures _ _ (Audit c.in-Audit.trace.now) c.answer_from-in-Audit.result (rw (c.in-Some.is, c.in-Audit.is) at c.in_ok-request.ensures.asked) (λ trace word e. cc)
+
+pub returns-in-Gen-clause-cut : goal.returns-in-Gen-clause-cut
+returns-in-Gen-clause-cut g c = other_command_cuts c.words_ask_one_command.ensures _ _ (Gen c.in-Gen.number) c.run_generated.result (rw (c.in-Some.is, c.in-Gen.is) at c.in_ok-request.ensures.asked) (λ trace word e. cc)
+
+pub returns-in-WhyNot-clause-cut : goal.returns-in-WhyNot-clause-cut
+returns-in-WhyNot-clause-cut g c =
+    whynot_cuts c.words_ask_one_command.ensures _ _ c.in-WhyNot.trace.now c.in-WhyNot.statement.now c.answer_from-in-WhyNot.result (rw (c.in-Some.is, c.in-WhyNot.is) at c.in_ok-request.ensures.asked) c.answer_from-in-WhyNot.ensures.by_run

@@ -1,7 +1,7 @@
 use Rattle.std.proofs.Common.{◌∙◌, refl, sym, None}
-use Rattle.wy_top.proofs.CarriedLemmas.{written_carried}
+use Rattle.wy_top.proofs.RunAnswers.{written_so}
 use Rattle.wy_top.proofs.Delivered.{written_due, front, answered_done, done_at, fault_at, fault_cause, fault_line, shelf_fault, recorder_fault}
-use Rattle.wy_top.proofs.Sessions.{explored_due, explored_front, explored_fault_line, explored_shelf_fault, explored_out_fault, explored_carried, nothing_front, session_of}
+use Rattle.wy_top.proofs.Sessions.{explored_due, explored_front, explored_fault_line, explored_shelf_fault, explored_out_fault, explored_carried, explored_cut, nothing_front, session_of}
 use Rattle.wy_top.proofs.Requests.{no_session}
 use Rattle.wy_top.proofs.top.whyline.Goals as goal
 
@@ -16,6 +16,9 @@ returns-in-Some-clause-front g c = explored_front _ _ _ _ _ _ _ _ _ _ _ (session
 
 pub returns-in-Some-clause-carried : goal.returns-in-Some-clause-carried
 returns-in-Some-clause-carried g c = λ zero. explored_carried _ _ _ _ _ _ _ _ _ _ (session_of c.words_ask_one_command.ensures _ c.in-Ok.request c.trace_to_explore.result c.in-Some.trace c.in-Ok.ensures.asked c.trace_to_explore.ensures.some c.in-Some.is) c.explore_trace.ensures.explores (done_at _ (sym c.code-in-Some.ensures ∙ zero))
+
+pub returns-in-Some-clause-cut : goal.returns-in-Some-clause-cut
+returns-in-Some-clause-cut g c = λ zero. explored_cut _ _ _ _ _ _ _ _ _ _ (session_of c.words_ask_one_command.ensures _ c.in-Ok.request c.trace_to_explore.result c.in-Some.trace c.in-Ok.ensures.asked c.trace_to_explore.ensures.some c.in-Some.is) c.explore_trace.ensures.explores (done_at _ (sym c.code-in-Some.ensures ∙ zero))
 
 pub returns-in-Some-clause-fault_line : goal.returns-in-Some-clause-fault_line
 returns-in-Some-clause-fault_line g c = λ seven. explored_fault_line _ _ _ _ _ _ _ _ _ _ _ (session_of c.words_ask_one_command.ensures _ c.in-Ok.request c.trace_to_explore.result c.in-Some.trace c.in-Ok.ensures.asked c.trace_to_explore.ensures.some c.in-Some.is) c.explore_trace.ensures.explores (fault_at _ (sym c.code-in-Some.ensures ∙ seven))
@@ -43,7 +46,11 @@ returns-in-Ok-answer_to-clause-fault_line g c = fault_line _ _ _ _ _ _ _ _ _ c.i
 
 pub returns-in-Ok-answer_to-clause-carried : goal.returns-in-Ok-answer_to-clause-carried
 returns-in-Ok-answer_to-clause-carried g c = λ zero.
-    written_carried _ _ _ _ _ _ c.in-Ok-answer_to.answer _ c.deliver.ensures (done_at _ (sym c.code-in-Ok-answer_to.ensures ∙ zero)) (c.in-Ok-answer_to.ensures.carried (answered_done _ _ _ _ c.in-Ok-answer_to.answer _ _ c.deliver.ensures c.code-in-Ok-answer_to.ensures zero))
+    written_so _ _ _ _ _ c.in-Ok-answer_to.answer _ c.deliver.ensures (done_at _ (sym c.code-in-Ok-answer_to.ensures ∙ zero)) (c.in-Ok-answer_to.ensures.carried (answered_done _ _ _ _ c.in-Ok-answer_to.answer _ _ c.deliver.ensures c.code-in-Ok-answer_to.ensures zero))
+
+pub returns-in-Ok-answer_to-clause-cut : goal.returns-in-Ok-answer_to-clause-cut
+returns-in-Ok-answer_to-clause-cut g c = λ zero.
+    written_so _ _ _ _ _ c.in-Ok-answer_to.answer _ c.deliver.ensures (done_at _ (sym c.code-in-Ok-answer_to.ensures ∙ zero)) (c.in-Ok-answer_to.ensures.cut (answered_done _ _ _ _ c.in-Ok-answer_to.answer _ _ c.deliver.ensures c.code-in-Ok-answer_to.ensures zero))
 
 pub returns-in-Err-answer_to-clause-front : goal.returns-in-Err-answer_to-clause-front
 returns-in-Err-answer_to-clause-front g c = nothing_front _ _ _ _ _ _

@@ -1,0 +1,105 @@
+-- What is told over the bytes of a run's trace is what the run did.
+use Rattle.std.proofs.Common.{◌≡◌, ◌∙◌, sym, ap, subst, refl, ℕ, ◌<◌, ◌≤◌, ◌^◌, List, length, map, drop, Result, Ok, Err, IfOk}
+use Rattle.std.specs.Prelude.{MatchResult}
+use Rattle.std.specs.declared.alloc.AllocError.{AllocError}
+use Rattle.wy_kernel.specs.declared.program.Program as memory
+use Rattle.wy_kernel.specs.Program.{Program}
+use Rattle.wy_kernel.specs.Parts.{program_of}
+use Rattle.wy_event.specs.Record.{recorded}
+use Rattle.wy_event.specs.declared.record.Head.{Head}
+use Rattle.wy_event.specs.declared.record.Trace.{Trace}
+use Rattle.wy_fitting.specs.Fits.{EndFits}
+use Rattle.wy_spelling.specs.Spelling.{trace_limit}
+use Rattle.wy_frames.specs.Heads.{head_of}
+use Rattle.wy_frames.specs.Traces.{IsReadAs, IsReadBehind}
+use Rattle.wy_frames.specs.declared.error.TraceError.{TraceError}
+use Rattle.wy_spelled.specs.Laws.{AreBytes, RecordedEndsAreReadBack, RecordedHeadsAreReadBack, RecordedTracesAreReadBack}
+use Rattle.wy_steps.specs.Sets.{nothing, numbers}
+use Rattle.wy_meaning.specs.Run as meaning
+use Rattle.wy_meaning.specs.Run.{events}
+use Rattle.wy_meaning.specs.Kept.{covered_of}
+use Rattle.wy_backward.specs.Backward.{BackwardIsForward, StoredIsLastWrite}
+use Rattle.wy_shaped.specs.Shaped.{RecordsAreShaped}
+use Rattle.wy_reply.specs.declared.answer.Answer.{Answer}
+use Rattle.wy_reply.specs.declared.status.Status.TheVariants.{Done}
+use Rattle.wy_reply.specs.Statuses.{code_of}
+use Rattle.wy_reply.specs.Recordings.{IsTraceOf, trace_spelling}
+use Rattle.wy_reply.specs.Tellings.{Wanted, Output, Explore, Questions, Why, WhyNot, Audit, RefusesTrace, Tells, covers_of}
+use Rattle.wy_reply.specs.ByRun.{AnswersByRun, HasSource, TellsRun}
+use Rattle.wy_reply.proofs.Carrying.{Runs, all_told, told_carried}
+use Rattle.wy_reply.proofs.Blocking.{covers_read, told_blocked}
+
+-- what is known of runs and of what is read of their traces
+pub record Laws : Type 0 where
+  pub back : RecordedTracesAreReadBack
+  pub heads : RecordedHeadsAreReadBack
+  pub ends : RecordedEndsAreReadBack
+  pub shaped : (p : Program) (input : List ℕ) (steps : ℕ) → RecordsAreShaped nothing p input steps
+  pub same : (p : Program) (input : List ℕ) (steps : ℕ) → events numbers p input steps ≡ events nothing p input steps
+  pub carried : (p : Program) (input : List ℕ) (steps : ℕ) → BackwardIsForward p input steps
+  pub stores : (p : Program) (input : List ℕ) (steps : ℕ) → StoredIsLastWrite p input steps
+
+pub known : RecordedTracesAreReadBack → RecordedHeadsAreReadBack → RecordedEndsAreReadBack → ((p : Program) (input : List ℕ) (steps : ℕ) → RecordsAreShaped nothing p input steps) →
+    ((p : Program) (input : List ℕ) (steps : ℕ) → events numbers p input steps ≡ events nothing p input steps) → ((p : Program) (input : List ℕ) (steps : ℕ) → BackwardIsForward p input steps) →
+    ((p : Program) (input : List ℕ) (steps : ℕ) → StoredIsLastWrite p input steps) → Laws
+known back heads ends shaped same carried stores = record { back = back; heads = heads; ends = ends; shaped = shaped; same = same; carried = carried; stores = stores }
+
+run_of : Laws → (p : Program) (input : List ℕ) (steps : ℕ) → Runs p input steps
+run_of laws p input steps = record { same = laws.same p input steps; carried = laws.carried p input steps; stores = laws.stores p input steps }
+
+-- the records that are read are those of the run
+read_back : Laws → (p q : memory.Program) (source input : List ℕ) (steps : ℕ) (bytes : List ℕ) (x : Trace) → AreBytes bytes → length bytes ≤ trace_limit → IsTraceOf trace_spelling (program_of q) source input steps bytes →
+    IsReadAs p bytes (Ok x) → map recorded x.events ≡ events nothing (program_of q) input steps
+read_back laws p q source input steps bytes x are short is reads =
+    laws.back p is.head (events nothing (program_of q) input steps) is.end bytes x are short is.events_fit is.spelled reads (all_told (program_of q) input steps (laws.shaped (program_of q) input steps))
+
+-- and its covers
+ends_back : Laws → (p q : memory.Program) (source input : List ℕ) (steps : ℕ) (bytes : List ℕ) (x : Trace) → AreBytes bytes → length bytes ≤ trace_limit → EndFits x.tail → IsTraceOf trace_spelling (program_of q) source input steps bytes →
+    IsReadAs p bytes (Ok x) → map covered_of (covers_of x) ≡ (meaning.tail nothing (program_of q) input steps).coverage
+ends_back laws p q source input steps bytes x are short fit is reads =
+    covers_read (program_of q) input steps x is.end (laws.ends p is.head (events nothing (program_of q) input steps) is.end bytes x are short is.events_fit is.spelled reads is.end_fits fit) is.end_is
+
+told_by_run : Laws → (p : memory.Program) (t : Trace) (s : ℕ) (x input : List ℕ) (steps : ℕ) → map recorded t.events ≡ events nothing (program_of p) input steps →
+    map covered_of (covers_of t) ≡ (meaning.tail nothing (program_of p) input steps).coverage → (w : Wanted) → Tells p t w s x → s ≡ 0 → AnswersByRun (program_of p) p.lines.items input steps w x
+told_by_run laws p t s x input steps read covers Output tells done = tt
+told_by_run laws p t s x input steps read covers (Explore keys) tells done = tt
+told_by_run laws p t s x input steps read covers Questions tells done = tt
+told_by_run laws p t s x input steps read covers (Why asks) tells done = told_carried p t (Why asks) s x input steps (run_of laws (program_of p) input steps) read tells done asks refl
+told_by_run laws p t s x input steps read covers (WhyNot word) tells done = told_blocked p t s x input steps read covers word tells done
+told_by_run laws p t s x input steps read covers Audit tells done = tt
+
+tells_run : Laws → (p : memory.Program) (bytes : List ℕ) (w : Wanted) (t : Trace) (s : ℕ) (text : List ℕ) → AreBytes bytes → length bytes ≤ trace_limit → EndFits t.tail → IsReadAs p bytes (Ok t) → Tells p t w s text → s ≡ 0 → TellsRun p bytes w text
+tells_run laws p bytes w t s text are short fit reads tells done = λ source input steps is.
+    told_by_run laws p t s text input steps (read_back laws p p source input steps bytes t are short is reads) (ends_back laws p p source input steps bytes t are short fit is reads) w tells done
+
+pub under_run : Laws → (p : memory.Program) (bytes : List ℕ) (w : Wanted) (t : Trace) (r : Result Answer AllocError) → AreBytes bytes → length bytes ≤ trace_limit → EndFits t.tail → IsReadAs p bytes (Ok t) →
+    IfOk r (λ answer. Tells p t w (code_of answer.status) answer.text.items) → IfOk r (λ answer. answer.status ≡ Done → TellsRun p bytes w answer.text.items)
+under_run laws p bytes w t (Ok answer) are short fit reads tells = λ done. tells_run laws p bytes w t (code_of answer.status) answer.text.items are short fit reads tells (ap code_of done)
+under_run laws p bytes w t (Err e) are short fit reads tells = tt
+
+abbrev headed : Head × ℕ → Result (Head × ℕ) TraceError
+headed y = Ok y
+
+one_head : (y z : Head × ℕ) → headed y ≡ headed z → y ≡ z
+one_head y z e = cc
+
+head_in_trace : (p : memory.Program) (bytes : List ℕ) (x : Trace) (h : Result (Head × ℕ) TraceError) (head : Head) (end : ℕ) → MatchResult h (λ y. IsReadBehind p y.0 (drop y.1 bytes) (Ok x)) (λ e. Ok x ≡ Err e) →
+    h ≡ Ok (head, end) → x.head ≡ head
+head_in_trace p bytes x (Ok y) head end (t, stand, has) is = has.head_is ∙ ap (λ (z : Head × ℕ). z.0) (one_head y (head, end) is)
+head_in_trace p bytes x (Err e) head end reads is = absurd (cc)
+
+has_source : Laws → (p : memory.Program) (bytes : List ℕ) (x : Trace) → AreBytes bytes → length bytes ≤ trace_limit → IsReadAs p bytes (Ok x) → HasSource bytes
+has_source laws p bytes x are short reads = λ q source input steps is head end at.
+    let few : is.head.steps < 2 ^ 32 = subst (λ n. n < 2 ^ 32) (sym is.steps_are) is.steps_fit in
+    let read : x.head ≡ is.head = laws.heads p is.head (events nothing q input steps) is.end bytes x are short is.events_fit is.spelled reads few in
+    ap (λ (h : Head). h.source) (sym (head_in_trace p bytes x (head_of bytes) head end reads at) ∙ read) ∙ is.source_is
+
+pub under_source : Laws → (p : memory.Program) (bytes : List ℕ) (x : Trace) (r : Result Answer AllocError) → AreBytes bytes → length bytes ≤ trace_limit → IsReadAs p bytes (Ok x) →
+    IfOk r (λ answer. answer.status ≡ Done → HasSource bytes)
+under_source laws p bytes x (Ok answer) are short reads = λ done. has_source laws p bytes x are short reads
+under_source laws p bytes x (Err e) are short reads = tt
+
+-- a trace that is refused isn't done
+pub refused_isnt_done : (X : Type 0) (e : TraceError) (r : Result Answer AllocError) → IfOk r (λ answer. RefusesTrace e answer) → IfOk r (λ answer. answer.status ≡ Done → X)
+refused_isnt_done X e (Ok answer) h = λ done. absurd (let s = sym h.0 ∙ done in cc)
+refused_isnt_done X e (Err x) h = tt

@@ -1,0 +1,25 @@
+-- What is answered over the bytes of a run's trace, by the run itself.
+use Rattle.std.specs.Prelude.{◌≡◌, ℕ, List, Ok}
+use Rattle.wy_kernel.specs.Program.{Program}
+use Rattle.wy_kernel.specs.declared.program.Program as memory
+use Rattle.wy_kernel.specs.Parts.{program_of}
+use Rattle.wy_event.specs.declared.record.Head.{Head}
+use Rattle.wy_frames.specs.Heads.{head_of}
+use Rattle.wy_reply.specs.Blocked.{BlockedAnswer}
+use Rattle.wy_reply.specs.Carried.{CarriedAnswer}
+use Rattle.wy_reply.specs.Recordings.{IsTraceOf, trace_spelling}
+use Rattle.wy_reply.specs.Tellings.{Wanted, Why, WhyNot}
+
+-- a why tells what the run carried, and a whynot what it reached and did not cross
+abbrev pub AnswersByRun : Program → List ℕ → List ℕ → ℕ → Wanted → List ℕ → Type 0
+AnswersByRun p lines input steps (Why asks) text = CarriedAnswer p lines input steps asks text
+AnswersByRun p lines input steps (WhyNot word) text = BlockedAnswer p lines input steps word text
+AnswersByRun p lines input steps _ text = Unit {0}
+
+-- so it is where the bytes are the trace of a run of the program
+abbrev pub TellsRun : memory.Program → List ℕ → Wanted → List ℕ → Type 0
+TellsRun p bytes w text = (source input : List ℕ) (steps : ℕ) → IsTraceOf trace_spelling (program_of p) source input steps bytes → AnswersByRun (program_of p) p.lines.items input steps w text
+
+-- the head that the bytes of a run's trace are read to begin with has the source of the run
+abbrev pub HasSource : List ℕ → Type 0
+HasSource bytes = (p : Program) (source input : List ℕ) (steps : ℕ) → IsTraceOf trace_spelling p source input steps bytes → (head : Head) (end : ℕ) → head_of bytes ≡ Ok (head, end) → head.source ≡ source
