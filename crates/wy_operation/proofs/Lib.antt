@@ -8,3 +8,8 @@ mod Endings
 pub mod Arrays
 mod Binds
 pub mod Clauses
+mod TextRuns
+pub mod TextForms
+mod Arguments
+mod Numbers
+mod LibraryOperations

@@ -6,3 +6,5 @@ pub mod Subarrays
 pub mod Binding
 pub mod Clauses
 pub mod Operated
+pub mod Found
+pub mod Words

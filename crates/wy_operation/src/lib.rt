@@ -11,5 +11,6 @@ pub mod operand;
 pub mod operator;
 pub mod place;
 pub mod test_event;
+pub mod texts;
 pub mod types;
 pub mod update;

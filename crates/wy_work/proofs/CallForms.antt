@@ -36,7 +36,7 @@ use Rattle.wy_operation.specs.Around.{IsSameAround, KeepsAt}
 use Rattle.wy_operation.specs.Operands.{carried}
 use Rattle.wy_operation.specs.declared.operand.Part.{Part}
 use Rattle.wy_operands.specs.Values.{Values, at, top, under, joined_last, last_many, under_many}
-use Rattle.wy_texts.specs.Words.{equality}
+use Rattle.wy_operation.specs.Words.{equality}
 use Rattle.wy_work.specs.declared.frame.Frame.TheVariants as frame
 use Rattle.wy_work.specs.declared.frame.ExprStep.TheVariants as step
 use Rattle.wy_work.specs.Expressions.{expr_step, leaving, put_on}

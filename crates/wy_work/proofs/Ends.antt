@@ -20,8 +20,8 @@ use Rattle.wy_state.specs.Agrees.{Shape, Onward, Answers, itself}
 use Rattle.wy_state.proofs.Onward.{onward_as, onward_same}
 use Rattle.wy_operation.specs.Around.{IsSameAround, KeepsAt, Leaves}
 use Rattle.wy_operands.specs.Values.{Values, at, top}
-use Rattle.wy_texts.specs.Words.{printed}
-use Rattle.wy_texts.proofs.Texts.{print_value_is}
+use Rattle.wy_operation.specs.Words.{printed}
+use Rattle.wy_operation.proofs.TextForms.{print_value_is}
 use Rattle.wy_work.specs.declared.frame.Frame.TheVariants as frame
 use Rattle.wy_work.specs.declared.frame.StmtStep.TheVariants as step
 use Rattle.wy_work.specs.Expressions.{put_on}

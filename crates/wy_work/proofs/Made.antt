@@ -20,9 +20,9 @@ use Rattle.wy_state.proofs.Onward.{onward_as}
 use Rattle.wy_operation.specs.Around.{IsSameAround, KeepsAt}
 use Rattle.wy_operation.proofs.Runs.{answers_as}
 use Rattle.wy_operands.specs.Values.{Values, last_many, under_many, uses_of_last, joined_last, with_event}
-use Rattle.wy_texts.specs.Found.{found_of}
-use Rattle.wy_texts.specs.declared.found.Found.{Found}
-use Rattle.wy_texts.specs.declared.found.Found.TheVariants.{Same, Made}
+use Rattle.wy_operation.specs.Found.{found_of}
+use Rattle.wy_operation.specs.declared.texts.found.Found.{Found}
+use Rattle.wy_operation.specs.declared.texts.found.Found.TheVariants.{Same, Made}
 use Rattle.wy_work.specs.Expressions.{put_on}
 use Rattle.wy_work.specs.Frames.{Standing, then_all, goes, Resumed}
 use Rattle.wy_work.proofs.Runs.{failed_at, gave_at, world_program}

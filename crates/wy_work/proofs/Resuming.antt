@@ -14,7 +14,7 @@ use Rattle.wy_state.specs.Seen.{reason_of}
 use Rattle.wy_state.specs.Agrees.{Onward}
 use Rattle.wy_state.proofs.Onward.{onward_same}
 use Rattle.wy_operands.specs.Values.{Values, at, top, under_many}
-use Rattle.wy_texts.specs.Words.{joined_texts}
+use Rattle.wy_operation.specs.Words.{joined_texts}
 use Rattle.wy_work.specs.declared.frame.ExprStep.{ExprStep}
 use Rattle.wy_work.specs.declared.frame.Frame.{Frame}
 use Rattle.wy_work.specs.declared.frame.Frame.TheVariants as frame

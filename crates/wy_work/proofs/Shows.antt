@@ -14,7 +14,7 @@ use Rattle.wy_state.specs.Agrees.{Shape, Onward, Answers}
 use Rattle.wy_operation.specs.Around.{IsSameAround, KeepsAt}
 use Rattle.wy_operation.specs.Operands.{Pair}
 use Rattle.wy_operands.specs.Values.{Values, at, top, under_many, last_many, uses_of_last, with_copy, with_event}
-use Rattle.wy_texts.specs.Words.{joined_texts, text_of_event}
+use Rattle.wy_operation.specs.Words.{joined_texts, text_of_event}
 use Rattle.wy_work.specs.declared.frame.Frame.TheVariants as frames
 use Rattle.wy_work.specs.declared.frame.Step.TheVariants as step
 use Rattle.wy_work.specs.Expressions.{put_on, showing_right}

@@ -23,7 +23,7 @@ use Rattle.wy_meaning.specs.Expression.{part_or, arm, eval, eval_part, eval_row}
 use Rattle.wy_state.specs.Seen.{made_of}
 use Rattle.wy_operation.specs.Spots.{spot_of}
 use Rattle.wy_operation.specs.Updated.{updated}
-use Rattle.wy_texts.specs.Words.{joined_texts}
+use Rattle.wy_operation.specs.Words.{joined_texts}
 use Rattle.wy_operands.specs.Values.{Values, top, under, at, under_many, last_many}
 use Rattle.wy_work.specs.declared.frame.ExprStep.{ExprStep}
 use Rattle.wy_work.specs.declared.frame.ExprStep.TheVariants as step

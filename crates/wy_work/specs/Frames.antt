@@ -26,7 +26,7 @@ use Rattle.wy_work.specs.declared.frame.Step.TheVariants as step
 use Rattle.wy_work.specs.declared.turn.Signal.{Signal}
 use Rattle.wy_work.specs.declared.turn.Signal.TheVariants as signal
 use Rattle.wy_work.specs.Expressions.{put_on, leaving, put_all, expr_step, showing_right}
-use Rattle.wy_texts.specs.Words.{joined_texts}
+use Rattle.wy_operation.specs.Words.{joined_texts}
 use Rattle.wy_work.specs.Statements.{emptied, forgotten, without_values, stmt_frame}
 
 -- what stands around the frames of work, the innermost first: how many bodies may still begin, the events of those that run, what was

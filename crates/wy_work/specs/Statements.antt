@@ -14,7 +14,7 @@ use Rattle.wy_kernel.specs.declared.form.Expr.{Expr}
 use Rattle.wy_steps.specs.Steps.{steps_left}
 use Rattle.wy_meaning.specs.World.{World}
 use Rattle.wy_meaning.specs.Text.{print_value}
-use Rattle.wy_texts.specs.Words.{printed}
+use Rattle.wy_operation.specs.Words.{printed}
 use Rattle.wy_meaning.specs.Expression.{eval, eval_part}
 use Rattle.wy_meaning.specs.Statement.{tested, for_test, if_form, while_form, turns, return_form, throw_form, at_throw, other_or, exec, exec_all, exec_catches, exec_other}
 use Rattle.wy_operands.specs.Values.{Values, top}

@@ -41,7 +41,7 @@ use wy_operation::operand::{Part, is_null};
 use wy_record::Recorder;
 use wy_state::parts::{Draft, Halt, Limit};
 use wy_state::subtype::class_of_type;
-use wy_texts::text_equals;
+use wy_operation::texts::text_equals;
 use wy_value::Value;
 
 /// On a text at run time `equals` and `toString` are operations of the library.

@@ -25,7 +25,7 @@ use wy_operation::operator::{binary, converted, unary_of};
 use wy_operation::types::{cast, instance_of};
 use wy_record::Recorder;
 use wy_state::parts::Halt;
-use wy_texts::{Found, library};
+use wy_operation::texts::{Found, library};
 use wy_value::Value;
 
 impl<'a, R: Recorder> Machine<'a, R> {

@@ -4,7 +4,7 @@ ghost use Rattle.std.specs.Prelude.{◌≡◌};
 ghost use Rattle.wy_kernel.specs.Parts.{program_of};
 ghost use Rattle.wy_meaning.specs.Text.{concatenated, shown};
 ghost use Rattle.wy_operands.specs.Values.{at, top, under_many};
-ghost use Rattle.wy_texts.specs.Words.{joined_texts};
+ghost use Rattle.wy_operation.specs.Words.{joined_texts};
 ghost use Rattle.wy_work.specs.Expressions.{put_on, showing_right};
 ghost use Rattle.wy_work.specs.Frames.{Does};
 ghost use Rattle.wy_work.specs.Machines.{standing};
@@ -14,7 +14,7 @@ use crate::machine::Machine;
 use wy_calls::Dispatcher;
 use wy_record::Recorder;
 use wy_state::parts::Halt;
-use wy_texts::join_texts;
+use wy_operation::texts::join_texts;
 use wy_value::Value;
 
 /// Object's `toString`.

@@ -1,0 +1,162 @@
+//! Operations of the library of two arguments.
+
+ghost use Rattle.std.specs.Prelude.{◌≡◌, List};
+ghost use Rattle.wy_event.specs.declared.record.Use.{Use};
+ghost use Rattle.wy_kernel.specs.Parts.{program_of};
+ghost use Rattle.wy_meaning.specs.Library.{library_two};
+ghost use Rattle.wy_meaning.specs.World.{World};
+ghost use Rattle.wy_operation.specs.Around.{Keeps};
+ghost use Rattle.wy_state.specs.Agrees.{shape, Answers};
+ghost use Rattle.wy_state.specs.Seen.{given};
+ghost use Rattle.wy_steps.specs.Sets.{nothing};
+ghost use Rattle.wy_operation.specs.Found.{found_of};
+
+use crate::texts::found::Found;
+use crate::texts::number::{greater, lesser};
+use crate::texts::text::{are_same, is_text};
+use crate::texts::three::{find_part, part_or_fail};
+use wy_event::record::Use;
+use wy_kernel::form::LibOp;
+use wy_kernel::program::Program;
+use crate::exception::{NULL_POINTER, STRING_INDEX, fail};
+use wy_record::Recorder;
+use wy_state::parts::Halt;
+use wy_state::state::State;
+use wy_value::{Value, compare, unit_at};
+
+/// What an operation gives of its two arguments.
+pub fn library_two<R: Recorder>(
+    state: &mut State<'_, R>,
+    program: &Program,
+    op: LibOp,
+    left: Value,
+    right: Value,
+    uses: &[Use],
+    site: u32,
+) -> Result<Found, Halt>
+    ensures step { (w : World nothing) (a b : List Use) → w.program ≡ program_of program.now
+        → Answers (program_of program.now) (found_of uses.now) result
+        (shape R.keeps R.kept state.old)
+        (library_two w op site (given Value.None uses.now)
+        (given left a) (given right b))
+        (shape R.keeps R.kept state.new) }
+    ensures around { Keeps result state.old.calls state.new.calls }
+{
+    match op {
+        LibOp::CharAt => char_at(state, program, left, right, uses, site),
+        LibOp::PartFrom => part_from(state, program, left, right, uses, site),
+        LibOp::Same => same_text(state, program, left, right, uses, site),
+        LibOp::Compare => compare_texts(state, program, left, right, uses, site),
+        LibOp::Max => Ok(Found::Same(greater(left, right))),
+        LibOp::Min => Ok(Found::Same(lesser(left, right))),
+        _ => Err(Halt::Memory),
+    }
+}
+
+fn char_at<R: Recorder>(
+    state: &mut State<'_, R>,
+    program: &Program,
+    text: Value,
+    index: Value,
+    uses: &[Use],
+    site: u32,
+) -> Result<Found, Halt>
+    ensures step { (w : World nothing) (a b : List Use) → w.program ≡ program_of program.now
+        → Answers (program_of program.now) (found_of uses.now) result
+        (shape R.keeps R.kept state.old)
+        (library_two w LibOp.CharAt site (given Value.None uses.now)
+        (given text a) (given index b))
+        (shape R.keeps R.kept state.new) }
+    ensures around { Keeps result state.old.calls state.new.calls }
+{
+    if !is_text(text) {
+        return Err(fail(state, NULL_POINTER, site, uses));
+    }
+    let Value::Int(place) = index else {
+        return Err(Halt::Memory);
+    };
+    match unit_at(state.units_of(program, text)?, place) {
+        Ok(unit) => Ok(Found::Same(Value::Char(unit))),
+        Err(_) => Err(fail(state, STRING_INDEX, site, uses)),
+    }
+}
+
+fn part_from<R: Recorder>(
+    state: &mut State<'_, R>,
+    program: &Program,
+    text: Value,
+    from: Value,
+    uses: &[Use],
+    site: u32,
+) -> Result<Found, Halt>
+    ensures step { (w : World nothing) (a b : List Use) → w.program ≡ program_of program.now
+        → Answers (program_of program.now) (found_of uses.now) result
+        (shape R.keeps R.kept state.old)
+        (library_two w LibOp.PartFrom site (given Value.None uses.now)
+        (given text a) (given from b))
+        (shape R.keeps R.kept state.new) }
+    ensures around { Keeps result state.old.calls state.new.calls }
+{
+    if !is_text(text) {
+        return Err(fail(state, NULL_POINTER, site, uses));
+    }
+    let Value::Int(begin) = from else {
+        return Err(Halt::Memory);
+    };
+    let units = state.units_of(program, text)?;
+    let Ok(end) = i32::try_from(units.len()) else {
+        return Err(Halt::Memory);
+    };
+    let found = find_part(state.alloc, units, begin, end)?;
+    part_or_fail(state, found, uses, site)
+}
+
+fn same_text<R: Recorder>(
+    state: &mut State<'_, R>,
+    program: &Program,
+    left: Value,
+    right: Value,
+    uses: &[Use],
+    site: u32,
+) -> Result<Found, Halt>
+    ensures step { (w : World nothing) (a b : List Use) → w.program ≡ program_of program.now
+        → Answers (program_of program.now) (found_of uses.now) result
+        (shape R.keeps R.kept state.old)
+        (library_two w LibOp.Same site (given Value.None uses.now)
+        (given left a) (given right b))
+        (shape R.keeps R.kept state.new) }
+    ensures around { Keeps result state.old.calls state.new.calls }
+{
+    if !is_text(left) {
+        return Err(fail(state, NULL_POINTER, site, uses));
+    }
+    let is_same = are_same(state, program, left, right)?;
+    Ok(Found::Same(Value::Bool(is_same)))
+}
+
+fn compare_texts<R: Recorder>(
+    state: &mut State<'_, R>,
+    program: &Program,
+    left: Value,
+    right: Value,
+    uses: &[Use],
+    site: u32,
+) -> Result<Found, Halt>
+    ensures step { (w : World nothing) (a b : List Use) → w.program ≡ program_of program.now
+        → Answers (program_of program.now) (found_of uses.now) result
+        (shape R.keeps R.kept state.old)
+        (library_two w LibOp.Compare site (given Value.None uses.now)
+        (given left a) (given right b))
+        (shape R.keeps R.kept state.new) }
+    ensures around { Keeps result state.old.calls state.new.calls }
+{
+    if !is_text(left) {
+        return Err(fail(state, NULL_POINTER, site, uses));
+    }
+    if !is_text(right) {
+        return Err(fail(state, NULL_POINTER, site, uses));
+    }
+    let first = state.units_of(program, left)?;
+    let second = state.units_of(program, right)?;
+    Ok(Found::Same(Value::Int(compare(first, second))))
+}

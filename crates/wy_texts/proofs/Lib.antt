@@ -1,5 +1,0 @@
-mod Runs
-pub mod Texts
-mod Arguments
-mod Numbers
-mod Operations
