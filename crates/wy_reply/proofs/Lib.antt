@@ -3,4 +3,6 @@ pub mod Tellings
 pub mod Carrying
 mod Blocking
 mod ByRun
-mod Sizes
+mod SizesLine
+pub mod Referring
+pub mod Answering

@@ -2,7 +2,7 @@
 use Rattle.std.specs.Prelude.{ℕ, List, ◌++◌, codes}
 use Rattle.std.specs.Fmt.{decimal}
 use Rattle.wy_kernel.specs.Program.{Program}
-use Rattle.wy_sizes.specs.Sizes.{sizes_of}
+use Rattle.wy_reply.specs.RunSizes.{sizes_of}
 use Rattle.wy_reply.specs.Lines.{line_of}
 
 -- the steps that it is run for at most

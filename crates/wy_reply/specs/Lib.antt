@@ -7,4 +7,5 @@ pub mod Recordings
 pub mod Carried
 pub mod Blocked
 pub mod ByRun
+pub mod RunSizes
 pub mod Generated

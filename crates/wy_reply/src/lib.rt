@@ -6,6 +6,7 @@ pub mod generating;
 pub mod lines;
 pub mod recording;
 pub mod running;
+mod sizes;
 pub mod status;
 pub mod telling;
 

@@ -1,5 +1,5 @@
 use Rattle.std.proofs.Common.{◌∙◌, ap, ap₂, ◌++◌}
-use Rattle.wy_reply.proofs.Sizes.{sizes_are}
+use Rattle.wy_reply.proofs.SizesLine.{sizes_are}
 use Rattle.wy_reply.proofs.generating.line.Goals as goal
 
 pub returns : goal.returns

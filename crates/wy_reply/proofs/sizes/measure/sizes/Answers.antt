@@ -1,8 +1,8 @@
 use Rattle.std.proofs.Common.{◌≡◌, ◌∙◌, arith, length, map, vec_len}
 use Rattle.wy_event.specs.Record.{recorded}
 use Rattle.wy_kernel.specs.Parts.{program_of}
-use Rattle.wy_sizes.proofs.Answering.{measured}
-use Rattle.wy_sizes.proofs.measure.sizes.Goals as goal
+use Rattle.wy_reply.proofs.Answering.{measured}
+use Rattle.wy_reply.proofs.sizes.measure.sizes.Goals as goal
 
 pub returns : goal.returns
 returns c =

@@ -1,5 +1,4 @@
 //! How large the run of a program is: how many events it has, and of how many of them the answer to its last print is.
-#![tactic(auto)]
 
 mod kept;
 mod last;

@@ -15,8 +15,8 @@ use Rattle.wy_index.specs.Index.{IsIndexOf, IsIndexOfView, owners_of}
 use Rattle.wy_why.specs.Answer.{up_to}
 use Rattle.wy_ask.specs.Asked.{owners}
 use Rattle.wy_ask.proofs.Stores.{print_below}
-use Rattle.wy_sizes.specs.declared.size.Sizes.{Sizes}
-use Rattle.wy_sizes.specs.Sizes.{answer_size, data_size, last_of, size_of, sizes_of}
+use Rattle.wy_reply.specs.declared.sizes.size.Sizes.{Sizes}
+use Rattle.wy_reply.specs.RunSizes.{answer_size, data_size, last_of, size_of, sizes_of}
 
 -- an index of a view is of the records that the view tells
 pub index_of : (index : Index) (told : Told) (rs : List Recorded) → told.records ≡ Some rs → IsIndexOfView index told → IsIndexOf index rs

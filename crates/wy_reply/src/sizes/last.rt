@@ -3,7 +3,7 @@
 ghost use Rattle.std.specs.Prelude.{◌≡◌, ◌<◌, ◌^◌, IfOk, length, map};
 ghost use Rattle.wy_event.specs.Record.{recorded};
 ghost use Rattle.wy_kernel.specs.Parts.{program_of};
-ghost use Rattle.wy_sizes.specs.Sizes.{answer_size, data_size};
+ghost use Rattle.wy_reply.specs.RunSizes.{answer_size, data_size};
 ghost use Rattle.wy_view.specs.References.{AllRefersBelow};
 
 use std::alloc::{AllocError, Global};

@@ -3,8 +3,8 @@ use Rattle.std.proofs.Common.{◌∙◌, refl, sym, []}
 use Rattle.wy_kernel.specs.Parts.{program_of}
 use Rattle.wy_meaning.specs.Run.{events}
 use Rattle.wy_steps.specs.Sets.{nothing}
-use Rattle.wy_sizes.proofs.Referring.{all_refer_below, as_many, few}
-use Rattle.wy_sizes.proofs.kept.events_of_run.Goals as goal
+use Rattle.wy_reply.proofs.Referring.{all_refer_below, as_many, few}
+use Rattle.wy_reply.proofs.sizes.kept.events_of_run.Goals as goal
 
 pub returns-clause-events : goal.returns-clause-events
 returns-clause-events c = c.take.ensures.taken ∙ c.in_ok-recorder.ensures.kept refl

@@ -10,7 +10,7 @@ use Rattle.wy_meaning.specs.Run.{events, tail}
 use Rattle.wy_index.specs.Found.{prints_in}
 use Rattle.wy_why.specs.Answer.{up_to}
 use Rattle.wy_ask.specs.Asked.{owners}
-use Rattle.wy_sizes.specs.declared.size.Sizes.{Sizes}
+use Rattle.wy_reply.specs.declared.sizes.size.Sizes.{Sizes}
 
 abbrev pub last_of : List ℕ → Option ℕ
 last_of events = slice_get events (length events - 1)

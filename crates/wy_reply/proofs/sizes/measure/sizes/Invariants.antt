@@ -1,5 +1,5 @@
 -- the ledger of the blank
-use Rattle.wy_sizes.proofs.measure.sizes.Given as goal
+use Rattle.wy_reply.proofs.sizes.measure.sizes.Given as goal
 
 abbrev pub ghosts-answer_sizes : goal.ghosts-answer_sizes
 ghosts-answer_sizes a = record { name = a.blank.name; parts = a.blank.parts }

@@ -2,11 +2,11 @@
 
 ghost use Rattle.std.specs.Prelude.{◌≡◌, IfOk};
 ghost use Rattle.wy_kernel.specs.Parts.{program_of};
-ghost use Rattle.wy_sizes.specs.Sizes.{sizes_of};
+ghost use Rattle.wy_reply.specs.RunSizes.{sizes_of};
 
-use crate::kept::events_of_run;
-use crate::last::answer_sizes;
-use crate::size::Sizes;
+use crate::sizes::kept::events_of_run;
+use crate::sizes::last::answer_sizes;
+use crate::sizes::size::Sizes;
 use std::alloc::{AllocError, Global};
 use std::marker::Brand;
 use std::sync::ledger::Blank;

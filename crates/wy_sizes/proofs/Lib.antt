@@ -1,2 +1,0 @@
-pub mod Referring
-pub mod Answering
