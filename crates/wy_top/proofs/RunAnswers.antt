@@ -10,7 +10,6 @@ use Rattle.wy_steps.specs.Sets.{nothing}
 use Rattle.wy_meaning.specs.Run.{events}
 use Rattle.wy_whynot.specs.Laws.{ItemsAreACut}
 use Rattle.wy_reached.specs.Laws.{EachItemIsNeeded}
-use Rattle.wy_kept_library.specs.Laws.{OfTexts}
 use Rattle.wy_frames.specs.Heads.{head_of}
 use Rattle.wy_frames.specs.declared.error.TraceError.{TraceError}
 use Rattle.wy_outside.specs.Shelf.{Files}
@@ -32,6 +31,7 @@ use Rattle.wy_top.specs.Cuts.{CutAnswer}
 use Rattle.wy_top.specs.Deliveries.{Delivers}
 use Rattle.wy_top.specs.Held.{source_limit, trace_limit}
 use Rattle.wy_top.specs.Programs.{IsProgramOf}
+use Rattle.wy_top.specs.Texts.{OfTexts}
 use Rattle.wy_top.specs.Reads.{GivesFile, Tells}
 use Rattle.wy_top.specs.Replies.{RefusesTrace}
 use Rattle.wy_top.proofs.OneText.{Known, one_program}

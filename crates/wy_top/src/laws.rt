@@ -2,16 +2,29 @@
 //! function that does nothing.
 ghost use Rattle.std.specs.Prelude.{◌≡◌, ◌⊎◌, ℕ, List, Option};
 ghost use Rattle.wy_outside.specs.Shelf.{Files};
+ghost use Rattle.wy_reached.specs.Laws.{CallsStandOnLinks, EachItemIsNeeded, ExecutedPointsAreReached};
+ghost use Rattle.wy_steps.specs.Sets.{nothing};
 ghost use Rattle.wy_top.specs.Due.{Due, AreSyntaxLines};
+ghost use Rattle.wy_top.specs.Texts.{OfTexts};
+ghost use Rattle.wy_typed_states.specs.Laws.{StatesAreTyped};
 
 use wy_absence::laws::one_answer_to_whynot;
+use wy_choices::no_two_choices_share_a_site;
 use wy_elab_stmt::laws::a_text_has_one_program;
+use wy_kept_library::programs_keep_the_library;
 use wy_machine::one_audit_is_due;
 use wy_one_reading::bytes_are_read_in_one_way;
 use wy_parser::laws::a_token_list_has_one_tree;
+use wy_program::texts_are_programs;
+use wy_program_parts::trees_declare_few;
+use wy_reached::{
+    calls_stand_on_links, each_item_is_needed, executed_points_are_reached, programs_stand_apart,
+};
 use wy_session::laws::one_talk;
+use wy_structure::{each_number_is_one_statement, tests_stand_apart};
 use wy_telling::laws::one_answer_to_why;
 use wy_tree::laws::{a_refused_text_has_no_tokens, a_text_has_one_token_list};
+use wy_typed_states::states_are_typed;
 use wy_words::laws::words_ask_one_command;
 
 /// For the same words, files and keys at most one status is due, and at most one text, but that Syntax may
@@ -31,4 +44,25 @@ pub fn one_answer_is_due()
     one_audit_is_due();
     one_talk();
     words_ask_one_command();
+}
+
+/// In every run of the program of a text of at most 1,048,576 tokens states are typed, each executed point is reached by links that
+/// were crossed, each item of why-not is needed, and each Call and Init stands on a link whose owner is executed.
+pub fn runs_of_texts()
+    ensures typed { OfTexts (StatesAreTyped nothing) }
+    ensures reached { OfTexts (ExecutedPointsAreReached nothing) }
+    ensures needed { OfTexts (EachItemIsNeeded nothing) }
+    ensures calls { OfTexts (CallsStandOnLinks nothing) }
+{
+    programs_keep_the_library();
+    texts_are_programs();
+    trees_declare_few();
+    each_number_is_one_statement();
+    no_two_choices_share_a_site();
+    tests_stand_apart();
+    programs_stand_apart();
+    states_are_typed();
+    executed_points_are_reached();
+    each_item_is_needed();
+    calls_stand_on_links();
 }

@@ -7,7 +7,7 @@ use Rattle.wy_typing.specs.Programs.{IsProgram}
 use Rattle.wy_typed_states.specs.Typed.{KeepsLibrary}
 use Rattle.wy_reached.specs.Laws.{StandsApart}
 use Rattle.wy_program.proofs.Programs.{few_parts}
-use Rattle.wy_kept_library.proofs.runs_of_texts.Goals as goal
+use Rattle.wy_top.proofs.laws.runs_of_texts.Goals as goal
 
 pub returns-clause-typed : goal.returns-clause-typed
 returns-clause-typed c = λ text spans tree read is_tree few count p h.
