@@ -10,7 +10,7 @@ use Rattle.wy_kernel.specs.declared.form.StmtForm.TheVariants as form
 use Rattle.wy_kernel.specs.View.{act, clause, clauses_of, statement}
 use Rattle.wy_kernel.proofs.Views.{view_statement, view_clause, view_block, view_eval, view_declare, view_if, view_while, view_do, view_for, view_labelled, view_jump, view_return, view_throw, view_try, view_print}
 use Rattle.wy_kernel.specs.Form.{Act}
-use Rattle.wy_ways.proofs.Stands.{HasNoClause}
+use Rattle.wy_static.proofs.Stands.{HasNoClause}
 use Rattle.wy_absence.specs.Caught.{clauses_in, clauses_in_act}
 use Rattle.wy_absence.specs.Caught.{clauses_of as clauses_of_try}
 use Rattle.wy_absence.specs.declared.caught.Clause.{Clause}

@@ -7,10 +7,10 @@ use Rattle.wy_kernel.specs.Statements.{statements_of}
 use Rattle.wy_kernel.specs.View.{NONE, present}
 use Rattle.wy_text.specs.Lines.{line_of, name_of, place_of}
 use Rattle.wy_lines.specs.Names.{method_name}
-use Rattle.wy_ways.specs.declared.point.Point.{Point}
-use Rattle.wy_ways.specs.declared.point.Point.TheVariants.{Entry, Init, Catch as Clause}
-use Rattle.wy_ways.specs.declared.point.LinkKind.{LinkKind}
-use Rattle.wy_ways.specs.declared.point.LinkKind.TheVariants.{Arm, Call, Catch, Into, Next}
+use Rattle.wy_static.specs.declared.point.Point.{Point}
+use Rattle.wy_static.specs.declared.point.Point.TheVariants.{Entry, Init, Catch as Clause}
+use Rattle.wy_static.specs.declared.point.LinkKind.{LinkKind}
+use Rattle.wy_static.specs.declared.point.LinkKind.TheVariants.{Arm, Call, Catch, Into, Next}
 use Rattle.wy_whynot.specs.declared.item.Made.{Made}
 use Rattle.wy_whynot.specs.Evidence.{Evidence, GOING_ON}
 use Rattle.wy_absence.specs.Caught.{class_caught}

@@ -7,12 +7,12 @@ ghost use Rattle.wy_absence.specs.Caught.{clauses_of as clauses_of_try};
 ghost use Rattle.wy_kernel.specs.Parts.{program_of};
 ghost use Rattle.wy_kernel.specs.Statements.{statements_of as all_statements};
 ghost use Rattle.wy_kernel.specs.View.{clause, clauses_of, statement};
-ghost use Rattle.wy_ways.specs.Seen.{statements_seen};
+ghost use Rattle.wy_static.specs.Seen.{statements_seen};
 
 use std::alloc::{AllocError, Global};
 use wy_kernel::form::{Catch, Stmt, StmtForm};
 use wy_kernel::program::Program;
-use wy_ways::statement::put_bodies;
+use wy_static::statement::put_bodies;
 
 /// Where a catch clause is, and the class that it catches.
 #[derive(Clone, Copy)]

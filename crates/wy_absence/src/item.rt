@@ -18,7 +18,7 @@ use wy_kernel::program::Program;
 use wy_kernel::types::NONE;
 use wy_lines::put_method_name;
 use wy_text::{put_class_name, put_count, put_decimal, put_full_name, put_place};
-use wy_ways::point::{LinkKind, Point};
+use wy_static::point::{LinkKind, Point};
 use wy_whynot::{Item, Made};
 
 /// The cause of a statement that the end of the run found going on.

@@ -7,11 +7,11 @@ use Rattle.std.proofs.lemmas.Bool.{eqb-true, eq-eqb}
 use Rattle.wy_kernel.specs.declared.form.CondForm.{CondForm}
 use Rattle.wy_kernel.specs.Form.{Expression, Const, Str, Read, Set, Upd, Un, Bin, Conv, Cast, InstanceOf, Cond, New, NewArray, Call, Cat, Lib, Place, Local, Static, Field, Elem, Part, absent, the, Row, none, more, Statement, Stmt, Act, Block, Eval, Declare, If, While, Do, For, Labelled, Jump, Return, Throw, Try, Print}
 use Rattle.wy_structure.specs.Sites.{deciding, deciding_in_place, deciding_in_part, deciding_in_row, deciding_in_act}
-use Rattle.wy_ways.specs.declared.point.Point.{Point}
-use Rattle.wy_ways.specs.declared.point.Point.TheVariants as point
-use Rattle.wy_ways.specs.declared.way.Owner.{Owner}
-use Rattle.wy_ways.specs.Forms.{arm_owner, forms, forms_within, place_forms, part_forms, row_forms}
-use Rattle.wy_ways.specs.Ways.{in_part, act_forms}
+use Rattle.wy_static.specs.declared.point.Point.{Point}
+use Rattle.wy_static.specs.declared.point.Point.TheVariants as point
+use Rattle.wy_static.specs.declared.way.Owner.{Owner}
+use Rattle.wy_static.specs.Forms.{arm_owner, forms, forms_within, place_forms, part_forms, row_forms}
+use Rattle.wy_static.specs.Ways.{in_part, act_forms}
 use Rattle.std.proofs.lemmas.List.Sums.{sum_by-cons}
 use Rattle.wy_kernel.specs.Form.{Catches, uncaught, catch}
 use Rattle.wy_kernel.specs.Program.{Program, Body, body, init_body}
@@ -21,9 +21,9 @@ use Rattle.wy_structure.specs.Numbers.{AreDense}
 use Rattle.wy_structure.specs.Sites.{deciding_in_statement}
 use Rattle.wy_choices.specs.Choices.{ChoicesStandApart}
 use Rattle.wy_typed_states.proofs.Subtypes.{part_at}
-use Rattle.wy_ways.specs.declared.standing.Standing.{Standing}
-use Rattle.wy_ways.specs.Standings.{initializer_number, standing, form_standings, arm_standings, catch_standings, try_standings, standings_in, body_standings, method_standings, initializer_standings, standings_of}
-use Rattle.wy_ways.specs.Ways.{owner_of}
+use Rattle.wy_static.specs.declared.standing.Standing.{Standing}
+use Rattle.wy_static.specs.Standings.{initializer_number, standing, form_standings, arm_standings, catch_standings, try_standings, standings_in, body_standings, method_standings, initializer_standings, standings_of}
+use Rattle.wy_static.specs.Ways.{owner_of}
 use Rattle.wy_reached.specs.Laws.{IsStatementOrArm}
 use Rattle.wy_reached.proofs.Contained.{nothing_in, in_head, in_tail, in_cases, in_left, in_right, in_either, of_flat}
 

@@ -14,15 +14,15 @@ use Rattle.wy_kernel.specs.Program.{Program, Body, class, method, field, body, i
 use Rattle.wy_kernel.specs.Statements.{number_of, statements_of}
 use Rattle.wy_structure.specs.Reaches.{is_testing_act}
 use Rattle.wy_structure.specs.Sites.{deciding_in_statement, deciding_in_act, TestsStandApart}
-use Rattle.wy_ways.specs.declared.point.Point.{Point}
-use Rattle.wy_ways.specs.declared.point.Point.TheVariants as point
-use Rattle.wy_ways.specs.declared.point.LinkKind.{LinkKind}
-use Rattle.wy_ways.specs.declared.point.LinkKind.TheVariants as link_kind
-use Rattle.wy_ways.specs.declared.way.Owner.{Owner}
-use Rattle.wy_ways.specs.declared.way.Goal.{Goal}
-use Rattle.wy_ways.specs.declared.way.Goal.TheVariants.{Known, Chosen}
-use Rattle.wy_ways.specs.declared.way.Way.{Way}
-use Rattle.wy_ways.specs.Ways.{ways_of, way, call_at, owner_of, in_order, to, to_other, to_catch, to_catches, catch_owner, by_test, flow, initializing, calling, choosing, converting, constructing, placing, updating, is_absent, called, form_ways, owned_ways, act_forms, printing, statement_ways, start_ways, into_body, entry_ways, above_ways, init_ways}
+use Rattle.wy_static.specs.declared.point.Point.{Point}
+use Rattle.wy_static.specs.declared.point.Point.TheVariants as point
+use Rattle.wy_static.specs.declared.point.LinkKind.{LinkKind}
+use Rattle.wy_static.specs.declared.point.LinkKind.TheVariants as link_kind
+use Rattle.wy_static.specs.declared.way.Owner.{Owner}
+use Rattle.wy_static.specs.declared.way.Goal.{Goal}
+use Rattle.wy_static.specs.declared.way.Goal.TheVariants.{Known, Chosen}
+use Rattle.wy_static.specs.declared.way.Way.{Way}
+use Rattle.wy_static.specs.Ways.{ways_of, way, call_at, owner_of, in_order, to, to_other, to_catch, to_catches, catch_owner, by_test, flow, initializing, calling, choosing, converting, constructing, placing, updating, is_absent, called, form_ways, owned_ways, act_forms, printing, statement_ways, start_ways, into_body, entry_ways, above_ways, init_ways}
 use Rattle.wy_static.specs.Links.{Meets}
 use Rattle.wy_reached.specs.Laws.{IsPoint, HasTest, IsTestAt}
 use Rattle.wy_reached.proofs.Contained.{nothing_in, in_cases, in_either, of_flat}

@@ -29,12 +29,12 @@ use Rattle.wy_typed_states.proofs.Places.{Methods, world_of}
 use Rattle.wy_typed_states.proofs.Statements.{GivesBack}
 use Rattle.wy_typed_states.proofs.Bodies as typed_body
 use Rattle.wy_typed_states.proofs.Bodies.{part_there, body_there}
-use Rattle.wy_ways.specs.declared.point.Point.{Point}
-use Rattle.wy_ways.specs.declared.point.Point.TheVariants as point
-use Rattle.wy_ways.specs.declared.point.LinkKind.TheVariants as link_kind
-use Rattle.wy_ways.specs.declared.way.Owner.{Owner}
-use Rattle.wy_ways.specs.Standings.{initializer_number}
-use Rattle.wy_ways.specs.Ways.{ways_of, way, initializing}
+use Rattle.wy_static.specs.declared.point.Point.{Point}
+use Rattle.wy_static.specs.declared.point.Point.TheVariants as point
+use Rattle.wy_static.specs.declared.point.LinkKind.TheVariants as link_kind
+use Rattle.wy_static.specs.declared.way.Owner.{Owner}
+use Rattle.wy_static.specs.Standings.{initializer_number}
+use Rattle.wy_static.specs.Ways.{ways_of, way, initializing}
 use Rattle.wy_static.specs.Links.{IsLink}
 use Rattle.wy_static.specs.Answers.{method_of}
 use Rattle.wy_reached.proofs.Seen.{ShownBy}

@@ -21,11 +21,11 @@ use Rattle.wy_steps.specs.State.{Noted, State, Covered}
 use Rattle.wy_steps.specs.Steps.{event_in}
 use Rattle.wy_meaning.specs.Run.{covers}
 use Rattle.wy_meaning.specs.Kept.{covered_of}
-use Rattle.wy_ways.specs.declared.point.Point.{Point}
-use Rattle.wy_ways.specs.declared.point.Point.TheVariants as point
-use Rattle.wy_ways.specs.declared.point.LinkKind.{LinkKind}
-use Rattle.wy_ways.specs.declared.point.LinkKind.TheVariants as link_kind
-use Rattle.wy_ways.specs.declared.point.Link.{Link}
+use Rattle.wy_static.specs.declared.point.Point.{Point}
+use Rattle.wy_static.specs.declared.point.Point.TheVariants as point
+use Rattle.wy_static.specs.declared.point.LinkKind.{LinkKind}
+use Rattle.wy_static.specs.declared.point.LinkKind.TheVariants as link_kind
+use Rattle.wy_static.specs.declared.point.Link.{Link}
 use Rattle.wy_static.specs.Links.{IsLink}
 use Rattle.wy_static.specs.Answers.{method_of}
 use Rattle.wy_whynot.specs.Chains.{Leads}

@@ -51,13 +51,13 @@ use Rattle.wy_typed_states.proofs.Forms.{T, found_stands, chosen_calls_at, objec
 use Rattle.wy_typed_states.proofs.Calls.{AllTypes, gives_all, one_method, calls_with, static_calls, Constructs, constructor_calls}
 use Rattle.wy_typed_states.proofs.Arrays.{makes_array, AllAlike, alike, elements_are, element_place, element_stores, made_elements, array_made, one_less}
 use Rattle.wy_typed_states.proofs.Expressions as expression
-use Rattle.wy_ways.specs.declared.point.Point.{Point}
-use Rattle.wy_ways.specs.declared.point.Point.TheVariants as point
-use Rattle.wy_ways.specs.declared.point.LinkKind.TheVariants as link_kind
-use Rattle.wy_ways.specs.declared.way.Owner.{Owner}
-use Rattle.wy_ways.specs.declared.way.Goal.TheVariants.{Known as KnownGoal}
-use Rattle.wy_ways.specs.Forms.{arm_owner, forms, forms_within, place_forms, part_forms, row_forms}
-use Rattle.wy_ways.specs.Ways.{call_at, initializing, calling, choosing, converting, constructing, placing, called as called_ways, arms, form_ways}
+use Rattle.wy_static.specs.declared.point.Point.{Point}
+use Rattle.wy_static.specs.declared.point.Point.TheVariants as point
+use Rattle.wy_static.specs.declared.point.LinkKind.TheVariants as link_kind
+use Rattle.wy_static.specs.declared.way.Owner.{Owner}
+use Rattle.wy_static.specs.declared.way.Goal.TheVariants.{Known as KnownGoal}
+use Rattle.wy_static.specs.Forms.{arm_owner, forms, forms_within, place_forms, part_forms, row_forms}
+use Rattle.wy_static.specs.Ways.{call_at, initializing, calling, choosing, converting, constructing, placing, called as called_ways, arms, form_ways}
 use Rattle.wy_static.specs.Links.{IsLink}
 use Rattle.wy_static.specs.Answers.{method_of}
 use Rattle.wy_reached.proofs.Seen.{ShownBy, arm_number}

@@ -19,12 +19,12 @@ use Rattle.wy_typed_states.specs.Typed.{Runs, running_as, IsTypedState}
 use Rattle.wy_typed_states.proofs.Moments.{Later, later_one, newest_there, one_of_longer}
 use Rattle.wy_typed_states.proofs.Law.{law, runs, reason, Standing}
 use Rattle.wy_typed_states.proofs.Rules.{Ground, A, p, Known, Kept, typed, Does, ticks}
-use Rattle.wy_ways.specs.declared.point.Point.{Point}
-use Rattle.wy_ways.specs.declared.point.Point.TheVariants as point
-use Rattle.wy_ways.specs.declared.point.LinkKind.{LinkKind}
-use Rattle.wy_ways.specs.declared.point.LinkKind.TheVariants as link_kind
-use Rattle.wy_ways.specs.declared.point.Link.{Link}
-use Rattle.wy_ways.specs.Standings.{initializer_number}
+use Rattle.wy_static.specs.declared.point.Point.{Point}
+use Rattle.wy_static.specs.declared.point.Point.TheVariants as point
+use Rattle.wy_static.specs.declared.point.LinkKind.{LinkKind}
+use Rattle.wy_static.specs.declared.point.LinkKind.TheVariants as link_kind
+use Rattle.wy_static.specs.declared.point.Link.{Link}
+use Rattle.wy_static.specs.Standings.{initializer_number}
 use Rattle.wy_static.specs.Links.{IsLink}
 use Rattle.wy_static.specs.Answers.{method_of}
 use Rattle.wy_reached.specs.Laws.{IsPoint}

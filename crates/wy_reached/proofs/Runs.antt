@@ -20,12 +20,12 @@ use Rattle.wy_typed_states.proofs.Places.{Methods, world_of, may_initialize}
 use Rattle.wy_typed_states.proofs.Arrays.{makes_array, made_is, array_made}
 use Rattle.wy_typed_states.proofs.Bodies.{body_called, initialized}
 use Rattle.wy_typed_states.proofs.Runs.{main_calls, start_typed}
-use Rattle.wy_ways.specs.declared.point.Point.{Point}
-use Rattle.wy_ways.specs.declared.point.Point.TheVariants as point
-use Rattle.wy_ways.specs.declared.point.LinkKind.TheVariants as link_kind
-use Rattle.wy_ways.specs.declared.way.Owner.{Owner}
-use Rattle.wy_ways.specs.declared.way.Goal.TheVariants.{Known as KnownGoal}
-use Rattle.wy_ways.specs.Ways.{call_at, calling, initializing, start_ways}
+use Rattle.wy_static.specs.declared.point.Point.{Point}
+use Rattle.wy_static.specs.declared.point.Point.TheVariants as point
+use Rattle.wy_static.specs.declared.point.LinkKind.TheVariants as link_kind
+use Rattle.wy_static.specs.declared.way.Owner.{Owner}
+use Rattle.wy_static.specs.declared.way.Goal.TheVariants.{Known as KnownGoal}
+use Rattle.wy_static.specs.Ways.{call_at, calling, initializing, start_ways}
 use Rattle.wy_reached.proofs.Contained.{in_left}
 use Rattle.wy_reached.proofs.Seen.{Executed, Reached, at_start, Inv}
 use Rattle.wy_reached.proofs.Ways.{Among, among_left, among_right, among_head, way_link}

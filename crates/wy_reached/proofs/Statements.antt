@@ -35,15 +35,15 @@ use Rattle.wy_typed_states.proofs.Places.{Methods, of_type, world_of, finds_type
 use Rattle.wy_typed_states.proofs.Statements as typed_statement
 use Rattle.wy_typed_states.proofs.Statements.{GivesBack, leaves_typed, place}
 use Rattle.wy_typed_states.proofs.Expressions as expression
-use Rattle.wy_ways.specs.declared.point.Point.{Point}
-use Rattle.wy_ways.specs.declared.point.Point.TheVariants as point
-use Rattle.wy_ways.specs.declared.point.LinkKind.{LinkKind}
-use Rattle.wy_ways.specs.declared.point.LinkKind.TheVariants as link_kind
-use Rattle.wy_ways.specs.declared.way.Owner.{Owner}
-use Rattle.wy_ways.specs.declared.way.Goal.TheVariants.{Known as KnownGoal}
-use Rattle.wy_ways.specs.Forms.{forms}
-use Rattle.wy_ways.specs.Ways as ways
-use Rattle.wy_ways.specs.Ways.{owner_of, way, to, to_other, to_catch, to_catches, catch_owner, in_order, by_test, flow, printing, converting, owned_ways, act_forms, in_part, statement_ways}
+use Rattle.wy_static.specs.declared.point.Point.{Point}
+use Rattle.wy_static.specs.declared.point.Point.TheVariants as point
+use Rattle.wy_static.specs.declared.point.LinkKind.{LinkKind}
+use Rattle.wy_static.specs.declared.point.LinkKind.TheVariants as link_kind
+use Rattle.wy_static.specs.declared.way.Owner.{Owner}
+use Rattle.wy_static.specs.declared.way.Goal.TheVariants.{Known as KnownGoal}
+use Rattle.wy_static.specs.Forms.{forms}
+use Rattle.wy_static.specs.Ways as ways
+use Rattle.wy_static.specs.Ways.{owner_of, way, to, to_other, to_catch, to_catches, catch_owner, in_order, by_test, flow, printing, converting, owned_ways, act_forms, in_part, statement_ways}
 use Rattle.wy_static.specs.Answers.{method_of}
 use Rattle.wy_reached.proofs.Contained.{in_head, in_tail, in_left, in_right}
 use Rattle.wy_reached.specs.Laws.{IsPoint, HasTest}

@@ -15,14 +15,14 @@ use Rattle.wy_kernel.specs.Statements.{number_of, statements, statements_of, sta
 use Rattle.wy_kernel.specs.View.{NONE}
 use Rattle.wy_typing.specs.Programs.{IsProgram}
 use Rattle.wy_typed_states.proofs.Subtypes.{part_at}
-use Rattle.wy_ways.specs.declared.point.Point.{Point}
-use Rattle.wy_ways.specs.declared.point.Point.TheVariants as point
-use Rattle.wy_ways.specs.declared.point.LinkKind.TheVariants as link_kind
-use Rattle.wy_ways.specs.declared.way.Owner.{Owner}
-use Rattle.wy_ways.specs.declared.way.Way.{Way}
-use Rattle.wy_ways.specs.declared.standing.Standing.{Standing}
-use Rattle.wy_ways.specs.Ways.{ways_of, owner_of, flow, printing, owned_ways, act_forms, statement_ways, start_ways, entry_ways, init_ways, into_body, above_ways, initializing, way}
-use Rattle.wy_ways.specs.Standings.{initializer_number, standing, form_standings, arm_standings, try_standings, standings_in, body_standings, method_standings, initializer_standings, standings_of}
+use Rattle.wy_static.specs.declared.point.Point.{Point}
+use Rattle.wy_static.specs.declared.point.Point.TheVariants as point
+use Rattle.wy_static.specs.declared.point.LinkKind.TheVariants as link_kind
+use Rattle.wy_static.specs.declared.way.Owner.{Owner}
+use Rattle.wy_static.specs.declared.way.Way.{Way}
+use Rattle.wy_static.specs.declared.standing.Standing.{Standing}
+use Rattle.wy_static.specs.Ways.{ways_of, owner_of, flow, printing, owned_ways, act_forms, statement_ways, start_ways, entry_ways, init_ways, into_body, above_ways, initializing, way}
+use Rattle.wy_static.specs.Standings.{initializer_number, standing, form_standings, arm_standings, try_standings, standings_in, body_standings, method_standings, initializer_standings, standings_of}
 use Rattle.wy_static.specs.Order.{same_point, point_cmp}
 use Rattle.wy_static.specs.Answers.{method_of, standing_at}
 use Rattle.wy_static.proofs.Orders.{same_points, point_total}

@@ -18,15 +18,15 @@ use Rattle.wy_typed_states.proofs.Subtypes.{Top, above_class}
 use Rattle.wy_typed_states.proofs.Rules.{Ground, p}
 use Rattle.wy_typed_states.proofs.Facts.{receiver}
 use Rattle.wy_typed_states.proofs.Library.{object_is_top}
-use Rattle.wy_ways.specs.declared.point.Point.{Point}
-use Rattle.wy_ways.specs.declared.point.Point.TheVariants as point
-use Rattle.wy_ways.specs.declared.point.LinkKind.{LinkKind}
-use Rattle.wy_ways.specs.declared.point.LinkKind.TheVariants as link_kind
-use Rattle.wy_ways.specs.declared.point.Link.{Link}
-use Rattle.wy_ways.specs.declared.way.Owner.{Owner}
-use Rattle.wy_ways.specs.declared.way.Goal.TheVariants.{Known, Chosen}
-use Rattle.wy_ways.specs.declared.way.Way.{Way}
-use Rattle.wy_ways.specs.Ways.{ways_of, call_at, choosing, form_ways}
+use Rattle.wy_static.specs.declared.point.Point.{Point}
+use Rattle.wy_static.specs.declared.point.Point.TheVariants as point
+use Rattle.wy_static.specs.declared.point.LinkKind.{LinkKind}
+use Rattle.wy_static.specs.declared.point.LinkKind.TheVariants as link_kind
+use Rattle.wy_static.specs.declared.point.Link.{Link}
+use Rattle.wy_static.specs.declared.way.Owner.{Owner}
+use Rattle.wy_static.specs.declared.way.Goal.TheVariants.{Known, Chosen}
+use Rattle.wy_static.specs.declared.way.Way.{Way}
+use Rattle.wy_static.specs.Ways.{ways_of, call_at, choosing, form_ways}
 use Rattle.wy_static.specs.Links.{IsLink, MayReceive}
 use Rattle.wy_static.specs.Answers.{method_of}
 use Rattle.wy_reached.proofs.Contained.{in_head, in_tail, in_left, in_right}

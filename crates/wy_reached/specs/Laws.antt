@@ -14,12 +14,12 @@ use Rattle.wy_meaning.specs.Kept.{covered_of}
 use Rattle.wy_typing.specs.Programs.{IsProgram}
 use Rattle.wy_typed_states.specs.Typed.{KeepsLibrary}
 use Rattle.wy_index.specs.Found.{caller_in}
-use Rattle.wy_ways.specs.declared.point.Point.{Point}
-use Rattle.wy_ways.specs.declared.point.Point.TheVariants as point
-use Rattle.wy_ways.specs.declared.point.LinkKind.TheVariants as link_kind
-use Rattle.wy_ways.specs.declared.point.Link.{Link}
-use Rattle.wy_ways.specs.declared.standing.Standing.{Standing}
-use Rattle.wy_ways.specs.Standings.{standings_of}
+use Rattle.wy_static.specs.declared.point.Point.{Point}
+use Rattle.wy_static.specs.declared.point.Point.TheVariants as point
+use Rattle.wy_static.specs.declared.point.LinkKind.TheVariants as link_kind
+use Rattle.wy_static.specs.declared.point.Link.{Link}
+use Rattle.wy_static.specs.declared.standing.Standing.{Standing}
+use Rattle.wy_static.specs.Standings.{standings_of}
 use Rattle.wy_static.specs.Links.{IsLink}
 use Rattle.wy_static.specs.Answers.{method_of}
 use Rattle.wy_whynot.specs.Chains.{IsChain, Leads}

@@ -4,11 +4,11 @@ use Rattle.std.specs.List.{Contains}
 use Rattle.std.proofs.lemmas.List.{take_more}
 use Rattle.std.proofs.lemmas.List.Elements.{Contains-append_left, Contains-append_right, Contains-append_cases}
 use Rattle.wy_kernel.specs.Program.{Program}
-use Rattle.wy_ways.specs.declared.point.Point.{Point}
-use Rattle.wy_ways.specs.declared.point.Point.TheVariants as point
-use Rattle.wy_ways.specs.declared.point.Link.{Link}
-use Rattle.wy_ways.specs.declared.way.Goal.TheVariants.{Known, Chosen}
-use Rattle.wy_ways.specs.declared.way.Way.{Way}
+use Rattle.wy_static.specs.declared.point.Point.{Point}
+use Rattle.wy_static.specs.declared.point.Point.TheVariants as point
+use Rattle.wy_static.specs.declared.point.Link.{Link}
+use Rattle.wy_static.specs.declared.way.Goal.TheVariants.{Known, Chosen}
+use Rattle.wy_static.specs.declared.way.Way.{Way}
 use Rattle.wy_static.specs.Along.{AddsAlong, AreAlong, link_along, links_to_each}
 use Rattle.wy_static.specs.Links.{IsAlong, Meets}
 use Rattle.wy_static.specs.Receivers.{AreTargetsOf}

@@ -12,11 +12,11 @@ use Rattle.std.proofs.lemmas.List.{take_more, append-nil, get_or-take, get_or_de
 use Rattle.std.proofs.lemmas.List.Elements.{Contains-get_or, Contains-append_left, Contains-append_right, Contains-append_cases}
 use Rattle.std.proofs.lemmas.Map.Keys.{Less-from_sorted, le_from_not_gt}
 use Rattle.std.proofs.lemmas.Option.{slice_get-get_or, slice_get_within, get_or_from_slice_get}
-use Rattle.wy_ways.specs.declared.point.Point.{Point}
-use Rattle.wy_ways.specs.declared.point.Point.TheVariants as point
-use Rattle.wy_ways.specs.declared.point.LinkKind.{LinkKind}
-use Rattle.wy_ways.specs.declared.point.LinkKind.TheVariants as kind
-use Rattle.wy_ways.specs.declared.point.Link.{Link}
+use Rattle.wy_static.specs.declared.point.Point.{Point}
+use Rattle.wy_static.specs.declared.point.Point.TheVariants as point
+use Rattle.wy_static.specs.declared.point.LinkKind.{LinkKind}
+use Rattle.wy_static.specs.declared.point.LinkKind.TheVariants as kind
+use Rattle.wy_static.specs.declared.point.Link.{Link}
 use Rattle.wy_static.specs.Along.{AreCalledAt, AreCalled, AddsCall, IsBehind, called_by, entry_of, method_called}
 use Rattle.wy_static.specs.Answers.{call_to}
 use Rattle.wy_static.specs.Order.{link_cmp}

@@ -1,3 +1,9 @@
+pub mod Views
+pub mod Behind
+pub mod Statements
+pub mod Forms
+pub mod Rules
+pub mod Stands
 pub mod Orders
 pub mod Ends
 pub mod Contained

@@ -6,11 +6,11 @@ use Rattle.std.specs.declared.cmp.Ordering.{Ordering}
 use Rattle.std.specs.declared.cmp.Ordering.TheVariants.{Less, Equal, Greater}
 use Rattle.std.proofs.lemmas.Cmp.{nat_cmp_total, on_total, then_total, tied_itself}
 use Rattle.std.proofs.lemmas.Map.Lookups.{exact_unsigned}
-use Rattle.wy_ways.specs.declared.point.Point.{Point}
-use Rattle.wy_ways.specs.declared.point.Point.TheVariants as point
-use Rattle.wy_ways.specs.declared.point.LinkKind.{LinkKind}
-use Rattle.wy_ways.specs.declared.point.LinkKind.TheVariants as kind
-use Rattle.wy_ways.specs.declared.point.Link.{Link}
+use Rattle.wy_static.specs.declared.point.Point.{Point}
+use Rattle.wy_static.specs.declared.point.Point.TheVariants as point
+use Rattle.wy_static.specs.declared.point.LinkKind.{LinkKind}
+use Rattle.wy_static.specs.declared.point.LinkKind.TheVariants as kind
+use Rattle.wy_static.specs.declared.point.Link.{Link}
 use Rattle.wy_static.specs.Order.{pair_cmp, triple_cmp, point_key, point_cmp, kind_key, kind_cmp, link_cmp}
 
 pub pair_total : IsTotalOrder pair_cmp

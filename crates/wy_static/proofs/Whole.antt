@@ -2,9 +2,9 @@
 use Rattle.std.proofs.Common.{◌≡◌, ℕ, List, subst}
 use Rattle.std.specs.List.Sorted.{IsStrictlySortedBy}
 use Rattle.wy_kernel.specs.Program.{Program}
-use Rattle.wy_ways.specs.Ways.{ways_of}
-use Rattle.wy_ways.specs.declared.point.Link.{Link}
-use Rattle.wy_ways.specs.declared.way.Way.{Way}
+use Rattle.wy_static.specs.Ways.{ways_of}
+use Rattle.wy_static.specs.declared.point.Link.{Link}
+use Rattle.wy_static.specs.declared.way.Way.{Way}
 use Rattle.wy_static.specs.Along.{AreAlong, AreCalled, SameLinks}
 use Rattle.wy_static.specs.Answers.{AreTargetsAt, call_to}
 use Rattle.wy_static.specs.Links.{AreLinks}

@@ -6,12 +6,12 @@ use Rattle.std.specs.List.Sorted.{IsStrictlyIncreasing}
 use Rattle.std.specs.Option.{option_map_or}
 use Rattle.wy_kernel.specs.Program.{Program}
 use Rattle.wy_kernel.specs.View.{NONE}
-use Rattle.wy_ways.specs.declared.point.Point.{Point}
-use Rattle.wy_ways.specs.declared.point.Point.TheVariants as point
-use Rattle.wy_ways.specs.declared.point.LinkKind.TheVariants as kind
-use Rattle.wy_ways.specs.declared.point.Link.{Link}
-use Rattle.wy_ways.specs.declared.standing.Standing.{Standing}
-use Rattle.wy_ways.specs.Standings.{standings_of, initializer_number}
+use Rattle.wy_static.specs.declared.point.Point.{Point}
+use Rattle.wy_static.specs.declared.point.Point.TheVariants as point
+use Rattle.wy_static.specs.declared.point.LinkKind.TheVariants as kind
+use Rattle.wy_static.specs.declared.point.Link.{Link}
+use Rattle.wy_static.specs.declared.standing.Standing.{Standing}
+use Rattle.wy_static.specs.Standings.{standings_of, initializer_number}
 use Rattle.wy_static.specs.declared.answer.Links.{Links}
 use Rattle.wy_static.specs.Order.{point_key, same_point, triple_cmp}
 use Rattle.wy_static.specs.Links.{IsLink, AreLinks}

@@ -1,3 +1,7 @@
+pub mod Forms
+pub mod Seen
+pub mod Ways
+pub mod Standings
 pub mod Order
 pub mod Links
 pub mod Rows

@@ -4,13 +4,13 @@ use Rattle.std.specs.List.{Contains}
 use Rattle.std.specs.List.Sorted.{IsStrictlySortedBy}
 use Rattle.wy_kernel.specs.Program.{Program, class, dispatch, object_class, string_class}
 use Rattle.wy_kernel.specs.Subtyping.{Supertype}
-use Rattle.wy_ways.specs.declared.point.Point.{Point}
-use Rattle.wy_ways.specs.declared.point.Point.TheVariants as point
-use Rattle.wy_ways.specs.declared.point.Link.{Link}
-use Rattle.wy_ways.specs.declared.way.Goal.{Goal}
-use Rattle.wy_ways.specs.declared.way.Goal.TheVariants.{Known, Chosen}
-use Rattle.wy_ways.specs.declared.way.Way.{Way}
-use Rattle.wy_ways.specs.Ways.{ways_of}
+use Rattle.wy_static.specs.declared.point.Point.{Point}
+use Rattle.wy_static.specs.declared.point.Point.TheVariants as point
+use Rattle.wy_static.specs.declared.point.Link.{Link}
+use Rattle.wy_static.specs.declared.way.Goal.{Goal}
+use Rattle.wy_static.specs.declared.way.Goal.TheVariants.{Known, Chosen}
+use Rattle.wy_static.specs.declared.way.Way.{Way}
+use Rattle.wy_static.specs.Ways.{ways_of}
 use Rattle.wy_static.specs.Order.{link_cmp}
 
 -- ---- targets (JLS 15.12.4.4)

@@ -3,7 +3,7 @@
 ghost use Rattle.std.specs.Prelude.{◌≡◌};
 ghost use Rattle.std.specs.Option.{option_map_or};
 ghost use Rattle.wy_kernel.specs.Program as kernel;
-ghost use Rattle.wy_ways.specs.Standings.{standings_of};
+ghost use Rattle.wy_static.specs.Standings.{standings_of};
 ghost use Rattle.wy_static.specs.Answers.{AreLinksOf, AreTargetsAt, around_of, method_of, standing_at};
 ghost use Rattle.wy_static.specs.Links.{AreLinks, AreLinksInto};
 
@@ -11,8 +11,8 @@ use crate::order::{compare_points, point_key};
 use crate::rows::kept;
 use std::collections::BTreeMap;
 use wy_kernel::types::NONE;
-use wy_ways::point::{Link, Point};
-use wy_ways::standing::{Standing, initializer_number};
+use crate::point::{Link, Point};
+use crate::standing::{Standing, initializer_number};
 
 /// The links of a program.
 #[derive(Drop)]

@@ -11,7 +11,7 @@ ghost use Rattle.wy_kernel.specs.Subtyping.{named_above};
 ghost use Rattle.wy_static.specs.Links.{IsAtOrBelow, IsTarget, MayReceive};
 ghost use Rattle.wy_static.specs.Receivers.{AreReceivers, AreTargets, AreTargetsOf, WasFound};
 ghost use Rattle.wy_static.specs.Rows.{kept_under, one_if};
-ghost use Rattle.wy_ways.specs.Seen.{seen_by};
+ghost use Rattle.wy_static.specs.Seen.{seen_by};
 
 use crate::rows::{keep, kept};
 use std::alloc::{AllocError, Global};

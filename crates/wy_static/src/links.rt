@@ -4,8 +4,8 @@ ghost use Rattle.std.specs.Prelude.{◌≡◌, ◌++◌, ◌∷◌, [], ◌↔�
 ghost use Rattle.std.specs.List.Sorted.{IsStrictlySortedBy};
 ghost use Rattle.wy_kernel.specs.Parts.{program_of};
 ghost use Rattle.std.specs.Option.{option_or};
-ghost use Rattle.wy_ways.specs.declared.point.Point.{Point};
-ghost use Rattle.wy_ways.specs.Seen.{seen_by};
+ghost use Rattle.wy_static.specs.declared.point.Point.{Point};
+ghost use Rattle.wy_static.specs.Seen.{seen_by};
 ghost use Rattle.wy_static.specs.Along.{AddsAlong, AddsCall, AreAlong, AreCalled, SameLinks, entry_of, its_standing, kept_at, link_along, links_to_each, method_called};
 ghost use Rattle.wy_static.specs.Answers.{AreLinksOf, standing_at};
 ghost use Rattle.wy_static.specs.Order.{link_cmp};
@@ -20,10 +20,10 @@ use std::alloc::{AllocError, Global};
 use std::collections::BTreeMap;
 use wy_calls::Dispatcher;
 use wy_kernel::program::Program;
-use wy_ways::point::{Link, LinkKind, Point};
-use wy_ways::rule::ways_of;
-use wy_ways::standing::{Standing, standings_of};
-use wy_ways::way::{Goal, Way};
+use crate::point::{Link, LinkKind, Point};
+use crate::rule::ways_of;
+use crate::standing::{Standing, standings_of};
+use crate::way::{Goal, Way};
 
 fn put_along(out: &mut Vec<Link>, way: Way, to: Point) -> Result<(), AllocError>
     ensures { OnOk result (out.new.items ≡ out.old.items ++ link_along way to ∷ []) }

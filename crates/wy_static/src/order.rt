@@ -4,7 +4,7 @@ ghost use Rattle.std.specs.Prelude.{◌≡◌};
 ghost use Rattle.wy_static.specs.Order.{kind_cmp, kind_key, link_cmp, point_cmp, point_key};
 
 use std::cmp::Ordering;
-use wy_ways::point::{Link, LinkKind, Point};
+use crate::point::{Link, LinkKind, Point};
 
 /// What orders points: their kind, and their numbers.
 pub fn point_key(point: Point) -> (u8, u32, u32)

@@ -6,7 +6,7 @@ use Rattle.std.proofs.lemmas.List.Elements.{All-contains_itself, All-map, All-we
 use Rattle.wy_kernel.specs.Program.{Program}
 use Rattle.wy_event.specs.declared.record.Cover.{Cover}
 use Rattle.wy_event.specs.Record.{Recorded}
-use Rattle.wy_ways.specs.declared.point.Link.{Link}
+use Rattle.wy_static.specs.declared.point.Link.{Link}
 use Rattle.wy_index.specs.declared.index.Index.{Index}
 use Rattle.wy_whynot.specs.declared.blocked.Found.{Found}
 use Rattle.wy_whynot.specs.declared.graph.Edge.{Edge}

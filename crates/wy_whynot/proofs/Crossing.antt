@@ -5,11 +5,11 @@ use Rattle.std.specs.List.{Contains, list_any}
 use Rattle.wy_kernel.specs.Program.{Program}
 use Rattle.wy_event.specs.declared.record.Cover.{Cover}
 use Rattle.wy_event.specs.Record.{Recorded}
-use Rattle.wy_ways.specs.declared.point.Point.{Point}
-use Rattle.wy_ways.specs.declared.point.Point.TheVariants as point
-use Rattle.wy_ways.specs.declared.point.LinkKind.{LinkKind}
-use Rattle.wy_ways.specs.declared.point.LinkKind.TheVariants as kind
-use Rattle.wy_ways.specs.declared.point.Link.{Link}
+use Rattle.wy_static.specs.declared.point.Point.{Point}
+use Rattle.wy_static.specs.declared.point.Point.TheVariants as point
+use Rattle.wy_static.specs.declared.point.LinkKind.{LinkKind}
+use Rattle.wy_static.specs.declared.point.LinkKind.TheVariants as kind
+use Rattle.wy_static.specs.declared.point.Link.{Link}
 use Rattle.wy_whynot.specs.Executed.{begins_at, executed, IsCrossed, IsCrossedAs}
 use Rattle.wy_whynot.proofs.Sorting.{in_cases}
 use Rattle.wy_whynot.proofs.Spreading.{nothing_in}

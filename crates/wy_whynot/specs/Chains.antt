@@ -1,9 +1,9 @@
 -- Chains of links.
 use Rattle.std.specs.Prelude.{◌≡◌, List, [], ◌∷◌, ◌⊎◌}
 use Rattle.wy_kernel.specs.Program.{Program}
-use Rattle.wy_ways.specs.declared.point.Point.{Point}
-use Rattle.wy_ways.specs.declared.point.Point.TheVariants as point
-use Rattle.wy_ways.specs.declared.point.Link.{Link}
+use Rattle.wy_static.specs.declared.point.Point.{Point}
+use Rattle.wy_static.specs.declared.point.Point.TheVariants as point
+use Rattle.wy_static.specs.declared.point.Link.{Link}
 use Rattle.wy_static.specs.Links.{IsLink}
 
 -- zero or more links that are allowed lead from p to q: each begins where the last one ended

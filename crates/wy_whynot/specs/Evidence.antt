@@ -7,11 +7,11 @@ use Rattle.wy_event.specs.Record.{Recorded}
 use Rattle.wy_kernel.specs.View.{NONE}
 use Rattle.wy_index.specs.declared.found.Hit.{Hit}
 use Rattle.wy_index.specs.Found.{hits_in, is_call}
-use Rattle.wy_ways.specs.declared.point.Point.{Point}
-use Rattle.wy_ways.specs.declared.point.Point.TheVariants as point
-use Rattle.wy_ways.specs.declared.point.LinkKind.{LinkKind}
-use Rattle.wy_ways.specs.declared.point.LinkKind.TheVariants as kind
-use Rattle.wy_ways.specs.declared.point.Link.{Link}
+use Rattle.wy_static.specs.declared.point.Point.{Point}
+use Rattle.wy_static.specs.declared.point.Point.TheVariants as point
+use Rattle.wy_static.specs.declared.point.LinkKind.{LinkKind}
+use Rattle.wy_static.specs.declared.point.LinkKind.TheVariants as kind
+use Rattle.wy_static.specs.declared.point.Link.{Link}
 use Rattle.wy_static.specs.Answers.{around_of, method_of}
 use Rattle.wy_whynot.specs.declared.item.Item.{Item}
 use Rattle.wy_whynot.specs.declared.item.Made.{Made}

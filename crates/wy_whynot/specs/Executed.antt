@@ -12,11 +12,11 @@ use Rattle.wy_event.specs.Record.{Recorded}
 use Rattle.wy_kernel.specs.View.{NONE}
 use Rattle.wy_index.specs.declared.found.Hit.{Hit}
 use Rattle.wy_index.specs.Found.{caller_in, hits_in, is_call_of, is_init_of}
-use Rattle.wy_ways.specs.declared.point.Point.{Point}
-use Rattle.wy_ways.specs.declared.point.Point.TheVariants as point
-use Rattle.wy_ways.specs.declared.point.LinkKind.{LinkKind}
-use Rattle.wy_ways.specs.declared.point.LinkKind.TheVariants as kind
-use Rattle.wy_ways.specs.declared.point.Link.{Link}
+use Rattle.wy_static.specs.declared.point.Point.{Point}
+use Rattle.wy_static.specs.declared.point.Point.TheVariants as point
+use Rattle.wy_static.specs.declared.point.LinkKind.{LinkKind}
+use Rattle.wy_static.specs.declared.point.LinkKind.TheVariants as kind
+use Rattle.wy_static.specs.declared.point.Link.{Link}
 use Rattle.wy_static.specs.Answers.{method_of}
 
 -- ---- executed

@@ -9,8 +9,8 @@ use Rattle.std.specs.Ordering.{nat_cmp, on, ordering_then}
 use Rattle.wy_kernel.specs.Program.{Program}
 use Rattle.wy_event.specs.declared.record.Cover.{Cover}
 use Rattle.wy_event.specs.Record.{Recorded}
-use Rattle.wy_ways.specs.declared.point.Point.TheVariants as point
-use Rattle.wy_ways.specs.declared.point.Link.{Link}
+use Rattle.wy_static.specs.declared.point.Point.TheVariants as point
+use Rattle.wy_static.specs.declared.point.Link.{Link}
 use Rattle.wy_static.specs.Links.{IsLink}
 use Rattle.wy_static.specs.Order.{by_site, by_source, by_target, kind_key}
 use Rattle.wy_whynot.specs.declared.item.Item.{Item}

@@ -16,7 +16,7 @@ use std::alloc::{AllocError, Global};
 use wy_event::record::Cover;
 use wy_index::Index;
 use wy_static::Links;
-use wy_ways::point::Link;
+use wy_static::point::Link;
 
 fn items(
     alloc: Global,

@@ -4,7 +4,7 @@ ghost use Rattle.std.specs.Prelude.{◌≡◌, All, IfOk, List, filter, length, 
 ghost use Rattle.wy_kernel.specs.Program as kernel;
 ghost use Rattle.wy_event.specs.Record.{Recorded};
 ghost use Rattle.wy_index.specs.Index.{IsIndexOf};
-ghost use Rattle.wy_ways.specs.declared.point.Point.TheVariants as point;
+ghost use Rattle.wy_static.specs.declared.point.Point.TheVariants as point;
 ghost use Rattle.wy_static.specs.Links.{AreLinks};
 ghost use Rattle.wy_whynot.specs.Graph.{IsSpread};
 ghost use Rattle.wy_whynot.specs.Items.{AreBlocked};
@@ -18,7 +18,7 @@ use crate::points::{edges_of, number, points_of};
 use std::alloc::{AllocError, Global};
 use wy_event::record::Cover;
 use wy_index::Index;
-use wy_ways::point::{Link, Point};
+use wy_static::point::{Link, Point};
 
 /// What is known of each point, by its number: whether it was executed, whether links lead to it
 /// from Start, and whether links lead from it to the statement through points that were not executed.

@@ -16,7 +16,7 @@ use wy_event::record::{Cover, Kind};
 use wy_index::{Hit, Index};
 use wy_kernel::types::NONE;
 use wy_static::Links;
-use wy_ways::point::{Link, LinkKind, Point};
+use wy_static::point::{Link, LinkKind, Point};
 
 /// The cause of a statement that the end of the run found going on.
 const GOING_ON: u32 = 4294967294;

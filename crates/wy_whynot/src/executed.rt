@@ -11,7 +11,7 @@ use wy_event::record::{Cover, Kind};
 use wy_index::{Hit, Index};
 use wy_kernel::types::NONE;
 use wy_value::Value;
-use wy_ways::point::Point;
+use wy_static::point::Point;
 
 /// What is known of a statement.
 pub(crate) fn cover_of(coverage: &[Cover], statement: u32) -> Cover

@@ -2,7 +2,7 @@
 
 use std::alloc::AllocError;
 use thiserror::Error;
-use wy_ways::point::Link;
+use wy_static::point::Link;
 
 /// A method that was called, and the first event in which it was.
 #[derive(Clone, Copy, Debug, PartialEq, Eq)]

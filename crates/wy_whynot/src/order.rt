@@ -5,7 +5,7 @@ ghost use Rattle.wy_static.specs.Order.{kind_key, point_cmp, point_key};
 ghost use Rattle.wy_whynot.specs.Items.{item_cmp};
 
 use std::cmp::Ordering;
-use wy_ways::point::{Link, LinkKind, Point};
+use wy_static::point::{Link, LinkKind, Point};
 
 /// What orders points: their kind, and their numbers.
 fn point_key(point: Point) -> (u8, u32, u32)

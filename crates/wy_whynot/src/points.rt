@@ -2,14 +2,14 @@
 
 ghost use Rattle.std.specs.Prelude.{◌≡◌, ◌<◌, IfOk, All, length, map};
 ghost use Rattle.std.specs.List.{Contains};
-ghost use Rattle.wy_ways.specs.declared.point.Point.TheVariants as point;
+ghost use Rattle.wy_static.specs.declared.point.Point.TheVariants as point;
 ghost use Rattle.wy_whynot.specs.Graph.{LiesIn};
 ghost use Rattle.wy_whynot.specs.Numbers.{ArePoints, HasEnds, IsInOrder, edge_of, place_of};
 
 use crate::graph::Edge;
 use crate::order::compare_points;
 use std::alloc::{AllocError, Global};
-use wy_ways::point::{Link, Point};
+use wy_static::point::{Link, Point};
 
 /// The ends of links, Start and a statement, as they come.
 fn ends(alloc: Global, links: &[Link], statement: u32) -> Result<Vec<Point>, AllocError>

@@ -1,7 +1,7 @@
 use Rattle.std.proofs.Common.{◌≡◌, ◌++◌, take}
 use Rattle.std.specs.List.{flat_map}
 use Rattle.wy_absence.specs.Caught.{clauses_in}
-use Rattle.wy_ways.specs.Seen.{statements_seen}
+use Rattle.wy_static.specs.Seen.{statements_seen}
 use Rattle.wy_absence.proofs.caught.put_all.Given as goal
 
 abbrev pub invariant-loop-s : goal.invariant-loop-s

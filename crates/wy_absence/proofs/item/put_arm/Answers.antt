@@ -1,6 +1,6 @@
 use Rattle.std.proofs.Common.{◌∙◌, ◌++◌, ap}
 use Rattle.std.specs.Prelude.{codes}
-use Rattle.wy_ways.proofs.Behind.{behind_on}
+use Rattle.wy_static.proofs.Behind.{behind_on}
 use Rattle.wy_absence.specs.Items.{arm_text, tests_text, truth}
 use Rattle.wy_absence.proofs.item.put_arm.Goals as goal
 

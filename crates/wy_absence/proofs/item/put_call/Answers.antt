@@ -3,7 +3,7 @@ use Rattle.std.specs.Prelude.{codes}
 use Rattle.wy_kernel.specs.View.{present}
 use Rattle.wy_kernel.specs.Parts.{program_of}
 use Rattle.wy_lines.specs.Names.{method_name}
-use Rattle.wy_ways.proofs.Behind.{behind_on}
+use Rattle.wy_static.proofs.Behind.{behind_on}
 use Rattle.wy_absence.specs.Items.{call_text, calls_text}
 use Rattle.wy_absence.proofs.item.put_call.Goals as goal
 

@@ -1,7 +1,7 @@
 use Rattle.std.proofs.Common.{ℕ, ◌++◌, List, take, get_or, nat_eq, sym, ap, ◌∙◌}
 use Rattle.std.specs.List.{flat_map}
 use Rattle.std.proofs.lemmas.List.{flat_map_more, take_more}
-use Rattle.wy_ways.proofs.Behind.{all_of}
+use Rattle.wy_static.proofs.Behind.{all_of}
 use Rattle.wy_static.specs.Rows.{kept_under, one_if}
 use Rattle.wy_static.proofs.class.keep_each.Goals as goal
 

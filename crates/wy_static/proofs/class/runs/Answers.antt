@@ -2,7 +2,7 @@ use Rattle.std.proofs.Common.{ℕ, ◌++◌, ◌∷◌, [], List, map, take, tak
 use Rattle.std.proofs.lemmas.List.{map-append, take_more}
 use Rattle.std.proofs.lemmas.List.Filters.{dedup_is}
 use Rattle.wy_kernel.specs.Program.{dispatch}
-use Rattle.wy_ways.specs.Seen.{seen_by}
+use Rattle.wy_static.specs.Seen.{seen_by}
 use Rattle.wy_static.proofs.Receiving.{settled}
 use Rattle.wy_static.proofs.class.runs.Goals as goal
 

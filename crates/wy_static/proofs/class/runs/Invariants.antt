@@ -1,6 +1,6 @@
 use Rattle.std.proofs.Common.{◌≡◌, map, take}
 use Rattle.wy_kernel.specs.Program.{dispatch}
-use Rattle.wy_ways.specs.Seen.{seen_by}
+use Rattle.wy_static.specs.Seen.{seen_by}
 use Rattle.wy_static.proofs.class.runs.Given as goal
 
 abbrev pub invariant-loop-receiver : goal.invariant-loop-receiver

@@ -1,10 +1,10 @@
 use Rattle.std.proofs.Common.{List, take_all, get_or, subst}
 use Rattle.std.proofs.lemmas.List.{get_or_default}
-use Rattle.wy_ways.specs.Seen.{seen_by}
-use Rattle.wy_ways.specs.declared.point.LinkKind.TheVariants as kind
-use Rattle.wy_ways.specs.declared.point.Point.TheVariants as point
-use Rattle.wy_ways.specs.declared.way.Goal.TheVariants.{Known}
-use Rattle.wy_ways.specs.declared.way.Way.{Way}
+use Rattle.wy_static.specs.Seen.{seen_by}
+use Rattle.wy_static.specs.declared.point.LinkKind.TheVariants as kind
+use Rattle.wy_static.specs.declared.point.Point.TheVariants as point
+use Rattle.wy_static.specs.declared.way.Goal.TheVariants.{Known}
+use Rattle.wy_static.specs.declared.way.Way.{Way}
 use Rattle.wy_static.specs.Along.{AreAlong}
 use Rattle.wy_static.proofs.Along.{one_more}
 use Rattle.wy_static.proofs.links.along.Goals as goal

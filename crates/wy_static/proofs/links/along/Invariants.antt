@@ -1,5 +1,5 @@
 use Rattle.std.proofs.Common.{take}
-use Rattle.wy_ways.specs.Seen.{seen_by}
+use Rattle.wy_static.specs.Seen.{seen_by}
 use Rattle.wy_static.specs.Along.{AreAlong}
 use Rattle.wy_static.specs.Receivers.{AreTargets}
 use Rattle.wy_static.proofs.links.along.Given as goal

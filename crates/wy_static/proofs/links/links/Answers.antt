@@ -1,8 +1,8 @@
 use Rattle.std.proofs.Common.{List, ap, ◌∙◌, subst}
 use Rattle.wy_kernel.specs.Parts.{program_of}
-use Rattle.wy_ways.specs.Seen.{seen_by}
-use Rattle.wy_ways.specs.declared.point.Link.{Link}
-use Rattle.wy_ways.specs.declared.standing.Standing.{Standing}
+use Rattle.wy_static.specs.Seen.{seen_by}
+use Rattle.wy_static.specs.declared.point.Link.{Link}
+use Rattle.wy_static.specs.declared.standing.Standing.{Standing}
 use Rattle.wy_static.specs.Along.{AreCalled}
 use Rattle.wy_static.specs.Answers.{standing_at}
 use Rattle.wy_static.specs.Links.{AreLinks}

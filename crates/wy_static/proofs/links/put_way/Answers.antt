@@ -1,4 +1,4 @@
-use Rattle.wy_ways.specs.Seen.{seen_by}
+use Rattle.wy_static.specs.Seen.{seen_by}
 use Rattle.wy_static.proofs.Along.{chosen, known, on_ok}
 use Rattle.wy_static.proofs.links.put_way.Goals as goal
 

@@ -2,8 +2,8 @@ use Rattle.std.proofs.Common.{◌∷◌, [], Bool, List, Option, find, take, get
 use Rattle.std.specs.Option.{option_or}
 use Rattle.std.proofs.lemmas.List.{take_more}
 use Rattle.std.proofs.lemmas.List.Folds.{find-append}
-use Rattle.wy_ways.specs.declared.point.Point.TheVariants as point
-use Rattle.wy_ways.specs.declared.standing.Standing.{Standing}
+use Rattle.wy_static.specs.declared.point.Point.TheVariants as point
+use Rattle.wy_static.specs.declared.standing.Standing.{Standing}
 use Rattle.wy_static.specs.Along.{its_standing}
 use Rattle.wy_static.specs.Order.{same_point}
 use Rattle.wy_static.proofs.links.standings_at.Goals as goal

@@ -1,8 +1,8 @@
 use Rattle.std.proofs.Common.{List, take_all, get_or, subst}
 use Rattle.std.proofs.lemmas.List.{get_or_default}
-use Rattle.wy_ways.specs.declared.point.Link.{Link}
-use Rattle.wy_ways.specs.declared.point.LinkKind.TheVariants as kind
-use Rattle.wy_ways.specs.declared.point.Point.TheVariants as point
+use Rattle.wy_static.specs.declared.point.Link.{Link}
+use Rattle.wy_static.specs.declared.point.LinkKind.TheVariants as kind
+use Rattle.wy_static.specs.declared.point.Point.TheVariants as point
 use Rattle.wy_static.specs.Along.{AreCalled}
 use Rattle.wy_static.proofs.Called.{one_more}
 use Rattle.wy_static.proofs.links.targets_at.Goals as goal

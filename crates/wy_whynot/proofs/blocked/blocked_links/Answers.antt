@@ -1,7 +1,7 @@
 use Rattle.std.proofs.Common.{rules}
 use Rattle.std.specs.Ordering.{is_lt}
 use Rattle.std.proofs.lemmas.List.Sorted.{answers_always, ranks_by}
-use Rattle.wy_ways.specs.declared.point.Link.{Link}
+use Rattle.wy_static.specs.declared.point.Link.{Link}
 use Rattle.wy_whynot.specs.Items.{item_cmp}
 use Rattle.wy_whynot.proofs.Answering.{all_placed}
 use Rattle.wy_whynot.proofs.Bridging.{are_blocked}

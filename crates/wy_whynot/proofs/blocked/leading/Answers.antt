@@ -1,7 +1,7 @@
 use Rattle.std.proofs.Common.{◌≡◌, ◌∙◌, List, ℕ, Bool, length, map, not, sym, ap, subst, arith}
 use Rattle.std.specs.Prelude.{All}
 use Rattle.std.proofs.lemmas.List.{length-map}
-use Rattle.wy_ways.specs.declared.point.Point.TheVariants as point
+use Rattle.wy_static.specs.declared.point.Point.TheVariants as point
 use Rattle.wy_whynot.specs.declared.graph.Edge.{Edge}
 use Rattle.wy_whynot.specs.Graph.{IsSpread, LiesIn}
 use Rattle.wy_whynot.specs.Numbers.{place_of, turned}

@@ -1,5 +1,5 @@
 use Rattle.std.proofs.Common.{◌≡◌, List, ℕ, Bool, length, replicate, true, subst, rules}
-use Rattle.wy_ways.specs.declared.point.Point.TheVariants as point
+use Rattle.wy_static.specs.declared.point.Point.TheVariants as point
 use Rattle.wy_whynot.specs.declared.graph.Edge.{Edge}
 use Rattle.wy_whynot.specs.Graph.{IsSpread}
 use Rattle.wy_whynot.specs.Numbers.{place_of}

@@ -3,8 +3,8 @@ use Rattle.std.specs.List.{Contains}
 use Rattle.wy_kernel.specs.Program.{Program}
 use Rattle.wy_event.specs.declared.record.Cover.{Cover}
 use Rattle.wy_event.specs.Record.{Recorded}
-use Rattle.wy_ways.specs.declared.point.Point.TheVariants as point
-use Rattle.wy_ways.specs.declared.point.Link.{Link}
+use Rattle.wy_static.specs.declared.point.Point.TheVariants as point
+use Rattle.wy_static.specs.declared.point.Link.{Link}
 use Rattle.wy_whynot.specs.Chains.{IsChain}
 use Rattle.wy_whynot.specs.Evidence.{Evidence}
 use Rattle.wy_whynot.specs.Items.{AreItems, links_of}

@@ -1,7 +1,7 @@
 use Rattle.std.proofs.Common.{◌≡◌, ◌∙◌, ◌++◌, ◌∷◌, [], get_or, take, sym, ap, subst, arith}
 use Rattle.std.proofs.lemmas.Grind.{common_steps}
 use Rattle.std.proofs.lemmas.List.{take_more}
-use Rattle.wy_ways.specs.declared.point.Point.TheVariants as point
+use Rattle.wy_static.specs.declared.point.Point.TheVariants as point
 use Rattle.wy_whynot.specs.Numbers.{HasEnds}
 use Rattle.wy_whynot.proofs.Bridging.{some_link}
 use Rattle.wy_whynot.proofs.Numbering.{more_ends, no_ends}

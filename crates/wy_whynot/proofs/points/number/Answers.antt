@@ -1,7 +1,7 @@
 use Rattle.std.proofs.Common.{rules}
 use Rattle.std.specs.Ordering.{is_lt}
 use Rattle.std.proofs.lemmas.List.Sorted.{IsPartitionPoint-from_clause}
-use Rattle.wy_ways.specs.declared.point.Point.{Point}
+use Rattle.wy_static.specs.declared.point.Point.{Point}
 use Rattle.wy_static.specs.Order.{point_cmp}
 use Rattle.wy_whynot.proofs.Numbering.{number_is, parted}
 use Rattle.wy_whynot.proofs.points.number.Goals as goal

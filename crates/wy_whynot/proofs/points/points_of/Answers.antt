@@ -2,7 +2,7 @@ use Rattle.std.proofs.Common.{rules}
 use Rattle.std.specs.Ordering.{is_lt}
 use Rattle.std.proofs.lemmas.Fn.{dedup_same}
 use Rattle.std.proofs.lemmas.List.Sorted.{answers_always, ranks_by}
-use Rattle.wy_ways.specs.declared.point.Point.{Point}
+use Rattle.wy_static.specs.declared.point.Point.{Point}
 use Rattle.wy_static.specs.Order.{point_cmp}
 use Rattle.wy_static.proofs.Orders.{point_total}
 use Rattle.wy_whynot.proofs.Numbering.{points_ready, ties}

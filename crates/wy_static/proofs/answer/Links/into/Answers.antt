@@ -3,9 +3,9 @@ use Rattle.std.proofs.Common.{rules, true, false, ◌≡◌, ◌-◌, ◌≤◌,
 use Rattle.std.specs.List.Sorted.{IsPartitionedBy, IsPartitionPoint}
 use Rattle.std.proofs.lemmas.List.{take_rest}
 use Rattle.std.proofs.lemmas.List.Sorted.{IsPartitionPoint-from_clause}
-use Rattle.wy_ways.specs.declared.point.Link.{Link}
-use Rattle.wy_ways.specs.declared.point.Point.TheVariants as point
-use Rattle.wy_ways.specs.declared.point.LinkKind.TheVariants as kind
+use Rattle.wy_static.specs.declared.point.Link.{Link}
+use Rattle.wy_static.specs.declared.point.Point.TheVariants as point
+use Rattle.wy_static.specs.declared.point.LinkKind.TheVariants as kind
 use Rattle.wy_static.specs.Links.{AreLinksInto}
 use Rattle.wy_static.proofs.Ends.{is_below, is_upto, cut_below, cut_upto, IsPartAt, links_into}
 use Rattle.wy_static.proofs.answer.Links.into.Goals as goal

@@ -3,8 +3,8 @@ use Rattle.std.proofs.Common.{◌≡◌, ℕ, refl, sym, ◌∙◌, subst, ⊎_e
 use Rattle.std.specs.Option.{option_map_or}
 use Rattle.wy_kernel.specs.Program.{Program}
 use Rattle.wy_kernel.specs.View.{NONE}
-use Rattle.wy_ways.specs.declared.point.Point.{Point}
-use Rattle.wy_ways.specs.Standings.{standings_of}
+use Rattle.wy_static.specs.declared.point.Point.{Point}
+use Rattle.wy_static.specs.Standings.{standings_of}
 use Rattle.wy_static.specs.Answers.{method_of, standing_at}
 use Rattle.wy_static.proofs.answer.Links.method.Goals as goal
 

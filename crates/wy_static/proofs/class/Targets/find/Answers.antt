@@ -1,4 +1,4 @@
-use Rattle.wy_ways.specs.Seen.{seen_by}
+use Rattle.wy_static.specs.Seen.{seen_by}
 use Rattle.wy_static.proofs.Receiving.{found_more, targets_from}
 use Rattle.wy_static.proofs.class.Targets.find.Goals as goal
 

@@ -1,6 +1,6 @@
 use Rattle.std.proofs.Common.{◌∙◌, List, Bool, length, map, not, replicate, true, sym, ap, subst}
-use Rattle.wy_ways.specs.declared.point.Point.{Point}
-use Rattle.wy_ways.specs.declared.point.Point.TheVariants as point
+use Rattle.wy_static.specs.declared.point.Point.{Point}
+use Rattle.wy_static.specs.declared.point.Point.TheVariants as point
 use Rattle.wy_whynot.specs.Executed.{executed}
 use Rattle.wy_whynot.specs.Graph.{IsSpread}
 use Rattle.wy_whynot.specs.Numbers.{ArePoints, edge_of, place_of, turned}

@@ -1,7 +1,7 @@
 use Rattle.std.proofs.Common.{◌≡◌, ◌∙◌, sym, ap, arith, Vec, Global, take}
 use Rattle.std.specs.Prelude.{filter}
 use Rattle.std.proofs.lemmas.Grind.{common_steps}
-use Rattle.wy_ways.specs.declared.point.Link.{Link}
+use Rattle.wy_static.specs.declared.point.Link.{Link}
 use Rattle.wy_whynot.specs.Numbers.{is_picked}
 use Rattle.wy_whynot.proofs.Bridging.{some_link}
 use Rattle.wy_whynot.proofs.Lists.{filter_next, filter_pass}

@@ -1,0 +1,7 @@
+use Rattle.wy_kernel.specs.Parts.{program_of}
+use Rattle.wy_static.specs.Ways.{entry_ways}
+use Rattle.wy_static.proofs.Behind.{one_more_number}
+use Rattle.wy_static.proofs.rule.put_entries.Goals as goal
+
+pub loop-n-preserved : goal.loop-n-preserved
+loop-n-preserved c = one_more_number (entry_ways (program_of c.args.program.now)) c.args.out.now.items c.loop-n.out.items c.put_entry.new.out.items c.loop-n.n c.loop-n.invariant c.in_ok-put_entry.ensures

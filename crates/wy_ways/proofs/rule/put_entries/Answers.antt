@@ -1,7 +1,0 @@
-use Rattle.wy_kernel.specs.Parts.{program_of}
-use Rattle.wy_ways.specs.Ways.{entry_ways}
-use Rattle.wy_ways.proofs.Behind.{one_more_number}
-use Rattle.wy_ways.proofs.rule.put_entries.Goals as goal
-
-pub loop-n-preserved : goal.loop-n-preserved
-loop-n-preserved c = one_more_number (entry_ways (program_of c.args.program.now)) c.args.out.now.items c.loop-n.out.items c.put_entry.new.out.items c.loop-n.n c.loop-n.invariant c.in_ok-put_entry.ensures

@@ -1,4 +1,0 @@
-pub mod Forms
-pub mod Seen
-pub mod Ways
-pub mod Standings
