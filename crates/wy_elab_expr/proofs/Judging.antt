@@ -7,7 +7,7 @@ use Rattle.wy_constant.specs.declared.rule.TypeError.{TypeError}
 use Rattle.wy_constant.specs.declared.rule.TypeError.TheVariants.{Broken}
 use Rattle.wy_constant.specs.Refusal.{refused}
 use Rattle.wy_constant.specs.Scope.{FixedText}
-use Rattle.wy_members.specs.Choice.{Chosen, Refused}
+use Rattle.wy_overloads.specs.Choice.{Chosen, Refused}
 use Rattle.wy_elab_expr.specs.Members.{of_choice}
 use Rattle.wy_elab_expr.specs.Operators.{Judgement, Settles}
 use Rattle.wy_elab_expr.specs.Views.{GetsTo}

@@ -21,7 +21,7 @@ use Rattle.wy_value.specs.declared.value.Value.TheVariants as value
 use Rattle.wy_value.specs.Operator.{is_shift, is_equality, is_comparison}
 use Rattle.wy_constant.specs.declared.rule.Rule.{Rule}
 use Rattle.wy_constant.specs.declared.rule.Rule.TheVariants.{BadOperand, BadAssign, BadCast}
-use Rattle.wy_members.specs.Choice.{Chosen, Refused}
+use Rattle.wy_overloads.specs.Choice.{Chosen, Refused}
 use Rattle.wy_constant.specs.Constant.{value_of, unary_constant, binary_constant, choice_constant, choice_type, cast_constant, combined, truth, converted_value, constant_fits, simple, simple_in, as_truth}
 use Rattle.wy_elab_expr.specs.Meaning.{Meaning, Known, Formed, type_of, text_type, Gets, give, refuse, ◌>>=◌, brought, formed}
 

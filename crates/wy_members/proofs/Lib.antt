@@ -1,9 +1,10 @@
+pub use Rattle.wy_overloads.proofs.Climbing
+pub use Rattle.wy_overloads.proofs.Lists
+pub use Rattle.wy_overloads.proofs.Related
+pub use Rattle.wy_overloads.proofs.Straight
+pub use Rattle.wy_overloads.proofs.Unique
 pub mod Contained
 pub mod Leasts
-pub mod Climbing
-pub mod Straight
-pub mod Related
-pub mod Lists
 pub mod Numbering
 pub mod Monotone
 pub mod Least
@@ -12,9 +13,6 @@ pub mod Learning
 pub mod InRange
 pub mod ProgramTables
 mod ConstantExamples
-pub mod Members
-pub mod Unique
-pub mod Hierarchies
 pub mod Cycles
 pub mod Duplicates
 pub mod Unknowns

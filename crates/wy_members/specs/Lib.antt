@@ -1,6 +1,5 @@
-pub mod Choice
-pub mod Lineage
-pub mod LineageView
+pub use Rattle.wy_overloads.specs.Choice
+pub use Rattle.wy_overloads.specs.Lineage
 pub mod Laws
 pub mod Declarations
 pub mod Broken

@@ -1,4 +1,4 @@
-use Rattle.wy_members.proofs.Unique.{none_chosen_and_refused}
+use Rattle.wy_overloads.proofs.Unique.{none_chosen_and_refused}
 use Rattle.wy_members.proofs.laws.one_rule_refuses.Goals as goal
 
 pub returns-clause-exclusive : goal.returns-clause-exclusive

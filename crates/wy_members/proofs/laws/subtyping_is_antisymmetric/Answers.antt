@@ -1,4 +1,4 @@
-use Rattle.wy_members.proofs.Unique.{antisymmetric}
+use Rattle.wy_overloads.proofs.Unique.{antisymmetric}
 use Rattle.wy_members.proofs.laws.subtyping_is_antisymmetric.Goals as goal
 
 pub returns : goal.returns
