@@ -1,8 +1,3 @@
-pub use Rattle.wy_overloads.proofs.Climbing
-pub use Rattle.wy_overloads.proofs.Lists
-pub use Rattle.wy_overloads.proofs.Related
-pub use Rattle.wy_overloads.proofs.Straight
-pub use Rattle.wy_overloads.proofs.Unique
 pub mod Contained
 pub mod Leasts
 pub mod Numbering

@@ -1,7 +1,6 @@
--- What makes subtyping, the choice of methods and the constants of fields sound to rely on.
+-- What makes the constants of fields sound to rely on.
 use Rattle.std.specs.Prelude.{◌≡◌, ℕ, List, Option}
 use Rattle.wy_kernel.specs.Table.{ConstantValue}
-pub use Rattle.wy_overloads.specs.Laws.{BelowIsAntisymmetric, OneIsChosen, OneRuleRefuses, NoneIsChosenAndRefused}
 use Rattle.wy_members.specs.Declarations.{CompilationUnit}
 use Rattle.wy_members.specs.Constants.{IsConstantField, HasConstants}
 

@@ -1,5 +1,3 @@
-pub use Rattle.wy_overloads.specs.Choice
-pub use Rattle.wy_overloads.specs.Lineage
 pub mod Laws
 pub mod Declarations
 pub mod Broken

@@ -21,4 +21,3 @@ pub use tree_table::class_table;
 pub use unit_table::class_table_of;
 pub use written_type::has as has_modifier;
 pub use wy_constant::{Rule, TypeError};
-pub use wy_overloads::{choose, subtype};

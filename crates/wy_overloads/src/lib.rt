@@ -4,6 +4,7 @@
 
 pub mod choice;
 pub mod counting;
+pub mod laws;
 pub mod lineage;
 pub mod member;
 pub mod signature;

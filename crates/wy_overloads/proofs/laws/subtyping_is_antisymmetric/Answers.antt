@@ -1,5 +1,5 @@
 use Rattle.wy_overloads.proofs.Unique.{antisymmetric}
-use Rattle.wy_members.proofs.laws.subtyping_is_antisymmetric.Goals as goal
+use Rattle.wy_overloads.proofs.laws.subtyping_is_antisymmetric.Goals as goal
 
 pub returns : goal.returns
 returns c = antisymmetric
