@@ -1,5 +1,5 @@
 -- What an expression in memory isn't, by its layer.
-use Rattle.std.proofs.Common.{◌≡◌, ap, sym, ◌∙◌, refl, ℕ, Bool, true, false, List, Option, Some, None, Ok, Err}
+use Rattle.std.proofs.Common.{◌≡◌, ap, sym, ◌∙◌, refl, ℕ, Bool, true, false, List, Some, None, Ok, Err}
 use Rattle.std.specs.Prelude.{option_and_then, if◌then◌else◌}
 use Rattle.std.specs.declared.alloc.Global.{Global}
 use Rattle.std.specs.declared.boxed.Box.{Box}
@@ -25,7 +25,7 @@ use Rattle.wy_syntax.specs.declared.expression.Expression.TheViews.{roll-Express
 use Rattle.wy_syntax.specs.declared.expression.Expression.TheFolds.{fold-roll-Expression}
 use Rattle.wy_syntax.specs.Syntax as plain
 use Rattle.wy_elab_expr.specs.Operators.{Judgement}
-use Rattle.wy_syntax.specs.View.{Before, expression_of, initial_of, element_of, expression_step, initial_step, element_step}
+use Rattle.wy_syntax.specs.View.{Before, expression_of, expression_step, initial_step, element_step}
 use Rattle.wy_constant.specs.Scope.{Scope, FixedText}
 use Rattle.wy_elab_expr.specs.Elaboration.{class_in, elaborated, elaborated_all, elements_of, initialized, is_place, names_class, stream_in, target}
 use Rattle.wy_elab_expr.specs.Views.{written_name}

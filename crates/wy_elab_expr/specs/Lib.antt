@@ -4,4 +4,4 @@ pub mod Members
 pub mod Elaboration
 pub mod Views
 pub mod Groups
-pub mod Lengths
+pub mod Parts

@@ -1,12 +1,13 @@
 //! `?:` (JLS 15.25; its type for two references as this project has it).
 
-ghost use Rattle.std.specs.Prelude.{◌≡◌, IfOk, if◌then◌else◌, length, option_map, option_and_then, Some};
+ghost use Rattle.std.specs.Prelude.{◌≡◌, IfOk, length, option_map, option_and_then, Some};
 ghost use Rattle.wy_kernel.specs.ClassTable.{table_of};
 ghost use Rattle.wy_kernel.specs.Program.{class_of_type};
 ghost use Rattle.wy_kernel.specs.Table.{constant_value};
 ghost use Rattle.wy_constant.specs.Constant.{choice_constant};
-ghost use Rattle.wy_elab_expr.specs.Meaning.{refuse, type_of};
-ghost use Rattle.wy_elab_expr.specs.Operators.{choice_formed, choice_of, choice_result, class_of, common_type, constant_of, is_boolean, is_class_type, nearest_above, primitive_in, truth_known, value_known};
+ghost use Rattle.wy_elab_expr.specs.Meaning.{type_of};
+ghost use Rattle.wy_elab_expr.specs.Operators.{choice_formed, choice_of, choice_result, class_of, common_type, constant_of, is_class_type, nearest_above, primitive_in, truth_known, value_known};
+ghost use Rattle.wy_elab_expr.specs.Parts.{choice_unknown};
 ghost use Rattle.wy_elab_expr.specs.Views.{GetsTo, Judged, meaning_of};
 
 use crate::allowed::{is_below, is_interface};
@@ -191,7 +192,7 @@ fn choice_unknown(
     b: Meaning,
     token: u32,
 ) -> Result<Meaning, TypeError>
-    ensures { Judged (table_of table.now) (λ j. GetsTo meaning_of result texts.new ((if is_boolean (type_of (meaning_of test)) then choice_formed (choice_result j (table_of table.now) (meaning_of a) (primitive_in (type_of (meaning_of a))) (meaning_of b) (primitive_in (type_of (meaning_of b)))) (meaning_of test) (meaning_of a) (meaning_of b) token else refuse Rule.BadOperand token) texts.old)) }
+    ensures { Judged (table_of table.now) (λ j. GetsTo meaning_of result texts.new (choice_unknown j (table_of table.now) (meaning_of test) (meaning_of a) (meaning_of b) token texts.old)) }
 {
     if is_boolean(type_of(&test)) {
         let ty = choice_result(table, &a, &b);

@@ -6,9 +6,9 @@ ghost use Rattle.wy_kernel.specs.Table.{constant_value};
 ghost use Rattle.wy_kernel.specs.Form as kernel;
 ghost use Rattle.wy_kernel.specs.View.{field_of as field_seen};
 ghost use Rattle.wy_constant.specs.Fields.{field_of};
-ghost use Rattle.wy_elab_expr.specs.Lengths.{length_read};
 ghost use Rattle.wy_elab_expr.specs.Meaning.{type_of};
 ghost use Rattle.wy_elab_expr.specs.Members.{field_of_class, field_read, field_spot, field_through, is_length, is_library_name, is_outside, member_of_class, named, named_spot, no_field, object_field, own_field, own_field_named, qualified_name, qualified_spot, read_as, spot, static_field};
+ghost use Rattle.wy_elab_expr.specs.Parts.{length_read};
 ghost use Rattle.wy_elab_expr.specs.Views.{GetsTo, GivesAlways, inner_of, meaning_of, spot_of};
 
 use crate::bring::{formed, formed_in, primitive, type_of};

@@ -159,9 +159,6 @@ pub fn print_operand(
     }
 }
 
-// Drops a value of which only the texts count that it holds.
-fn let_go<T: Drop>(_value: T) {}
-
 // A call of `print` or `println` has no value.
 fn print_call(
     alloc: Global,
@@ -172,7 +169,7 @@ fn print_call(
 ) -> Result<Meaning, TypeError>
     ensures { GetsTo meaning_of result texts.new (print_call name.now (map meaning_of args.items) token texts.old) }
 {
-    let_go(print_operand(alloc, texts, name, args, token)?);
+    drop(print_operand(alloc, texts, name, args, token)?);
     Ok(of_form(alloc, build::constant(Const::Null), Ty::Void)?)
 }
 
