@@ -20,7 +20,7 @@ use Rattle.wy_refusals.proofs.Steps.{was_expressed}
 use Rattle.wy_refusals.proofs.BodyParts.{after_give, after_expressed}
 use Rattle.wy_kernel.specs.Program.{Method}
 use Rattle.wy_constant.specs.declared.rule.Rule.{Rule}
-use Rattle.wy_members.specs.Choice.{Chosen, Refused as Declined, IsMethod}
+use Rattle.wy_overloads.specs.Choice.{Chosen, Refused as Declined, IsMethod}
 use Rattle.wy_elab_expr.specs.Operators.{Settles}
 use Rattle.wy_statement.specs.Places.{calls_superclass}
 use Rattle.wy_statement.specs.Parts.{Outcome, NoValue, ValueOf, constructed_by, constructor_called, constructor_call, none_for_object, object_called}

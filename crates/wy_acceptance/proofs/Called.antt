@@ -11,7 +11,7 @@ use Rattle.wy_kernel.specs.Table.{Table}
 use Rattle.wy_syntax.specs.Syntax.{Expression, Row}
 use Rattle.wy_constant.specs.declared.rule.Rule.{Rule}
 use Rattle.wy_constant.specs.Scope.{Scope}
-use Rattle.wy_members.specs.Choice.{Chosen, Refused as Declined, IsMethod}
+use Rattle.wy_overloads.specs.Choice.{Chosen, Refused as Declined, IsMethod}
 use Rattle.wy_elab_expr.specs.Meaning.{Meaning, type_of, text_type}
 use Rattle.wy_elab_expr.specs.Operators.{Judgement, Settles}
 use Rattle.wy_elab_expr.specs.Members.{some_void, types_of, Through, Nothing, Object, Super, broken, method_for, constructed, is_abstract, called, created}

@@ -11,8 +11,8 @@ use Rattle.wy_kernel.specs.Subtyping.{class_type}
 use Rattle.wy_kernel.specs.Table.{Table}
 use Rattle.wy_constant.specs.Scope.{Scope}
 use Rattle.wy_constant.specs.Fields.{class_named}
-use Rattle.wy_members.specs.Choice.{EachBelow}
-use Rattle.wy_members.specs.Choice as choice
+use Rattle.wy_overloads.specs.Choice.{EachBelow}
+use Rattle.wy_overloads.specs.Choice as choice
 use Rattle.wy_elab_expr.specs.Meaning.{Meaning, Formed, type_of, text_type, give, formed}
 use Rattle.wy_elab_expr.specs.Operators.{Judgement, Settles, is_void, is_text_type}
 use Rattle.wy_elab_expr.specs.Members.{some_void, types_of, Object, called, LibraryMethod, text_methods, are_below, applicable, has_name, library_form, library_call}

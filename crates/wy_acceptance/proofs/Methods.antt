@@ -15,7 +15,7 @@ use Rattle.wy_kernel.specs.Table.{Table}
 use Rattle.wy_constant.specs.declared.rule.Rule.{Rule}
 use Rattle.wy_constant.specs.declared.rule.Rule.TheVariants as rule
 use Rattle.wy_constant.specs.Scope.{Scope, FixedText}
-use Rattle.wy_members.specs.Choice.{Chosen, Refused, IsMethod}
+use Rattle.wy_overloads.specs.Choice.{Chosen, Refused, IsMethod}
 use Rattle.wy_elab_expr.specs.Meaning.{Meaning, type_of, Gets, ◌>>=◌}
 use Rattle.wy_elab_expr.specs.Operators.{Judgement, Settles, is_void, class_of, is_interface}
 use Rattle.wy_elab_expr.specs.Members.{is_outside, some_void, types_of, of_choice, method_for, Through, Nothing, Object, Super, is_static, instance_if, broken_by, broken, called_unless, called_at, called, constructed, is_abstract, new_plain, created}

@@ -1,9 +1,7 @@
 -- The forms of some expressions, computed.
-use Rattle.std.proofs.Common.{◌≡◌, ℕ, zero, suc, pos, Bool, true, false, List, [], ◌∷◌, refl, Option, Some, None, Result, Ok, Err}
+use Rattle.std.proofs.Common.{◌≡◌, ℕ, zero, Bool, true, false, List, [], ◌∷◌, refl, Some, None, Ok, Err}
 use Rattle.std.specs.Prelude.{codes}
-use Rattle.wy_kernel.specs.declared.operator.Primitive.{Primitive}
 use Rattle.wy_kernel.specs.declared.operator.Primitive.TheVariants as prim
-use Rattle.wy_kernel.specs.declared.operator.UnOp.TheVariants.{Not}
 use Rattle.wy_kernel.specs.declared.operator.BinOp.TheVariants.{Add}
 use Rattle.wy_kernel.specs.declared.types.Base.TheVariants.{Primitive as Basic}
 use Rattle.wy_kernel.specs.declared.types.Ty.{Ty}
@@ -12,7 +10,7 @@ use Rattle.wy_kernel.specs.declared.form.CondForm.TheVariants as cond
 use Rattle.wy_kernel.specs.Form as kernel
 use Rattle.wy_kernel.specs.Program.{same_primitive, primitive_code}
 use Rattle.wy_kernel.specs.Table.{Table}
-use Rattle.wy_kernel.specs.Subtyping.{primitive_type, class_type}
+use Rattle.wy_kernel.specs.Subtyping.{primitive_type}
 use Rattle.wy_constant.specs.Widening.{widens_to}
 use Rattle.wy_constant.specs.declared.rule.Rule.TheVariants.{NoMethod, UnknownName, BadOperand, BadAssign, NotInStatic}
 use Rattle.wy_tree.specs.Seen as token
@@ -20,9 +18,9 @@ use Rattle.wy_syntax.specs.Syntax as source
 use Rattle.wy_constant.specs.Refusal.{refused}
 use Rattle.wy_constant.specs.Scope.{Scope, body_of, with_variable}
 use Rattle.wy_constant.specs.Fields.{field_within}
-use Rattle.wy_constant.specs.Constant.{choice_type, choice_constant, binary_constant, unary_constant, name_constant}
-use Rattle.wy_elab_expr.specs.Meaning.{Known, Formed, converted_form, brought, text_type}
-use Rattle.wy_elab_expr.specs.Operators.{Judgement, is_assignable, unary_of, operand_types, binary_of, choice_of, lazy_of}
+use Rattle.wy_constant.specs.Constant.{choice_type, choice_constant, name_constant}
+use Rattle.wy_elab_expr.specs.Meaning.{Formed, converted_form, brought, text_type}
+use Rattle.wy_elab_expr.specs.Operators.{Judgement, is_assignable, operand_types, binary_of, choice_of}
 use Rattle.wy_elab_expr.specs.Members.{named_spot, named}
 use Rattle.wy_elab_expr.specs.Elaboration.{elaborated, target, assigned, assigned_value, literal_meaning, stepped}
 

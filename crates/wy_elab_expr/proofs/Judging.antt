@@ -1,13 +1,12 @@
 -- What code finds by the rules, and what a judgement that is settled by them says.
-use Rattle.std.proofs.Common.{◌≡◌, ◌∙◌, ap, sym, ℕ, subst, refl, List, Result, Ok, Err}
+use Rattle.std.proofs.Common.{◌≡◌, sym, ℕ, subst, refl, List, Result, Ok, Err}
 use Rattle.wy_kernel.specs.declared.types.Ty.{Ty}
 use Rattle.wy_kernel.specs.Table.{Table}
 use Rattle.wy_constant.specs.declared.rule.Rule.{Rule}
 use Rattle.wy_constant.specs.declared.rule.TypeError.{TypeError}
 use Rattle.wy_constant.specs.declared.rule.TypeError.TheVariants.{Broken}
-use Rattle.wy_constant.specs.Refusal.{refused}
 use Rattle.wy_constant.specs.Scope.{FixedText}
-use Rattle.wy_members.specs.Choice.{Chosen, Refused}
+use Rattle.wy_overloads.specs.Choice.{Chosen, Refused}
 use Rattle.wy_elab_expr.specs.Members.{of_choice}
 use Rattle.wy_elab_expr.specs.Operators.{Judgement, Settles}
 use Rattle.wy_elab_expr.specs.Views.{GetsTo}

@@ -1,5 +1,5 @@
 -- A text among the texts: its place, and the texts with it.
-use Rattle.std.proofs.Common.{◌≡◌, ◌∙◌, ap, sym, ℕ, zero, suc, ◌+◌, ◌<◌, ◌≤◌, Bool, true, false, min, List, [], ◌∷◌, ◌++◌, length, map, drop, get_or, set, cond, not, refl, eq-eqb, ◌&&◌, arith, add-one, drop-cons}
+use Rattle.std.proofs.Common.{◌≡◌, ◌∙◌, ap, sym, ℕ, suc, ◌+◌, ◌<◌, ◌≤◌, Bool, true, false, min, List, [], ◌∷◌, ◌++◌, length, map, drop, get_or, set, cond, not, refl, eq-eqb, ◌&&◌, arith, add-one, drop-cons}
 use Rattle.std.proofs.Math.ListN.{drop_of_length-le}
 use Rattle.std.proofs.lemmas.List.{map-set, map-append, length-map, get_or-map}
 use Rattle.std.specs.Prelude.{bytes_eq}

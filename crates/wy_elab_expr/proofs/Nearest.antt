@@ -1,5 +1,5 @@
 -- The search for a common superclass, step by step.
-use Rattle.std.proofs.Common.{◌≡◌, ℕ, zero, suc, ◌-◌, ◌<◌, ◌≤◌, Bool, true, false, sym, ap, ◌∙◌, refl, cond, Option, Some, None, arith}
+use Rattle.std.proofs.Common.{◌≡◌, ℕ, zero, suc, ◌-◌, ◌<◌, ◌≤◌, true, false, sym, ap, ◌∙◌, refl, cond, Option, Some, None, arith}
 use Rattle.std.specs.Prelude.{option_and_then}
 use Rattle.wy_kernel.specs.declared.types.Ty.{Ty}
 use Rattle.wy_kernel.specs.Subtyping.{class_type, object_type}

@@ -1,5 +1,5 @@
 -- What is printed, by how many arguments there are.
-use Rattle.std.proofs.Common.{◌≡◌, ◌∙◌, ap, ℕ, zero, suc, ◌<◌, ◌≤◌, List, [], ◌∷◌, ◌++◌, length, map, refl, arith, if◌then◌else◌}
+use Rattle.std.proofs.Common.{◌≡◌, ℕ, ◌<◌, List, [], ◌∷◌, length, map, refl, arith, if◌then◌else◌}
 use Rattle.std.proofs.lemmas.List.{length-map}
 use Rattle.wy_constant.specs.declared.rule.Rule.TheVariants.{NoMethod, BadOperand, NotOffered}
 use Rattle.wy_constant.specs.Scope.{FixedText}

@@ -15,7 +15,7 @@ use Rattle.wy_syntax.specs.View.{element_of as element_seen, elements_of as elem
 use Rattle.wy_syntax.proofs.ExpressionViews.{view_element_at}
 use Rattle.wy_constant.specs.declared.rule.TypeError.{TypeError}
 use Rattle.wy_constant.specs.declared.rule.TypeError.TheVariants as error
-use Rattle.wy_constant.specs.Refusal.{Refusal, Fails, refused}
+use Rattle.wy_constant.specs.Refusal.{Refusal, Fails}
 use Rattle.wy_constant.specs.Scope.{Scope, FixedText}
 use Rattle.wy_elab_expr.specs.declared.meaning.Meaning as memory
 use Rattle.wy_elab_expr.specs.Meaning.{Meaning, onward}

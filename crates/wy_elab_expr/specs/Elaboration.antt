@@ -1,29 +1,28 @@
 -- From source expressions to kernel forms with their types: one rule a form, operands from left to right before the form's own rules (JLS 15.7).
-use Rattle.std.specs.Prelude.{ℕ, zero, suc, ◌+◌, ◌-◌, Bool, true, false, not, ◌&&◌, ◌||◌, ◌==◌, List, [], ◌∷◌, length, Option, Some, None, is_some, option_map, option_and_then, unwrap_or, codes, bytes_eq, slice_get, if◌then◌else◌}
+use Rattle.std.specs.Prelude.{ℕ, zero, suc, ◌+◌, Bool, true, false, not, ◌&&◌, ◌||◌, List, [], ◌∷◌, length, Option, Some, None, is_some, option_map, option_and_then, unwrap_or, codes, bytes_eq, slice_get, if◌then◌else◌}
 use Rattle.wy_kernel.specs.declared.operator.Primitive.{Primitive}
 use Rattle.wy_kernel.specs.declared.operator.Primitive.TheVariants as prim
 use Rattle.wy_kernel.specs.declared.operator.BinOp.{BinOp}
 use Rattle.wy_kernel.specs.declared.operator.BinOp.TheVariants.{Add, Sub}
 use Rattle.wy_kernel.specs.declared.types.Base.TheVariants.{Primitive as Basic, Class as Named}
-use Rattle.wy_kernel.specs.declared.types.Base as kernel_base
 use Rattle.wy_kernel.specs.declared.types.Ty.{Ty}
 use Rattle.wy_kernel.specs.declared.types.Ty.TheVariants.{Void, Null, Of}
 use Rattle.wy_kernel.specs.declared.form.CondForm.TheVariants as cond
 use Rattle.wy_kernel.specs.declared.form.LibOp.TheVariants as lib
 use Rattle.wy_kernel.specs.Form as kernel
-use Rattle.wy_kernel.specs.Program.{object_class, string_class}
-use Rattle.wy_kernel.specs.Subtyping.{primitive_type, class_type, object_type}
+use Rattle.wy_kernel.specs.Program.{object_class}
+use Rattle.wy_kernel.specs.Subtyping.{class_type}
 use Rattle.wy_kernel.specs.Table.{Table}
-use Rattle.wy_tree.specs.Seen.{Tok, Key}
+use Rattle.wy_tree.specs.Seen.{Tok}
 use Rattle.wy_syntax.specs.Syntax.{Expression, WrittenType, Basic as written_basic, Class as written_class, Row, none, more, Initial, Value, Listed, Elements, no_more, element}
 use Rattle.wy_syntax.specs.Syntax as source
 use Rattle.wy_constant.specs.declared.rule.Rule.TheVariants.{UnknownName, NoMethod, BadOperand, BadAssign, NotInStatic, NotOffered}
 use Rattle.wy_constant.specs.Scope.{Scope}
 use Rattle.wy_constant.specs.Fields.{class_named, field_of, superclass}
 use Rattle.wy_constant.specs.Constant.{literal, can_name_class}
-use Rattle.wy_elab_expr.specs.Meaning.{Meaning, Known, Formed, type_of, text_type, Gets, give, refuse, ◌>>=◌, brought, formed}
-use Rattle.wy_elab_expr.specs.Operators.{Judgement, is_void, is_nullable, is_text_type, number_type, both_numbers, primitive_in, class_of, is_assignable, unary_of, binary_of, operand_types, lazy_of, choice_of, cast_of, instance_of}
-use Rattle.wy_elab_expr.specs.Members.{Spot, spot, this_form, named_spot, named, qualified_spot, qualified_name, field_spot, field_read, object_field, no_field, is_library_name, Through, Nothing, Object, OfClass, Super, called, LibraryMethod, text_methods, value_of_methods, integer_methods, math_methods, has_name, library_call, created, some_void, int_type}
+use Rattle.wy_elab_expr.specs.Meaning.{Meaning, Known, Formed, type_of, Gets, give, refuse, ◌>>=◌, brought, formed}
+use Rattle.wy_elab_expr.specs.Operators.{Judgement, is_void, is_text_type, number_type, primitive_in, is_assignable, unary_of, binary_of, operand_types, lazy_of, choice_of, cast_of, instance_of}
+use Rattle.wy_elab_expr.specs.Members.{Spot, spot, this_form, named_spot, named, qualified_spot, qualified_name, field_spot, field_read, object_field, no_field, is_library_name, Nothing, Object, OfClass, Super, called, LibraryMethod, text_methods, value_of_methods, integer_methods, math_methods, has_name, library_call, created, some_void, int_type}
 
 -- ---- written types
 

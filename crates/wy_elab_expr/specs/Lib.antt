@@ -3,3 +3,5 @@ pub mod Operators
 pub mod Members
 pub mod Elaboration
 pub mod Views
+pub mod Groups
+pub mod Parts

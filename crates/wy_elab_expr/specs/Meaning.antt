@@ -1,10 +1,10 @@
 -- What an expression is found to be, and the forms that parents make of it (JLS 5.2, 5.6, 15.28).
-use Rattle.std.specs.Prelude.{ℕ, zero, Bool, true, false, not, ◌&&◌, ◌||◌, min, List, [], ◌∷◌, Option, Some, None, is_some, option_map, Result, Ok, Err, bytes_eq, if◌then◌else◌}
+use Rattle.std.specs.Prelude.{ℕ, zero, Bool, min, List, [], ◌∷◌, Option, Some, None, Result, Ok, Err, bytes_eq, if◌then◌else◌}
 use Rattle.std.specs.List.{position_or_len}
 use Rattle.wy_kernel.specs.declared.operator.Primitive.{Primitive}
-use Rattle.wy_kernel.specs.declared.types.Base.TheVariants.{Primitive as Basic, Class as Named}
+use Rattle.wy_kernel.specs.declared.types.Base.TheVariants.{Primitive as Basic}
 use Rattle.wy_kernel.specs.declared.types.Ty.{Ty}
-use Rattle.wy_kernel.specs.declared.types.Ty.TheVariants.{Void, Null, Of}
+use Rattle.wy_kernel.specs.declared.types.Ty.TheVariants.{Null, Of}
 use Rattle.wy_kernel.specs.Form.{Constant, Expression, Const, Str, Conv}
 use Rattle.wy_kernel.specs.Program.{string_class, same_primitive}
 use Rattle.wy_kernel.specs.Subtyping.{primitive_type, class_type}

@@ -1,9 +1,9 @@
 -- What names of fields, calls and `new` denote, and their forms (JLS 6.5, 15.8 to 15.12).
-use Rattle.std.specs.Prelude.{ℕ, zero, suc, Bool, true, false, not, ◌&&◌, ◌||◌, ◌==◌, nat_lt, List, [], ◌∷◌, map, Option, Some, None, option_and_then, Result, Ok, Err, codes, bytes_eq, slice_get, if◌then◌else◌}
+use Rattle.std.specs.Prelude.{ℕ, zero, suc, Bool, true, false, not, ◌&&◌, ◌||◌, ◌==◌, nat_lt, List, [], ◌∷◌, map, Option, Some, None, Result, Ok, Err, codes, bytes_eq, slice_get, if◌then◌else◌}
 use Rattle.wy_kernel.specs.declared.operator.Primitive.TheVariants as prim
-use Rattle.wy_kernel.specs.declared.types.Base.TheVariants.{Primitive as Basic, Class as Named}
+use Rattle.wy_kernel.specs.declared.types.Base.TheVariants.{Class as Named}
 use Rattle.wy_kernel.specs.declared.types.Ty.{Ty}
-use Rattle.wy_kernel.specs.declared.types.Ty.TheVariants.{Void, Null, Of}
+use Rattle.wy_kernel.specs.declared.types.Ty.TheVariants.{Void, Of}
 use Rattle.wy_kernel.specs.declared.types.MethodForm.{MethodForm}
 use Rattle.wy_kernel.specs.declared.types.MethodForm.TheVariants as kind
 use Rattle.wy_kernel.specs.declared.form.CallForm.{CallForm}
@@ -12,7 +12,7 @@ use Rattle.wy_kernel.specs.declared.form.LibOp.{LibOp}
 use Rattle.wy_kernel.specs.declared.form.LibOp.TheVariants as lib
 use Rattle.wy_kernel.specs.Form.{Expression, Read, New, Call, Lib, Place, Local, Static, Part, absent, the, Row, none, more}
 use Rattle.wy_kernel.specs.Form as kernel
-use Rattle.wy_kernel.specs.Program.{Class, Method, Field, object_class, string_class, first_source_class}
+use Rattle.wy_kernel.specs.Program.{Class, Method, Field, object_class, first_source_class}
 use Rattle.wy_kernel.specs.Subtyping.{primitive_type, class_type, object_type}
 use Rattle.wy_kernel.specs.Table.{Table, ConstantValue}
 use Rattle.wy_constant.specs.declared.rule.Rule.{Rule}

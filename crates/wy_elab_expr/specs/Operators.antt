@@ -1,5 +1,5 @@
 -- The types that operators take and give, and the forms of operations (JLS 15.15, 15.17 to 15.25).
-use Rattle.std.specs.Prelude.{◌≡◌, ◌↔◌, ℕ, zero, suc, ℤ, Bool, true, false, not, ◌&&◌, ◌||◌, List, [], ◌∷◌, Option, Some, None, option_map, option_and_then, Result, Ok, Err, IsTrue, slice_get, length, if◌then◌else◌}
+use Rattle.std.specs.Prelude.{◌≡◌, ◌↔◌, ℕ, zero, suc, Bool, true, false, not, ◌&&◌, ◌||◌, List, Option, Some, None, option_map, option_and_then, Result, Ok, Err, IsTrue, slice_get, length, if◌then◌else◌}
 use Rattle.wy_kernel.specs.declared.operator.Primitive.{Primitive}
 use Rattle.wy_kernel.specs.declared.operator.Primitive.TheVariants as prim
 use Rattle.wy_kernel.specs.declared.operator.UnOp.{UnOp}
@@ -12,17 +12,16 @@ use Rattle.wy_kernel.specs.declared.types.Ty.{Ty}
 use Rattle.wy_kernel.specs.declared.types.Ty.TheVariants.{Void, Null, Of}
 use Rattle.wy_kernel.specs.declared.form.CondForm.{CondForm}
 use Rattle.wy_kernel.specs.declared.form.CondForm.TheVariants as cond
-use Rattle.wy_kernel.specs.Form.{Expression, Un, Bin, Cat, Cond, Cast, InstanceOf, Part, absent, the}
-use Rattle.wy_kernel.specs.Program.{Class, object_class, string_class, class_of_type}
+use Rattle.wy_kernel.specs.Form.{Expression, Un, Bin, Cat, Cond, Cast, InstanceOf, absent, the}
+use Rattle.wy_kernel.specs.Program.{Class, class_of_type}
 use Rattle.wy_kernel.specs.Subtyping.{Below, primitive_type, class_type, object_type}
 use Rattle.wy_kernel.specs.Table.{Table, ConstantValue, Simple, Text}
 use Rattle.wy_value.specs.declared.value.Value.{Value}
-use Rattle.wy_value.specs.declared.value.Value.TheVariants as value
 use Rattle.wy_value.specs.Operator.{is_shift, is_equality, is_comparison}
 use Rattle.wy_constant.specs.declared.rule.Rule.{Rule}
-use Rattle.wy_constant.specs.declared.rule.Rule.TheVariants.{BadOperand, BadAssign, BadCast}
-use Rattle.wy_members.specs.Choice.{Chosen, Refused}
-use Rattle.wy_constant.specs.Constant.{value_of, unary_constant, binary_constant, choice_constant, choice_type, cast_constant, combined, truth, converted_value, constant_fits, simple, simple_in, as_truth}
+use Rattle.wy_constant.specs.declared.rule.Rule.TheVariants.{BadOperand, BadCast}
+use Rattle.wy_overloads.specs.Choice.{Chosen, Refused}
+use Rattle.wy_constant.specs.Constant.{value_of, unary_constant, binary_constant, choice_constant, choice_type, combined, truth, converted_value, constant_fits, simple, simple_in}
 use Rattle.wy_elab_expr.specs.Meaning.{Meaning, Known, Formed, type_of, text_type, Gets, give, refuse, ◌>>=◌, brought, formed}
 
 -- ---- what a table settles: which type is below which, and the method that a call means

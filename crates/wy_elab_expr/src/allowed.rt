@@ -9,7 +9,7 @@ use crate::kinds::{is_nullable, primitive_in};
 use wy_kernel::operator::Primitive;
 use wy_kernel::table::ClassTable;
 use wy_kernel::types::{Base, Ty};
-use wy_members::subtype;
+use wy_overloads::subtype;
 
 /// Whether a type is below another.
 pub fn is_below(table: &ClassTable, a: Ty, b: Ty) -> bool

@@ -16,7 +16,7 @@ use wy_constant::{Rule, TypeError};
 use wy_kernel::form::Expr;
 use wy_kernel::table::ClassTable;
 use wy_kernel::types::Ty;
-use wy_members::choose;
+use wy_overloads::choose;
 
 /// Whether an argument has no value.
 pub fn some_void(args: &[Meaning]) -> bool

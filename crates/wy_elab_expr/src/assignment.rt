@@ -1,12 +1,12 @@
 //! Assignment, `op=`, `++` and `--`, and the variables that they are about (JLS 15.14, 15.15, 15.26).
 
-ghost use Rattle.std.specs.Prelude.{◌≡◌, IfOk, false, option_map, option_and_then, slice_get};
+ghost use Rattle.std.specs.Prelude.{◌≡◌, IfOk, Some, false, option_map, option_and_then, slice_get};
 ghost use Rattle.wy_kernel.specs.ClassTable.{table_of};
 ghost use Rattle.wy_kernel.specs.View.{expression};
 ghost use Rattle.wy_constant.specs.Fields.{field_of};
 ghost use Rattle.wy_elab_expr.specs.Meaning.{type_of};
 ghost use Rattle.wy_elab_expr.specs.Elaboration.{above, adds_text, assigned, assigned_value, class_target, element_at, element_of, element_spot, field_target, is_an_array, is_index, is_limit, is_object_type, left_primitive, read, stepped, stepped_in, super_field_named, super_spot, updated, updated_by, updated_in};
-ghost use Rattle.wy_elab_expr.specs.Views.{GetsTo, GivesAlways, Judged, class_name_of, meaning_of, size_of, spot_of};
+ghost use Rattle.wy_elab_expr.specs.Views.{GetsTo, GivesAlways, Judged, class_name_of, inner_of, meaning_of, size_of, spot_of};
 
 use crate::assignable::is_assignable;
 use crate::bring::{brought, brought_in, formed_in, primitive, type_of};
@@ -91,6 +91,28 @@ pub fn element_of(ty: Ty) -> Option<Ty>
     }
 }
 
+fn element_at(
+    alloc: Global,
+    texts: &mut Texts,
+    ty: Ty,
+    array: Meaning,
+    index: Meaning,
+    token: u32,
+) -> Result<Spot, TypeError>
+    ensures { GetsTo spot_of result texts.new (element_at (Some ty) (meaning_of array) (meaning_of index) token texts.old) }
+{
+    if !is_index(type_of(&index)) {
+        return Err(refused(Rule::BadOperand, token));
+    }
+    let a = formed_in(alloc, texts, array)?;
+    let i = brought_in(alloc, texts, primitive(Primitive::Int), index)?;
+    Ok(Spot {
+        place: build::element(a, i, token),
+        ty,
+        is_fixed: false,
+    })
+}
+
 /// The place of an element.
 #[tactic(auto, unfolding(crate::specs::Elaboration::element_spot))]
 pub fn element_spot(
@@ -104,19 +126,7 @@ pub fn element_spot(
 {
     match element_of(type_of(&array)) {
         None => Err(refused(Rule::BadOperand, token)),
-        Some(ty) => {
-            if is_index(type_of(&index)) {
-                let a = formed_in(alloc, texts, array)?;
-                let i = brought_in(alloc, texts, primitive(Primitive::Int), index)?;
-                Ok(Spot {
-                    place: build::element(a, i, token),
-                    ty,
-                    is_fixed: false,
-                })
-            } else {
-                Err(refused(Rule::BadOperand, token))
-            }
-        }
+        Some(ty) => element_at(alloc, texts, ty, array, index, token),
     }
 }
 
@@ -131,8 +141,29 @@ pub fn size_of(alloc: Global, texts: &mut Texts, m: Meaning, token: u32) -> Resu
     }
 }
 
-/// A value for a variable of a type.
+// A value for a variable of a type, to stand in another form.
 #[tactic(auto, unfolding(crate::specs::Elaboration::assigned_value))]
+fn assigned_in(
+    alloc: Global,
+    table: &ClassTable,
+    texts: &mut Texts,
+    ty: Ty,
+    m: Meaning,
+    token: u32,
+) -> Result<Box<Expr>, TypeError>
+    ensures { Judged (table_of table.now) (λ j. GetsTo inner_of result texts.new (assigned_value j ty (meaning_of m) token texts.old)) }
+{
+    if is_void(type_of(&m)) {
+        return Err(refused(Rule::BadOperand, token));
+    }
+    if is_assignable(table, ty, &m) {
+        brought_in(alloc, texts, ty, m)
+    } else {
+        Err(refused(Rule::BadAssign, token))
+    }
+}
+
+/// A value for a variable of a type.
 pub fn assigned_value(
     alloc: Global,
     table: &ClassTable,
@@ -143,14 +174,27 @@ pub fn assigned_value(
 ) -> Result<Expr, TypeError>
     ensures { Judged (table_of table.now) (λ j. GetsTo expression result texts.new (assigned_value j ty (meaning_of m) token texts.old)) }
 {
-    if is_void(type_of(&m)) {
-        return Err(refused(Rule::BadOperand, token));
+    let form = assigned_in(alloc, table, texts, ty, m, token)?;
+    Ok(Box::into_inner(form))
+}
+
+#[tactic(auto, unfolding(crate::specs::Elaboration::assigned))]
+fn assigned_to(
+    alloc: Global,
+    table: &ClassTable,
+    texts: &mut Texts,
+    p: Spot,
+    m: Meaning,
+    token: u32,
+) -> Result<Meaning, TypeError>
+    ensures { Judged (table_of table.now) (λ j. GetsTo meaning_of result texts.new (assigned j (Some (spot_of p)) (meaning_of m) token texts.old)) }
+{
+    if p.is_fixed && !is_void(type_of(&m)) {
+        return Err(refused(Rule::BadAssign, token));
     }
-    if is_assignable(table, ty, &m) {
-        brought(alloc, texts, ty, m)
-    } else {
-        Err(refused(Rule::BadAssign, token))
-    }
+    let ty = p.ty;
+    let value = assigned_in(alloc, table, texts, ty, m, token)?;
+    Ok(of_form(alloc, build::set(p.place, value, token), ty)?)
 }
 
 /// `p = m`
@@ -165,24 +209,15 @@ pub fn assigned(
 ) -> Result<Meaning, TypeError>
     ensures { Judged (table_of table.now) (λ j. GetsTo meaning_of result texts.new (assigned j (option_map spot_of p) (meaning_of m) token texts.old)) }
 {
-    let is_nothing = is_void(type_of(&m));
     match p {
         None => {
-            if is_nothing {
+            if is_void(type_of(&m)) {
                 Err(refused(Rule::BadOperand, token))
             } else {
                 Err(refused(Rule::BadAssign, token))
             }
         }
-        Some(p) => {
-            if p.is_fixed && !is_nothing {
-                return Err(refused(Rule::BadAssign, token));
-            }
-            let ty = p.ty;
-            let value = assigned_value(alloc, table, texts, ty, m, token)?;
-            let value = Box::new(alloc, value)?;
-            Ok(of_form(alloc, build::set(p.place, value, token), ty)?)
-        }
+        Some(p) => assigned_to(alloc, table, texts, p, m, token),
     }
 }
 

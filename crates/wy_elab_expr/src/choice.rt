@@ -7,6 +7,7 @@ ghost use Rattle.wy_kernel.specs.Table.{constant_value};
 ghost use Rattle.wy_constant.specs.Constant.{choice_constant};
 ghost use Rattle.wy_elab_expr.specs.Meaning.{type_of};
 ghost use Rattle.wy_elab_expr.specs.Operators.{choice_formed, choice_of, choice_result, class_of, common_type, constant_of, is_class_type, nearest_above, primitive_in, truth_known, value_known};
+ghost use Rattle.wy_elab_expr.specs.Parts.{choice_unknown};
 ghost use Rattle.wy_elab_expr.specs.Views.{GetsTo, Judged, meaning_of};
 
 use crate::allowed::{is_below, is_interface};
@@ -150,13 +151,25 @@ fn choice_formed(
 {
     match ty {
         None => Err(refused(Rule::BadOperand, token)),
-        Some(ty) => {
-            let z = brought_in(alloc, texts, primitive(Primitive::Bool), test)?;
-            let x = brought_in(alloc, texts, ty, a)?;
-            let y = brought_in(alloc, texts, ty, b)?;
-            Ok(of_form(alloc, build::choice(z, x, y, token), ty)?)
-        }
+        Some(ty) => choice_of_type(alloc, texts, ty, test, a, b, token),
     }
+}
+
+fn choice_of_type(
+    alloc: Global,
+    texts: &mut Texts,
+    ty: Ty,
+    test: Meaning,
+    a: Meaning,
+    b: Meaning,
+    token: u32,
+) -> Result<Meaning, TypeError>
+    ensures { GetsTo meaning_of result texts.new (choice_formed (Some ty) (meaning_of test) (meaning_of a) (meaning_of b) token texts.old) }
+{
+    let z = brought_in(alloc, texts, primitive(Primitive::Bool), test)?;
+    let x = brought_in(alloc, texts, ty, a)?;
+    let y = brought_in(alloc, texts, ty, b)?;
+    Ok(of_form(alloc, build::choice(z, x, y, token), ty)?)
 }
 
 // The value where all three are constants.
@@ -167,6 +180,26 @@ fn choice_known(test: &Meaning, a: &Meaning, b: &Meaning) -> Result<Option<Const
     let x = constant_of(a)?;
     let y = constant_of(b)?;
     Ok(choice_value(&t, x, y))
+}
+
+// The form, where they are not all constants.
+fn choice_unknown(
+    alloc: Global,
+    table: &ClassTable,
+    texts: &mut Texts,
+    test: Meaning,
+    a: Meaning,
+    b: Meaning,
+    token: u32,
+) -> Result<Meaning, TypeError>
+    ensures { Judged (table_of table.now) (λ j. GetsTo meaning_of result texts.new (choice_unknown j (table_of table.now) (meaning_of test) (meaning_of a) (meaning_of b) token texts.old)) }
+{
+    if is_boolean(type_of(&test)) {
+        let ty = choice_result(table, &a, &b);
+        choice_formed(alloc, texts, ty, test, a, b, token)
+    } else {
+        Err(refused(Rule::BadOperand, token))
+    }
 }
 
 /// `test ? a : b`
@@ -187,13 +220,6 @@ pub fn choice_of(
             value,
             token: token_of(&test),
         }),
-        None => {
-            if is_boolean(type_of(&test)) {
-                let ty = choice_result(table, &a, &b);
-                choice_formed(alloc, texts, ty, test, a, b, token)
-            } else {
-                Err(refused(Rule::BadOperand, token))
-            }
-        }
+        None => choice_unknown(alloc, table, texts, test, a, b, token),
     }
 }

@@ -1,16 +1,14 @@
 //! Expressions become forms: one rule a form, operands from left to right before the form's own rules (JLS 15.7).
 
-ghost use Rattle.std.specs.Prelude.{◌≡◌, if◌then◌else◌, map, option_map};
+ghost use Rattle.std.specs.Prelude.{◌≡◌, map, option_map, true};
 ghost use Rattle.wy_kernel.specs.ClassTable.{table_of};
 ghost use Rattle.wy_kernel.specs.View.{expression};
-ghost use Rattle.wy_kernel.specs.Subtyping.{class_type};
 ghost use Rattle.wy_syntax.specs.Syntax as source;
 ghost use Rattle.wy_syntax.specs.View.{base_seen, expression_of, initial_of, named_of, row_of, type_seen};
 ghost use Rattle.wy_syntax.specs.View.{element_of as element_seen, elements_of as elements_seen};
-ghost use Rattle.wy_elab_expr.specs.Meaning.{Formed, give, refuse};
-ghost use Rattle.wy_elab_expr.specs.Members.{this_form};
-ghost use Rattle.wy_elab_expr.specs.Elaboration.{elaborated, elaborated_all, elements_of, initialized, super_read, target};
-ghost use Rattle.wy_elab_expr.specs.Views.{GetsTo, GivesAlways, IsFound, IsTarget, Judged, listing_of, meaning_of, spot_of};
+ghost use Rattle.wy_elab_expr.specs.Elaboration.{elaborated, elaborated_all, elements_of, initialized, target};
+ghost use Rattle.wy_elab_expr.specs.Groups.{is_no_call, is_no_operator, is_no_place};
+ghost use Rattle.wy_elab_expr.specs.Views.{GetsTo, IsFound, IsTarget, Judged, listing_of, meaning_of, spot_of};
 
 use crate::array::{Listing, how_many, listed_form, new_array, or_type};
 use crate::assignment::{
@@ -18,7 +16,6 @@ use crate::assignment::{
     stepped, super_spot, updated,
 };
 use crate::bring::class;
-use crate::build;
 use crate::call::{Through, called, created};
 use crate::call_on::{called_on, called_on_class};
 use crate::cast::{cast_of, instance_of};
@@ -28,6 +25,7 @@ use crate::literal::literal_meaning;
 use crate::meaning::{Meaning, of_form};
 use crate::names::{class_for_new, class_in, is_place, stream_in, type_with, type_written};
 use crate::operation::{binary_of, both_of, either_of, unary_of};
+use crate::own::{read_super, read_this};
 use crate::printing::called_on_stream;
 use crate::refusal::refused;
 use crate::sizes::sizes_of;
@@ -44,7 +42,7 @@ use wy_syntax::name::{Named, WrittenBase, WrittenType};
 
 /// What an expression is found to be.
 #[cycle(elaboration)]
-#[tactic(auto, using(crate::proofs::Arms::of_literal, crate::proofs::Arms::of_name, crate::proofs::Arms::of_this, crate::proofs::Arms::of_group, crate::proofs::Arms::of_super_field, crate::proofs::Arms::of_wrong, wy_syntax::proofs::ExpressionViews::view_invoke, wy_syntax::proofs::ExpressionViews::view_field, wy_syntax::proofs::ExpressionViews::view_invoke_on, wy_syntax::proofs::ExpressionViews::view_super_invoke, wy_syntax::proofs::ExpressionViews::view_element, wy_syntax::proofs::ExpressionViews::view_new_object, wy_syntax::proofs::ExpressionViews::view_new_array, wy_syntax::proofs::ExpressionViews::view_new_list, wy_syntax::proofs::ExpressionViews::view_unary, wy_syntax::proofs::ExpressionViews::view_step, wy_syntax::proofs::ExpressionViews::view_binary, wy_syntax::proofs::ExpressionViews::view_both, wy_syntax::proofs::ExpressionViews::view_either, wy_syntax::proofs::ExpressionViews::view_instance_of, wy_syntax::proofs::ExpressionViews::view_cast, wy_syntax::proofs::ExpressionViews::view_choice, wy_syntax::proofs::ExpressionViews::view_assign, wy_syntax::proofs::ExpressionViews::view_update))]
+#[tactic(auto, using(crate::proofs::Arms::of_literal, crate::proofs::Arms::of_name, crate::proofs::Arms::of_this, crate::proofs::Arms::of_group, wy_syntax::proofs::ExpressionViews::view_field, crate::proofs::Arms::of_super_field, wy_syntax::proofs::ExpressionViews::view_element))]
 pub fn elaborated(
     alloc: Global,
     table: &ClassTable,
@@ -59,14 +57,40 @@ pub fn elaborated(
         Expression::Name { name, token } => named(alloc, table, scope, name.as_str(), *token),
         Expression::This { token } => read_this(alloc, scope, *token),
         Expression::Group { inner, token: _ } => elaborated(alloc, table, scope, texts, inner),
-        Expression::Invoke { name, args, token } => {
-            invoked(alloc, table, scope, texts, name.as_str(), args, *token)
-        }
         Expression::Field {
             object,
             name,
             token,
         } => read_field(alloc, table, scope, texts, object, name.as_str(), *token),
+        Expression::SuperField { name, token } => {
+            read_super(alloc, table, scope, name.as_str(), *token)
+        }
+        Expression::Element {
+            array,
+            index,
+            token,
+        } => read_element(alloc, table, scope, texts, array, index, *token),
+        _ => elaborated_call(alloc, table, scope, texts, e),
+    }
+}
+
+// A call, an object or an array that is made, or an operator.
+#[cycle(elaboration)]
+#[tactic(auto, using(wy_syntax::proofs::ExpressionViews::view_invoke, wy_syntax::proofs::ExpressionViews::view_invoke_on, wy_syntax::proofs::ExpressionViews::view_super_invoke, wy_syntax::proofs::ExpressionViews::view_new_object, wy_syntax::proofs::ExpressionViews::view_new_array, wy_syntax::proofs::ExpressionViews::view_new_list))]
+fn elaborated_call(
+    alloc: Global,
+    table: &ClassTable,
+    scope: &Scope,
+    texts: &mut Texts,
+    e: &Expression,
+) -> Result<Meaning, TypeError>
+    requires { is_no_place (expression_of e.now) ≡ true }
+    ensures { IsFound (table_of table.now) scope.now (expression_of e.now) result texts.old texts.new }
+{
+    match e {
+        Expression::Invoke { name, args, token } => {
+            invoked(alloc, table, scope, texts, name.as_str(), args, *token)
+        }
         Expression::InvokeOn {
             object,
             name,
@@ -82,17 +106,9 @@ pub fn elaborated(
             args,
             *token,
         ),
-        Expression::SuperField { name, token } => {
-            read_super(alloc, table, scope, name.as_str(), *token)
-        }
         Expression::SuperInvoke { name, args, token } => {
             invoked_super(alloc, table, scope, texts, name.as_str(), args, *token)
         }
-        Expression::Element {
-            array,
-            index,
-            token,
-        } => read_element(alloc, table, scope, texts, array, index, *token),
         Expression::NewObject {
             class: of,
             args,
@@ -134,17 +150,27 @@ pub fn elaborated(
             *brace,
             *token,
         ),
+        _ => elaborated_operator(alloc, table, scope, texts, e),
+    }
+}
+
+// An operator that gives no new value to a variable, or one that does, or `?:`.
+#[cycle(elaboration)]
+#[tactic(auto, using(wy_syntax::proofs::ExpressionViews::view_unary, wy_syntax::proofs::ExpressionViews::view_binary, wy_syntax::proofs::ExpressionViews::view_both, wy_syntax::proofs::ExpressionViews::view_either, wy_syntax::proofs::ExpressionViews::view_instance_of, wy_syntax::proofs::ExpressionViews::view_cast))]
+fn elaborated_operator(
+    alloc: Global,
+    table: &ClassTable,
+    scope: &Scope,
+    texts: &mut Texts,
+    e: &Expression,
+) -> Result<Meaning, TypeError>
+    requires { is_no_call (expression_of e.now) ≡ true }
+    ensures { IsFound (table_of table.now) scope.now (expression_of e.now) result texts.old texts.new }
+{
+    match e {
         Expression::Unary { op, operand, token } => {
             unary(alloc, table, scope, texts, *op, operand, *token)
         }
-        Expression::Step {
-            is_before,
-            is_up,
-            operand,
-            token,
-        } => step_of(
-            alloc, table, scope, texts, *is_before, *is_up, operand, *token,
-        ),
         Expression::Binary {
             op,
             left,
@@ -163,6 +189,32 @@ pub fn elaborated(
         Expression::Cast { ty, operand, token } => {
             cast_to(alloc, table, scope, texts, ty, operand, *token)
         }
+        _ => elaborated_choice(alloc, table, scope, texts, e),
+    }
+}
+
+// What gives a variable a new value, or `?:`, or what is no expression.
+#[cycle(elaboration)]
+#[tactic(auto, using(wy_syntax::proofs::ExpressionViews::view_step, wy_syntax::proofs::ExpressionViews::view_choice, wy_syntax::proofs::ExpressionViews::view_assign, wy_syntax::proofs::ExpressionViews::view_update))]
+fn elaborated_choice(
+    alloc: Global,
+    table: &ClassTable,
+    scope: &Scope,
+    texts: &mut Texts,
+    e: &Expression,
+) -> Result<Meaning, TypeError>
+    requires { is_no_operator (expression_of e.now) ≡ true }
+    ensures { IsFound (table_of table.now) scope.now (expression_of e.now) result texts.old texts.new }
+{
+    match e {
+        Expression::Step {
+            is_before,
+            is_up,
+            operand,
+            token,
+        } => step_of(
+            alloc, table, scope, texts, *is_before, *is_up, operand, *token,
+        ),
         Expression::Choice {
             test,
             main,
@@ -178,33 +230,8 @@ pub fn elaborated(
             value,
             token,
         } => update_of(alloc, table, scope, texts, *op, left, value, *token),
-        Expression::Wrong => Err(refused(Rule::BadOperand, 0)),
+        _ => Err(refused(Rule::BadOperand, 0)),
     }
-}
-
-// `this`
-fn read_this(alloc: Global, scope: &Scope, token: u32) -> Result<Meaning, TypeError>
-    ensures { GivesAlways meaning_of result (if scope.now.has_this then give (Formed this_form (class_type scope.now.class)) else refuse Rule.NotInStatic token) }
-{
-    if scope.has_this() {
-        Ok(of_form(alloc, build::this(), class(scope.class()))?)
-    } else {
-        Err(refused(Rule::NotInStatic, token))
-    }
-}
-
-// `super.name`
-fn read_super(
-    alloc: Global,
-    table: &ClassTable,
-    scope: &Scope,
-    name: &str,
-    token: u32,
-) -> Result<Meaning, TypeError>
-    ensures { GivesAlways meaning_of result (super_read (table_of table.now) scope.now name.now token) }
-{
-    let p = super_spot(alloc, table, scope, name, token)?;
-    Ok(read(alloc, p)?)
 }
 
 // `name(..)`

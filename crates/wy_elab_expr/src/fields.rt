@@ -8,6 +8,7 @@ ghost use Rattle.wy_kernel.specs.View.{field_of as field_seen};
 ghost use Rattle.wy_constant.specs.Fields.{field_of};
 ghost use Rattle.wy_elab_expr.specs.Meaning.{type_of};
 ghost use Rattle.wy_elab_expr.specs.Members.{field_of_class, field_read, field_spot, field_through, is_length, is_library_name, is_outside, member_of_class, named, named_spot, no_field, object_field, own_field, own_field_named, qualified_name, qualified_spot, read_as, spot, static_field};
+ghost use Rattle.wy_elab_expr.specs.Parts.{length_read};
 ghost use Rattle.wy_elab_expr.specs.Views.{GetsTo, GivesAlways, inner_of, meaning_of, spot_of};
 
 use crate::bring::{formed, formed_in, primitive, type_of};
@@ -326,11 +327,22 @@ pub fn field_read(
     ensures { GetsTo meaning_of result texts.new (field_read (table_of table.now) scope.now (meaning_of m) name.now token texts.old) }
 {
     if is_length(type_of(&m), name) {
-        let array = formed(alloc, texts, m)?;
-        let args = vec![in alloc; array]?;
-        let form = build::library(LibOp::ArrayLength, args, token);
-        return Ok(of_form(alloc, form, primitive(Primitive::Int))?);
+        return length_read(alloc, texts, m, token);
     }
     let p = field_spot(alloc, table, scope, texts, m, name, token)?;
     Ok(of_form(alloc, build::read(p.place), p.ty)?)
+}
+
+fn length_read(
+    alloc: Global,
+    texts: &mut Texts,
+    m: Meaning,
+    token: u32,
+) -> Result<Meaning, TypeError>
+    ensures { GetsTo meaning_of result texts.new (length_read (meaning_of m) token texts.old) }
+{
+    let array = formed(alloc, texts, m)?;
+    let args = vec![in alloc; array]?;
+    let form = build::library(LibOp::ArrayLength, args, token);
+    Ok(of_form(alloc, form, primitive(Primitive::Int))?)
 }

@@ -22,6 +22,7 @@ mod meaning;
 mod names;
 mod operand;
 mod operation;
+mod own;
 mod printing;
 mod refusal;
 mod sizes;

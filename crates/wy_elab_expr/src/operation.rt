@@ -1,6 +1,6 @@
 //! Unary and binary operators, `&&` and `||` (JLS 15.15, 15.17 to 15.24).
 
-ghost use Rattle.std.specs.Prelude.{◌≡◌, ◌&&◌, ◌||◌, IfOk, if◌then◌else◌, option_map};
+ghost use Rattle.std.specs.Prelude.{◌≡◌, ◌&&◌, ◌||◌, IfOk, Some, if◌then◌else◌, option_map};
 ghost use Rattle.wy_kernel.specs.ClassTable.{table_of};
 ghost use Rattle.wy_kernel.specs.Table.{constant_value};
 ghost use Rattle.wy_constant.specs.Constant.{as_truth};
@@ -124,13 +124,25 @@ fn binary_formed(
 {
     match types {
         None => Err(refused(Rule::BadOperand, token)),
-        Some(types) => {
-            let x = brought_in(alloc, texts, types.left, a)?;
-            let y = brought_in(alloc, texts, types.right, b)?;
-            let form = build::binary(op, x, y, token);
-            Ok(of_form(alloc, form, types.outcome)?)
-        }
+        Some(types) => binary_of_types(alloc, texts, op, types, a, b, token),
     }
+}
+
+fn binary_of_types(
+    alloc: Global,
+    texts: &mut Texts,
+    op: BinOp,
+    types: OperandTypes,
+    a: Meaning,
+    b: Meaning,
+    token: u32,
+) -> Result<Meaning, TypeError>
+    ensures { GetsTo meaning_of result texts.new (binary_formed op (Some (operands_of types)) (meaning_of a) (meaning_of b) token texts.old) }
+{
+    let x = brought_in(alloc, texts, types.left, a)?;
+    let y = brought_in(alloc, texts, types.right, b)?;
+    let form = build::binary(op, x, y, token);
+    Ok(of_form(alloc, form, types.outcome)?)
 }
 
 // Operands that are joined keep their types.

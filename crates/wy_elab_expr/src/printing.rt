@@ -169,7 +169,7 @@ fn print_call(
 ) -> Result<Meaning, TypeError>
     ensures { GetsTo meaning_of result texts.new (print_call name.now (map meaning_of args.items) token texts.old) }
 {
-    let _operand = print_operand(alloc, texts, name, args, token)?;
+    drop(print_operand(alloc, texts, name, args, token)?);
     Ok(of_form(alloc, build::constant(Const::Null), Ty::Void)?)
 }
 

@@ -4,9 +4,9 @@ use Rattle.wy_kernel.specs.declared.types.Ty.{Ty}
 use Rattle.wy_kernel.specs.Table.{Table, IsTable, KeepsSupertypes}
 use Rattle.wy_constant.specs.declared.rule.Rule.{Rule}
 use Rattle.wy_constant.specs.declared.rule.Rule.TheVariants as rule
-use Rattle.wy_members.specs.Choice.{Chosen, Refused, SomeApplies, IsNotOffered}
-use Rattle.wy_members.proofs.Related.{top_of}
-use Rattle.wy_members.proofs.Unique.{one_chosen_in, none_chosen_and_refused, one_rule}
+use Rattle.wy_overloads.specs.Choice.{Chosen, Refused, SomeApplies, IsNotOffered}
+use Rattle.wy_overloads.proofs.Related.{top_of}
+use Rattle.wy_overloads.proofs.Unique.{one_chosen_in, none_chosen_and_refused, one_rule}
 use Rattle.wy_elab_expr.specs.Operators.{Judgement, Settles}
 use Rattle.wy_judgement.proofs.Decided.{Decided, test_of, test_exact}
 use Rattle.wy_judgement.proofs.Types.{DecidesBelow, below}

@@ -10,7 +10,7 @@ use Rattle.wy_kernel.specs.declared.types.MethodForm.TheVariants as kind
 use Rattle.wy_kernel.specs.Program.{Class, Method, first_source_class}
 use Rattle.wy_kernel.specs.Subtyping.{class_type}
 use Rattle.wy_kernel.specs.Table.{Table}
-use Rattle.wy_members.specs.Choice.{DeclaredFor, IsMember, Applies, IsEquivalent, Equivalent, IsClass, IsFurther, IsNearest, HasHigherResult, HasLowestResult, NearestHasBody, Counts, nearest, lowest, IsMostSpecific, Chosen, IsOfLibrary, HasSome, SomeApplies, IsNotOffered, EachBelow}
+use Rattle.wy_overloads.specs.Choice.{DeclaredFor, IsMember, Applies, IsEquivalent, Equivalent, IsClass, IsFurther, IsNearest, HasHigherResult, HasLowestResult, NearestHasBody, Counts, nearest, lowest, IsMostSpecific, Chosen, IsOfLibrary, HasSome, SomeApplies, IsNotOffered, EachBelow}
 use Rattle.wy_judgement.proofs.Decided.{Decided, like, both, either, denied, implied, same_number, same_name, is_false, each, some}
 use Rattle.wy_judgement.proofs.Types.{DecidesBelow, same_type, same_types, reference, each_below, substitutable, less, at_most}
 

@@ -14,12 +14,12 @@ use Rattle.wy_kernel.specs.Program.{Class}
 use Rattle.wy_kernel.specs.Subtyping.{Supertype, itself, Below, same, of_null, IsReference, Substitutable}
 use Rattle.wy_kernel.specs.Table.{KeepsSupertypes}
 use Rattle.wy_constant.specs.Widening.{widens_to}
-use Rattle.wy_members.specs.Lineage.{HasTop}
-use Rattle.wy_members.specs.Choice.{EachBelow, none, more}
-use Rattle.wy_members.proofs.Straight.{straight}
-use Rattle.wy_members.proofs.Related as related
-use Rattle.wy_members.proofs.Climbing.{row_exact}
-use Rattle.wy_members.proofs.Lists.{types_equal}
+use Rattle.wy_overloads.specs.Lineage.{HasTop}
+use Rattle.wy_overloads.specs.Choice.{EachBelow, none, more}
+use Rattle.wy_overloads.proofs.Straight.{straight}
+use Rattle.wy_overloads.proofs.Related as related
+use Rattle.wy_overloads.proofs.Climbing.{row_exact}
+use Rattle.wy_overloads.proofs.Lists.{types_equal}
 use Rattle.wy_judgement.proofs.Decided.{Decided, by_test, like, either, both, denied, same_number, contains, test_of, test_exact}
 
 -- ---- types that are the same

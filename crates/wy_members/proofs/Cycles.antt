@@ -9,7 +9,7 @@ use Rattle.wy_kernel.specs.Program.{Class}
 use Rattle.wy_kernel.specs.Subtyping.{direct_supertypes, named_above, Supertype}
 use Rattle.wy_members.specs.Broken.{IsAboveItself}
 use Rattle.wy_members.specs.Within.{IsJudgedIn}
-use Rattle.wy_members.proofs.Related.{beyond, none_above}
+use Rattle.wy_overloads.proofs.Related.{beyond, none_above}
 
 -- one of these is below class c
 abbrev pub SomeBelow : List Class → List ℕ → ℕ → Type 0

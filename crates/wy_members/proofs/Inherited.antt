@@ -8,8 +8,8 @@ use Rattle.wy_kernel.specs.declared.operator.Primitive.{Primitive}
 use Rattle.wy_kernel.specs.declared.types.Ty.{Ty}
 use Rattle.wy_kernel.specs.Program.{Class, Method}
 use Rattle.wy_kernel.specs.Subtyping.{IsReference, Below, primitive_type}
-use Rattle.wy_members.proofs.Straight.{Straight, equal, upward, widening, null, object, array, straight}
-use Rattle.wy_members.specs.Lineage.{HasTop}
+use Rattle.wy_overloads.proofs.Straight.{Straight, equal, upward, widening, null, object, array, straight}
+use Rattle.wy_overloads.specs.Lineage.{HasTop}
 
 abbrev pub Numbered : Type 0
 Numbered = ℕ × Method

@@ -11,12 +11,12 @@ use Rattle.wy_kernel.specs.Builtin as builtin
 use Rattle.wy_kernel.specs.View.{class_of}
 use Rattle.wy_kernel.specs.Subtyping.{direct_supertypes}
 use Rattle.wy_kernel.specs.Table.{Table, NamesAmong}
-use Rattle.wy_members.specs.Lineage.{HasTop}
+use Rattle.wy_overloads.specs.Lineage.{HasTop}
 use Rattle.wy_members.specs.Declarations.{CompilationUnit, class_rows, classes_of, table}
 use Rattle.wy_members.specs.Broken.{with_fitting_supertypes, is_interface_in, inheriting, known_part, compared}
 use Rattle.wy_members.proofs.InRange.{NamesBelow, all_names, among_all, many_classes}
 use Rattle.wy_members.proofs.KnownParts.{known_classes}
-use Rattle.wy_members.proofs.Related.{object_alone}
+use Rattle.wy_overloads.proofs.Related.{object_alone}
 
 -- ---- Object
 

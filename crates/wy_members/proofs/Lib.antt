@@ -1,9 +1,5 @@
 pub mod Contained
 pub mod Leasts
-pub mod Climbing
-pub mod Straight
-pub mod Related
-pub mod Lists
 pub mod Numbering
 pub mod Monotone
 pub mod Least
@@ -12,9 +8,6 @@ pub mod Learning
 pub mod InRange
 pub mod ProgramTables
 mod ConstantExamples
-pub mod Members
-pub mod Unique
-pub mod Hierarchies
 pub mod Cycles
 pub mod Duplicates
 pub mod Unknowns

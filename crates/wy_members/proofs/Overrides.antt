@@ -7,7 +7,7 @@ use Rattle.wy_kernel.specs.Subtyping.{class_type, Substitutable}
 use Rattle.wy_syntax.specs.declared.declaration.Modifier.TheVariants as modifier
 use Rattle.wy_syntax.specs.Syntax.{Named, Header, Braced, Member, ClassSyntax}
 use Rattle.wy_syntax.specs.Syntax as syntax
-use Rattle.wy_members.specs.Choice.{Equivalent}
+use Rattle.wy_overloads.specs.Choice.{Equivalent}
 use Rattle.wy_members.specs.Least.{Among, Here}
 use Rattle.wy_members.specs.Within.{CycleAt, OverridesAt, InheritsAt, WrongAboveAt, WrongBodyIn, WantsBody, ExtendsWrongly, NotExtended, NamesClass, HasWrongAbove, BadOverridesIn, NotImplementedsIn}
 use Rattle.wy_members.specs.Declarations.{CompilationUnit, classes_of, has, table}

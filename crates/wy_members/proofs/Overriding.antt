@@ -13,10 +13,10 @@ use Rattle.wy_kernel.specs.Subtyping.{Substitutable, Below, direct_supertypes, c
 use Rattle.wy_syntax.specs.declared.declaration.Modifier.TheVariants as modifier
 use Rattle.wy_syntax.specs.Syntax.{Method}
 use Rattle.wy_constant.specs.declared.rule.Rule.TheVariants as rule
-use Rattle.wy_members.specs.Choice.{Equivalent}
+use Rattle.wy_overloads.specs.Choice.{Equivalent}
 use Rattle.wy_members.specs.Declarations.{CompilationUnit, table, denoted}
 use Rattle.wy_members.specs.Broken.{Breaks, compared, Inherits, HasNoCommonResult, wrong_result, static_against_instance, overrides_final, inherited_results, inherited_static}
-use Rattle.wy_members.specs.Lineage.{HasTop}
+use Rattle.wy_overloads.specs.Lineage.{HasTop}
 use Rattle.wy_members.proofs.Written.{at, int_type, long_type, the, header, empty, class, interface}
 use Rattle.wy_members.proofs.Judged.{judged}
 use Rattle.wy_members.proofs.Inherited.{of_each_named, no_reference_below}

@@ -10,7 +10,7 @@ use Rattle.wy_kernel.specs.Subtyping.{Below, direct_supertypes, class_type, prim
 use Rattle.wy_syntax.specs.declared.declaration.Modifier.TheVariants as modifier
 use Rattle.wy_syntax.specs.Syntax.{Method}
 use Rattle.wy_constant.specs.declared.rule.Rule.TheVariants as rule
-use Rattle.wy_members.specs.Choice.{NearestHasBody}
+use Rattle.wy_overloads.specs.Choice.{NearestHasBody}
 use Rattle.wy_members.specs.Declarations.{CompilationUnit, table, denoted}
 use Rattle.wy_members.specs.Broken.{Breaks, compared, Inherits, declares_abstract, left_in, body_missing, body_too_much, abstract_constructor, static_without_body, private_without_body}
 use Rattle.wy_members.proofs.Written.{at, int_type, the, header, empty, constructor, class, interface}

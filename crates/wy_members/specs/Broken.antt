@@ -11,7 +11,7 @@ use Rattle.wy_syntax.specs.Syntax.{Named, WrittenType, Placed, Parameter, Header
 use Rattle.wy_syntax.specs.Syntax as syntax
 use Rattle.wy_constant.specs.declared.rule.Rule.{Rule}
 use Rattle.wy_constant.specs.declared.rule.Rule.TheVariants as rule
-use Rattle.wy_members.specs.Choice.{Has, Equivalent, Counts, NearestHasBody}
+use Rattle.wy_overloads.specs.Choice.{Has, Equivalent, Counts, NearestHasBody}
 use Rattle.wy_members.specs.Declarations.{CompilationUnit, classes_of, denoted, has, is_abstract_in, table}
 
 -- ---- what stands in a class

@@ -1,6 +1,3 @@
-pub mod Choice
-pub mod Lineage
-pub mod LineageView
 pub mod Laws
 pub mod Declarations
 pub mod Broken

@@ -9,7 +9,7 @@ use Rattle.wy_syntax.specs.declared.declaration.Modifier.TheVariants as modifier
 use Rattle.wy_kernel.specs.Subtyping.{Supertype, Substitutable, class_type}
 use Rattle.wy_kernel.specs.Table.{Table}
 use Rattle.wy_kernel.specs.declared.types.Ty.{Ty}
-use Rattle.wy_members.specs.Choice.{IsMethod, IsEquivalent, Counts, NearestHasBody}
+use Rattle.wy_overloads.specs.Choice.{IsMethod, IsEquivalent, Counts, NearestHasBody}
 use Rattle.wy_members.specs.Least.{Either, Here, Among, IsAgain}
 use Rattle.wy_members.specs.Declarations.{CompilationUnit, denoted, has}
 use Rattle.wy_members.specs.Broken.{reserved_names, IsAboveItself, Inherits, HasNoCommonResult, StandsForEach}

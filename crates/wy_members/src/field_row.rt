@@ -6,11 +6,11 @@ ghost use Rattle.wy_syntax.specs.View.{class_of as class_syntax, declarator_of, 
 ghost use Rattle.wy_members.specs.Declarations.{class_by_class, field_row, field_rows, fields_among, fields_in, fields_of};
 ghost use Rattle.wy_members.specs.Names.{unit_of};
 
-use crate::member::FIRST_SOURCE_CLASS;
 use crate::names::{Names, next_number};
 use crate::written_type::{has, type_with};
 use std::alloc::{AllocError, Global};
 use wy_kernel::types::Field;
+use wy_overloads::member::FIRST_SOURCE_CLASS;
 use wy_syntax::declaration::{Declaration, Member, Modifier, Placed};
 use wy_syntax::name::WrittenType;
 use wy_syntax::statement::Declarator;

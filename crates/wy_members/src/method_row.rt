@@ -3,17 +3,17 @@
 ghost use Rattle.std.specs.Prelude.{◌≡◌, ◌++◌, IfOk, OnOk, codes, map, option_map};
 ghost use Rattle.std.specs.List.{list_any};
 ghost use Rattle.wy_kernel.specs.View.{method_of};
-ghost use Rattle.wy_syntax.specs.View.{class_of as class_syntax, declaration_of, declarator_of, header_of, member_of};
-ghost use Rattle.wy_members.specs.Declarations.{class_by_class, fields_unit, form_of, implied, implied_constructor, initializes_objects, is_constructor, is_given_first, method_in, method_row, methods_in, methods_of};
+ghost use Rattle.wy_syntax.specs.View.{class_of as class_syntax, declaration_of, declarator_of, header_of, member_of, outcome_of};
+ghost use Rattle.wy_members.specs.Declarations.{class_by_class, fields_unit, form_of, implied, implied_constructor, initializes_objects, is_constructor, is_given_first, method_in, method_row, methods_in, methods_of, result_type};
 ghost use Rattle.wy_members.specs.Known.{members_seen, with_members};
 ghost use Rattle.wy_members.specs.Names.{unit_of};
 
-use crate::member::FIRST_SOURCE_CLASS;
 use crate::names::{Names, next_number};
 use crate::written_type::{has, parameter_types, result_type};
 use std::alloc::{AllocError, Global};
 use wy_kernel::types::{Method, MethodForm, Ty};
-use wy_syntax::declaration::{ClassSyntax, Declaration, Header, Member, Modifier};
+use wy_overloads::member::FIRST_SOURCE_CLASS;
+use wy_syntax::declaration::{ClassSyntax, Declaration, Header, Member, Modifier, Outcome};
 use wy_syntax::statement::Declarator;
 
 fn method_row(
@@ -52,6 +52,35 @@ fn form_of(header: &Header) -> MethodForm
     }
 }
 
+fn row_of_method(
+    alloc: Global,
+    names: &Names,
+    number: u32,
+    class: &ClassSyntax,
+    header: &Header,
+    outcome: &Outcome,
+) -> Result<Method, AllocError>
+    ensures { IfOk result (λ row. method_of row ≡ method_row (unit_of names.now) number (class_syntax class.now) (header_of header.now) (header_of header.now).name.name (result_type (unit_of names.now) (outcome_of outcome.now)) (form_of (header_of header.now))) }
+{
+    let name = header.name.name.as_str();
+    let gives = result_type(names, outcome)?;
+    let form = form_of(header);
+    method_row(alloc, names, number, class, header, name, gives, form)
+}
+
+fn row_of_constructor(
+    alloc: Global,
+    names: &Names,
+    number: u32,
+    class: &ClassSyntax,
+    header: &Header,
+) -> Result<Method, AllocError>
+    ensures { IfOk result (λ row. method_of row ≡ method_row (unit_of names.now) number (class_syntax class.now) (header_of header.now) (codes "new") Ty.Void MethodForm.Constructor) }
+{
+    let form = MethodForm::Constructor;
+    method_row(alloc, names, number, class, header, "new", Ty::Void, form)
+}
+
 // The row of the method or the constructor that a member is.
 fn row_of_member(
     alloc: Global,
@@ -67,22 +96,14 @@ fn row_of_member(
             header,
             result: outcome,
             body: _,
-        } => {
-            let name = header.name.name.as_str();
-            let gives = result_type(names, outcome)?;
-            let form = form_of(header);
-            Ok(Some(method_row(alloc, names, number, class, header, name, gives, form)?))
-        }
+        } => Ok(Some(row_of_method(alloc, names, number, class, header, outcome)?)),
         Member::Constructor {
             header,
             own_call: _,
             brace: _,
             parts: _,
             end: _,
-        } => {
-            let form = MethodForm::Constructor;
-            Ok(Some(method_row(alloc, names, number, class, header, "new", Ty::Void, form)?))
-        }
+        } => Ok(Some(row_of_constructor(alloc, names, number, class, header)?)),
         _ => Ok(None),
     }
 }

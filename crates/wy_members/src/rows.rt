@@ -1,7 +1,10 @@
 //! The classes, methods and fields of a program by number, those of java.lang first (JLS 8, 9).
 //! No rule is decided here, and no constant computed.
 
-ghost use Rattle.std.specs.Prelude.{◌≡◌, IfOk, map};
+ghost use Rattle.std.specs.Prelude.{◌≡◌, ◌<◌, IfOk, length, map};
+ghost use Rattle.wy_kernel.specs.Builtin.{no_site};
+ghost use Rattle.wy_kernel.specs.View.{class_of, field_of, method_of};
+ghost use Rattle.wy_members.specs.Declarations.{table};
 ghost use Rattle.wy_members.specs.Names.{unit_of};
 ghost use Rattle.wy_members.specs.Rows.{AreRows};
 
@@ -22,23 +25,57 @@ pub struct Rows {
 }
 
 /// The rows of what a program declares, behind those of java.lang.
-#[tactic(auto, unfolding(crate::specs::Declarations::table))]
 pub fn rows_of(alloc: Global, names: &Names) -> Result<Rows, AllocError>
     ensures { IfOk result (λ rows. AreRows (unit_of names.now) rows) }
 {
-    let mut classes = builtin::classes(alloc)?;
-    add_classes(&mut classes, alloc, names)?;
-    let mut methods = builtin::methods(alloc)?;
-    add_methods(&mut methods, alloc, names)?;
-    let mut fields = builtin::fields(alloc)?;
-    add_fields(&mut fields, names)?;
-    let most = NONE as usize;
-    if classes.len() >= most || methods.len() >= most || fields.len() >= most {
-        return Err(AllocError);
-    }
+    let classes = all_classes(alloc, names)?;
+    let methods = all_methods(alloc, names)?;
+    let fields = all_fields(alloc, names)?;
     Ok(Rows {
         classes,
         methods,
         fields,
     })
+}
+
+#[tactic(auto, unfolding(crate::specs::Declarations::table))]
+fn all_classes(alloc: Global, names: &Names) -> Result<Vec<Class>, AllocError>
+    ensures value { IfOk result (λ rows. map class_of rows.items ≡ (table (unit_of names.now)).classes) }
+    ensures few { IfOk result (λ rows. length rows.items < no_site) }
+{
+    let mut rows = builtin::classes(alloc)?;
+    add_classes(&mut rows, alloc, names)?;
+    if rows.len() < NONE as usize {
+        Ok(rows)
+    } else {
+        Err(AllocError)
+    }
+}
+
+#[tactic(auto, unfolding(crate::specs::Declarations::table))]
+fn all_methods(alloc: Global, names: &Names) -> Result<Vec<Method>, AllocError>
+    ensures value { IfOk result (λ rows. map method_of rows.items ≡ (table (unit_of names.now)).methods) }
+    ensures few { IfOk result (λ rows. length rows.items < no_site) }
+{
+    let mut rows = builtin::methods(alloc)?;
+    add_methods(&mut rows, alloc, names)?;
+    if rows.len() < NONE as usize {
+        Ok(rows)
+    } else {
+        Err(AllocError)
+    }
+}
+
+#[tactic(auto, unfolding(crate::specs::Declarations::table))]
+fn all_fields(alloc: Global, names: &Names) -> Result<Vec<Field>, AllocError>
+    ensures value { IfOk result (λ rows. map field_of rows.items ≡ (table (unit_of names.now)).fields) }
+    ensures few { IfOk result (λ rows. length rows.items < no_site) }
+{
+    let mut rows = builtin::fields(alloc)?;
+    add_fields(&mut rows, names)?;
+    if rows.len() < NONE as usize {
+        Ok(rows)
+    } else {
+        Err(AllocError)
+    }
 }

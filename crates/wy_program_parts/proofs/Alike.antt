@@ -8,12 +8,12 @@ use Rattle.wy_kernel.specs.declared.types.MethodForm.TheVariants as kind
 use Rattle.wy_kernel.specs.Program.{Class, Method}
 use Rattle.wy_kernel.specs.Subtyping.{Supertype, itself, further, IsAcyclic, Below, same, class_type}
 use Rattle.wy_kernel.specs.Table.{Table}
-use Rattle.wy_members.specs.Lineage.{HasTop}
-use Rattle.wy_members.specs.Choice.{DeclaredFor, Equivalent}
+use Rattle.wy_overloads.specs.Lineage.{HasTop}
+use Rattle.wy_overloads.specs.Choice.{DeclaredFor, Equivalent}
 use Rattle.wy_members.specs.Broken.{Overrides, Inherits, static_against_instance, inherited_static}
 use Rattle.wy_members.proofs.Contained.{contained}
-use Rattle.wy_members.proofs.Straight.{straight, further_up, above_object}
-use Rattle.wy_members.proofs.Related.{class_below_class}
+use Rattle.wy_overloads.proofs.Straight.{straight, further_up, above_object}
+use Rattle.wy_overloads.proofs.Related.{class_below_class}
 use Rattle.wy_program_parts.proofs.Codes.{RunsAs}
 use Rattle.wy_program_parts.proofs.Chains.{IsAt}
 use Rattle.wy_program_parts.proofs.Dispatch.{Lacks}

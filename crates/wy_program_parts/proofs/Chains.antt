@@ -8,10 +8,10 @@ use Rattle.std.proofs.lemmas.Option.{slice_get_cases}
 use Rattle.wy_kernel.specs.Program.{Class}
 use Rattle.wy_kernel.specs.Subtyping.{direct_supertypes, named_above, Supertype, itself, further, IsAcyclic, Below, class_type}
 use Rattle.wy_kernel.specs.Table.{NamesAmong}
-use Rattle.wy_members.specs.Lineage.{HasTop}
-use Rattle.wy_members.specs.Choice.{IsClass}
-use Rattle.wy_members.proofs.Straight.{straight, class_arrays_below}
-use Rattle.wy_members.proofs.Related.{class_below_class}
+use Rattle.wy_overloads.specs.Lineage.{HasTop}
+use Rattle.wy_overloads.specs.Choice.{IsClass}
+use Rattle.wy_overloads.proofs.Straight.{straight, class_arrays_below}
+use Rattle.wy_overloads.proofs.Related.{class_below_class}
 
 abbrev pub IsAt : List Class → ℕ → Class → Type 0
 IsAt classes c row = slice_get classes c ≡ Some row

@@ -5,7 +5,7 @@ use Rattle.wy_kernel.specs.declared.types.MethodForm.TheVariants as kind
 use Rattle.wy_kernel.specs.Program.{Program, Class, Method}
 use Rattle.wy_kernel.specs.Table.{Table}
 use Rattle.wy_kernel.specs.Subtyping.{Below, to_object, Substitutable, class_type}
-use Rattle.wy_members.specs.Choice.{IsClass, Equivalent, IsNearest, NearestHasBody, Counts, nearest, lowest}
+use Rattle.wy_overloads.specs.Choice.{IsClass, Equivalent, IsNearest, NearestHasBody, Counts, nearest, lowest}
 use Rattle.wy_members.specs.Broken.{Inherits, StandsForEach, inherited_results}
 use Rattle.wy_judgement.proofs.Decided.{Decided}
 use Rattle.wy_program_parts.proofs.Codes.{RunsAs}

@@ -7,9 +7,9 @@ use Rattle.wy_kernel.specs.declared.types.Ty.{Ty}
 use Rattle.wy_kernel.specs.declared.types.Ty.TheVariants.{Void, Null, Of}
 use Rattle.wy_kernel.specs.Program.{Class}
 use Rattle.wy_kernel.specs.Subtyping.{IsAcyclic, Supertype, itself, IsReference, Below, Substitutable}
-use Rattle.wy_members.specs.Lineage.{HasTop}
-use Rattle.wy_members.proofs.Straight.{Straight, equal, upward, widening, object, array, straight, array_below_object, class_arrays_below, object_arrays_above}
-use Rattle.wy_members.proofs.Related.{deeper, below_void, below_null, class_below_primitive}
+use Rattle.wy_overloads.specs.Lineage.{HasTop}
+use Rattle.wy_overloads.proofs.Straight.{Straight, equal, upward, widening, object, array, straight, array_below_object, class_arrays_below, object_arrays_above}
+use Rattle.wy_overloads.proofs.Related.{deeper, below_void, below_null, class_below_primitive}
 use Rattle.wy_judgement.proofs.Decided.{Decided, same_number}
 use Rattle.wy_judgement.proofs.Types.{same_type}
 use Rattle.wy_program_parts.proofs.Climb.{above_or_not}

@@ -7,7 +7,7 @@ use Rattle.wy_kernel.specs.declared.types.MethodForm.TheVariants as kind
 use Rattle.wy_kernel.specs.Program.{Class, Method}
 use Rattle.wy_kernel.specs.Subtyping.{class_type}
 use Rattle.wy_kernel.specs.Table.{Table}
-use Rattle.wy_members.specs.Choice.{NearestHasBody}
+use Rattle.wy_overloads.specs.Choice.{NearestHasBody}
 use Rattle.wy_members.specs.Broken.{Inherits, HasWrongMethod}
 use Rattle.wy_program_parts.proofs.Chains.{IsAt, AreSorted}
 

@@ -6,7 +6,7 @@ use Rattle.wy_kernel.specs.Program.{Program, Class, Method}
 use Rattle.wy_kernel.specs.Subtyping.{class_type}
 use Rattle.wy_kernel.specs.Table.{Table, IsMethodOf}
 use Rattle.wy_constant.specs.declared.rule.Rule.TheVariants as rule
-use Rattle.wy_members.specs.Choice.{NearestHasBody}
+use Rattle.wy_overloads.specs.Choice.{NearestHasBody}
 use Rattle.wy_members.specs.Declarations.{CompilationUnit, table}
 use Rattle.wy_members.specs.Broken.{Inherits, HasWrongMethod, again_method, declares_abstract, left_in, compared, known_part}
 use Rattle.wy_members.specs.Refusal.{KeepsRules}

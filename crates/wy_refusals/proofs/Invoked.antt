@@ -18,7 +18,7 @@ use Rattle.wy_constant.specs.declared.rule.Rule.TheVariants as rule
 use Rattle.wy_constant.specs.Refusal.{Refusal, refused}
 use Rattle.wy_constant.specs.Scope.{Scope, FixedText}
 use Rattle.wy_constant.specs.Fields.{class_named}
-use Rattle.wy_members.specs.Choice.{Refused, EachBelow, none, more}
+use Rattle.wy_overloads.specs.Choice.{Refused, EachBelow, none, more}
 use Rattle.wy_elab_expr.specs.Meaning.{Meaning, type_of, Gets, refuse, ◌>>=◌, formed}
 use Rattle.wy_elab_expr.specs.Operators.{Judgement, Settles, is_void, is_text_type}
 use Rattle.wy_elab_expr.specs.Members.{some_void, types_of, brought_all, of_choice, method_for, Through, Nothing, Object, OfClass as ThroughClass, Super, is_static, instance_if, broken_by, broken, is_outside, called_unless, called_at, called, LibraryMethod, text_methods, are_below, applicable, has_name, library_form, library_call, is_library_name}

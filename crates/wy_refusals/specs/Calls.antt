@@ -9,7 +9,7 @@ use Rattle.wy_kernel.specs.Table.{Table}
 use Rattle.wy_syntax.specs.Syntax.{Named, Expression, Row, Invoke, InvokeOn, SuperInvoke, NewObject}
 use Rattle.wy_constant.specs.Scope.{Scope, denoted}
 use Rattle.wy_constant.specs.Fields.{class_named, field_of}
-use Rattle.wy_members.specs.Choice.{Chosen, IsMethod, EachBelow}
+use Rattle.wy_overloads.specs.Choice.{Chosen, IsMethod, EachBelow}
 use Rattle.wy_elab_expr.specs.Meaning.{Meaning, type_of, text_type}
 use Rattle.wy_elab_expr.specs.Operators.{Judgement}
 use Rattle.wy_elab_expr.specs.Members.{LibraryMethod, text_methods, types_of, is_library_name}

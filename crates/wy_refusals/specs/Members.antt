@@ -12,7 +12,7 @@ use Rattle.wy_syntax.specs.Syntax as source
 use Rattle.wy_constant.specs.declared.rule.Rule.{Rule}
 use Rattle.wy_constant.specs.declared.rule.Rule.TheVariants as rule
 use Rattle.wy_constant.specs.Scope.{Scope, Variable, denoted}
-use Rattle.wy_members.specs.Choice.{Chosen, Refused, IsMethod}
+use Rattle.wy_overloads.specs.Choice.{Chosen, Refused, IsMethod}
 use Rattle.wy_elab_expr.specs.Meaning.{Meaning, type_of}
 use Rattle.wy_elab_expr.specs.Members.{types_of}
 use Rattle.wy_elab_expr.specs.Elaboration.{with_brackets, element_of}

@@ -19,7 +19,7 @@ use Rattle.wy_constant.specs.declared.rule.Rule.TheVariants as rule
 use Rattle.wy_constant.specs.Scope.{Scope}
 use Rattle.wy_constant.specs.Fields.{class_named}
 use Rattle.wy_constant.specs.Constant.{member_constant}
-use Rattle.wy_members.specs.Choice.{Refused}
+use Rattle.wy_overloads.specs.Choice.{Refused}
 use Rattle.wy_elab_expr.specs.Meaning.{Meaning, type_of}
 use Rattle.wy_elab_expr.specs.Operators.{Judgement, boolean_type}
 use Rattle.wy_elab_expr.specs.Members.{Spot, LibraryMethod, types_of, has_name, is_library_name, is_length}

@@ -10,8 +10,8 @@ use Rattle.wy_kernel.specs.Program.{Class}
 use Rattle.wy_kernel.specs.Builtin as builtin
 use Rattle.wy_kernel.specs.Subtyping.{IsReference, Below, primitive_type, direct_supertypes}
 use Rattle.wy_kernel.specs.Table.{Table, IsTable}
-use Rattle.wy_members.specs.Lineage.{HasTop}
-use Rattle.wy_members.proofs.Straight.{Straight, equal, upward, widening, null, object, array, straight, Widens, byte_to_short, byte_to_int, byte_to_long, short_to_int, short_to_long, char_to_int, char_to_long, int_to_long}
+use Rattle.wy_overloads.specs.Lineage.{HasTop}
+use Rattle.wy_overloads.proofs.Straight.{Straight, equal, upward, widening, null, object, array, straight, Widens, byte_to_short, byte_to_int, byte_to_long, short_to_int, short_to_long, char_to_int, char_to_long, int_to_long}
 use Rattle.wy_elab_expr.specs.Operators.{primitive_in, is_void, is_nullable, is_boolean, promoted_type, wide, number_type, both_numbers, booleans}
 use Rattle.wy_elab_expr.specs.Elaboration.{is_index, is_int_number}
 use Rattle.wy_typing.specs.Types.{boolean_type, IsValueType, IsNullable, IsNumber, IsPromoted, Fits, Promotes, of_byte, of_short, of_char, of_int, of_long, PromoteTogether, ints, long_left, long_right}

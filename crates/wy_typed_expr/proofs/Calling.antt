@@ -16,9 +16,9 @@ use Rattle.wy_kernel.specs.Builtin as builtin
 use Rattle.wy_constant.specs.declared.rule.Rule.{Rule}
 use Rattle.wy_constant.specs.declared.rule.Rule.TheVariants.{NotImplemented, NoMethod, BadOperand, Private, NotInStatic}
 use Rattle.wy_constant.specs.Scope.{Scope}
-use Rattle.wy_members.specs.Choice.{Chosen, EachBelow, DeclaredFor}
-use Rattle.wy_members.specs.Choice as choice
-use Rattle.wy_members.specs.Lineage.{HasTop}
+use Rattle.wy_overloads.specs.Choice.{Chosen, EachBelow, DeclaredFor}
+use Rattle.wy_overloads.specs.Choice as choice
+use Rattle.wy_overloads.specs.Lineage.{HasTop}
 use Rattle.wy_elab_expr.specs.Meaning.{Meaning, Formed, type_of, text_type, give, refuse, ◌>>=◌, brought}
 use Rattle.wy_elab_expr.specs.Operators.{Judgement, is_void, class_of, is_interface}
 use Rattle.wy_elab_expr.specs.Members.{this_form, is_outside, named, some_void, types_of, brought_all, of_choice, method_for, Through, Nothing, Object, OfClass, Super, is_static, broken_by, broken, receiver, call_form, call_of, called_unless, called_at, called, LibraryMethod, text_methods, value_of_methods, integer_methods, math_methods, are_below, applicable, has_name, front, library_form, library_call, constructed, is_abstract, new_plain, created}

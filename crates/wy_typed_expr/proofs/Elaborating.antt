@@ -22,7 +22,7 @@ use Rattle.wy_constant.specs.declared.rule.Rule.TheVariants.{UnknownName, BadOpe
 use Rattle.wy_constant.specs.Scope.{Scope}
 use Rattle.wy_constant.specs.Fields.{class_named}
 use Rattle.wy_constant.specs.Constant.{literal}
-use Rattle.wy_members.specs.Lineage.{HasTop}
+use Rattle.wy_overloads.specs.Lineage.{HasTop}
 use Rattle.wy_elab_expr.specs.Meaning.{Meaning, Known, Formed, type_of, text_type, Gets, give, ◌>>=◌, brought, formed}
 use Rattle.wy_elab_expr.specs.Operators.{Judgement, is_void, is_text_type, number_type, primitive_in, fits_into, is_assignable, OperandTypes, operand_types}
 use Rattle.wy_elab_expr.specs.Members.{Spot, spot, field_spot, qualified_spot, some_void, int_type, called, Object, OfClass, text_methods, value_of_methods, integer_methods, math_methods, is_library_name, library_call}

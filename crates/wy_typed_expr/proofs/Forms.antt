@@ -11,8 +11,8 @@ use Rattle.wy_kernel.specs.Program.{Program, Class, same_primitive, primitive_co
 use Rattle.wy_kernel.specs.Subtyping.{IsReference, Below, primitive_type}
 use Rattle.wy_kernel.specs.Table.{Simple, Text}
 use Rattle.wy_constant.specs.Constant.{value_of, constant_fits, has_number}
-use Rattle.wy_members.specs.Lineage.{HasTop}
-use Rattle.wy_members.proofs.Straight.{Straight, equal, upward, widening, null, object, array, straight}
+use Rattle.wy_overloads.specs.Lineage.{HasTop}
+use Rattle.wy_overloads.proofs.Straight.{Straight, equal, upward, widening, null, object, array, straight}
 use Rattle.wy_elab_expr.specs.Meaning.{Known, Formed, type_of, text_type, converted_form, constant_for}
 use Rattle.wy_elab_expr.specs.Operators.{fits_into}
 use Rattle.wy_typing.specs.Types.{constant_type, IsNumber, IsValueType, Fits}

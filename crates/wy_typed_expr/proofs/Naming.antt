@@ -16,7 +16,7 @@ use Rattle.wy_constant.specs.declared.rule.Rule.TheVariants.{UnknownName, BadOpe
 use Rattle.wy_constant.specs.Scope.{Scope, Variable, denoted, is_named}
 use Rattle.wy_constant.specs.Fields.{class_named, field_of, superclass}
 use Rattle.wy_constant.specs.Constant.{name_constant, member_constant}
-use Rattle.wy_members.specs.Lineage.{HasTop}
+use Rattle.wy_overloads.specs.Lineage.{HasTop}
 use Rattle.wy_elab_expr.specs.Meaning.{Meaning, Known, Formed, type_of, Gets, give, refuse, ◌>>=◌, formed}
 use Rattle.wy_elab_expr.specs.Operators.{Judgement}
 use Rattle.wy_elab_expr.specs.Members.{Spot, spot, this_form, is_outside, own_field, own_field_named, variable_or_field, named_spot, read_as, named, static_field, field_of_class, member_of_class, qualified_spot, is_library_name, limit_or, qualified_name, object_field, field_through, field_spot, is_length, field_read, no_field}

@@ -19,7 +19,7 @@ use Rattle.wy_kernel.specs.Subtyping.{IsReference, Below, same, transitive, to_o
 use Rattle.wy_kernel.specs.Table.{Table, IsTypeOf, ConstantValue, Simple, Text}
 use Rattle.wy_constant.specs.Scope.{Scope}
 use Rattle.wy_constant.specs.Constant.{choice_constant, choice_type, fits, has_number, joint, combined}
-use Rattle.wy_members.specs.Lineage.{HasTop}
+use Rattle.wy_overloads.specs.Lineage.{HasTop}
 use Rattle.wy_elab_expr.specs.Meaning.{Meaning, Known, Formed, type_of, text_type, Gets, give, ◌>>=◌, brought, formed, converted_form}
 use Rattle.wy_elab_expr.specs.Operators.{Judgement, Settles, is_void, is_nullable, is_boolean, is_text_type, primitive_in, number_type, fits_into, unary_type, unary_known, unary_formed, unary_of, known_or, OperandTypes, operand_types, joins, joined, binary_known, binary_formed, binary_of, token_of, truth_known, lazy_form, lazy_formed, lazy_of, can_cast, can_cast_primitive, can_cast_by, cast_form, cast_known, cast_of, tested, instance_of, is_assignable, nearest_above, is_class_type, common_type, choice_result, choice_formed, choice_of}
 use Rattle.wy_elab_expr.specs.Operators as elab

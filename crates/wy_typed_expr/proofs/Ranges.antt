@@ -8,7 +8,7 @@ use Rattle.wy_kernel.specs.Form.{Expression}
 use Rattle.wy_kernel.specs.Program.{Program, string_class}
 use Rattle.wy_kernel.specs.Subtyping.{class_type, Supertype, itself, further, Below, IsReference}
 use Rattle.wy_kernel.specs.Table.{IsTable, IsTypeOf, ConstantValue}
-use Rattle.wy_members.proofs.Straight.{Straight, equal, upward, widening, null, object, array, straight}
+use Rattle.wy_overloads.proofs.Straight.{Straight, equal, upward, widening, null, object, array, straight}
 use Rattle.wy_typing.specs.Expressions.{HasType}
 use Rattle.wy_typing.specs.Programs.{IsTypeIn}
 use Rattle.wy_typing.proofs.Ranges as ranges

@@ -7,7 +7,7 @@ use Rattle.wy_kernel.specs.declared.types.Ty.TheVariants.{Void, Null, Of}
 use Rattle.wy_kernel.specs.Form.{Act, Eval, Print, absent, the}
 use Rattle.wy_kernel.specs.Form as kernel
 use Rattle.wy_kernel.specs.Program.{Program, Class, Method}
-use Rattle.wy_members.proofs.Straight.{Straight, straight}
+use Rattle.wy_overloads.proofs.Straight.{Straight, straight}
 use Rattle.wy_kernel.specs.Builtin.{throwable_class}
 use Rattle.wy_kernel.specs.Subtyping.{Below, class_type}
 use Rattle.wy_kernel.specs.Table.{Table, ConstantValue}

@@ -4,8 +4,8 @@ ghost use Rattle.std.specs.Prelude.{◌≡◌, ◌<◌, ◌↔◌, ℕ, IsTrue, 
 ghost use Rattle.wy_members.specs.Least.{IsAgain, IsLeast, RepeatsEarlier};
 
 use crate::broken::least::{lesser, token_where};
-use crate::signature::are_same_types;
 use wy_kernel::types::{Class, Field, Method};
+use wy_overloads::signature::are_same_types;
 use wy_syntax::declaration::{Parameter, Placed};
 
 /// What may be declared again, at a token.

@@ -5,15 +5,15 @@ ghost use Rattle.std.specs.Prelude.{◌≡◌, ◌+◌, ◌<◌, ◌^◌, ◌↔
 ghost use Rattle.wy_syntax.specs.declared.declaration.Modifier.TheVariants as modifier;
 ghost use Rattle.wy_members.specs.Declarations.{has};
 ghost use Rattle.wy_members.specs.Least.{Among, IsLeast};
-ghost use Rattle.wy_members.specs.LineageView.{lineage_of};
+ghost use Rattle.wy_overloads.specs.LineageView.{lineage_of};
 ghost use Rattle.wy_members.specs.Within.{InClassNumbered, WantsBody, WantsNoBody, WrongBody, WrongBodyAt, WrongBodyIn};
 ghost use Rattle.wy_syntax.specs.View.{block_of, class_of, header_of, member_of};
 
 use crate::broken::cycle::is_judged;
 use crate::broken::least::{lesser, token_where};
-use crate::lineage::Lineage;
-use crate::member::FIRST_SOURCE_CLASS;
 use crate::written_type::has;
+use wy_overloads::lineage::Lineage;
+use wy_overloads::member::FIRST_SOURCE_CLASS;
 use wy_syntax::declaration::{ClassSyntax, Header, Member, Modifier};
 use wy_syntax::statement::Block;
 

@@ -7,13 +7,13 @@ ghost use Rattle.wy_kernel.specs.Subtyping.{Supertype};
 ghost use Rattle.wy_kernel.specs.View.{present};
 ghost use Rattle.wy_members.specs.Broken.{IsAboveItself};
 ghost use Rattle.wy_members.specs.Least.{Among, IsLeast};
-ghost use Rattle.wy_members.specs.LineageView.{lineage_of};
+ghost use Rattle.wy_overloads.specs.LineageView.{lineage_of};
 ghost use Rattle.wy_members.specs.Within.{CycleAt, IsJudgedIn};
 
 use crate::broken::least::{lesser, token_where};
-use crate::lineage::Lineage;
-use crate::subtyping::is_supertype;
 use wy_kernel::types::NONE;
+use wy_overloads::lineage::Lineage;
+use wy_overloads::subtyping::is_supertype;
 
 pub fn least_cycle(lineage: &Lineage) -> Option<u32>
     ensures { IsLeast (Among (lineage_of lineage.now).classes (CycleAt (lineage_of lineage.now).classes)) result }

@@ -3,7 +3,7 @@
 ghost use Rattle.std.specs.Prelude.{◌+◌, ◌<◌, ◌^◌, MatchOption, length, map};
 ghost use Rattle.wy_members.specs.Judging.{AreJudged};
 ghost use Rattle.wy_members.specs.Least.{IsLeast};
-ghost use Rattle.wy_members.specs.LineageView.{lineage_of};
+ghost use Rattle.wy_overloads.specs.LineageView.{lineage_of};
 ghost use Rattle.wy_members.specs.Names.{unit_of};
 ghost use Rattle.wy_members.specs.Refusal.{IsRefusal, KeepsRules};
 ghost use Rattle.wy_members.specs.Within.{BadOverridesIn, NotImplementedsIn, RepeatsIn};
@@ -19,11 +19,11 @@ use crate::broken::methods::{
     least_declared_abstract, least_inheriting, least_left_abstract, least_overriding,
 };
 use crate::broken::{bodies, duplicate, supertypes, unknown};
-use crate::lineage::Lineage;
 use crate::names::Names;
 use crate::rows::Rows;
 use wy_constant::Rule;
 use wy_kernel::types::Method;
+use wy_overloads::lineage::Lineage;
 use wy_syntax::declaration::ClassSyntax;
 
 /// The refusal that is due for a program whose declarations are these.

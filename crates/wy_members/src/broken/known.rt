@@ -12,12 +12,12 @@ ghost use Rattle.wy_members.specs.Declarations.{class_by_class, methods_of, tabl
 ghost use Rattle.wy_members.specs.Known.{is_known_result, is_known_type, members_seen};
 ghost use Rattle.wy_members.specs.Names.{unit_of};
 
-use crate::member::FIRST_SOURCE_CLASS;
 use crate::method_row::add_methods_of;
 use crate::names::{Names, next_number};
 use std::alloc::{AllocError, Global};
 use wy_kernel::builtin;
 use wy_kernel::types::{Method, NONE};
+use wy_overloads::member::FIRST_SOURCE_CLASS;
 use wy_syntax::declaration::{ClassSyntax, Declaration, Member, Outcome, Parameter};
 use wy_syntax::name::{WrittenBase, WrittenType};
 

@@ -4,14 +4,14 @@
 ghost use Rattle.std.specs.Prelude.{◌≡◌, ◌↔◌, IsTrue, false, true};
 ghost use Rattle.wy_kernel.specs.View.{method_of};
 ghost use Rattle.wy_members.specs.Least.{Among, IsLeast};
-ghost use Rattle.wy_members.specs.LineageView.{lineage_of};
+ghost use Rattle.wy_overloads.specs.LineageView.{lineage_of};
 ghost use Rattle.wy_members.specs.Within.{DeclaresAt, InheritsAt, InheritsWrongly, IsConcrete, IsJudgedIn, LeavesAbstract, LeavesAt, OverridesAt, OverridesWrongly};
 
 use crate::broken::cycle::is_judged;
 use crate::broken::least::{lesser, token_where};
 use crate::broken::overriding::{inherits_wrongly, leaves_abstract, overrides_wrongly};
-use crate::lineage::Lineage;
 use wy_kernel::types::{Class, Method};
+use wy_overloads::lineage::Lineage;
 
 pub fn least_overriding(judged: &Lineage, compared: &Lineage) -> Option<u32>
     ensures { IsLeast (Among (lineage_of compared.now).methods (OverridesAt (lineage_of judged.now).classes (lineage_of compared.now))) result }

@@ -5,15 +5,15 @@ ghost use Rattle.std.specs.Prelude.{◌≡◌, ◌↔◌, IsTrue};
 ghost use Rattle.wy_kernel.specs.Subtyping.{Substitutable, class_type};
 ghost use Rattle.wy_kernel.specs.View.{method_of};
 ghost use Rattle.wy_members.specs.Broken.{HasNoCommonResult, Inherits, StandsForEach};
-ghost use Rattle.wy_members.specs.Choice.{IsEquivalent, IsMethod};
-ghost use Rattle.wy_members.specs.LineageView.{lineage_of};
+ghost use Rattle.wy_overloads.specs.Choice.{IsEquivalent, IsMethod};
+ghost use Rattle.wy_overloads.specs.LineageView.{lineage_of};
 ghost use Rattle.wy_members.specs.Within.{Conflicts, DiffersInForm, InheritsWrongly, IsCommonResult, IsLeftAbstract, LeavesAbstract, OverridesWrongly, SomeMethod, StandsWrongly, WrongToOverride};
 
-use crate::counting::{is_counted, nearest_has_body};
-use crate::lineage::Lineage;
-use crate::member::{is_member, type_of_class};
-use crate::signature::{is_equivalent, is_substitutable};
 use wy_kernel::types::{Method, Ty};
+use wy_overloads::counting::{is_counted, nearest_has_body};
+use wy_overloads::lineage::Lineage;
+use wy_overloads::member::{is_member, type_of_class};
+use wy_overloads::signature::{is_equivalent, is_substitutable};
 
 /// Whether a method overrides or hides one of another class that it may not.
 pub fn overrides_wrongly(lineage: &Lineage, m: &Method) -> bool

@@ -12,11 +12,11 @@ use crate::broken::inheriting::inheriting_methods;
 use crate::broken::judging::breach_in;
 use crate::broken::known::known_methods;
 use crate::broken::text::classes_in;
-use crate::lineage::Lineage;
 use crate::names::Names;
 use crate::rows::Rows;
 use std::alloc::{AllocError, Global};
 use wy_kernel::closure::supertypes;
+use wy_overloads::lineage::Lineage;
 
 /// The rule that the declarations of a program break at their least token, and there the first, if they break one.
 pub fn refusal(alloc: Global, names: &Names, rows: &Rows) -> Result<Option<Breach>, AllocError>

@@ -4,7 +4,7 @@ ghost use Rattle.std.specs.Prelude.{◌≡◌, ◌+◌, ◌<◌, ◌^◌, ◌↔
 ghost use Rattle.wy_kernel.specs.Subtyping.{Supertype};
 ghost use Rattle.wy_kernel.specs.View.{class_of as row_of};
 ghost use Rattle.wy_members.specs.Least.{Among, IsLeast};
-ghost use Rattle.wy_members.specs.LineageView.{lineage_of};
+ghost use Rattle.wy_overloads.specs.LineageView.{lineage_of};
 ghost use Rattle.wy_members.specs.Names.{unit_of};
 ghost use Rattle.wy_members.specs.Within.{ExtendsWrongly, HasWrongAbove, IsJudgedIn, NamesClass, NotExtended, WrongAboveAt};
 ghost use Rattle.wy_syntax.specs.Syntax.{Named as NamedSyntax};
@@ -12,11 +12,11 @@ ghost use Rattle.wy_syntax.specs.View.{class_of, named_of};
 
 use crate::broken::cycle::is_judged;
 use crate::broken::least::{lesser, token_where};
-use crate::lineage::Lineage;
-use crate::member::FIRST_SOURCE_CLASS;
 use crate::names::Names;
-use crate::subtyping::is_supertype;
 use wy_kernel::types::Class;
+use wy_overloads::lineage::Lineage;
+use wy_overloads::member::FIRST_SOURCE_CLASS;
+use wy_overloads::subtyping::is_supertype;
 use wy_syntax::declaration::ClassSyntax;
 use wy_syntax::name::Named;
 

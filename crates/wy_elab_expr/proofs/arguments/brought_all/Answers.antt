@@ -1,7 +1,5 @@
-use Rattle.std.proofs.Common.{◌≡◌, ◌∙◌, List, [], rules, sym}
-use Rattle.std.proofs.lemmas.List.{append-nil}
+use Rattle.std.proofs.Common.{◌≡◌, [], rules}
 use Rattle.std.proofs.lemmas.Result.{err_from_is_err_and}
-use Rattle.wy_elab_expr.specs.declared.meaning.Meaning.{Meaning}
 use Rattle.wy_elab_expr.proofs.Rows.{goes_on, stops, none_left, none_waits, turned_back}
 use Rattle.wy_elab_expr.proofs.arguments.brought_all.Goals as goal
 

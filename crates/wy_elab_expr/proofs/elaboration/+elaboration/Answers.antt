@@ -1,10 +1,10 @@
-use Rattle.std.proofs.Common.{map, rules}
+use Rattle.std.proofs.Common.{arith, map, rules, sym, ◌∙◌}
 use Rattle.std.proofs.lemmas.Result.{err_from_is_err_and}
 use Rattle.wy_kernel.specs.ClassTable.{table_of}
 use Rattle.wy_syntax.specs.View.{expression_of, row_of}
 use Rattle.wy_elab_expr.specs.Views.{class_name_of, meaning_of, stream_of}
 use Rattle.wy_elab_expr.proofs.Dots.{read_of_class, read_stops, read_goes, target_of_class, target_stops, target_goes, stream_stops, class_stops, object_fails, object_stops, stream_goes, class_goes, object_goes, call_found, call_seen}
-use Rattle.wy_elab_expr.proofs.Layers.{no_target}
+use Rattle.wy_elab_expr.proofs.Layers.{no_target, no_place_left, no_call_left, no_operator_left, wrong_left, wrong_is_refused}
 use Rattle.wy_elab_expr.proofs.Sequence.{goes_on, stops, ends, elements_go, elements_stop, elements_end}
 use Rattle.wy_elab_expr.proofs.elaboration.+elaboration.Goals as goal
 
@@ -105,8 +105,24 @@ invoked_on-returns-in_ok-args-in-None-class_in t c = λ j h.
     object_goes j (table_of c.args.table.now) c.args.scope.now c.args.texts.now c.elaborated.new.texts c.elaborated_all-in-None-class_in.new.texts c.called_on.new.texts (expression_of c.args.object.now) c.args.name.now (row_of (map expression_of c.args.args.now)) c.args.token (meaning_of c.in_ok-m-in-None-class_in.m) (map meaning_of c.in_ok-args-in-None-class_in.args.items) c.called_on.result
     (search rules) (search rules) (c.in_ok-m-in-None-class_in.ensures j h) (c.in_ok-args-in-None-class_in.ensures j h) (c.called_on.ensures j h)
 
-pub elaborated-returns-in-InvokeOn : goal.elaborated-returns-in-InvokeOn
-elaborated-returns-in-InvokeOn t c = λ j h.
+pub elaborated_call-returns-in-InvokeOn : goal.elaborated_call-returns-in-InvokeOn
+elaborated_call-returns-in-InvokeOn t c = λ j h.
     call_found j (table_of c.args.table.now) c.args.scope.now c.args.texts.now c.invoked_on.new.texts c.args.e.now _ c.invoked_on.result
     (call_seen c.args.e.now c.deref-in-InvokeOn.result.now c.in-InvokeOn.object c.in-InvokeOn.name c.in-InvokeOn.args c.in-InvokeOn.token c.as_str-in-InvokeOn.result.now c.deref-in-InvokeOn-2.result.now
     c.in-InvokeOn.is c.deref-in-InvokeOn.ensures (search rules) c.deref-in-InvokeOn-2.ensures.value) (c.invoked_on.ensures j h)
+
+pub elaborated-elaborated_call-requires : goal.elaborated-elaborated_call-requires
+elaborated-elaborated_call-requires t c =
+    (omega (arith, c.decreases), no_place_left c.args.e.now c.in_default.not-Literal c.in_default.not-Name c.in_default.not-This c.in_default.not-Group c.in_default.not-Field c.in_default.not-SuperField c.in_default.not-Element)
+
+pub elaborated_call-elaborated_operator-requires : goal.elaborated_call-elaborated_operator-requires
+elaborated_call-elaborated_operator-requires t c =
+    (omega (arith, c.decreases), sym (no_call_left c.args.e.now c.in_default.not-Invoke c.in_default.not-InvokeOn c.in_default.not-SuperInvoke c.in_default.not-NewObject c.in_default.not-NewArray c.in_default.not-NewList) ∙ c.requires)
+
+pub elaborated_operator-elaborated_choice-requires : goal.elaborated_operator-elaborated_choice-requires
+elaborated_operator-elaborated_choice-requires t c =
+    (omega (arith, c.decreases), sym (no_operator_left c.args.e.now c.in_default.not-Unary c.in_default.not-Binary c.in_default.not-Both c.in_default.not-Either c.in_default.not-InstanceOf c.in_default.not-Cast) ∙ c.requires)
+
+pub elaborated_choice-returns-in_default : goal.elaborated_choice-returns-in_default
+elaborated_choice-returns-in_default t c = λ j h.
+    rw c.refused.ensures (wrong_is_refused j (table_of c.args.table.now) c.args.scope.now c.args.texts.now c.args.e.now (sym (wrong_left c.args.e.now c.in_default.not-Step c.in_default.not-Choice c.in_default.not-Assign c.in_default.not-Update) ∙ c.requires))

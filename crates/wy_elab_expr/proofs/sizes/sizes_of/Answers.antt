@@ -1,4 +1,4 @@
-use Rattle.std.proofs.Common.{◌≡◌, [], rules, sym}
+use Rattle.std.proofs.Common.{◌≡◌, [], rules}
 use Rattle.std.proofs.lemmas.Result.{err_from_is_err_and}
 use Rattle.wy_elab_expr.proofs.Rows.{sizes_go, sizes_stop, no_size, sizes_back}
 use Rattle.wy_elab_expr.proofs.sizes.sizes_of.Goals as goal

@@ -2,10 +2,10 @@ use Rattle.std.proofs.Common.{List, map, subst}
 use Rattle.wy_syntax.specs.declared.declaration.Member.{Member}
 use Rattle.wy_syntax.specs.View.{class_of, member_of}
 use Rattle.wy_members.specs.Least.{Among, IsLeast, nowhere}
-use Rattle.wy_members.specs.LineageView.{lineage_of}
+use Rattle.wy_overloads.specs.LineageView.{lineage_of}
 use Rattle.wy_members.specs.Within.{InClassNumbered, WrongBodyIn}
 use Rattle.wy_members.proofs.Leasts.{like}
-use Rattle.wy_members.proofs.Related.{untrue}
+use Rattle.wy_overloads.proofs.Related.{untrue}
 use Rattle.wy_members.proofs.broken.bodies.least_in_class.Goals as goal
 
 pub returns-then-not-is_judged : goal.returns-then-not-is_judged

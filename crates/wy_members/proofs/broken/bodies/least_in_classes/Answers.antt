@@ -1,7 +1,7 @@
 use Rattle.std.proofs.Common.{Bor, map}
 use Rattle.wy_syntax.specs.declared.declaration.ClassSyntax.{ClassSyntax}
 use Rattle.wy_syntax.specs.View.{class_of}
-use Rattle.wy_members.specs.LineageView.{lineage_of}
+use Rattle.wy_overloads.specs.LineageView.{lineage_of}
 use Rattle.wy_members.specs.Within.{WrongBodyAt}
 use Rattle.wy_members.proofs.Leasts.{none_yet, more_seen, gone_seen}
 use Rattle.wy_members.proofs.broken.bodies.least_in_classes.Goals as goal

@@ -1,8 +1,8 @@
 use Rattle.std.proofs.Common.{◌↔◌, ℕ, List, IsTrue, subst, arith, ◌≤◌, length}
 use Rattle.wy_kernel.specs.View.{class_of}
-use Rattle.wy_members.specs.LineageView.{lineage_of}
+use Rattle.wy_overloads.specs.LineageView.{lineage_of}
 use Rattle.wy_members.proofs.Cycles.{SomeBelow, above_by_class, above_by_either, not_above_beyond}
-use Rattle.wy_members.proofs.Related.{both, not_below, untrue}
+use Rattle.wy_overloads.proofs.Related.{both, not_below, untrue}
 use Rattle.wy_members.proofs.broken.cycle.is_above_itself.Goals as goal
 
 pub returns-then-c-classes : goal.returns-then-c-classes

@@ -1,6 +1,6 @@
 use Rattle.std.proofs.Common.{ℕ, ◌<◌, get_or}
 use Rattle.wy_kernel.specs.Subtyping.{Supertype}
-use Rattle.wy_members.specs.LineageView.{lineage_of}
+use Rattle.wy_overloads.specs.LineageView.{lineage_of}
 use Rattle.wy_members.proofs.broken.cycle.is_any_below.Given as goal
 
 abbrev pub invariant-loop-d : goal.invariant-loop-d

@@ -1,8 +1,8 @@
 use Rattle.std.proofs.Common.{◌≤◌, length, arith, refl, below_more}
 use Rattle.wy_members.specs.Broken.{IsAboveItself}
-use Rattle.wy_members.specs.LineageView.{lineage_of}
+use Rattle.wy_overloads.specs.LineageView.{lineage_of}
 use Rattle.wy_members.proofs.Cycles.{judged_beyond, of_contained}
-use Rattle.wy_members.proofs.Related.{both, untrue}
+use Rattle.wy_overloads.proofs.Related.{both, untrue}
 use Rattle.wy_members.proofs.broken.cycle.is_judged.Goals as goal
 
 pub returns-then-c-classes : goal.returns-then-c-classes

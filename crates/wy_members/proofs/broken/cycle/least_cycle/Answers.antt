@@ -1,7 +1,7 @@
 use Rattle.std.proofs.Common.{◌≤◌, length, arith}
 use Rattle.wy_kernel.specs.View.{class_of}
 use Rattle.wy_members.specs.Broken.{IsAboveItself}
-use Rattle.wy_members.specs.LineageView.{lineage_of}
+use Rattle.wy_overloads.specs.LineageView.{lineage_of}
 use Rattle.wy_members.specs.Within.{CycleAt}
 use Rattle.wy_members.proofs.Leasts.{none_yet, one_more, all_gone, where_it_holds}
 use Rattle.wy_members.proofs.broken.cycle.least_cycle.Goals as goal

@@ -1,5 +1,5 @@
 use Rattle.wy_members.specs.Least.{IsLeast}
-use Rattle.wy_members.specs.LineageView.{lineage_of}
+use Rattle.wy_overloads.specs.LineageView.{lineage_of}
 use Rattle.wy_members.specs.Within.{CycleAt}
 use Rattle.wy_members.proofs.Leasts.{Before}
 use Rattle.wy_members.proofs.broken.cycle.least_cycle.Given as goal

@@ -1,4 +1,4 @@
-use Rattle.wy_members.specs.LineageView.{lineage_of}
+use Rattle.wy_overloads.specs.LineageView.{lineage_of}
 use Rattle.wy_members.specs.Names.{unit_of}
 use Rattle.wy_members.proofs.Firsts.{first_of_all}
 use Rattle.wy_members.proofs.Judgings.{duplicates, unknowns, cycles, overrides, implementations}

@@ -2,7 +2,7 @@ use Rattle.std.proofs.Common.{Bor, map}
 use Rattle.wy_syntax.specs.declared.declaration.ClassSyntax.{ClassSyntax}
 use Rattle.wy_syntax.specs.View.{class_of as class_syntax}
 use Rattle.wy_members.specs.Least.{Among, Either}
-use Rattle.wy_members.specs.LineageView.{lineage_of}
+use Rattle.wy_overloads.specs.LineageView.{lineage_of}
 use Rattle.wy_members.specs.Within.{DeclaresAt, LeavesAt, WrongBodyAt}
 use Rattle.wy_members.proofs.Leasts.{either}
 use Rattle.wy_members.proofs.broken.judging.least_not_implemented.Goals as goal

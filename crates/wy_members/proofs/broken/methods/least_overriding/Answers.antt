@@ -1,6 +1,6 @@
 use Rattle.std.proofs.Common.{◌≤◌, length, arith}
 use Rattle.wy_kernel.specs.View.{method_of}
-use Rattle.wy_members.specs.LineageView.{lineage_of}
+use Rattle.wy_overloads.specs.LineageView.{lineage_of}
 use Rattle.wy_members.specs.Within.{IsJudgedIn, OverridesAt, OverridesWrongly}
 use Rattle.wy_members.proofs.Leasts.{none_yet, one_more, all_gone, where_it_holds}
 use Rattle.wy_members.proofs.broken.methods.least_overriding.Goals as goal

@@ -1,5 +1,5 @@
 use Rattle.wy_members.specs.Least.{IsLeast}
-use Rattle.wy_members.specs.LineageView.{lineage_of}
+use Rattle.wy_overloads.specs.LineageView.{lineage_of}
 use Rattle.wy_members.specs.Within.{OverridesAt}
 use Rattle.wy_members.proofs.Leasts.{Before}
 use Rattle.wy_members.proofs.broken.methods.least_overriding.Given as goal

@@ -1,9 +1,9 @@
 use Rattle.std.proofs.Common.{◌≤◌, length, refl, arith}
 use Rattle.wy_kernel.specs.View.{method_of}
-use Rattle.wy_members.specs.LineageView.{lineage_of}
+use Rattle.wy_overloads.specs.LineageView.{lineage_of}
 use Rattle.wy_members.specs.Within.{IsCommonResult}
-use Rattle.wy_members.proofs.Members.{up_to, within}
-use Rattle.wy_members.proofs.Related.{both, not_below, untrue}
+use Rattle.wy_overloads.proofs.Members.{up_to, within}
+use Rattle.wy_overloads.proofs.Related.{both, not_below, untrue}
 use Rattle.wy_members.proofs.broken.overriding.has_no_common_result.Goals as goal
 
 pub loop-j-preserved : goal.loop-j-preserved

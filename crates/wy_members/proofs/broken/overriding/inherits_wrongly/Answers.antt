@@ -3,10 +3,10 @@ use Rattle.wy_kernel.specs.Program.{Method}
 use Rattle.wy_kernel.specs.Subtyping.{class_type}
 use Rattle.wy_kernel.specs.View.{method_of}
 use Rattle.wy_members.specs.Broken.{Inherits}
-use Rattle.wy_members.specs.LineageView.{lineage_of}
+use Rattle.wy_overloads.specs.LineageView.{lineage_of}
 use Rattle.wy_members.specs.Within.{StandsWrongly}
-use Rattle.wy_members.proofs.Members.{up_to, within}
-use Rattle.wy_members.proofs.Related.{both, not_below, untrue}
+use Rattle.wy_overloads.proofs.Members.{up_to, within}
+use Rattle.wy_overloads.proofs.Related.{both, not_below, untrue}
 use Rattle.wy_members.proofs.broken.overriding.inherits_wrongly.Goals as goal
 
 pub loop-k-preserved : goal.loop-k-preserved

@@ -2,8 +2,8 @@ use Rattle.std.proofs.Common.{ℕ, ◌<◌}
 use Rattle.wy_kernel.specs.Program.{Method}
 use Rattle.wy_kernel.specs.Subtyping.{class_type}
 use Rattle.wy_members.specs.Broken.{Inherits}
-use Rattle.wy_members.specs.Choice.{IsMethod}
-use Rattle.wy_members.specs.LineageView.{lineage_of}
+use Rattle.wy_overloads.specs.Choice.{IsMethod}
+use Rattle.wy_overloads.specs.LineageView.{lineage_of}
 use Rattle.wy_members.specs.Within.{StandsWrongly}
 use Rattle.wy_members.proofs.broken.overriding.inherits_wrongly.Given as goal
 

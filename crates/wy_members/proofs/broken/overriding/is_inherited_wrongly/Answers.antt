@@ -1,9 +1,9 @@
 use Rattle.std.proofs.Common.{IsTrue, ◌↔◌, subst}
 use Rattle.wy_kernel.specs.declared.types.Ty.{Ty}
 use Rattle.wy_kernel.specs.View.{method_of}
-use Rattle.wy_members.specs.LineageView.{lineage_of}
+use Rattle.wy_overloads.specs.LineageView.{lineage_of}
 use Rattle.wy_members.specs.Within.{StandsWrongly}
-use Rattle.wy_members.proofs.Related.{with_first}
+use Rattle.wy_overloads.proofs.Related.{with_first}
 use Rattle.wy_members.proofs.broken.overriding.is_inherited_wrongly.Goals as goal
 
 pub returns-then-is_inherited : goal.returns-then-is_inherited

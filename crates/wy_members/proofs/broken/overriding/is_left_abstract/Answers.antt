@@ -1,9 +1,9 @@
 use Rattle.std.proofs.Common.{IsTrue, ◌↔◌, subst, sym, ◌∙◌}
 use Rattle.wy_kernel.specs.declared.types.Ty.{Ty}
 use Rattle.wy_kernel.specs.View.{method_of}
-use Rattle.wy_members.specs.Choice.{NearestHasBody}
-use Rattle.wy_members.specs.LineageView.{lineage_of}
-use Rattle.wy_members.proofs.Members.{unless_nearest}
+use Rattle.wy_overloads.specs.Choice.{NearestHasBody}
+use Rattle.wy_overloads.specs.LineageView.{lineage_of}
+use Rattle.wy_overloads.proofs.Members.{unless_nearest}
 use Rattle.wy_members.proofs.broken.overriding.is_left_abstract.Goals as goal
 use Rattle.wy_members.proofs.broken.overriding.is_left_abstract.Goals.{then-m, else-m}
 

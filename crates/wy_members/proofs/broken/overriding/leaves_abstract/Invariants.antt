@@ -1,7 +1,7 @@
 use Rattle.std.proofs.Common.{ℕ, ◌<◌}
 use Rattle.wy_kernel.specs.Program.{Method}
-use Rattle.wy_members.specs.Choice.{IsMethod}
-use Rattle.wy_members.specs.LineageView.{lineage_of}
+use Rattle.wy_overloads.specs.Choice.{IsMethod}
+use Rattle.wy_overloads.specs.LineageView.{lineage_of}
 use Rattle.wy_members.specs.Within.{IsLeftAbstract}
 use Rattle.wy_members.proofs.broken.overriding.leaves_abstract.Given as goal
 

@@ -1,10 +1,10 @@
 use Rattle.std.proofs.Common.{ℕ, ◌≤◌, length, refl, arith}
 use Rattle.wy_kernel.specs.Program.{Method}
 use Rattle.wy_kernel.specs.View.{method_of}
-use Rattle.wy_members.specs.LineageView.{lineage_of}
+use Rattle.wy_overloads.specs.LineageView.{lineage_of}
 use Rattle.wy_members.specs.Within.{WrongToOverride}
-use Rattle.wy_members.proofs.Members.{up_to, within}
-use Rattle.wy_members.proofs.Related.{both, not_below, untrue}
+use Rattle.wy_overloads.proofs.Members.{up_to, within}
+use Rattle.wy_overloads.proofs.Related.{both, not_below, untrue}
 use Rattle.wy_members.proofs.broken.overriding.overrides_wrongly.Goals as goal
 
 pub loop-k-preserved : goal.loop-k-preserved

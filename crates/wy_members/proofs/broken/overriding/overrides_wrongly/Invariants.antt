@@ -1,8 +1,8 @@
 use Rattle.std.proofs.Common.{ℕ, ◌<◌}
 use Rattle.wy_kernel.specs.Program.{Method}
 use Rattle.wy_kernel.specs.View.{method_of}
-use Rattle.wy_members.specs.Choice.{IsMethod}
-use Rattle.wy_members.specs.LineageView.{lineage_of}
+use Rattle.wy_overloads.specs.Choice.{IsMethod}
+use Rattle.wy_overloads.specs.LineageView.{lineage_of}
 use Rattle.wy_members.specs.Within.{WrongToOverride}
 use Rattle.wy_members.proofs.broken.overriding.overrides_wrongly.Given as goal
 

@@ -2,10 +2,10 @@ use Rattle.std.proofs.Common.{ℕ, ◌≤◌, length, refl, arith}
 use Rattle.wy_kernel.specs.Program.{Method}
 use Rattle.wy_kernel.specs.Subtyping.{Substitutable}
 use Rattle.wy_kernel.specs.View.{method_of}
-use Rattle.wy_members.specs.Choice.{IsEquivalent}
-use Rattle.wy_members.specs.LineageView.{lineage_of}
-use Rattle.wy_members.proofs.Members.{up_to, within}
-use Rattle.wy_members.proofs.Related.{both, not_below, untrue}
+use Rattle.wy_overloads.specs.Choice.{IsEquivalent}
+use Rattle.wy_overloads.specs.LineageView.{lineage_of}
+use Rattle.wy_overloads.proofs.Members.{up_to, within}
+use Rattle.wy_overloads.proofs.Related.{both, not_below, untrue}
 use Rattle.wy_members.proofs.broken.overriding.stands_for_each.Goals as goal
 
 pub loop-j-preserved : goal.loop-j-preserved

@@ -1,4 +1,4 @@
-use Rattle.wy_members.proofs.Related.{or_second, untrue}
+use Rattle.wy_overloads.proofs.Related.{or_second, untrue}
 use Rattle.wy_members.proofs.broken.overriding.stands_wrongly.Goals as goal
 
 pub returns-else-differs_in_form : goal.returns-else-differs_in_form

@@ -10,7 +10,7 @@ use Rattle.wy_syntax.specs.Syntax.{ClassSyntax}
 use Rattle.wy_syntax.specs.View.{class_of as class_syntax}
 use Rattle.wy_members.specs.Broken.{with_fitting_supertypes, known_part}
 use Rattle.wy_members.specs.Declarations.{CompilationUnit, classes_of, table}
-use Rattle.wy_members.specs.Lineage.{HasTop}
+use Rattle.wy_overloads.specs.Lineage.{HasTop}
 use Rattle.wy_members.specs.Names.{unit_of}
 use Rattle.wy_members.proofs.InRange.{names_among}
 use Rattle.wy_members.proofs.Judgeable.{fitting, has_top, fitting_has_top, fitting_among, compared_is, few_texts}

@@ -2,10 +2,10 @@ use Rattle.std.proofs.Common.{◌≡◌, ◌↔◌, ℕ, List, Some, IsTrue, map
 use Rattle.wy_syntax.specs.declared.name.Named as memory
 use Rattle.wy_syntax.specs.Syntax.{Named}
 use Rattle.wy_syntax.specs.View.{named_of}
-use Rattle.wy_members.specs.LineageView.{lineage_of}
+use Rattle.wy_overloads.specs.LineageView.{lineage_of}
 use Rattle.wy_members.specs.Names.{unit_of}
 use Rattle.wy_members.specs.Within.{NamesClass}
-use Rattle.wy_members.proofs.Related.{both, or_second, untrue}
+use Rattle.wy_overloads.proofs.Related.{both, or_second, untrue}
 use Rattle.wy_members.proofs.broken.supertypes.has_wrong_above.Goals as goal
 
 pub returns-then-names_class : goal.returns-then-names_class

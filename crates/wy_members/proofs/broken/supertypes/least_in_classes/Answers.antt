@@ -2,7 +2,7 @@ use Rattle.std.proofs.Common.{Bor, map, ◌+◌}
 use Rattle.wy_kernel.specs.Program.{first_source_class}
 use Rattle.wy_syntax.specs.declared.declaration.ClassSyntax.{ClassSyntax}
 use Rattle.wy_syntax.specs.View.{class_of}
-use Rattle.wy_members.specs.LineageView.{lineage_of}
+use Rattle.wy_overloads.specs.LineageView.{lineage_of}
 use Rattle.wy_members.specs.Names.{unit_of}
 use Rattle.wy_members.specs.Within.{HasWrongAbove, IsJudgedIn, WrongAboveAt}
 use Rattle.wy_members.proofs.Leasts.{none_yet, more_seen, gone_seen, where_it_holds}

@@ -1,10 +1,10 @@
 use Rattle.std.proofs.Common.{refl}
 use Rattle.wy_syntax.specs.View.{named_of}
-use Rattle.wy_members.specs.LineageView.{lineage_of}
+use Rattle.wy_overloads.specs.LineageView.{lineage_of}
 use Rattle.wy_members.specs.Names.{unit_of}
 use Rattle.wy_members.specs.Within.{NamesClass}
 use Rattle.wy_members.proofs.Leasts.{at_place, seen_up_to, seen_within}
-use Rattle.wy_members.proofs.Related.{both, not_below, untrue}
+use Rattle.wy_overloads.proofs.Related.{both, not_below, untrue}
 use Rattle.wy_members.proofs.broken.supertypes.names_class.Goals as goal
 
 pub returns-then-is_name_of_class : goal.returns-then-is_name_of_class

@@ -1,7 +1,7 @@
 use Rattle.std.proofs.Common.{◌≡◌, ℕ, ◌<◌, Some, map, slice_get}
 use Rattle.wy_syntax.specs.Syntax.{Named}
 use Rattle.wy_syntax.specs.View.{named_of}
-use Rattle.wy_members.specs.LineageView.{lineage_of}
+use Rattle.wy_overloads.specs.LineageView.{lineage_of}
 use Rattle.wy_members.specs.Names.{unit_of}
 use Rattle.wy_members.specs.Within.{NamesClass}
 use Rattle.wy_members.proofs.broken.supertypes.names_class.Given as goal

@@ -1,8 +1,0 @@
-use Rattle.wy_kernel.specs.ClassTable.{table_of}
-use Rattle.wy_constant.proofs.Layers.{no_constant}
-use Rattle.wy_constant.proofs.constant.+constant_of.Goals as goal
-
-pub returns-in_default : goal.returns-in_default
-returns-in_default t c =
-    no_constant (table_of c.args.table.now) c.args.scope.now c.args.e.now c.in_default.not-Literal c.in_default.not-Name c.in_default.not-Group c.in_default.not-Field
-    c.in_default.not-Unary c.in_default.not-Binary c.in_default.not-Both c.in_default.not-Either c.in_default.not-Cast c.in_default.not-Choice

@@ -1,9 +1,0 @@
-use Rattle.std.proofs.Common.{ℕ, ◌<◌}
-use Rattle.wy_members.specs.LineageView.{lineage_of}
-use Rattle.wy_kernel.specs.Program.{Method}
-use Rattle.wy_kernel.specs.View.{method_of}
-use Rattle.wy_members.specs.Choice.{Equivalent, HasHigherResult}
-use Rattle.wy_members.proofs.counting.has_lowest_result.Given as goal
-
-abbrev pub invariant-loop-j : goal.invariant-loop-j
-invariant-loop-j l = (i : ℕ) (other : Method) → i < l.j → Equivalent (lineage_of l.lineage) l.ty (method_of l.m) i other → HasHigherResult (lineage_of l.lineage).classes l.k (method_of l.m) i other

@@ -1,5 +1,0 @@
-use Rattle.wy_members.proofs.Unique.{one_chosen}
-use Rattle.wy_members.proofs.laws.one_method_is_chosen.Goals as goal
-
-pub returns : goal.returns
-returns c = one_chosen

@@ -1,5 +1,0 @@
-use Rattle.wy_members.proofs.Unique.{antisymmetric}
-use Rattle.wy_members.proofs.laws.subtyping_is_antisymmetric.Goals as goal
-
-pub returns : goal.returns
-returns c = antisymmetric

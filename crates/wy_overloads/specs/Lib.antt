@@ -1,0 +1,4 @@
+pub mod Choice
+pub mod Lineage
+pub mod LineageView
+pub mod Laws
