@@ -59,6 +59,25 @@ differs_at X (Differs event) compares xs ys i n y at agree is differs =
       },
     )
 
+-- a difference behind all events
+pub differs_behind : (X : Type 0) (e : RecordError) (compares : Bool) {E : Type 0} (seen : E → Recorded) (es : List E) (given started noted run : List Recorded) (n : ℕ) → (compares ≡ true → started ≡ given) → noted ≡ started →
+    (compares ≡ true → n ≡ length es) → (compares ≡ true → AgreeBelow (length es) started (map seen es)) → map seen es ≡ run → DiffersFor {X = X} (Err e) compares n (slice_get noted n ≢ Absent) → DiffersAsFirst {X = X} (Err e) compares given run
+differs_behind X (SinkFault mirror) compares seen es given started noted run n first same all agree is differs = tt
+differs_behind X NoMemory compares seen es given started noted run n first same all agree is differs = tt
+differs_behind X (Differs event) compares seen es given started noted run n first same all agree is differs =
+    let does = differs.0 in
+    let place : event ≡ length run = differs.1 ∙ all does ∙ sym (length-map es seen) ∙ ap length is in (
+      does,
+      record {
+        before = λ k below. ap (λ (xs : List Recorded). slice_get xs k) (sym (first does)) ∙ agree does k (omega (arith, below, differs.1, all does)) ∙ ap (λ (xs : List Recorded). slice_get xs k) is;
+        here = λ alike. differs.2 (ap₂ slice_get (same ∙ first does) (sym differs.1) ∙ alike ∙ ap (slice_get run) place ∙ past_all run);
+      },
+    )
+  where
+    past_all : (xs : List Recorded) → slice_get xs (length xs) ≡ Absent
+    past_all [] = refl
+    past_all (x ∷ xs) = past_all xs
+
 -- ---- the place of the next event
 
 pub risen : (compares : Bool) (old new i : ℕ) → compares ≡ true → old ≡ i → new ≡ (if true && compares then suc old else old) → new ≡ i + 1

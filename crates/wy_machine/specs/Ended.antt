@@ -1,6 +1,7 @@
 -- What a run leaves, as the definition of a run has it.
 use Rattle.std.specs.Prelude.{◌≡◌, ℕ, List, [], ◌∷◌, map, reverse, Option, option_and_then, slice_get}
 use Rattle.wy_kernel.specs.Program.{Program}
+use Rattle.wy_event.specs.declared.record.Tail.{Tail}
 use Rattle.wy_event.specs.Record.{Recorded}
 use Rattle.wy_steps.specs.Sets.{nothing}
 use Rattle.wy_steps.specs.State.{State, Outcome, go_on, return}
@@ -8,6 +9,10 @@ use Rattle.wy_meaning.specs.Run as meaning
 use Rattle.wy_meaning.specs.Kept.{kept_tail, kept_thrown}
 use Rattle.wy_operands.specs.Values.{Values}
 use Rattle.wy_machine.specs.declared.ended.Ended.{Ended}
+
+-- it is the end of the run of the program, as it is kept in memory
+abbrev pub IsTailOf : Program → List ℕ → ℕ → Tail → Type 0
+IsTailOf p input steps end = kept_tail end ≡ meaning.tail nothing p input steps
 
 -- it is what the run of the program leaves
 pub record IsEndOf (p : Program) (input : List ℕ) (steps : ℕ) (e : Ended) : Type 0 where

@@ -1,16 +1,16 @@
 //! A run, and its trace.
 
-ghost use Rattle.std.specs.Prelude.{◌≡◌, ◌<◌, ◌^◌, ◌++◌, IfOk, OnOk, length, map, true};
+ghost use Rattle.std.specs.Prelude.{◌≡◌, ◌<◌, ◌^◌, ◌++◌, IfErr, IfOk, OnOk, length, map, true, is_ok, if◌then◌else◌};
 ghost use Rattle.std.specs.List.{concat};
 ghost use Rattle.wy_event.specs.Record.{recorded};
 ghost use Rattle.wy_fitting.specs.Fits.{AllFit};
 ghost use Rattle.wy_kernel.specs.Parts.{program_of};
-ghost use Rattle.wy_machine.specs.Ended.{IsEndOf};
+ghost use Rattle.wy_machine.specs.Ended.{IsEndOf, IsTailOf};
 ghost use Rattle.wy_meaning.specs.Run as meaning;
-ghost use Rattle.wy_record.specs.Answers.{FaultsAs, with_more};
-ghost use Rattle.wy_record.specs.declared.recorder.Phase.TheVariants.{Done, Ready, Recording};
+ghost use Rattle.wy_record.specs.Answers.{FaultsAs, MirrorsTake};
+ghost use Rattle.wy_record.specs.declared.recorder.Phase.TheVariants.{Done, Failed, Ready, Recording};
 ghost use Rattle.wy_machine.specs.Differences.{AgreeBelow, DiffersAsFirst};
-ghost use Rattle.wy_machine.specs.Traces.{closed};
+ghost use Rattle.wy_machine.specs.Traces.{BeginTrace, IsLeft, closed};
 ghost use Rattle.wy_steps.specs.Sets.{nothing};
 
 use crate::ended::Ended;
@@ -23,8 +23,9 @@ use wy_record::{MemoryRecorder, RecordError, Recorder};
 
 /// Runs a program with the input and the steps of a head, and hands the head, each event in order
 /// and the end to a recorder, which is done then; the expected events are for one that compares.
-/// The events are kept until the run has ended. Where memory is wanting for the run, the recorder
-/// has the head alone and goes on recording.
+/// The events are kept until the run has ended. Where a call is refused, the recorder has failed, and
+/// each mirror has a first part of the trace; where memory is wanting for the run, it has the head
+/// alone and goes on recording.
 pub fn record<R: Recorder>(
     alloc: Global,
     program: &Program,
@@ -43,7 +44,13 @@ pub fn record<R: Recorder>(
         (R.mirrors recorder.old)) }
     ensures fits { IfOk result (λ e. AllFit
         (meaning.events nothing (program_of program.now) head.now.input head.now.steps)) }
+    ensures begun { IfErr result (λ e. BeginTrace R.closing
+        (IsTailOf (program_of program.now) head.now.input head.now.steps)
+        (R.opening head.now ++ concat (map R.frame
+        (meaning.events nothing (program_of program.now) head.now.input head.now.steps)))
+        (R.mirrors recorder.old) (R.mirrors recorder.new)) }
     ensures phase { OnOk result (R.phase recorder.new ≡ Done) }
+    ensures left { IfErr result (λ e. IsLeft e (R.phase recorder.new)) }
     ensures faults { FaultsAs result (R.faults recorder.old) (R.faults recorder.new) }
     ensures as_expected { R.compares ≡ true → OnOk result (map recorded expected.items
         ≡ meaning.events nothing (program_of program.now) head.now.input head.now.steps) }
@@ -83,9 +90,9 @@ fn kept(alloc: Global, program: &Program, head: &Head) -> Result<(Ended, Vec<Eve
 fn note_all<R: Recorder>(recorder: &mut R, events: &[Event]) -> Result<(), RecordError>
     requires phase { R.phase recorder.old ≡ Recording }
     requires position { R.compares ≡ true → R.position recorder.old ≡ 0 }
-    ensures phase { OnOk result (R.phase recorder.new ≡ Recording) }
-    ensures mirrors { OnOk result (R.mirrors recorder.new
-        ≡ with_more (concat (map R.frame (map recorded events.now))) (R.mirrors recorder.old)) }
+    ensures phase { R.phase recorder.new ≡ (if is_ok result then Recording else Failed) }
+    ensures mirrors { MirrorsTake result (concat (map R.frame (map recorded events.now)))
+        (R.mirrors recorder.old) (R.mirrors recorder.new) }
     ensures faults { FaultsAs result (R.faults recorder.old) (R.faults recorder.new) }
     ensures expected { R.expected recorder.new ≡ R.expected recorder.old }
     ensures position { R.compares ≡ true

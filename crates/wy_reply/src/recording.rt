@@ -1,8 +1,9 @@
 //! What is answered for a run that is recorded.
 ghost use Rattle.std.specs.Prelude.{◌≡◌, ◌<◌, ◌^◌, IfOk};
 ghost use Rattle.wy_kernel.specs.Parts.{program_of};
-ghost use Rattle.wy_record.specs.declared.recorder.Phase.TheVariants.{Ready};
-ghost use Rattle.wy_reply.specs.Recordings.{RecordsAs, spelling};
+ghost use Rattle.wy_record.specs.declared.recorder.Phase.TheVariants.{Done as Finished, Failed, Ready};
+ghost use Rattle.wy_reply.specs.declared.status.Status.TheVariants.{Done};
+ghost use Rattle.wy_reply.specs.Recordings.{HoldByPhase, RecordsAs, spelling};
 ghost use Rattle.wy_reply.specs.Report.{recorded_of_end};
 
 use crate::answer::Answer;
@@ -28,7 +29,8 @@ fn recorded_report(alloc: Global, program: &Program, ended: Ended) -> Result<Vec
     Ok(text)
 }
 
-/// What a program gives: the report of its run, whose trace each mirror of the recorder has then.
+/// What a program gives: the report of its run, whose trace each mirror of the recorder has then. Where the recorder
+/// failed or memory ran out, each has a first part of the trace.
 pub fn answer_to_recording<R: Recorder>(
     alloc: Global,
     program: &Program,
@@ -38,9 +40,16 @@ pub fn answer_to_recording<R: Recorder>(
 ) -> Result<Answer, AllocError>
     requires ready { R.phase recorder.old ≡ Ready }
     requires steps { head.now.steps < 2 ^ 32 }
-    ensures { IfOk result (λ answer. RecordsAs (spelling R.opening R.frame R.closing)
+    ensures records { IfOk result (λ answer. RecordsAs (spelling R.opening R.frame R.closing)
         program.now head.now (R.mirrors recorder.old) (R.mirrors recorder.new)
         (R.faults recorder.old) (R.faults recorder.new) answer) }
+    ensures held { HoldByPhase (spelling R.opening R.frame R.closing) (program_of program.now)
+        head.now.source head.now.input head.now.steps (R.phase recorder.new)
+        (R.mirrors recorder.old) (R.mirrors recorder.new) }
+    ensures finished { IfOk result (λ answer.
+        answer.status ≡ Done → R.phase recorder.new ≡ Finished) }
+    ensures failed { R.faults recorder.old < R.faults recorder.new
+        → R.phase recorder.new ≡ Failed }
 {
     match record(alloc, program, name, head, Vec::new(alloc), recorder) {
         Ok(ended) => {

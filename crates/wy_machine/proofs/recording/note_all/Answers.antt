@@ -3,10 +3,10 @@ use Rattle.std.specs.Prelude.{slice_get}
 use Rattle.std.specs.List.{concat}
 use Rattle.wy_event.specs.Record.{Recorded, recorded}
 use Rattle.wy_record.specs.declared.recorder.RecordError.{RecordError}
-use Rattle.wy_record.specs.Answers.{DiffersFor, with_more}
+use Rattle.wy_record.specs.Answers.{DiffersFor, MirrorsTake, with_more}
 use Rattle.wy_machine.specs.Differences.{DiffersAsFirst}
 use Rattle.wy_machine.proofs.Agreeing.{agree_more, differs_at, risen, seen_at}
-use Rattle.wy_machine.proofs.Mirrors.{one_more, with_both, with_nothing}
+use Rattle.wy_machine.proofs.Mirrors.{front_of_events, one_more, with_both, with_nothing}
 use Rattle.wy_machine.proofs.recording.note_all.Goals as goal
 
 pub loop-event-init : goal.loop-event-init
@@ -37,6 +37,14 @@ loop-event-preserved g c =
           (subst (λ (zs : List Recorded). slice_get zs (g.R.Recorder.position c.loop-event.recorder) ≡ Some (recorded c.event-item.result)) before.expected (noted.as_expected does))
           (seen_at recorded c.args.events.now c.loop-event.event-index c.event-item.result c.loop-event-test.true (sym c.event-item.is));
     }
+
+pub returns-in_err-note-clause-mirrors : goal.returns-in_err-note-clause-mirrors
+returns-in_err-note-clause-mirrors g c =
+    let e : RecordError = c.in_err-note.field-0.0 in
+    let found : MirrorsTake {X = Unit {0}} (Err e) (concat (map g.R.Recorder.frame (map recorded c.args.events.now))) (g.R.Recorder.mirrors c.args.recorder.now) (g.R.Recorder.mirrors c.note.new.self) =
+    front_of_events recorded g.R.Recorder.frame c.args.events.now c.loop-event.event-index c.event-item.result (g.R.Recorder.mirrors c.args.recorder.now) (g.R.Recorder.mirrors c.loop-event.recorder) (g.R.Recorder.mirrors c.note.new.self)
+    c.loop-event-test.true (sym c.event-item.is) c.loop-event.invariant.mirrors (c.in_err-note.ensures {u = tt}).mirrors in
+    search rules
 
 pub returns-in_err-note-clause-expected : goal.returns-in_err-note-clause-expected
 returns-in_err-note-clause-expected g c = c.note.ensures.expected ∙ c.loop-event.invariant.expected
