@@ -100,6 +100,6 @@ under_source laws p bytes x (Ok answer) are short reads = λ done. has_source la
 under_source laws p bytes x (Err e) are short reads = tt
 
 -- a trace that is refused isn't done
-pub refused_isnt_done : (X : Type 0) (e : TraceError) (r : Result Answer AllocError) → IfOk r (λ answer. RefusesTrace e answer) → IfOk r (λ answer. answer.status ≡ Done → X)
+pub refused_isnt_done : (X : Answer → Type 0) (e : TraceError) (r : Result Answer AllocError) → IfOk r (λ answer. RefusesTrace e answer) → IfOk r (λ answer. answer.status ≡ Done → X answer)
 refused_isnt_done X e (Ok answer) h = λ done. absurd (let s = sym h.0 ∙ done in cc)
 refused_isnt_done X e (Err x) h = tt

@@ -1,4 +1,6 @@
 use Rattle.std.proofs.Common.{arith}
+use Rattle.wy_reply.specs.ByRun.{HasSource, TellsRun}
+use Rattle.wy_reply.specs.Tellings.{wanted_of}
 use Rattle.wy_reply.proofs.ByRun.{known, under_run, under_source, refused_isnt_done}
 use Rattle.wy_reply.proofs.Tellings.{told_under, refused_under}
 use Rattle.wy_reply.proofs.telling.answer_to_trace.Goals as goal
@@ -20,7 +22,7 @@ returns-in-Ok-clause-source c = under_source
     _ _ c.in-Ok.trace c.tell.result (λ i. omega (arith, c.type_inv.bytes i)) c.requires.limit c.in-Ok.ensures
 
 pub returns-in-Err-clause-by_run : goal.returns-in-Err-clause-by_run
-returns-in-Err-clause-by_run c = refused_isnt_done _ c.in-Err.error _ c.answer_to_trace_error.ensures
+returns-in-Err-clause-by_run c = refused_isnt_done (λ answer. TellsRun c.args.program.now c.args.bytes.now (wanted_of c.args.wanted) answer.text.items) c.in-Err.error _ c.answer_to_trace_error.ensures
 
 pub returns-in-Err-clause-source : goal.returns-in-Err-clause-source
-returns-in-Err-clause-source c = refused_isnt_done _ c.in-Err.error _ c.answer_to_trace_error.ensures
+returns-in-Err-clause-source c = refused_isnt_done (λ answer. HasSource c.args.bytes.now) c.in-Err.error _ c.answer_to_trace_error.ensures
