@@ -21,7 +21,7 @@ use Rattle.wy_payload.specs.declared.known.Role.{Role}
 use Rattle.wy_payload.specs.declared.known.Role.TheVariants as role
 use Rattle.wy_payload.specs.declared.closing.Totals.{Totals}
 use Rattle.wy_payload.specs.Rules.{Broken, unless, in_range, fits, refers_to, reference_rule}
-use Rattle.wy_payload.specs.Reading.{passed, number_at, at_most_at, block_at, rows_from, all_of}
+use Rattle.wy_payload.specs.Reading.{◌>>=◌, Read, passed, number_at, at_most_at, block_at, rows_from, all_of}
 use Rattle.wy_payload.specs.Events.{event_limit}
 use Rattle.wy_payload.specs.Closing.{steps_limit, input_limit, source_limit, head_at, first_rule, going_on, cause_rule, cover_at, count_rule, coverage_at, is_thrown, last_rule, counts_at, tail_at}
 use Rattle.wy_readable.specs.Readable.{Refers, HeadMayStand, CoverMayStand, EndMayStand}
@@ -65,16 +65,16 @@ kept : (b : Bool) → in_range b ≡ Absent → b ≡ true
 kept true e = refl
 kept false e = absurd cc
 
+none_refers : (r : Role) → refers_to r Absent ≡ Absent → ⊥
+none_refers r e = cc
+
 refers_below : (r : Role) (earlier : List Known) (n : ℕ) → Refers r earlier n → n < length earlier
 unfolding reference_rule
 refers_below r earlier n refers = by_order (ltb n (length earlier)) refl
   where
     by_order : (b : Bool) → ltb n (length earlier) ≡ b → n < length earlier
     by_order true is = ltb-true n (length earlier) is
-    by_order false is = absurd (none_broken (sym (ap (refers_to r) (slice_get_past earlier n (ltb-false n (length earlier) is))) ∙ refers))
-
-    none_broken : refers_to r Absent ≡ Absent → ⊥
-    none_broken e = cc
+    by_order false is = absurd (none_refers r (sym (ap (refers_to r) (slice_get_past earlier n (ltb-false n (length earlier) is))) ∙ refers))
 
 first_small : (begins count n : ℕ) → count ≤ event_limit → first_rule begins count n ≡ Absent → n < 2 ^ 32
 first_small begins count n few keeps = by_begins (eqb begins 0) keeps
@@ -181,20 +181,37 @@ same_end earlier totals end counts =
     let output = sym counts.output in
     λ i. record { coverage = end.coverage; stop = end.stop; last = end.last; steps = end.steps; events = events i; uses = uses i; output = output i }
 
+-- what is read behind the stop
+abbrev behind_stop : List Known → Totals → Coverage → ℕ × List ℕ → Read Tail
+behind_stop earlier totals coverage stop =
+    passed (in_range (nat_le stop.0 11)) stop.1 >>= λ after_stop.
+    number_at w32 after_stop >>= λ last.
+    passed (last_rule earlier stop.0 last.0) last.1 >>= λ after_last.
+    at_most_at totals.steps after_last >>= λ steps.
+    counts_at (length earlier) totals.uses totals.output steps.1 >>= λ counts.
+    Ok (record { coverage = coverage; stop = stop.0; last = last.0; steps = steps.0; events = length earlier; uses = totals.uses; output = totals.output }, counts.1)
+
+stop_is : (statements : ℕ) (earlier : List Known) (totals : Totals) (end : Tail) (c : List ℕ) → length earlier ≤ event_limit → totals.steps ≤ steps_limit → EndMayStand statements totals.steps earlier end
+    → Reads (counts_at (length earlier) totals.uses totals.output c) end.output [] → Reads (behind_stop earlier totals end.coverage (end.stop, number end.last ++ (number end.steps ++ c))) (end_read earlier totals end) []
+stop_is statements earlier totals end c few little may counts =
+    let b = number end.steps ++ c in
+    let a = number end.last ++ b in
+    then_is (passed (in_range (nat_le end.stop 11)) a) _ a _ (passes (in_range (nat_le end.stop 11)) a (ranged (nat_le end.stop 11) (le-leb end.stop 11 may.stop)))
+    (then_is (number_at w32 a) _ (end.last, b) _ (number_is end.last b (last_small earlier end.stop end.last few may.last))
+    (then_is (passed (last_rule earlier end.stop end.last) b) _ b _ (passes (last_rule earlier end.stop end.last) b may.last)
+    (then_is (at_most_at totals.steps b) _ (end.steps, c) _ (at_most_is totals.steps end.steps c (omega (arith, may.steps, little)) may.steps)
+    (then_is (counts_at (length earlier) totals.uses totals.output c) _ (end.output, []) _ counts refl))))
+
 end_is : (statements : ℕ) (earlier : List Known) (totals : Totals) (end : Tail) → length earlier ≤ event_limit → totals.steps ≤ steps_limit → EndMayStand statements totals.steps earlier end → Counts earlier totals end
     → Reads (tail_at earlier totals end.coverage (tail_payload end)) (end_read earlier totals end) []
 unfolding tail_at
 end_is statements earlier totals end few little may counts =
     let c = number end.events ++ (number end.uses ++ (number end.output ++ [])) in
-    let b = number end.steps ++ c in
-    let a = number end.last ++ b in
+    let a = number end.last ++ (number end.steps ++ c) in
+    let read = counts_are (length earlier) totals.uses totals.output end.events end.uses end.output [] counts.events counts.uses counts.output counts.small_events counts.small_uses counts.small_output in
     ap (tail_at earlier totals end.coverage) (tail_parts end)
-    ∙ then_is (number_at w8 (end.stop ∷ a)) _ (end.stop, a) _ (byte_is end.stop a)
-    (then_is (passed (in_range (nat_le end.stop 11)) a) _ a _ (passes (in_range (nat_le end.stop 11)) a (ranged (nat_le end.stop 11) (le-leb end.stop 11 may.stop)))
-    (then_is (number_at w32 a) _ (end.last, b) _ (number_is end.last b (last_small earlier end.stop end.last few may.last))
-    (then_is (passed (last_rule earlier end.stop end.last) b) _ b _ (passes (last_rule earlier end.stop end.last) b may.last)
-    (then_is (at_most_at totals.steps b) _ (end.steps, c) _ (at_most_is totals.steps end.steps c (omega (arith, may.steps, little)) may.steps)
-    (then_is (counts_at (length earlier) totals.uses totals.output c) _ (end.output, []) _ (counts_are (length earlier) totals.uses totals.output end.events end.uses end.output [] counts.events counts.uses counts.output counts.small_events counts.small_uses counts.small_output) refl)))))
+    ∙ then_is (number_at w8 (end.stop ∷ a)) (behind_stop earlier totals end.coverage) (end.stop, a) (end_read earlier totals end, []) (byte_is end.stop a)
+    (stop_is statements earlier totals end c few little may read)
 
 pub whole_end : (statements : ℕ) (earlier : List Known) (totals : Totals) (end : Tail) → length earlier ≤ event_limit → totals.steps ≤ steps_limit → EndMayStand statements totals.steps earlier end → Counts earlier totals end
     → all_of (tail_at earlier totals end.coverage (tail_payload end)) ≡ Ok end
