@@ -1,7 +1,7 @@
 -- A head, a coverage and the end of a run are read.
-use Rattle.std.proofs.Common.{◌≡◌, ℕ, ◌<◌, ◌≤◌, ◌^◌, Bool, true, false, cond, eqb, ltb, ◌&&◌, ◌||◌, List, [], ◌∷◌, ◌++◌, length, take, drop, Option, Some, Ok, Err, refl, sym, ap, ◌∙◌, subst, append-nil, append_assoc, arith, length-append}
+use Rattle.std.proofs.Common.{◌≡◌, ℕ, ◌<◌, ◌≤◌, ◌^◌, Bool, true, false, cond, eqb, ltb, ◌&&◌, ◌||◌, List, [], ◌∷◌, ◌++◌, length, take, drop, Ok, Err, refl, sym, ap, ◌∙◌, append-nil, arith, length-append}
 use Rattle.std.specs.Prelude.{None as Absent}
-use Rattle.std.specs.Prelude.{nat_le, slice_get}
+use Rattle.std.specs.Prelude.{nat_le}
 use Rattle.std.specs.List.{flat_map}
 use Rattle.std.specs.Int.{w8, w32}
 use Rattle.std.proofs.lemmas.Bool.{and_from, eqb-true, leb-true, le-leb, le-ltb, ltb-true, ltb-false, eq-eqb}
@@ -20,7 +20,7 @@ use Rattle.wy_payload.specs.declared.known.Known.{Known}
 use Rattle.wy_payload.specs.declared.known.Role.{Role}
 use Rattle.wy_payload.specs.declared.known.Role.TheVariants as role
 use Rattle.wy_payload.specs.declared.closing.Totals.{Totals}
-use Rattle.wy_payload.specs.Rules.{Broken, unless, in_range, fits, refers_to, reference_rule}
+use Rattle.wy_payload.specs.Rules.{unless, in_range, refers_to, reference_rule}
 use Rattle.wy_payload.specs.Reading.{◌>>=◌, Read, passed, number_at, at_most_at, block_at, rows_from, all_of}
 use Rattle.wy_payload.specs.Events.{event_limit}
 use Rattle.wy_payload.specs.Closing.{steps_limit, input_limit, source_limit, head_at, first_rule, going_on, cause_rule, cover_at, count_rule, coverage_at, is_thrown, last_rule, counts_at, tail_at}

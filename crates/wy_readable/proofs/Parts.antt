@@ -1,5 +1,5 @@
 -- References and slots are read.
-use Rattle.std.proofs.Common.{◌≡◌, ℕ, ◌<◌, ◌≤◌, ◌^◌, Bool, true, false, cond, List, ◌∷◌, ◌++◌, length, Option, Some, Ok, refl, ap, arith}
+use Rattle.std.proofs.Common.{◌≡◌, ℕ, ◌<◌, ◌≤◌, ◌^◌, Bool, true, false, cond, List, ◌∷◌, ◌++◌, Option, Some, refl, arith}
 use Rattle.std.specs.Prelude.{None as Absent}
 use Rattle.std.specs.Prelude.{eqb, IfSome, nat_lt, nat_le, slice_get}
 use Rattle.std.specs.Int.{w32}
@@ -19,7 +19,7 @@ use Rattle.wy_payload.specs.declared.slot.SlotTag.TheVariants as places
 use Rattle.wy_payload.specs.Rules.{Broken, in_range, reference_rule, optional_rule, field_rule, local_rule, locals_in, index_limit}
 use Rattle.wy_payload.specs.Reading.{passed, number_at, reference_at, optional_at, below_at, at_most_at}
 use Rattle.wy_payload.specs.Places.{slot_tags, allows_slot, local_at, static_at, field_at, element_at, slot_of, slot_at}
-use Rattle.wy_readable.specs.Readable.{or_none, Refers, tag_of_slot, SlotIsThere, SlotMayStand}
+use Rattle.wy_readable.specs.Readable.{or_none, Refers, SlotIsThere, SlotMayStand}
 use Rattle.wy_readable.proofs.Steps.{Reads, then_is, passes, ranged, number_is, checked_is, tag_is}
 
 pub reference_is : (r : Role) (earlier : List Known) (n : ℕ) (rest : List ℕ) → n < 2 ^ 32 → Refers r earlier n → Reads (reference_at r earlier (number n ++ rest)) n rest
