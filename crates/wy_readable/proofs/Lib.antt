@@ -4,6 +4,6 @@ mod Values
 mod Events
 mod Ends
 mod Frames
-mod Runs
+pub mod Runs
 mod Closings
 mod Traces

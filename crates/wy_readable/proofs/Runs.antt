@@ -39,7 +39,7 @@ frames_more : (rs : List Recorded) (e : Recorded) → concat (map event_frame (r
 frames_more [] e = append-nil (event_frame e)
 frames_more (x ∷ rs) e = ap (λ l. event_frame x ++ l) (frames_more rs e) ∙ sym (append_assoc (event_frame x) (concat (map event_frame rs)) (event_frame e))
 
-uses_more : (rs : List Recorded) (e : Recorded) → uses_in (rs ++ e ∷ []) ≡ uses_in rs + length e.uses
+pub uses_more : (rs : List Recorded) (e : Recorded) → uses_in (rs ++ e ∷ []) ≡ uses_in rs + length e.uses
 unfolding uses_in
 uses_more [] e = omega arith
 uses_more (x ∷ rs) e = omega (arith, uses_more rs e)
@@ -56,7 +56,7 @@ printed_more : (r : Ranges) (rs : List Recorded) (e : Recorded) (left : List Rec
 unfolding printed
 printed_more r rs e left = omega (arith, printed_append r [] rs (e ∷ left))
 
-printed_one : (r : Ranges) (rs : List Recorded) (e : Recorded) → printed r [] (rs ++ e ∷ []) ≡ printed r [] rs + output_of r (map known_in rs) e.kind e.site e.value
+pub printed_one : (r : Ranges) (rs : List Recorded) (e : Recorded) → printed r [] (rs ++ e ∷ []) ≡ printed r [] rs + output_of r (map known_in rs) e.kind e.site e.value
 unfolding printed
 printed_one r rs e = omega (arith, printed_append r [] rs (e ∷ []))
 

@@ -1,4 +1,4 @@
--- A whole trace is read.
+-- A whole trace is read, and not refused.
 use Rattle.std.proofs.Common.{◌≡◌, ℕ, suc, ◌+◌, ◌<◌, ◌≤◌, ◌^◌, cond, List, [], ◌∷◌, ◌++◌, map, length, drop, Result, Ok, Err, refl, sym, ap, ◌∙◌, subst, append_assoc, arith, length-append}
 use Rattle.std.specs.Prelude.{MatchResult}
 use Rattle.std.specs.List.{AllByRecursion, concat, flat_map}
@@ -19,13 +19,15 @@ use Rattle.wy_spelling.specs.Spelling.{number, frame, magic, origin_bytes, slot_
 use Rattle.wy_payload.specs.declared.known.Known.{Known}
 use Rattle.wy_payload.specs.Ranges.{ranges_of}
 use Rattle.wy_frames.specs.declared.error.TraceError.{TraceError}
+use Rattle.wy_frames.specs.declared.error.TraceError.TheVariants.{Cut, Damaged, BadSeal, NoMemory}
 use Rattle.wy_frames.specs.Frames.{frame_of}
 use Rattle.wy_frames.specs.Standing.{Standing, start, event_in, knowns}
 use Rattle.wy_frames.specs.Scan.{nothing}
 use Rattle.wy_frames.specs.Heads.{agreeing, magic_length, read_head_as, head_in, behind_magic, head_of}
-use Rattle.wy_frames.specs.Traces.{AllStand, IsReadBehind}
+use Rattle.wy_frames.specs.Traces.{AllStand, IsReadBehind, IsReadAs, ReadsAs}
+use Rattle.wy_one_reading.proofs.Answered.{one_reading}
 use Rattle.wy_readable.specs.Readable.{HeadMayStand, EndMayStand, KeepsRules, known_in, uses_in}
-use Rattle.wy_readable.specs.Laws.{run_bytes, IsRead, TracesWithinRulesAreRead}
+use Rattle.wy_readable.specs.Laws.{run_bytes, IsRead, TracesWithinRulesAreRead, TracesWithinRulesAreNotRefused}
 use Rattle.wy_readable.proofs.Ends.{whole_head}
 use Rattle.wy_readable.proofs.Closings.{MayClose, AllClosed, closed, nothing_waits}
 use Rattle.wy_readable.proofs.Frames.{frame_length, frame_found}
@@ -159,3 +161,19 @@ traces_read p head rs end bytes small same keeps =
     let all = behind_closed p head rs end keeps (omega (arith, within, length-append (opening head) fed)) in
     let read = ap head_of parts ∙ head_read head fed keeps.head_stands (head_short head fed within) in
     trace_read p head rs end bytes fed all.0 parts read (recursion_from_All Fits rs keeps.fit) all.1 all.2
+
+-- ---- no refusal
+
+never : (e : TraceError) (x : Trace) → ◌≡◌ {A = Result Trace TraceError} (Ok x) (Err e) → ⊥
+never e x is = cc
+
+not_refused : (p : Program) (bytes : List ℕ) (x : Trace) (e : TraceError) → IsReadAs p bytes (Ok x) → ReadsAs (Err e) p bytes → e ≡ NoMemory
+not_refused p bytes x NoMemory read refused = refl
+not_refused p bytes x (Cut byte) read refused = absurd (never (Cut byte) x (one_reading p bytes (Ok x) (Err (Cut byte)) tt tt read refused))
+not_refused p bytes x (Damaged byte rule) read refused = absurd (never (Damaged byte rule) x (one_reading p bytes (Ok x) (Err (Damaged byte rule)) tt tt read refused))
+not_refused p bytes x BadSeal read refused = absurd (never BadSeal x (one_reading p bytes (Ok x) (Err BadSeal) tt tt read refused))
+
+pub traces_not_refused : TracesWithinRulesAreNotRefused
+traces_not_refused p head rs end bytes small same keeps e refused =
+    let read = traces_read p head rs end bytes small same keeps in
+    not_refused p bytes read.trace e read.read refused
