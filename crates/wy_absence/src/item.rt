@@ -17,8 +17,8 @@ use std::alloc::{AllocError, Global};
 use wy_kernel::program::Program;
 use wy_kernel::types::NONE;
 use wy_lines::put_method_name;
-use wy_text::{put_class_name, put_count, put_decimal, put_full_name, put_place};
 use wy_static::point::{LinkKind, Point};
+use wy_text::{put_class_name, put_count, put_decimal, put_full_name, put_place};
 use wy_whynot::{Item, Made};
 
 /// The cause of a statement that the end of the run found going on.
@@ -122,7 +122,8 @@ fn put_arm(out: &mut Vec<u8>, value: u32, tests: &[u32], cause: u32) -> Result<(
 
 #[tactic(auto, unfolding(crate::specs::Items::one_made))]
 fn put_made(out: &mut Vec<u8>, program: &Program, made: Made) -> Result<(), AllocError>
-    ensures { OnOk result (out.new.items ≡ out.old.items ++ one_made (program_of program.now) made) }
+    ensures { OnOk result
+        (out.new.items ≡ out.old.items ++ one_made (program_of program.now) made) }
 {
     put_method_name(out, program, made.method)?;
     put_numbered(out, " at #", made.event)

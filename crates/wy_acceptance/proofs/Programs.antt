@@ -11,7 +11,7 @@ use Rattle.wy_constant.specs.declared.rule.Rule.{Rule}
 use Rattle.wy_constant.specs.Refusal.{Refusal}
 use Rattle.wy_constant.specs.Scope.{FixedText}
 use Rattle.wy_members.specs.Declarations.{CompilationUnit, classes_of, table}
-use Rattle.wy_members.specs.Broken.{IsWritten}
+use Rattle.wy_members.specs.Broken.{IsSourceClass}
 use Rattle.wy_members.specs.Refusal.{KeepsRules}
 use Rattle.wy_members.specs.Constants.{IsTableOf, with_constants}
 use Rattle.wy_members.proofs.Contained.{contained, of_flat, of_numbered}
@@ -109,7 +109,7 @@ module _ (t : Table) (j : Judgement) (unit : CompilationUnit) (tokens : ℕ) (p 
 one_table : (unit : CompilationUnit) (t u : Table) → IsTableOf unit t → IsTableOf unit u → t ≡ u
 one_table unit t u a b = a.rows ∙ ap (with_constants (table unit)) (one_list unit t.constants u.constants a.constants b.constants) ∙ sym b.rows
 
-class_refused : (unit : CompilationUnit) (t : Table) (j : Judgement) (c : ℕ) (k : ClassSyntax) (r : Rule) (token : ℕ) → KeepsRules unit → IsTableOf unit t → Settles t j → IsWritten unit c k → IsBrokenClass (setting j t unit) c k r token →
+class_refused : (unit : CompilationUnit) (t : Table) (j : Judgement) (c : ℕ) (k : ClassSyntax) (r : Rule) (token : ℕ) → KeepsRules unit → IsTableOf unit t → Settles t j → IsSourceClass unit c k → IsBrokenClass (setting j t unit) c k r token →
     Never (bodies_of (setting j t unit) unit)
 class_refused unit t j c k r token keeps is settles written broken =
     let at = of_numbered first_source_class (classes_of unit) c k written in

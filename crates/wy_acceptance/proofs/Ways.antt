@@ -31,7 +31,7 @@ use Rattle.wy_refusals.specs.Operands.{CastsTo, IsIndex, MayAssign, TakesOne, Ta
 use Rattle.wy_refusals.specs.Found.{IsFound, AreFound, none_found, more_found, Denotes, IsType, IsNoType}
 use Rattle.wy_refusals.specs.Calls.{IsField, HasNoField, IsHidden, Way, Plainly, OfObject, OfClass, OfSuper, ByNew, HaveValues, Means, IsLibraryCall, Offers}
 use Rattle.wy_refusals.specs.Calls as calls
-use Rattle.wy_refusals.specs.Ways.{Writes, Passes, Needs, Decides, Assigns, Changes, IsElement, Selects, NamesField, IsUnknownName, IsNotImplemented, IsNoMethod, IsAmbiguous, IsBadOperand, IsBadAssign, IsBadCast, IsPrivate, IsNotInStatic, IsNotOffered, Breaks}
+use Rattle.wy_refusals.specs.Ways.{Writes, Passes, Needs, Decides, Assigns, Changes, IsElement, Selects, NamesField, IsUnknownName, IsNotImplemented, IsNoMethod, IsAmbiguous, IsBadOperand, IsBadAssign, IsBadCast, IsPrivate, IsNotInStatic, IsNotOffered, ExpressionBreaks}
 use Rattle.wy_refusals.specs.Ways as way
 use Rattle.wy_refusals.specs.ExpressionLaws.{IsBroken}
 use Rattle.wy_refusals.proofs.Contained.{contains_none, contains_cases}
@@ -379,7 +379,7 @@ module _ (j : Judgement) (t : Table) (g : Settles t j) (l : KnowsLibrary t) (s :
   ambiguous : {e : Expression} {token : ℕ} → IsAmbiguous j t s e token → Refused e
   ambiguous (way.several h declined) = called.asked j t g l s rule.Ambiguous h declined
 
-  pub refused : (e : Expression) (r : Rule) (token : ℕ) → Breaks j t s e r token → Refused e
+  pub refused : (e : Expression) (r : Rule) (token : ℕ) → ExpressionBreaks j t s e r token → Refused e
   refused e rule.UnknownName token h = unknown_name h
   refused e rule.NotImplemented token h = not_implemented h
   refused e rule.NoMethod token h = no_method h

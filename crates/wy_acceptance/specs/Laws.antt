@@ -32,7 +32,7 @@ pub record KnowsLibrary (t : Table) : Type 0 where
 
 -- an expression that has a meaning breaks no rule, and no part of it does
 abbrev pub AcceptedExpressionsAreUnbroken : Type 0
-AcceptedExpressionsAreUnbroken = (t : Table) (j : Judgement) → Settles t j → KnowsLibrary t → (s : Scope) (e : Expression) (m : Meaning) → IsFound j t s e m → expression.KeepsRules j t s e
+AcceptedExpressionsAreUnbroken = (t : Table) (j : Judgement) → Settles t j → KnowsLibrary t → (s : Scope) (e : Expression) (m : Meaning) → IsFound j t s e m → expression.ExpressionKeepsRules j t s e
 
 -- so it is in each program whose declarations keep the rules
 abbrev pub TablesKnowTheLibrary : Type 0

@@ -74,12 +74,12 @@ OneOf (x ∷ rest) Q = Q x ⊎ OneOf rest Q
 abbrev pub IsNumberOf : List Statement → ℕ → Type 0
 IsNumberOf xs n = OneOf xs (λ x. n ≡ number_of x)
 
-abbrev pub reach_of : Statement → ℕ
-reach_of (Stmt number site askable reach act) = reach
+abbrev pub statement_reach : Statement → ℕ
+statement_reach (Stmt number site askable reach act) = reach
 
 -- how far the test of one of these statements reaches, or the Catch of a clause whose block it is
 abbrev pub IsReachOf : List Statement → ℕ → Type 0
-IsReachOf xs n = OneOf xs (λ x. (n ≡ reach_of x) ⊎ (n ≡ number_of x))
+IsReachOf xs n = OneOf xs (λ x. (n ≡ statement_reach x) ⊎ (n ≡ number_of x))
 
 -- such a reach in a body
 abbrev pub IsThroughOneOf : List Statement → Option ℕ → Reach → Type 0

@@ -10,17 +10,17 @@ use Rattle.wy_event.specs.Record.{Recorded}
 use Rattle.wy_index.specs.Found.{gathered, is_print, one_if, print_of, prints_in}
 use Rattle.wy_ask.specs.declared.asking.Listed.{Listed}
 use Rattle.wy_ask.specs.declared.asking.Listed.TheVariants.{Printed, Never}
-use Rattle.wy_ask.specs.declared.never.Placed.{Placed}
+use Rattle.wy_ask.specs.declared.never.PlacedStatement.{PlacedStatement}
 use Rattle.wy_ask.specs.Listing.{IsListedBelow, field_sets, listing, never, printed, stored_by, unbegun_in}
 
-pub all_parts : (p : Program) (lines : List ℕ) (rs : List Recorded) (covers : List Cover) (first second third : List Listed) (prints : List ℕ) (count : ℕ) (unbegun : List Placed)
+pub all_parts : (p : Program) (lines : List ℕ) (rs : List Recorded) (covers : List Cover) (first second third : List Listed) (prints : List ℕ) (count : ℕ) (unbegun : List PlacedStatement)
     → first ≡ printed prints → second ≡ first ++ stored_by (field_sets rs) count → third ≡ second ++ never unbegun → prints ≡ prints_in rs → length rs ≡ count → unbegun ≡ unbegun_in lines (statements_of p) covers
     → third ≡ listing p lines rs covers
 unfolding listing
 all_parts p lines rs covers first second third prints count unbegun a b c prints_is all unbegun_is =
     c ∙ ap (λ l. l ++ never unbegun) (b ∙ ap₂ (λ (l : List Listed) (n : ℕ). l ++ stored_by (field_sets rs) n) (a ∙ ap printed prints_is) (sym all))
     ∙ append_assoc (printed (prints_in rs)) (stored_by (field_sets rs) (length rs)) (never unbegun)
-    ∙ ap (λ (l : List Placed). printed (prints_in rs) ++ (stored_by (field_sets rs) (length rs) ++ never l)) unbegun_is
+    ∙ ap (λ (l : List PlacedStatement). printed (prints_in rs) ++ (stored_by (field_sets rs) (length rs) ++ never l)) unbegun_is
 
 -- ---- below the end
 
@@ -32,13 +32,13 @@ module _ (n : ℕ) where
   printed_below : (xs : List ℕ) → All (λ e. e < n) xs → All (IsListedBelow n) (printed xs)
   printed_below xs all = All-map (IsListedBelow n) (λ (x : ℕ × ℕ). Printed x.0 x.1) (enumerate_from 0 xs) (enumerated_below 0 xs all)
 
-  never_below : (all : List Placed) → All (IsListedBelow n) (never all)
+  never_below : (all : List PlacedStatement) → All (IsListedBelow n) (never all)
   never_below all = All-map (IsListedBelow n) (λ s. Never s.statement.line s.place) all (λ k d lt. tt)
 
   pub first_below : (listed : List Listed) (xs : List ℕ) → listed ≡ printed xs → All (λ e. e < n) xs → All (IsListedBelow n) listed
   first_below listed xs is all = All-same (IsListedBelow n) listed (printed xs) is (printed_below xs all)
 
-  pub last_below : (listed new : List Listed) (unbegun : List Placed) → new ≡ listed ++ never unbegun → All (IsListedBelow n) listed → All (IsListedBelow n) new
+  pub last_below : (listed new : List Listed) (unbegun : List PlacedStatement) → new ≡ listed ++ never unbegun → All (IsListedBelow n) listed → All (IsListedBelow n) new
   last_below listed new unbegun is all = All-same (IsListedBelow n) new (listed ++ never unbegun) is (All-append (IsListedBelow n) listed (never unbegun) all (never_below unbegun))
 
 -- ---- prints

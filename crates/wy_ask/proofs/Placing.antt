@@ -6,7 +6,7 @@ use Rattle.std.specs.List.{enumerate_from}
 use Rattle.std.proofs.lemmas.List.{map-append, take_more, length-take-le}
 use Rattle.std.proofs.lemmas.List.Sums.{sum_by-append}
 use Rattle.wy_ask.specs.declared.askable.Askable.{Askable}
-use Rattle.wy_ask.specs.declared.never.Placed.{Placed}
+use Rattle.wy_ask.specs.declared.never.PlacedStatement.{PlacedStatement}
 use Rattle.wy_ask.specs.declared.asking.Listed.{Listed}
 use Rattle.wy_ask.specs.declared.asking.Listed.TheVariants.{Printed}
 use Rattle.wy_ask.specs.Counted.{count_at}
@@ -17,7 +17,7 @@ use Rattle.wy_ask.specs.Listing.{placed, printed}
 abbrev pub lines_of : List Askable → List ℕ
 lines_of all = map (λ s. s.line) all
 
-abbrev pub place_behind : List ℕ → Askable → Placed
+abbrev pub place_behind : List ℕ → Askable → PlacedStatement
 place_behind before s = record { statement = s; place = 1 + count_by (λ line. line == s.line) before }
 
 placed_more : (before : List ℕ) (xs : List Askable) (s : Askable) → placed before (xs ++ s ∷ []) ≡ placed before xs ++ place_behind (before ++ lines_of xs) s ∷ []
@@ -41,12 +41,12 @@ counted old new xs i d lt so_far more = λ q.
     more q ∙ ap (λ n. n + (if (get_or xs i d).line == q then 1 else 0)) (so_far q)
     ∙ sym (ap (count_by (λ l. l == q)) (lines_more xs i d lt) ∙ count_more q (get_or xs i d).line (lines_of (take i xs)))
 
-pub next_placed : (counts : BTreeMap ℕ ℕ) (xs : List Askable) (i : ℕ) (d : Askable) (all : List Placed) (place : ℕ) → i < length xs → AreCounts counts (take i xs) → place ≡ 1 + count_at counts (get_or xs i d).line
+pub next_placed : (counts : BTreeMap ℕ ℕ) (xs : List Askable) (i : ℕ) (d : Askable) (all : List PlacedStatement) (place : ℕ) → i < length xs → AreCounts counts (take i xs) → place ≡ 1 + count_at counts (get_or xs i d).line
     → all ≡ placed [] (take i xs) → all ++ record { statement = get_or xs i d; place = place } ∷ [] ≡ placed [] (take (i + 1) xs)
 next_placed counts xs i d all place lt so_far is front =
     let s = get_or xs i d in
     let at : place ≡ 1 + count_by (λ l. l == s.line) (lines_of (take i xs)) = is ∙ ap (λ n. 1 + n) (so_far s.line) in
-    ap₂ (λ (l : List Placed) (n : ℕ). l ++ record { statement = s; place = n } ∷ []) front at
+    ap₂ (λ (l : List PlacedStatement) (n : ℕ). l ++ record { statement = s; place = n } ∷ []) front at
     ∙ sym (ap (placed []) (take_more xs i d lt) ∙ placed_more [] (take i xs) s)
 
 -- ---- prints

@@ -16,7 +16,7 @@ use Rattle.wy_event.specs.Record.{Recorded, same_slot}
 use Rattle.wy_view.specs.References.{ValueBelow}
 use Rattle.wy_index.specs.Found.{prints_in}
 use Rattle.wy_ask.specs.declared.askable.Askable.{Askable}
-use Rattle.wy_ask.specs.declared.never.Placed.{Placed}
+use Rattle.wy_ask.specs.declared.never.PlacedStatement.{PlacedStatement}
 use Rattle.wy_ask.specs.declared.asking.Listed.{Listed}
 use Rattle.wy_ask.specs.declared.asking.Listed.TheVariants.{Printed, Stored, Never}
 use Rattle.wy_ask.specs.Lines.{askable_in}
@@ -73,7 +73,7 @@ in_order key [] = []
 in_order key (x ∷ rest) = inserted key x (in_order key rest)
 
 -- each with its place in its line, counted from 1, behind those of these lines
-abbrev pub placed : List ℕ → List Askable → List Placed
+abbrev pub placed : List ℕ → List Askable → List PlacedStatement
 placed before [] = []
 placed before (s ∷ rest) =
     record { statement = s; place = 1 + count_by (λ line. line == s.line) before }
@@ -83,19 +83,19 @@ abbrev pub has_begun : Option Cover → Bool
 has_begun Absent = false
 has_begun (Some c) = nat_lt 0 c.begins
 
-abbrev pub never_began : List Cover → Placed → Bool
+abbrev pub never_began : List Cover → PlacedStatement → Bool
 never_began covers s = not (has_begun (slice_get covers s.statement.number))
 
 -- the places go by the numbers of the statements
-abbrev pub places_in : List ℕ → List Statement → List Placed
+abbrev pub places_in : List ℕ → List Statement → List PlacedStatement
 places_in lines all = placed [] (in_order (λ s. s.number) (askable_in lines all))
 
 -- those that never began, by their sites
-abbrev pub unbegun_in : List ℕ → List Statement → List Cover → List Placed
+abbrev pub unbegun_in : List ℕ → List Statement → List Cover → List PlacedStatement
 unbegun_in lines all covers =
     in_order (λ s. s.statement.site) (filter (never_began covers) (places_in lines all))
 
-abbrev pub never : List Placed → List Listed
+abbrev pub never : List PlacedStatement → List Listed
 never all = map (λ s. Never s.statement.line s.place) all
 
 -- ---- all of it

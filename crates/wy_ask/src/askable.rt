@@ -121,7 +121,8 @@ fn put_other(out: &mut Vec<Askable>, lines: &[u32], s: &Option<Box<Stmt>>) -> Re
 #[cycle(askable)]
 fn put_all(out: &mut Vec<Askable>, lines: &[u32], parts: &[Stmt]) -> Result<(), AllocError>
     ensures { OnOk result (out.new.items ≡ out.old.items
-        ++ askable_in lines.now (statements_of_all (view.statements_of (map statement parts.now)))) }
+        ++ askable_in lines.now
+        (statements_of_all (view.statements_of (map statement parts.now)))) }
 {
     for part in parts {
         put_in(out, lines, part)?;

@@ -8,7 +8,7 @@ ghost use Rattle.wy_view.specs.View.{Answers, IsRecordOf, Keeps};
 ghost use Rattle.wy_ask.specs.Held.{HasStored, HoldsBelow};
 ghost use Rattle.wy_ask.specs.Listing.{IsListedBelow, field_sets, listing, never, printed};
 
-use crate::never::{Placed, unbegun_in};
+use crate::never::{PlacedStatement, unbegun_in};
 use crate::stored::Stores;
 use std::alloc::{AllocError, Global};
 use std::sync::ledger::Ledger;
@@ -102,7 +102,7 @@ fn put_prints(listed: &mut Vec<Listed>, prints: &[u32]) -> Result<(), AllocError
     Ok(())
 }
 
-fn put_unbegun(listed: &mut Vec<Listed>, unbegun: &[Placed]) -> Result<(), AllocError>
+fn put_unbegun(listed: &mut Vec<Listed>, unbegun: &[PlacedStatement]) -> Result<(), AllocError>
     ensures { OnOk result (listed.new.items ≡ listed.old.items ++ never unbegun.now) }
 {
     for s in unbegun {

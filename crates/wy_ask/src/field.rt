@@ -8,11 +8,9 @@ ghost use Rattle.wy_kernel.specs.View.{field_of};
 ghost use Rattle.wy_ask.specs.Asked.{extends, field_number, has_fields_of, is_meant};
 
 use crate::parts::{LIBRARY, behind};
+use wy_kernel::builtin::FIRST_SOURCE_CLASS;
 use wy_kernel::program::Program;
 use wy_kernel::types::{Field, NONE};
-
-/// The classes of the source are numbered from here on.
-const FIRST_SOURCE_CLASS: u32 = 18;
 
 /// The classes stand behind this number in the code of a type.
 const CLASSES: u32 = 16;

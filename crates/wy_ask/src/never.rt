@@ -14,7 +14,7 @@ use wy_kernel::program::Program;
 
 /// A statement with its place among the askable ones of its line, counted from 1 by their numbers.
 #[derive(Clone, Copy, Debug, PartialEq, Eq)]
-pub struct Placed {
+pub struct PlacedStatement {
     pub statement: Askable,
     pub place: u32,
 }
@@ -37,14 +37,14 @@ fn next_place(counts: &mut BTreeMap<u32, u32>, line: u32) -> Result<u32, AllocEr
 }
 
 /// Statements in the order of their numbers, with their places.
-fn with_places(alloc: Global, statements: &[Askable]) -> Result<Vec<Placed>, AllocError>
+fn with_places(alloc: Global, statements: &[Askable]) -> Result<Vec<PlacedStatement>, AllocError>
     ensures { IfOk result (λ all. all.items ≡ placed [] statements.now) }
 {
     let mut counts = BTreeMap::new(alloc);
     let mut all = Vec::new(alloc);
     for statement in statements {
         let place = next_place(&mut counts, statement.line)?;
-        all.push(Placed {
+        all.push(PlacedStatement {
             statement: *statement,
             place,
         })?;
@@ -52,7 +52,7 @@ fn with_places(alloc: Global, statements: &[Askable]) -> Result<Vec<Placed>, All
     Ok(all)
 }
 
-fn places_in(alloc: Global, program: &Program) -> Result<Vec<Placed>, AllocError>
+fn places_in(alloc: Global, program: &Program) -> Result<Vec<PlacedStatement>, AllocError>
     ensures { IfOk result (λ all. all.items
         ≡ places_in program.now.lines.items (statements_of (program_of program.now))) }
 {
@@ -61,7 +61,7 @@ fn places_in(alloc: Global, program: &Program) -> Result<Vec<Placed>, AllocError
     with_places(alloc, statements.as_slice())
 }
 
-fn never_began(coverage: &[Cover], s: &Placed) -> bool
+fn never_began(coverage: &[Cover], s: &PlacedStatement) -> bool
     ensures { result ≡ never_began coverage.now s.now }
 {
     match coverage.get(s.statement.number as usize) {
@@ -70,7 +70,11 @@ fn never_began(coverage: &[Cover], s: &Placed) -> bool
     }
 }
 
-fn unbegun(alloc: Global, places: &[Placed], coverage: &[Cover]) -> Result<Vec<Placed>, AllocError>
+fn unbegun(
+    alloc: Global,
+    places: &[PlacedStatement],
+    coverage: &[Cover],
+) -> Result<Vec<PlacedStatement>, AllocError>
     ensures { IfOk result (λ all. all.items ≡ filter (never_began coverage.now) places.now) }
 {
     places
@@ -85,7 +89,7 @@ pub fn unbegun_in(
     alloc: Global,
     program: &Program,
     coverage: &[Cover],
-) -> Result<Vec<Placed>, AllocError>
+) -> Result<Vec<PlacedStatement>, AllocError>
     ensures { IfOk result (λ all. all.items ≡ unbegun_in program.now.lines.items
         (statements_of (program_of program.now)) coverage.now) }
 {

@@ -51,7 +51,7 @@ pub fn within(place: &str) -> Option<(u32, &str)>
 }
 
 /// A holder, an index in it, and a moment.
-pub fn numbered(text: &str) -> Option<(u32, u32, u32)>
+pub fn indexed_place(text: &str) -> Option<(u32, u32, u32)>
     ensures { result ≡ numbered_in text.now }
 {
     let (place, moment) = at_moment(text)?;

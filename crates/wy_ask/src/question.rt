@@ -5,7 +5,7 @@ ghost use Rattle.wy_ask.specs.Questions.{Answers, asked};
 ghost use Rattle.wy_ask.specs.Reading.{Reads, event_in, field_in, numbered_or_event_in, question_in, static_in};
 
 use crate::names::number;
-use crate::parts::{FieldWord, at_moment, behind, class_word, field_word, numbered, within};
+use crate::parts::{FieldWord, at_moment, behind, class_word, field_word, indexed_place, within};
 use std::alloc::{AllocError, Global};
 use thiserror::Error;
 
@@ -127,14 +127,14 @@ fn read_numbered(text: &str) -> Option<Question>
     ensures { option_map asked result ≡ numbered_or_event_in text.now }
 {
     if let Some(rest) = behind(text, "elem:") {
-        let (array, index, moment) = numbered(rest)?;
+        let (array, index, moment) = indexed_place(rest)?;
         Some(Question::Elem {
             array,
             index,
             moment,
         })
     } else if let Some(rest) = behind(text, "local:") {
-        let (frame, index, moment) = numbered(rest)?;
+        let (frame, index, moment) = indexed_place(rest)?;
         Some(Question::Local {
             frame,
             index,

@@ -10,8 +10,10 @@ ghost use Rattle.wy_backward.specs.Agreement.{ArgumentsLead, EndsAgree, EqualUse
 /// In every run the closure of an event over the records is what its values carried: by data, and in all. What the
 /// store held for a slot at a moment is what the last write below that moment came from.
 pub fn backward_is_forward()
-    ensures events { (p : Program) (input : List ℕ) (budget : ℕ) → BackwardIsForward p input budget }
-    ensures stored { (p : Program) (input : List ℕ) (budget : ℕ) → StoredIsLastWrite p input budget }
+    ensures events { (p : Program) (input : List ℕ) (budget : ℕ)
+        → BackwardIsForward p input budget }
+    ensures stored { (p : Program) (input : List ℕ) (budget : ℕ)
+        → StoredIsLastWrite p input budget }
 {}
 
 /// The states of a run agree with its records: the first does, so does the last, and every expression, place, list of
@@ -29,7 +31,8 @@ pub fn states_agree_with_records()
 /// What was carried to an event is determined by its uses, its control parent and the records; what a value that
 /// arises in a run carries, by its uses and the records. So two such values with equal uses carry equal sets.
 pub fn uses_determine_sets()
-    ensures events { (p : Program) (input : List ℕ) (budget : ℕ) → UsesDetermineSets p input budget }
+    ensures events { (p : Program) (input : List ℕ) (budget : ℕ)
+        → UsesDetermineSets p input budget }
     ensures values { (p : Program) → ValuesAreByUses p }
     ensures equal_uses { (p : Program) → EqualUsesEqualSets p }
 {}

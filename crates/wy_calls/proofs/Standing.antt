@@ -22,7 +22,7 @@ use Rattle.wy_calls.specs.declared.parts.Live.{Live}
 use Rattle.wy_value.specs.declared.value.Value.{Value}
 use Rattle.wy_calls.proofs.Frames.{written}
 use Rattle.wy_calls.specs.declared.parts.Begun.{Begun}
-use Rattle.wy_calls.specs.Layout.{Ascends, ends_with, outlasts, mark_in, without, Sits, IsAtMost, IsBelow, IsNext, IsUnder, IsStanding, active_of, active_in, framed, scopes_in, reach_of, IsPlace}
+use Rattle.wy_calls.specs.Layout.{Ascends, ends_with, outlasts, mark_in, without, Sits, IsAtMost, IsBelow, IsNext, IsUnder, IsStanding, active_of, active_in, framed, scopes_in, reach_seen, IsPlace}
 use Rattle.wy_calls.proofs.Last.{split_at_last, last_is_first, none_is_last, is_present, nobody_is_absent}
 use Rattle.wy_calls.proofs.Entries.{All-both, all_below, filter_keeps, filter_passes, filter_of_reverse, sits_more, sits_without, outlasts_below, rises_without, ascends_taken, raised, under, scopes_stay}
 
@@ -93,13 +93,13 @@ module _ (os : List Begun) (es : List Entry) (ns : List ℕ) (f s mark from : �
 outlasting_each : (f n : ℕ) (es : List Entry) → outlasting (Some f) n (map active_of es) ≡ map active_of (filter (outlasts f n) es)
 unfolding outlasting steps.ends_with same_frame
 outlasting_each f n [] = refl
-outlasting_each f n (e ∷ es) = one (steps.ends_with (Some f) n (reach_of e.reach)) refl (alike e.reach) (outlasting_each f n es)
+outlasting_each f n (e ∷ es) = one (steps.ends_with (Some f) n (reach_seen e.reach)) refl (alike e.reach) (outlasting_each f n es)
   where
-    alike : (r : Reach) → steps.ends_with (Some f) n (reach_of r) ≡ ends_with f n r
+    alike : (r : Reach) → steps.ends_with (Some f) n (reach_seen r) ≡ ends_with f n r
     alike Around = refl
     alike (Through g m) = refl
 
-    one : (b : Bool) → steps.ends_with (Some f) n (reach_of e.reach) ≡ b → steps.ends_with (Some f) n (reach_of e.reach) ≡ ends_with f n e.reach
+    one : (b : Bool) → steps.ends_with (Some f) n (reach_seen e.reach) ≡ b → steps.ends_with (Some f) n (reach_seen e.reach) ≡ ends_with f n e.reach
         → outlasting (Some f) n (map active_of es) ≡ map active_of (filter (outlasts f n) es)
         → outlasting (Some f) n (map active_of (e ∷ es)) ≡ map active_of (filter (outlasts f n) (e ∷ es))
     one true is same rest = rw (is, sym same ∙ is) rest
@@ -125,7 +125,7 @@ abbrev pub seen : List Frame → List Entry → List ℕ → Standing
 seen fs es ns = record { frames = fs; active = active_in es; scopes = scopes_in es ns }
 
 module _ (fs : List Frame) (os : List Begun) (es xs : List Entry) (ns : List ℕ) where
-  pub activated_is : (e : Entry) → xs ≡ es ++ e ∷ [] → IsStanding os es ns → seen fs xs ns ≡ activated e.number (reach_of e.reach) (seen fs es ns)
+  pub activated_is : (e : Entry) → xs ≡ es ++ e ∷ [] → IsStanding os es ns → seen fs xs ns ≡ activated e.number (reach_seen e.reach) (seen fs es ns)
   activated_is e is h =
       let now : active_in xs ≡ active_of e ∷ active_in es = ap active_in is ∙ one_more es e in
       let same : scopes_in xs ns ≡ scopes_in es ns = ap (λ ys. scopes_in ys ns) is ∙ scopes_with_more os es (e ∷ []) ns h in

@@ -34,12 +34,12 @@ abbrev pub IsPlaceOf : Option ℕ → List Live → List Value → ℕ → Type 
 IsPlaceOf Absent ls vs i = length (locals_of (framed ls vs)) ≤ i
 IsPlaceOf (Some at) ls vs i = IsPlace ls vs i at
 
-abbrev pub reach_of : Reach → run.Reach
-reach_of Around = run.Around
-reach_of (Through frame statement) = run.Through (Some frame) statement
+abbrev pub reach_seen : Reach → run.Reach
+reach_seen Around = run.Around
+reach_seen (Through frame statement) = run.Through (Some frame) statement
 
 abbrev pub active_of : Entry → Active nothing
-active_of e = record { number = e.number; from_all = tt; reach = reach_of e.reach }
+active_of e = record { number = e.number; from_all = tt; reach = reach_seen e.reach }
 
 abbrev pub active_in : List Entry → List (Active nothing)
 active_in es = map active_of (reverse es)

@@ -50,7 +50,8 @@ impl Model for Calls {
       scopes = scopes_in c.active.items (reverse c.scopes.items);
     } };
 
-    ghost invariant = { λ c. IsStanding (reverse c.begun.items) c.active.items (reverse c.scopes.items) };
+    ghost invariant = { λ c.
+        IsStanding (reverse c.begun.items) c.active.items (reverse c.scopes.items) };
 }
 
 impl Calls {
@@ -161,7 +162,8 @@ impl Calls {
     /// An event is active until a statement of the newest body ends, or its scope is closed. It comes after all that are active. A
     /// statement that hasn't begun is refused.
     pub fn test(&mut self, event: u32, statement: u32) -> Result<(), AllocError>
-        ensures { OnOk result (self.new ≡ activated event (Through (frame_of self.old) statement) self.old) }
+        ensures { OnOk result
+            (self.new ≡ activated event (Through (frame_of self.old) statement) self.old) }
     {
         let frame = running(&self.frames)?;
         let Some(mark) = mark_of(&self.begun, frame, statement) else {

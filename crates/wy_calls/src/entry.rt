@@ -121,7 +121,8 @@ fn ends_with(reach: Reach, frame: u32, statement: u32) -> bool
 /// Takes the entries away that end with a statement. It looks at those from a place on: all below it outlast the statement.
 pub fn end(entries: &mut Vec<Entry>, from: usize, frame: u32, statement: u32)
     requires inside { from ≤ length entries.old.items }
-    requires below { filter (outlasts frame statement) (take from entries.old.items) ≡ take from entries.old.items }
+    requires below { filter (outlasts frame statement) (take from entries.old.items)
+        ≡ take from entries.old.items }
     ensures { entries.new.items ≡ filter (outlasts frame statement) entries.old.items }
 {
     let mut kept = from;

@@ -85,7 +85,8 @@ pub fn constant_variable(ty: &Ty, value: Const) -> Option<Const>
 
 #[tactic(auto, unfolding(crate::specs::Constant::constant_variable))]
 fn constant_of_base(base: Base, value: Const) -> Option<Const>
-    ensures { option_map constant_value result ≡ constant_variable (Ty.Of base 0) (constant_value value) }
+    ensures { option_map constant_value result ≡ constant_variable (Ty.Of base 0)
+        (constant_value value) }
 {
     match base {
         Base::Primitive(to) => constant_of_primitive(to, &value),
@@ -96,7 +97,8 @@ fn constant_of_base(base: Base, value: Const) -> Option<Const>
 
 #[tactic(auto, unfolding(crate::specs::Constant::constant_variable))]
 fn constant_of_primitive(to: Primitive, value: &Const) -> Option<Const>
-    ensures { option_map constant_value result ≡ constant_variable (Ty.Of (Base.Primitive to) 0) (constant_value value.now) }
+    ensures { option_map constant_value result ≡ constant_variable (Ty.Of (Base.Primitive to) 0)
+        (constant_value value.now) }
 {
     match value_of(value) {
         Some(v) => constant_of_value(assign(to, v)),

@@ -37,7 +37,8 @@ pub fn constant_of(
     scope: &Scope,
     e: &Expression,
 ) -> Result<Option<Const>, AllocError>
-    ensures { IfOk result (λ c. option_map constant_value c ≡ constant (table_of table.now) scope.now (expression_of e.now)) }
+    ensures { IfOk result (λ c. option_map constant_value c
+        ≡ constant (table_of table.now) scope.now (expression_of e.now)) }
 {
     match e {
         Expression::Literal { value, token: _ } => literal_value(value),
@@ -92,7 +93,8 @@ fn unary(
     op: UnOp,
     operand: &Expression,
 ) -> Result<Option<Const>, AllocError>
-    ensures { IfOk result (λ c. option_map constant_value c ≡ option_and_then (unary_constant op) (constant (table_of table.now) scope.now (expression_of operand.now))) }
+    ensures { IfOk result (λ c. option_map constant_value c ≡ option_and_then (unary_constant op)
+        (constant (table_of table.now) scope.now (expression_of operand.now))) }
 {
     let c = constant_of(alloc, table, scope, operand)?;
     Ok(unary_value(op, c))
@@ -107,7 +109,9 @@ fn binary(
     left: &Expression,
     right: &Expression,
 ) -> Result<Option<Const>, AllocError>
-    ensures { IfOk result (λ c. option_map constant_value c ≡ both (binary_constant op) (constant (table_of table.now) scope.now (expression_of left.now)) (constant (table_of table.now) scope.now (expression_of right.now))) }
+    ensures { IfOk result (λ c. option_map constant_value c ≡ both
+        (binary_constant op) (constant (table_of table.now) scope.now (expression_of left.now))
+        (constant (table_of table.now) scope.now (expression_of right.now))) }
 {
     let a = constant_of(alloc, table, scope, left)?;
     let b = constant_of(alloc, table, scope, right)?;
@@ -122,7 +126,10 @@ fn both_hold(
     left: &Expression,
     right: &Expression,
 ) -> Result<Option<Const>, AllocError>
-    ensures { IfOk result (λ c. option_map constant_value c ≡ combined (λ p q. p && q) (option_and_then truth (constant (table_of table.now) scope.now (expression_of left.now))) (option_and_then truth (constant (table_of table.now) scope.now (expression_of right.now)))) }
+    ensures { IfOk result (λ c.
+        option_map constant_value c ≡ combined (λ p q. p && q) (option_and_then truth
+        (constant (table_of table.now) scope.now (expression_of left.now))) (option_and_then truth
+        (constant (table_of table.now) scope.now (expression_of right.now)))) }
 {
     let a = constant_of(alloc, table, scope, left)?;
     let b = constant_of(alloc, table, scope, right)?;
@@ -137,7 +144,10 @@ fn either_holds(
     left: &Expression,
     right: &Expression,
 ) -> Result<Option<Const>, AllocError>
-    ensures { IfOk result (λ c. option_map constant_value c ≡ combined (λ p q. p || q) (option_and_then truth (constant (table_of table.now) scope.now (expression_of left.now))) (option_and_then truth (constant (table_of table.now) scope.now (expression_of right.now)))) }
+    ensures { IfOk result (λ c.
+        option_map constant_value c ≡ combined (λ p q. p || q) (option_and_then truth
+        (constant (table_of table.now) scope.now (expression_of left.now))) (option_and_then truth
+        (constant (table_of table.now) scope.now (expression_of right.now)))) }
 {
     let a = constant_of(alloc, table, scope, left)?;
     let b = constant_of(alloc, table, scope, right)?;
@@ -152,7 +162,8 @@ fn cast(
     ty: &WrittenType,
     operand: &Expression,
 ) -> Result<Option<Const>, AllocError>
-    ensures { IfOk result (λ c. option_map constant_value c ≡ option_and_then (cast_constant (type_seen ty.now)) (constant (table_of table.now) scope.now (expression_of operand.now))) }
+    ensures { IfOk result (λ c. option_map constant_value c ≡ option_and_then (cast_constant
+        (type_seen ty.now)) (constant (table_of table.now) scope.now (expression_of operand.now))) }
 {
     let c = constant_of(alloc, table, scope, operand)?;
     Ok(cast_value(ty, c))
@@ -167,7 +178,10 @@ fn choice(
     main: &Expression,
     other: &Expression,
 ) -> Result<Option<Const>, AllocError>
-    ensures { IfOk result (λ c. option_map constant_value c ≡ choice_constant (option_and_then truth (constant (table_of table.now) scope.now (expression_of test.now))) (constant (table_of table.now) scope.now (expression_of main.now)) (constant (table_of table.now) scope.now (expression_of other.now))) }
+    ensures { IfOk result (λ c. option_map constant_value c ≡ choice_constant
+        (option_and_then truth (constant (table_of table.now) scope.now (expression_of test.now)))
+        (constant (table_of table.now) scope.now (expression_of main.now))
+        (constant (table_of table.now) scope.now (expression_of other.now))) }
 {
     let t = constant_of(alloc, table, scope, test)?;
     let a = constant_of(alloc, table, scope, main)?;

@@ -82,7 +82,8 @@ pub fn field_by_name(table: &ClassTable, class: u32, name: &str) -> Option<u32>
 /// The value of a field that is a constant variable.
 #[tactic(auto, unfolding(wy_kernel::specs::ClassTable::table_of))]
 pub fn constant_of_field(table: &ClassTable, field: u32) -> Option<&Const>
-    ensures { option_map (λ c. constant_value c.now) result ≡ field_constant (table_of table.now) field }
+    ensures { option_map (λ c.
+        constant_value c.now) result ≡ field_constant (table_of table.now) field }
 {
     match table.constants.as_slice().get(field as usize) {
         Some(c) => c.as_ref(),

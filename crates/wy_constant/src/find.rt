@@ -8,7 +8,8 @@ use crate::variable::Variable;
 
 /// The first variable of this name.
 pub fn find_variable<'a>(variables: &'a [Variable], name: &str) -> Option<&'a Variable>
-    ensures { option_map (λ v. variable_of v.now) result ≡ find (is_named name.now) (map variable_of variables.now) }
+    ensures { option_map (λ v.
+        variable_of v.now) result ≡ find (is_named name.now) (map variable_of variables.now) }
 {
     for v in variables {
         if v.name.as_str() == name {

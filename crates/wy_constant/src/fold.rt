@@ -68,7 +68,8 @@ fn are_same_texts(a: &Const, b: &Const) -> Option<bool>
 
 #[tactic(auto, unfolding(crate::specs::Constant::on_texts))]
 fn fold_texts(alloc: Global, op: BinOp, a: &Const, b: &Const) -> Result<Option<Const>, AllocError>
-    ensures { IfOk result (λ c. option_map constant_value c ≡ on_texts op (constant_value a.now) (constant_value b.now)) }
+    ensures { IfOk result (λ c.
+        option_map constant_value c ≡ on_texts op (constant_value a.now) (constant_value b.now)) }
 {
     match op {
         BinOp::Add => {
@@ -105,7 +106,8 @@ pub fn fold_binary(
     a: &Const,
     b: &Const,
 ) -> Result<Option<Const>, AllocError>
-    ensures { IfOk result (λ c. option_map constant_value c ≡ binary_constant op (constant_value a.now) (constant_value b.now)) }
+    ensures { IfOk result (λ c. option_map constant_value c
+        ≡ binary_constant op (constant_value a.now) (constant_value b.now)) }
 {
     match (value_of(a), value_of(b)) {
         (Some(x), Some(y)) => Ok(constant_of_value(operate(op, x, y))),
@@ -120,7 +122,8 @@ pub fn binary_value(
     a: Option<Const>,
     b: Option<Const>,
 ) -> Result<Option<Const>, AllocError>
-    ensures { IfOk result (λ c. option_map constant_value c ≡ both (binary_constant op) (option_map constant_value a) (option_map constant_value b)) }
+    ensures { IfOk result (λ c. option_map constant_value c ≡ both (binary_constant op)
+        (option_map constant_value a) (option_map constant_value b)) }
 {
     match (a, b) {
         (Some(x), Some(y)) => fold_binary(alloc, op, &x, &y),
@@ -140,7 +143,8 @@ pub fn fold_unary(op: UnOp, c: &Const) -> Option<Const>
 
 /// The value of `op c`.
 pub fn unary_value(op: UnOp, c: Option<Const>) -> Option<Const>
-    ensures { option_map constant_value result ≡ option_and_then (unary_constant op) (option_map constant_value c) }
+    ensures { option_map constant_value result ≡ option_and_then (unary_constant op)
+        (option_map constant_value c) }
 {
     match c {
         Some(c) => fold_unary(op, &c),
@@ -159,7 +163,9 @@ fn truth_in(c: &Option<Const>) -> Option<bool>
 
 /// The value of `a && b`.
 pub fn conjunction(a: &Option<Const>, b: &Option<Const>) -> Option<Const>
-    ensures { option_map constant_value result ≡ combined (λ p q. p && q) (option_and_then truth (option_map constant_value a.now)) (option_and_then truth (option_map constant_value b.now)) }
+    ensures { option_map constant_value result ≡ combined (λ p q.
+        p && q) (option_and_then truth (option_map constant_value a.now))
+        (option_and_then truth (option_map constant_value b.now)) }
 {
     match (truth_in(a), truth_in(b)) {
         (Some(p), Some(q)) => Some(Const::Bool(p && q)),
@@ -169,7 +175,9 @@ pub fn conjunction(a: &Option<Const>, b: &Option<Const>) -> Option<Const>
 
 /// The value of `a || b`.
 pub fn disjunction(a: &Option<Const>, b: &Option<Const>) -> Option<Const>
-    ensures { option_map constant_value result ≡ combined (λ p q. p || q) (option_and_then truth (option_map constant_value a.now)) (option_and_then truth (option_map constant_value b.now)) }
+    ensures { option_map constant_value result ≡ combined (λ p q.
+        p || q) (option_and_then truth (option_map constant_value a.now))
+        (option_and_then truth (option_map constant_value b.now)) }
 {
     match (truth_in(a), truth_in(b)) {
         (Some(p), Some(q)) => Some(Const::Bool(p || q)),
@@ -178,7 +186,8 @@ pub fn disjunction(a: &Option<Const>, b: &Option<Const>) -> Option<Const>
 }
 
 fn cast_simple(to: Primitive, c: &Const) -> Option<Const>
-    ensures { option_map constant_value result ≡ option_and_then (λ v. option_map simple (converted_value to v)) (simple_in (constant_value c.now)) }
+    ensures { option_map constant_value result ≡ option_and_then (λ v.
+        option_map simple (converted_value to v)) (simple_in (constant_value c.now)) }
 {
     match value_of(c) {
         Some(v) => constant_of_value(cast(to, v)),
@@ -203,7 +212,8 @@ pub fn cast_text(c: Const) -> Option<Const>
 
 #[tactic(auto, unfolding(crate::specs::Constant::cast_constant))]
 fn fold_cast(ty: &WrittenType, c: Const) -> Option<Const>
-    ensures { option_map constant_value result ≡ cast_constant (type_seen ty.now) (constant_value c) }
+    ensures { option_map constant_value result ≡ cast_constant (type_seen ty.now)
+        (constant_value c) }
 {
     if ty.brackets != 0 {
         return None;
@@ -222,7 +232,8 @@ fn fold_cast(ty: &WrittenType, c: Const) -> Option<Const>
 
 /// The value of `(ty) c`.
 pub fn cast_value(ty: &WrittenType, c: Option<Const>) -> Option<Const>
-    ensures { option_map constant_value result ≡ option_and_then (cast_constant (type_seen ty.now)) (option_map constant_value c) }
+    ensures { option_map constant_value result ≡ option_and_then (cast_constant (type_seen ty.now))
+        (option_map constant_value c) }
 {
     match c {
         Some(c) => fold_cast(ty, c),
@@ -233,7 +244,8 @@ pub fn cast_value(ty: &WrittenType, c: Option<Const>) -> Option<Const>
 /// The value of `test ? a : b`.
 #[tactic(auto, unfolding(crate::specs::Constant::choice_constant))]
 pub fn choice_value(test: &Option<Const>, a: Option<Const>, b: Option<Const>) -> Option<Const>
-    ensures { option_map constant_value result ≡ choice_constant (option_and_then truth (option_map constant_value test.now)) (option_map constant_value a) (option_map constant_value b) }
+    ensures { option_map constant_value result ≡ choice_constant (option_and_then truth (option_map
+        constant_value test.now)) (option_map constant_value a) (option_map constant_value b) }
 {
     match (truth_in(test), a, b) {
         (Some(t), Some(x), Some(y)) => chosen(t, x, y),
@@ -242,7 +254,8 @@ pub fn choice_value(test: &Option<Const>, a: Option<Const>, b: Option<Const>) ->
 }
 
 fn chosen(test: bool, a: Const, b: Const) -> Option<Const>
-    ensures { option_map constant_value result ≡ chosen_in test (simple_in (constant_value a)) (simple_in (constant_value b)) (constant_value a) (constant_value b) }
+    ensures { option_map constant_value result ≡ chosen_in test (simple_in (constant_value a))
+        (simple_in (constant_value b)) (constant_value a) (constant_value b) }
 {
     match (value_of(&a), value_of(&b)) {
         (Some(x), Some(y)) => chosen_simple(test, x, y),
@@ -251,7 +264,8 @@ fn chosen(test: bool, a: Const, b: Const) -> Option<Const>
 }
 
 fn chosen_of_texts(test: bool, a: Const, b: Const) -> Option<Const>
-    ensures { option_map constant_value result ≡ chosen_text test (constant_value a) (constant_value b) }
+    ensures { option_map constant_value result ≡ chosen_text test (constant_value a)
+        (constant_value b) }
 {
     if has_text(&a) && has_text(&b) {
         Some(if test { a } else { b })

@@ -15,7 +15,8 @@ use wy_kernel::form::Const;
 use wy_kernel::table::ClassTable;
 
 fn copied_if(c: Option<&Const>) -> Result<Option<Const>, AllocError>
-    ensures { IfOk result (λ k. option_map constant_value k ≡ option_map (λ x. constant_value x.now) c.entry) }
+    ensures { IfOk result (λ k.
+        option_map constant_value k ≡ option_map (λ x. constant_value x.now) c.entry) }
 {
     match c {
         Some(c) => Ok(Some(copied(c)?)),
@@ -33,7 +34,8 @@ fn constant_of_variable(c: &Option<Const>) -> Result<Option<Const>, AllocError>
 }
 
 fn field_constant_of(table: &ClassTable, field: Option<u32>) -> Result<Option<Const>, AllocError>
-    ensures { IfOk result (λ c. option_map constant_value c ≡ field_value (table_of table.now) field) }
+    ensures { IfOk result (λ c.
+        option_map constant_value c ≡ field_value (table_of table.now) field) }
 {
     match field {
         Some(field) => copied_if(constant_of_field(table, field)),
@@ -48,7 +50,8 @@ pub fn value_of_name(
     scope: &Scope,
     name: &str,
 ) -> Result<Option<Const>, AllocError>
-    ensures { IfOk result (λ c. option_map constant_value c ≡ name_constant (table_of table.now) scope.now name.now) }
+    ensures { IfOk result (λ c.
+        option_map constant_value c ≡ name_constant (table_of table.now) scope.now name.now) }
 {
     match scope.variable(name) {
         Some(v) => constant_of_variable(&v.constant),
@@ -64,7 +67,8 @@ pub fn may_be_class(table: &ClassTable, scope: &Scope, name: &str) -> bool
 }
 
 fn limit_of_int(name: &str) -> Option<Const>
-    ensures { option_map constant_value result ≡ limit (Value.Int (pos 2147483647)) (Value.Int (negsuc 2147483647)) name.now }
+    ensures { option_map constant_value result ≡ limit (Value.Int (pos 2147483647))
+        (Value.Int (negsuc 2147483647)) name.now }
 {
     if name == "MAX_VALUE" {
         Some(Const::Int(2147483647))
@@ -76,7 +80,8 @@ fn limit_of_int(name: &str) -> Option<Const>
 }
 
 fn limit_of_long(name: &str) -> Option<Const>
-    ensures { option_map constant_value result ≡ limit (Value.Long (pos 9223372036854775807)) (Value.Long (negsuc 9223372036854775807)) name.now }
+    ensures { option_map constant_value result ≡ limit (Value.Long (pos 9223372036854775807))
+        (Value.Long (negsuc 9223372036854775807)) name.now }
 {
     if name == "MAX_VALUE" {
         Some(Const::Long(9223372036854775807))
@@ -92,7 +97,8 @@ fn value_in_class(
     class: Option<u32>,
     name: &str,
 ) -> Result<Option<Const>, AllocError>
-    ensures { IfOk result (λ c. option_map constant_value c ≡ class_value (table_of table.now) class name.now) }
+    ensures { IfOk result (λ c.
+        option_map constant_value c ≡ class_value (table_of table.now) class name.now) }
 {
     match class {
         Some(class) => field_constant_of(table, field_by_name(table, class, name)),
@@ -106,7 +112,8 @@ pub fn value_of_member(
     class: &str,
     name: &str,
 ) -> Result<Option<Const>, AllocError>
-    ensures { IfOk result (λ c. option_map constant_value c ≡ member_constant (table_of table.now) class.now name.now) }
+    ensures { IfOk result (λ c.
+        option_map constant_value c ≡ member_constant (table_of table.now) class.now name.now) }
 {
     if class == "Integer" {
         Ok(limit_of_int(name))
@@ -124,7 +131,8 @@ pub fn value_of_qualified(
     class: Option<&str>,
     name: &str,
 ) -> Result<Option<Const>, AllocError>
-    ensures { IfOk result (λ c. option_map constant_value c ≡ qualified (table_of table.now) scope.now (option_map (λ n. n.now) class.entry) name.now) }
+    ensures { IfOk result (λ c. option_map constant_value c
+        ≡ qualified (table_of table.now) scope.now (option_map (λ n. n.now) class.entry) name.now) }
 {
     match class {
         Some(class) => {

@@ -5,6 +5,7 @@ ghost use Rattle.wy_kernel.specs.Table.{constant_value};
 ghost use Rattle.wy_constant.specs.Refusal.{Gives};
 ghost use Rattle.wy_constant.specs.Scope.{with_value};
 ghost use Rattle.wy_constant.specs.Scopes.{text_of, variable_of};
+ghost use Rattle.wy_tree.specs.Tokens.{token_limit};
 
 use crate::find::find_variable;
 use crate::rule::{Rule, TypeError};
@@ -115,8 +116,9 @@ impl Scope {
         constant: Option<Const>,
         token: u32,
     ) -> Result<u32, TypeError>
-        requires { self.old.next ≤ 1048576 }
-        ensures declared { Gives (λ n. self.new) result (declared self.old name.now ty.now is_fixed (option_map constant_value constant) token) }
+        requires { self.old.next ≤ token_limit }
+        ensures declared { Gives (λ n. self.new) result (declared self.old name.now ty.now is_fixed
+            (option_map constant_value constant) token) }
         ensures number { IfOk result (λ n. n ≡ self.old.next) }
         ensures err { OnErr result (self.new ≡ self.old) }
     {
@@ -218,7 +220,8 @@ fn copied(alloc: Global, list: &[FixedText]) -> Result<Vec<FixedText>, AllocErro
 }
 
 fn give(variable: &mut Variable, constant: Option<Const>)
-    ensures { variable_of variable.new ≡ with_value (option_map constant_value constant) (variable_of variable.old) }
+    ensures { variable_of variable.new ≡ with_value (option_map constant_value constant)
+        (variable_of variable.old) }
 {
     variable.constant = constant;
 }

@@ -33,7 +33,8 @@ fn members(alloc: Global, parts: Parts) -> Result<Vec<Member>, AllocError>
 
 // The parts before the first `;`, and those behind it.
 fn front_method(parts: Parts<'_>) -> Option<(Parts<'_>, Parts<'_>)>
-    ensures { MatchOption result (methods_in [] (parts_of parts.entry) ≡ []) (λ r. MethodFirst parts.entry r.0 r.1) }
+    ensures { MatchOption result (methods_in [] (parts_of parts.entry) ≡ []) (λ r.
+        MethodFirst parts.entry r.0 r.1) }
 {
     let mut left = parts;
     while let Some((part, behind)) = left.split() {
@@ -50,7 +51,8 @@ fn front_method(parts: Parts<'_>) -> Option<(Parts<'_>, Parts<'_>)>
 
 // The methods of an interface up to the last part, which is `}`: one a `;`.
 fn methods(alloc: Global, parts: Parts) -> Result<Vec<Member>, AllocError>
-    ensures { IfOk result (λ found. map member_of found.items ≡ methods_in [] (parts_of parts.entry)) }
+    ensures { IfOk result (λ found.
+        map member_of found.items ≡ methods_in [] (parts_of parts.entry)) }
 {
     let mut found = Vec::new(alloc);
     let mut left = parts;
@@ -77,7 +79,8 @@ fn behind_brace(parts: Parts<'_>) -> Parts<'_>
 
 // The name behind `extends` in front.
 fn superclass(alloc: Global, parts: Parts) -> Result<Option<Named>, AllocError>
-    ensures { IfOk result (λ above. option_map named_of above ≡ superclass_in (parts_of parts.entry)) }
+    ensures { IfOk result (λ above.
+        option_map named_of above ≡ superclass_in (parts_of parts.entry)) }
 {
     let Some((word, behind)) = parts.split() else {
         return Ok(None);
@@ -94,7 +97,8 @@ fn superclass(alloc: Global, parts: Parts) -> Result<Option<Named>, AllocError>
 
 // The names behind `implements` before the `{`.
 fn implemented(alloc: Global, parts: Parts) -> Result<Vec<Named>, AllocError>
-    ensures { IfOk result (λ found. map named_of found.items ≡ implemented_in (parts_of parts.entry)) }
+    ensures { IfOk result (λ found.
+        map named_of found.items ≡ implemented_in (parts_of parts.entry)) }
 {
     let mut left = parts;
     while let Some((part, behind)) = left.split() {
@@ -116,7 +120,8 @@ pub fn class(
     parts: Parts,
     end: u32,
 ) -> Result<Declaration, AllocError>
-    ensures { IfOk result (λ d. declaration_of d ≡ class_behind (map placed_of modifiers.items) end (parts_of parts.entry)) }
+    ensures { IfOk result (λ d. declaration_of d ≡ class_behind (map placed_of modifiers.items) end
+        (parts_of parts.entry)) }
 {
     let Some((_word, behind)) = parts.split() else {
         return Ok(Declaration::Wrong);
@@ -146,7 +151,8 @@ pub fn interface(
     parts: Parts,
     end: u32,
 ) -> Result<Declaration, AllocError>
-    ensures { IfOk result (λ d. declaration_of d ≡ interface_behind (map placed_of modifiers.items) end (parts_of parts.entry)) }
+    ensures { IfOk result (λ d. declaration_of d
+        ≡ interface_behind (map placed_of modifiers.items) end (parts_of parts.entry)) }
 {
     let Some((_word, behind)) = parts.split() else {
         return Ok(Declaration::Wrong);

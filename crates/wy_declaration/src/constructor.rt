@@ -20,7 +20,8 @@ use wy_tree::kind::Kind;
 
 // Statements up to the last part, which is `}`.
 fn statements(alloc: Global, parts: Parts) -> Result<Vec<Statement>, AllocError>
-    ensures { IfOk result (λ found. statements_of (map statement_of found.items) ≡ statements_in (parts_of parts.entry)) }
+    ensures { IfOk result (λ found.
+        statements_of (map statement_of found.items) ≡ statements_in (parts_of parts.entry)) }
 {
     let mut found = Vec::new(alloc);
     let mut left = parts;
@@ -50,14 +51,16 @@ pub fn end(parts: Parts) -> u32
 
 // Whether `this` or `super` is called by these two parts.
 fn is_own_call(word: Part, args: Part) -> bool
-    ensures { result ≡ (is_own (leaf_kind (view word.entry.tree.now)) && is_arguments (view args.entry.tree.now)) }
+    ensures { result ≡ (is_own (leaf_kind (view word.entry.tree.now))
+        && is_arguments (view args.entry.tree.now)) }
 {
     (is_leaf(word.tree, Kind::This) || is_leaf(word.tree, Kind::Super)) && is_arguments(args.tree)
 }
 
 // The call of a constructor in front of the statements.
 fn own_call(alloc: Global, parts: Parts) -> Result<Option<OwnCall>, AllocError>
-    ensures { IfOk result (λ call. option_map own_call_of call ≡ own_call_in (parts_of parts.entry)) }
+    ensures { IfOk result (λ call.
+        option_map own_call_of call ≡ own_call_in (parts_of parts.entry)) }
 {
     let Some((word, behind)) = parts.split() else {
         return Ok(None);
@@ -101,7 +104,8 @@ fn behind_own_call(parts: Parts<'_>) -> Parts<'_>
 
 /// A constructor by its header and its body.
 pub fn constructor(alloc: Global, header: Header, parts: Parts) -> Result<Member, AllocError>
-    ensures { IfOk result (λ m. member_of m ≡ constructor_of (header_of header) (parts_of parts.entry)) }
+    ensures { IfOk result (λ m.
+        member_of m ≡ constructor_of (header_of header) (parts_of parts.entry)) }
 {
     let Some((brace, behind)) = parts.split() else {
         return Ok(Member::Wrong);

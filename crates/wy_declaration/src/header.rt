@@ -36,7 +36,8 @@ fn lacking(alloc: Global, is_final: bool, at: u32) -> Parameter
 
 // A type, a name and pairs.
 fn declared(alloc: Global, is_final: bool, parts: Parts) -> Result<Parameter, AllocError>
-    ensures { IfOk result (λ p. parameter_seen p ≡ parameter_of is_final parts.entry.at (views parts.entry.trees.now)) }
+    ensures { IfOk result (λ p.
+        parameter_seen p ≡ parameter_of is_final parts.entry.at (views parts.entry.trees.now)) }
 {
     let Some((ty, behind)) = parts.split() else {
         return Ok(lacking(alloc, is_final, parts.at));
@@ -56,7 +57,8 @@ fn declared(alloc: Global, is_final: bool, parts: Parts) -> Result<Parameter, Al
 
 // A parameter by its parts, after `final` or without it.
 fn parameter_in(alloc: Global, parts: Parts) -> Result<Parameter, AllocError>
-    ensures { IfOk result (λ p. parameter_seen p ≡ parameter_in parts.entry.at (views parts.entry.trees.now)) }
+    ensures { IfOk result (λ p.
+        parameter_seen p ≡ parameter_in parts.entry.at (views parts.entry.trees.now)) }
 {
     let Some((word, behind)) = parts.split() else {
         return Ok(lacking(alloc, false, parts.at));
@@ -68,7 +70,8 @@ fn parameter_in(alloc: Global, parts: Parts) -> Result<Parameter, AllocError>
 }
 
 fn parameter(alloc: Global, part: Part) -> Result<Parameter, AllocError>
-    ensures { IfOk result (λ p. parameter_seen p ≡ parameter part.entry.at (view part.entry.tree.now)) }
+    ensures { IfOk result (λ p.
+        parameter_seen p ≡ parameter part.entry.at (view part.entry.tree.now)) }
 {
     match part.tree {
         Tree::Leaf(_) => Ok(lacking(alloc, false, part.at)),
@@ -84,7 +87,8 @@ fn parameter(alloc: Global, part: Part) -> Result<Parameter, AllocError>
 
 // Parameters with one part behind each.
 fn parameter_list(alloc: Global, parts: Parts) -> Result<Vec<Parameter>, AllocError>
-    ensures { IfOk result (λ found. map parameter_seen found.items ≡ parameters parts.entry.at (views parts.entry.trees.now)) }
+    ensures { IfOk result (λ found.
+        map parameter_seen found.items ≡ parameters parts.entry.at (views parts.entry.trees.now)) }
 {
     let mut found = Vec::new(alloc);
     let mut left = parts;
@@ -99,7 +103,8 @@ fn parameter_list(alloc: Global, parts: Parts) -> Result<Vec<Parameter>, AllocEr
 }
 
 fn parameters(alloc: Global, part: Part) -> Result<Vec<Parameter>, AllocError>
-    ensures { IfOk result (λ found. map parameter_seen found.items ≡ parameters_of part.entry.at (view part.entry.tree.now)) }
+    ensures { IfOk result (λ found.
+        map parameter_seen found.items ≡ parameters_of part.entry.at (view part.entry.tree.now)) }
 {
     let Some(parts) = part.parts(Form::Params) else {
         return Ok(Vec::new(alloc));
@@ -144,7 +149,8 @@ pub fn header(
     params: Part,
     behind: Parts,
 ) -> Result<Header, AllocError>
-    ensures { IfOk result (λ h. header_of h ≡ header (map placed_of modifiers.items) (part_of name.entry) (part_of params.entry) (parts_of behind.entry)) }
+    ensures { IfOk result (λ h. header_of h ≡ header (map placed_of modifiers.items)
+        (part_of name.entry) (part_of params.entry) (parts_of behind.entry)) }
 {
     let throws = throws(alloc, behind)?;
     let params = parameters(alloc, params)?;

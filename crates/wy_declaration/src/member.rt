@@ -52,7 +52,8 @@ fn body(alloc: Global, parts: Parts) -> Result<Option<Block>, AllocError>
 
 // A method by its header, the part before its name and what stands behind its parameters.
 fn method(alloc: Global, header: Header, front: Part, behind: Parts) -> Result<Member, AllocError>
-    ensures { IfOk result (λ m. member_of m ≡ plain.Method (header_of header) (result_of (part_of front.entry)) (body_of (behind_throws (parts_of behind.entry)))) }
+    ensures { IfOk result (λ m. member_of m ≡ plain.Method (header_of header)
+        (result_of (part_of front.entry)) (body_of (behind_throws (parts_of behind.entry)))) }
 {
     let result = outcome(alloc, front)?;
     let body = body(alloc, behind_throws(behind))?;
@@ -70,7 +71,8 @@ fn fields(
     ty: Part,
     variables: Part,
 ) -> Result<Member, AllocError>
-    ensures { IfOk result (λ m. member_of m ≡ plain.Fields (map placed_of modifiers.items) (type_at (part_of ty.entry)) (declarators variables.entry.at (view variables.entry.tree.now))) }
+    ensures { IfOk result (λ m. member_of m ≡ plain.Fields (map placed_of modifiers.items) (type_at
+        (part_of ty.entry)) (declarators variables.entry.at (view variables.entry.tree.now))) }
 {
     let ty = written(alloc, ty.tree, ty.at)?;
     let declarators = declarators(alloc, variables.tree, variables.at)?;
@@ -83,7 +85,8 @@ fn fields(
 
 // A constructor, a method or fields, behind the modifiers.
 fn member_behind(alloc: Global, modifiers: Vec<Placed>, parts: Parts) -> Result<Member, AllocError>
-    ensures { IfOk result (λ m. member_of m ≡ member_behind (map placed_of modifiers.items) (parts_of parts.entry)) }
+    ensures { IfOk result (λ m.
+        member_of m ≡ member_behind (map placed_of modifiers.items) (parts_of parts.entry)) }
 {
     let Some((front, behind)) = parts.split() else {
         return Ok(Member::Wrong);
@@ -107,7 +110,8 @@ fn member_behind(alloc: Global, modifiers: Vec<Placed>, parts: Parts) -> Result<
 
 // An initializer by its block.
 fn initializer(alloc: Global, is_static: bool, part: Part) -> Result<Member, AllocError>
-    ensures { IfOk result (λ m. member_of m ≡ plain.Initializer is_static (block part.entry.at (view part.entry.tree.now))) }
+    ensures { IfOk result (λ m. member_of m ≡ plain.Initializer is_static
+        (block part.entry.at (view part.entry.tree.now))) }
 {
     let block = block(alloc, part.tree, part.at)?;
     Ok(Member::Initializer { is_static, block })
@@ -116,8 +120,10 @@ fn initializer(alloc: Global, is_static: bool, part: Part) -> Result<Member, All
 // The block of an initializer with a word in front.
 fn static_block(parts: Parts<'_>) -> Option<Part<'_>>
     ensures { MatchOption result
-        (member_in (parts_of parts.entry) ≡ member_behind (modifiers_of (parts_of parts.entry)) (behind_modifiers (parts_of parts.entry)))
-        (λ p. member_in (parts_of parts.entry) ≡ plain.Initializer true (block p.at (view p.tree.now))) }
+        (member_in (parts_of parts.entry) ≡ member_behind (modifiers_of (parts_of parts.entry))
+        (behind_modifiers (parts_of parts.entry)))
+        (λ p.
+        member_in (parts_of parts.entry) ≡ plain.Initializer true (block p.at (view p.tree.now))) }
 {
     let (_word, behind) = parts.split()?;
     let (part, rest) = behind.split()?;
@@ -144,7 +150,8 @@ fn member_in(alloc: Global, parts: Parts) -> Result<Member, AllocError>
 
 /// A member of a class.
 pub fn member(alloc: Global, part: Part) -> Result<Member, AllocError>
-    ensures { IfOk result (λ m. member_of m ≡ member_seen part.entry.at (view part.entry.tree.now)) }
+    ensures { IfOk result (λ m.
+        member_of m ≡ member_seen part.entry.at (view part.entry.tree.now)) }
 {
     if is_block(part.tree) {
         return initializer(alloc, false, part);

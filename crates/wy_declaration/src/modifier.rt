@@ -79,7 +79,8 @@ fn is_modifying(token: &Token) -> bool
 /// The modifiers in front.
 #[tactic(auto, using(crate::proofs::Rows::grown, crate::proofs::Rows::ended), unfolding(wy_syntax::specs::Declarations::modifiers_of))]
 pub fn modifiers(alloc: Global, parts: Parts) -> Result<Vec<Placed>, AllocError>
-    ensures { IfOk result (λ found. map placed_of found.items ≡ modifiers_of (parts_of parts.entry)) }
+    ensures { IfOk result (λ found.
+        map placed_of found.items ≡ modifiers_of (parts_of parts.entry)) }
 {
     let mut found = Vec::new(alloc);
     let mut left = parts;

@@ -3,6 +3,7 @@
 ghost use Rattle.std.specs.Prelude.{◌≤◌, ◌+◌};
 ghost use Rattle.wy_tree.specs.Ast.{view, views};
 ghost use Rattle.wy_syntax.specs.Names.{width, widths};
+ghost use Rattle.wy_tree.specs.Tokens.{token_limit};
 
 use wy_syntax::part::{parts_of, width};
 use wy_tree::tree::{Form, Tree};
@@ -12,7 +13,7 @@ use wy_tree::tree::{Form, Tree};
 pub struct Part<'a> {
     pub at: u32,
     pub tree: &'a Tree,
-    pub ghost within: { at + width (view tree.now) ≤ 1048576 },
+    pub ghost within: { at + width (view tree.now) ≤ token_limit },
 }
 
 /// Parts one behind another, and the number of their first token.
@@ -20,7 +21,7 @@ pub struct Part<'a> {
 pub struct Parts<'a> {
     pub at: u32,
     pub trees: &'a [Tree],
-    pub ghost within: { at + widths (views trees.now) ≤ 1048576 },
+    pub ghost within: { at + widths (views trees.now) ≤ token_limit },
 }
 
 impl<'a> Part<'a> {
@@ -30,7 +31,8 @@ impl<'a> Part<'a> {
 
     /// The parts of a tree of this form.
     pub fn parts(self, form: Form) -> Option<Parts<'a>>
-        ensures { MatchOption result ((ts : Asts) → view self.entry.tree.now ≡ Node form ts → ⊥) (λ inner. Inside form self.entry inner) }
+        ensures { MatchOption result ((ts : Asts) → view self.entry.tree.now ≡ Node form ts → ⊥)
+            (λ inner. Inside form self.entry inner) }
     {
         let trees = parts_of(self.tree, form)?;
         Some(Parts { at: self.at, trees })
@@ -59,7 +61,8 @@ impl<'a> Parts<'a> {
     /// The parts in front of the last ones.
     pub fn front(self, last: Parts) -> Parts<'a>
         requires { length last.trees.now ≤ length self.trees.now }
-        ensures { parts_of result ≡ take (length self.entry.trees.now - length last.entry.trees.now) (parts_of self.entry) }
+        ensures { parts_of result ≡ take (length self.entry.trees.now - length last.entry.trees.now)
+            (parts_of self.entry) }
     {
         Parts {
             at: self.at,

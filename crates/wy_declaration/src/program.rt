@@ -5,6 +5,7 @@ ghost use Rattle.wy_tree.specs.Ast.{view, views};
 ghost use Rattle.wy_syntax.specs.Declarations.{declaration, declarations, unit};
 ghost use Rattle.wy_syntax.specs.Names.{width};
 ghost use Rattle.wy_syntax.specs.View.{declaration_of};
+ghost use Rattle.wy_tree.specs.Tokens.{token_limit};
 
 use crate::class::{class, interface};
 use crate::constructor::end;
@@ -17,7 +18,8 @@ use wy_tree::kind::Kind;
 use wy_tree::tree::{Form, Tree};
 
 fn declaration(alloc: Global, part: Part) -> Result<Declaration, AllocError>
-    ensures { IfOk result (λ d. declaration_of d ≡ declaration part.entry.at (view part.entry.tree.now)) }
+    ensures { IfOk result (λ d.
+        declaration_of d ≡ declaration part.entry.at (view part.entry.tree.now)) }
 {
     if let Some(parts) = part.parts(Form::Class) {
         let modifiers = modifiers(alloc, parts)?;
@@ -35,7 +37,8 @@ fn declaration(alloc: Global, part: Part) -> Result<Declaration, AllocError>
 }
 
 fn declarations(alloc: Global, parts: Parts) -> Result<Vec<Declaration>, AllocError>
-    ensures { IfOk result (λ found. map declaration_of found.items ≡ declarations parts.entry.at (views parts.entry.trees.now)) }
+    ensures { IfOk result (λ found. map declaration_of found.items ≡ declarations parts.entry.at
+        (views parts.entry.trees.now)) }
 {
     let mut found = Vec::new(alloc);
     let mut left = parts;
@@ -48,7 +51,7 @@ fn declarations(alloc: Global, parts: Parts) -> Result<Vec<Declaration>, AllocEr
 
 /// The declarations of a program, by its tree.
 pub fn unit(alloc: Global, tree: &Tree, first: u32) -> Result<Vec<Declaration>, AllocError>
-    requires { first + width (view tree.now) ≤ 1048576 }
+    requires { first + width (view tree.now) ≤ token_limit }
     ensures { IfOk result (λ all. map declaration_of all.items ≡ unit first (view tree.now)) }
 {
     let whole = Part { at: first, tree };

@@ -54,7 +54,8 @@ fn is_related(table: &ClassTable, a: Ty, b: Ty) -> bool
 }
 
 fn can_cast_bases(table: &ClassTable, a: Base, m: u8, b: Base, n: u8) -> bool
-    ensures { Judged (table_of table.now) (λ j. result ≡ can_cast_bases j (table_of table.now) a m b n) }
+    ensures { Judged (table_of table.now) (λ j.
+        result ≡ can_cast_bases j (table_of table.now) a m b n) }
 {
     let from = Ty::Of {
         base: a,
@@ -74,7 +75,8 @@ fn can_cast_bases(table: &ClassTable, a: Base, m: u8, b: Base, n: u8) -> bool
 }
 
 fn can_cast_reference(table: &ClassTable, a: Ty, b: Ty) -> bool
-    ensures { Judged (table_of table.now) (λ j. result ≡ can_cast_reference j (table_of table.now) a b) }
+    ensures { Judged (table_of table.now) (λ j.
+        result ≡ can_cast_reference j (table_of table.now) a b) }
 {
     match (a, b) {
         (

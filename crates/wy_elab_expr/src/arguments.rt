@@ -50,7 +50,8 @@ fn chosen(
     types: &[Ty],
     token: u32,
 ) -> Result<u32, TypeError>
-    ensures { Judged (table_of table.now) (λ j. GivesAlways (λ k. k) result (of_choice (j.choice ty name.now types.now) token)) }
+    ensures { Judged (table_of table.now) (λ j.
+        GivesAlways (λ k. k) result (of_choice (j.choice ty name.now types.now) token)) }
 {
     choose(table, &ty, name, types, token)
 }
@@ -65,7 +66,8 @@ pub fn method_for(
     args: &[Meaning],
     token: u32,
 ) -> Result<u32, TypeError>
-    ensures { Judged (table_of table.now) (λ j. GivesAlways (λ k. k) result (method_for j ty name.now (map meaning_of args.now) token)) }
+    ensures { Judged (table_of table.now) (λ j.
+        GivesAlways (λ k. k) result (method_for j ty name.now (map meaning_of args.now) token)) }
 {
     if some_void(args) {
         return Err(refused(Rule::BadOperand, token));
@@ -82,7 +84,8 @@ pub fn brought_all(
     params: &[Ty],
     args: Vec<Meaning>,
 ) -> Result<Vec<Expr>, TypeError>
-    ensures { GetsTo row_seen result texts.new (behind (map expression forms.items) (brought_all params.now (map meaning_of args.items) texts.old)) }
+    ensures { GetsTo row_seen result texts.new (behind (map expression forms.items)
+        (brought_all params.now (map meaning_of args.items) texts.old)) }
 {
     let mut waiting = args;
     waiting.reverse();

@@ -35,7 +35,8 @@ pub fn or_type(ty: Option<Ty>, token: u32) -> Result<Ty, TypeError>
 
 /// An array of the elements of an initializer.
 pub fn listed_form(alloc: Global, ty: Ty, all: Listing, site: u32) -> Expr
-    ensures { expression result ≡ kernel.NewArray ty kernel.none (listing_of all).forms (listing_of all).sites site }
+    ensures { expression result ≡ kernel.NewArray ty kernel.none (listing_of all).forms
+        (listing_of all).sites site }
 {
     build::new_array(ty, Vec::new(alloc), all.forms, all.sites, site)
 }
@@ -49,7 +50,8 @@ pub fn new_array(
     dims: Vec<Expr>,
     token: u32,
 ) -> Result<Meaning, TypeError>
-    ensures { GivesAlways meaning_of result (give (Formed (kernel.NewArray (with_brackets ty (many + brackets)) (row_seen dims) kernel.none [] token) (with_brackets ty (many + brackets)))) }
+    ensures { GivesAlways meaning_of result (give (Formed (kernel.NewArray (with_brackets ty (many
+        + brackets)) (row_seen dims) kernel.none [] token) (with_brackets ty (many + brackets)))) }
 {
     if many > 255 || brackets > 255 {
         return Err(TypeError::NoMemory);

@@ -20,7 +20,8 @@ use wy_kernel::types::{Base, Ty};
 
 // Whether byte, short or char has the value of a constant.
 fn constant_fits(p: Primitive, c: &Const) -> bool
-    ensures { (token : ℕ) → result ≡ fits_into (primitive_type p) (Known (constant_value c.now) token) }
+    ensures { (token : ℕ)
+        → result ≡ fits_into (primitive_type p) (Known (constant_value c.now) token) }
 {
     match c {
         Const::Byte(n) => has_int(p, i32::from(*n)),

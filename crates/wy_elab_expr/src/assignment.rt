@@ -48,7 +48,8 @@ pub fn super_spot(
     name: &str,
     token: u32,
 ) -> Result<Spot, TypeError>
-    ensures { GivesAlways spot_of result (super_spot (table_of table.now) scope.now name.now token) }
+    ensures { GivesAlways spot_of result
+        (super_spot (table_of table.now) scope.now name.now token) }
 {
     if !scope.has_this() {
         return Err(refused(Rule::NotInStatic, token));
@@ -99,7 +100,8 @@ fn element_at(
     index: Meaning,
     token: u32,
 ) -> Result<Spot, TypeError>
-    ensures { GetsTo spot_of result texts.new (element_at (Some ty) (meaning_of array) (meaning_of index) token texts.old) }
+    ensures { GetsTo spot_of result texts.new
+        (element_at (Some ty) (meaning_of array) (meaning_of index) token texts.old) }
 {
     if !is_index(type_of(&index)) {
         return Err(refused(Rule::BadOperand, token));
@@ -122,7 +124,8 @@ pub fn element_spot(
     index: Meaning,
     token: u32,
 ) -> Result<Spot, TypeError>
-    ensures { GetsTo spot_of result texts.new (element_spot (meaning_of array) (meaning_of index) token texts.old) }
+    ensures { GetsTo spot_of result texts.new
+        (element_spot (meaning_of array) (meaning_of index) token texts.old) }
 {
     match element_of(type_of(&array)) {
         None => Err(refused(Rule::BadOperand, token)),
@@ -151,7 +154,8 @@ fn assigned_in(
     m: Meaning,
     token: u32,
 ) -> Result<Box<Expr>, TypeError>
-    ensures { Judged (table_of table.now) (λ j. GetsTo inner_of result texts.new (assigned_value j ty (meaning_of m) token texts.old)) }
+    ensures { Judged (table_of table.now) (λ j.
+        GetsTo inner_of result texts.new (assigned_value j ty (meaning_of m) token texts.old)) }
 {
     if is_void(type_of(&m)) {
         return Err(refused(Rule::BadOperand, token));
@@ -172,7 +176,8 @@ pub fn assigned_value(
     m: Meaning,
     token: u32,
 ) -> Result<Expr, TypeError>
-    ensures { Judged (table_of table.now) (λ j. GetsTo expression result texts.new (assigned_value j ty (meaning_of m) token texts.old)) }
+    ensures { Judged (table_of table.now) (λ j.
+        GetsTo expression result texts.new (assigned_value j ty (meaning_of m) token texts.old)) }
 {
     let form = assigned_in(alloc, table, texts, ty, m, token)?;
     Ok(Box::into_inner(form))
@@ -187,7 +192,8 @@ fn assigned_to(
     m: Meaning,
     token: u32,
 ) -> Result<Meaning, TypeError>
-    ensures { Judged (table_of table.now) (λ j. GetsTo meaning_of result texts.new (assigned j (Some (spot_of p)) (meaning_of m) token texts.old)) }
+    ensures { Judged (table_of table.now) (λ j. GetsTo meaning_of result texts.new
+        (assigned j (Some (spot_of p)) (meaning_of m) token texts.old)) }
 {
     if p.is_fixed && !is_void(type_of(&m)) {
         return Err(refused(Rule::BadAssign, token));
@@ -207,7 +213,8 @@ pub fn assigned(
     m: Meaning,
     token: u32,
 ) -> Result<Meaning, TypeError>
-    ensures { Judged (table_of table.now) (λ j. GetsTo meaning_of result texts.new (assigned j (option_map spot_of p) (meaning_of m) token texts.old)) }
+    ensures { Judged (table_of table.now) (λ j. GetsTo meaning_of result texts.new
+        (assigned j (option_map spot_of p) (meaning_of m) token texts.old)) }
 {
     match p {
         None => {
@@ -252,7 +259,8 @@ fn updated_in(
     m: Meaning,
     token: u32,
 ) -> Result<Meaning, TypeError>
-    ensures { GetsTo meaning_of result texts.new (updated_in op wide (spot_of p) (meaning_of m) token texts.old) }
+    ensures { GetsTo meaning_of result texts.new
+        (updated_in op wide (spot_of p) (meaning_of m) token texts.old) }
 {
     if p.is_fixed {
         return Err(refused(Rule::BadAssign, token));
@@ -265,7 +273,8 @@ fn updated_in(
 }
 
 fn left_primitive(table: &ClassTable, op: BinOp, left: Ty, right: Ty) -> Option<Primitive>
-    ensures { Judged (table_of table.now) (λ j. result ≡ left_primitive j (table_of table.now) op left right) }
+    ensures { Judged (table_of table.now) (λ j.
+        result ≡ left_primitive j (table_of table.now) op left right) }
 {
     match operand_types(table, op, left, right) {
         Some(types) => primitive_in(types.left),
@@ -282,7 +291,8 @@ fn updated_by(
     m: Meaning,
     token: u32,
 ) -> Result<Meaning, TypeError>
-    ensures { GetsTo meaning_of result texts.new (updated_by q op (spot_of p) (meaning_of m) token texts.old) }
+    ensures { GetsTo meaning_of result texts.new
+        (updated_by q op (spot_of p) (meaning_of m) token texts.old) }
 {
     match q {
         None => Err(refused(Rule::BadOperand, token)),
@@ -301,7 +311,8 @@ pub fn updated(
     m: Meaning,
     token: u32,
 ) -> Result<Meaning, TypeError>
-    ensures { Judged (table_of table.now) (λ j. GetsTo meaning_of result texts.new (updated j (table_of table.now) op (option_map spot_of p) (meaning_of m) token texts.old)) }
+    ensures { Judged (table_of table.now) (λ j. GetsTo meaning_of result texts.new
+        (updated j (table_of table.now) op (option_map spot_of p) (meaning_of m) token texts.old)) }
 {
     let right = type_of(&m);
     match p {
@@ -393,7 +404,8 @@ pub fn field_target(
     name: &str,
     token: u32,
 ) -> Result<Option<Spot>, TypeError>
-    ensures { GetsTo (λ p. option_map spot_of p) result texts.new (field_target (table_of table.now) scope.now (meaning_of m) name.now token texts.old) }
+    ensures { GetsTo (λ p. option_map spot_of p) result texts.new
+        (field_target (table_of table.now) scope.now (meaning_of m) name.now token texts.old) }
 {
     if is_an_array(type_of(&m)) && name == "length" {
         return Ok(None);
@@ -417,7 +429,8 @@ pub fn class_target(
     name: &str,
     token: u32,
 ) -> Result<Option<Spot>, TypeError>
-    ensures { GivesAlways (λ p. option_map spot_of p) result (class_target (table_of table.now) scope.now (class_name_of class.entry) name.now token) }
+    ensures { GivesAlways (λ p. option_map spot_of p) result
+        (class_target (table_of table.now) scope.now (class_name_of class.entry) name.now token) }
 {
     if is_limit(class.name, name) {
         return Ok(None);

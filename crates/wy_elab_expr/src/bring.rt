@@ -131,7 +131,8 @@ pub fn type_of(m: &Meaning) -> Ty
 
 // A constant that is no text, in a form of the target type.
 fn constant_form(to: Ty, value: Const) -> Expr
-    ensures { (c : Constant) → constant_value value ≡ Simple c → expression result ≡ kernel.Const (constant_for to c) }
+    ensures { (c : Constant) → constant_value value ≡ Simple c
+        → expression result ≡ kernel.Const (constant_for to c) }
 {
     match (to, value_of(&value)) {
         (
@@ -174,7 +175,8 @@ pub fn brought(alloc: Global, texts: &mut Texts, to: Ty, m: Meaning) -> Result<E
 
 #[tactic(auto, unfolding(crate::specs::Meaning::brought))]
 fn brought_constant(texts: &mut Texts, to: Ty, value: Const, token: u32) -> Result<Expr, TypeError>
-    ensures { GetsTo expression result texts.new (brought to (Known (constant_value value) token) texts.old) }
+    ensures { GetsTo expression result texts.new
+        (brought to (Known (constant_value value) token) texts.old) }
 {
     match value {
         Const::Text(units) => Ok(build::text(texts.place(units, token)?)),

@@ -75,7 +75,8 @@ pub fn instance_of(ty: Ty, operand: Box<Expr>) -> Expr
 
 #[tactic(auto, using(crate::proofs::KernelViews::view_cat))]
 pub fn join(left: Box<Expr>, right: Box<Expr>, left_ty: Ty, right_ty: Ty, site: u32) -> Expr
-    ensures { expression result ≡ kernel.Cat (inner_of left) (inner_of right) left_ty right_ty site }
+    ensures { expression result ≡ kernel.Cat (inner_of left)
+        (inner_of right) left_ty right_ty site }
 {
     Expr::Cat {
         left,
@@ -89,7 +90,8 @@ pub fn join(left: Box<Expr>, right: Box<Expr>, left_ty: Ty, right_ty: Ty, site: 
 /// `?:`
 #[tactic(auto, using(crate::proofs::KernelViews::view_cond_choice))]
 pub fn choice(test: Box<Expr>, main: Box<Expr>, other: Box<Expr>, site: u32) -> Expr
-    ensures { expression result ≡ kernel.Cond CondForm.Choice (inner_of test) (kernel.the (inner_of main)) (kernel.the (inner_of other)) site }
+    ensures { expression result ≡ kernel.Cond CondForm.Choice (inner_of test)
+        (kernel.the (inner_of main)) (kernel.the (inner_of other)) site }
 {
     Expr::Cond {
         form: CondForm::Choice,
@@ -148,7 +150,8 @@ pub fn library(op: LibOp, args: Vec<Expr>, site: u32) -> Expr
 #[tactic(auto, using(crate::proofs::KernelViews::view_new, crate::proofs::Primitives::present_number))]
 pub fn new_by(class: u32, constructor: u32, args: Vec<Expr>, site: u32) -> Expr
     requires { constructor < 4294967295 }
-    ensures { expression result ≡ kernel.New class (Some constructor) (row_of (map expression args.items)) site }
+    ensures { expression result ≡ kernel.New class (Some constructor)
+        (row_of (map expression args.items)) site }
 {
     Expr::New {
         class,
@@ -179,7 +182,8 @@ pub fn new_array(
     element_sites: Vec<u32>,
     site: u32,
 ) -> Expr
-    ensures { expression result ≡ kernel.NewArray ty (row_of (map expression dims.items)) (row_of (map expression elements.items)) element_sites.items site }
+    ensures { expression result ≡ kernel.NewArray ty (row_of (map expression dims.items))
+        (row_of (map expression elements.items)) element_sites.items site }
 {
     Expr::NewArray {
         ty,
@@ -200,7 +204,8 @@ pub fn call(
     args: Vec<Expr>,
     site: u32,
 ) -> Expr
-    ensures { expression result ≡ kernel.Call form method (kernel.the (inner_of receiver)) ty (row_of (map expression args.items)) site }
+    ensures { expression result ≡ kernel.Call form method (kernel.the (inner_of receiver)) ty
+        (row_of (map expression args.items)) site }
 {
     Expr::Call {
         form,
@@ -215,7 +220,8 @@ pub fn call(
 /// A call of a static method.
 #[tactic(auto, using(crate::proofs::KernelViews::view_call_static))]
 pub fn static_call(method: u32, args: Vec<Expr>, site: u32) -> Expr
-    ensures { expression result ≡ kernel.Call CallForm.Static method kernel.absent Ty.Void (row_of (map expression args.items)) site }
+    ensures { expression result ≡ kernel.Call CallForm.Static method kernel.absent Ty.Void
+        (row_of (map expression args.items)) site }
 {
     Expr::Call {
         form: CallForm::Static,
@@ -238,7 +244,8 @@ pub fn update(
     wide: Option<Primitive>,
     site: u32,
 ) -> Expr
-    ensures { expression result ≡ kernel.Upd (place_seen place) op (kernel.the (inner_of value)) value_ty ty wide false site }
+    ensures { expression result ≡ kernel.Upd (place_seen place) op
+        (kernel.the (inner_of value)) value_ty ty wide false site }
 {
     Expr::Upd {
         place,
@@ -255,7 +262,8 @@ pub fn update(
 /// `++` and `--`
 #[tactic(auto, using(crate::proofs::KernelViews::view_upd_step))]
 pub fn step(place: Place, op: BinOp, ty: Ty, wide: Primitive, gives_old: bool, site: u32) -> Expr
-    ensures { expression result ≡ kernel.Upd (place_seen place) op kernel.absent int_type ty (Some wide) gives_old site }
+    ensures { expression result ≡ kernel.Upd (place_seen place) op kernel.absent int_type ty
+        (Some wide) gives_old site }
 {
     Expr::Upd {
         place,

@@ -32,7 +32,8 @@ pub enum Through {
 }
 
 fn method_at(table: &ClassTable, k: u32) -> Option<&Method>
-    ensures value { option_map (λ m. method_seen m.now) result ≡ slice_get (table_of table.now).methods k }
+    ensures value { option_map (λ m.
+        method_seen m.now) result ≡ slice_get (table_of table.now).methods k }
     ensures number { OnSome result (k < 4294967295) }
 {
     if k < table.methods() {
@@ -152,7 +153,8 @@ fn call_of(
     args: Vec<Expr>,
     token: u32,
 ) -> Result<Expr, AllocError>
-    ensures { IfOk result (λ e. expression e ≡ call_of (through_of through) k (method_seen m.now) ty (row_of (map expression args.items)) token) }
+    ensures { IfOk result (λ e. expression e ≡ call_of (through_of through) k (method_seen m.now) ty
+        (row_of (map expression args.items)) token) }
 {
     if is_static(m.form) {
         return Ok(build::static_call(k, args, token));
@@ -173,7 +175,8 @@ fn called_unless(
     args: Vec<Meaning>,
     token: u32,
 ) -> Result<Meaning, TypeError>
-    ensures { GetsTo meaning_of result texts.new (called_unless rule (through_of through) k (method_seen m.now) ty (map meaning_of args.items) token texts.old) }
+    ensures { GetsTo meaning_of result texts.new (called_unless rule (through_of through) k
+        (method_seen m.now) ty (map meaning_of args.items) token texts.old) }
 {
     match rule {
         Some(rule) => Err(refused(rule, token)),
@@ -197,7 +200,8 @@ fn called_at(
     args: Vec<Meaning>,
     token: u32,
 ) -> Result<Meaning, TypeError>
-    ensures { GetsTo meaning_of result texts.new (called_at scope.now (through_of through) k (slice_get (table_of table.now).methods k) ty (map meaning_of args.items) token texts.old) }
+    ensures { GetsTo meaning_of result texts.new (called_at scope.now (through_of through) k
+        (slice_get (table_of table.now).methods k) ty (map meaning_of args.items) token texts.old) }
 {
     match method_at(table, k) {
         None => Err(refused(Rule::NoMethod, token)),
@@ -221,7 +225,9 @@ pub fn called(
     args: Vec<Meaning>,
     token: u32,
 ) -> Result<Meaning, TypeError>
-    ensures { Judged (table_of table.now) (λ j. GetsTo meaning_of result texts.new (called j (table_of table.now) scope.now (through_of through) ty name.now (map meaning_of args.items) token texts.old)) }
+    ensures { Judged (table_of table.now) (λ j.
+        GetsTo meaning_of result texts.new (called j (table_of table.now) scope.now
+        (through_of through) ty name.now (map meaning_of args.items) token texts.old)) }
 {
     let k = method_for(alloc, table, ty, name, args.as_slice(), token)?;
     called_at(alloc, table, scope, texts, through, k, ty, args, token)
@@ -243,7 +249,9 @@ fn constructed(
     args: Vec<Meaning>,
     token: u32,
 ) -> Result<Meaning, TypeError>
-    ensures { GetsTo meaning_of result texts.new (constructed scope.now made (is_abstract (class_of (table_of table.now) made)) k (slice_get (table_of table.now).methods k) (map meaning_of args.items) token texts.old) }
+    ensures { GetsTo meaning_of result texts.new
+        (constructed scope.now made (is_abstract (class_of (table_of table.now) made)) k
+        (slice_get (table_of table.now).methods k) (map meaning_of args.items) token texts.old) }
 {
     let Some(m) = method_at(table, k) else {
         return Err(refused(Rule::NoMethod, token));
@@ -286,7 +294,8 @@ pub fn created(
     args: Vec<Meaning>,
     token: u32,
 ) -> Result<Meaning, TypeError>
-    ensures { Judged (table_of table.now) (λ j. GetsTo meaning_of result texts.new (created j (table_of table.now) scope.now made (map meaning_of args.items) token texts.old)) }
+    ensures { Judged (table_of table.now) (λ j. GetsTo meaning_of result texts.new (created j
+        (table_of table.now) scope.now made (map meaning_of args.items) token texts.old)) }
 {
     if made == 0 {
         return new_plain(alloc, args.as_slice(), token);

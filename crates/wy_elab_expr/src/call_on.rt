@@ -54,7 +54,8 @@ fn called_on_known(
     args: Vec<Meaning>,
     token: u32,
 ) -> Result<Meaning, TypeError>
-    ensures { Judged (table_of table.now) (λ j. GetsTo meaning_of result texts.new (called_on_known j (table_of table.now) scope.now c name.now (map meaning_of args.items) token texts.old)) }
+    ensures { Judged (table_of table.now) (λ j. GetsTo meaning_of result texts.new (called_on_known
+        j (table_of table.now) scope.now c name.now (map meaning_of args.items) token texts.old)) }
 {
     match c {
         Some(c) => called(
@@ -84,7 +85,9 @@ pub fn called_on_class(
     args: Vec<Meaning>,
     token: u32,
 ) -> Result<Meaning, TypeError>
-    ensures { Judged (table_of table.now) (λ j. GetsTo meaning_of result texts.new (called_on_class j (table_of table.now) scope.now (class_name_of of.entry) name.now (map meaning_of args.items) token texts.old)) }
+    ensures { Judged (table_of table.now) (λ j.
+        GetsTo meaning_of result texts.new (called_on_class j (table_of table.now) scope.now
+        (class_name_of of.entry) name.now (map meaning_of args.items) token texts.old)) }
 {
     if is_of_texts(of.name, name) {
         if some_void(args.as_slice()) {
@@ -112,7 +115,9 @@ pub fn called_on(
     args: Vec<Meaning>,
     token: u32,
 ) -> Result<Meaning, TypeError>
-    ensures { Judged (table_of table.now) (λ j. GetsTo meaning_of result texts.new (called_on j (table_of table.now) scope.now (meaning_of m) name.now (map meaning_of args.items) token texts.old)) }
+    ensures { Judged (table_of table.now) (λ j.
+        GetsTo meaning_of result texts.new (called_on j (table_of table.now) scope.now
+        (meaning_of m) name.now (map meaning_of args.items) token texts.old)) }
 {
     let ty = type_of(&m);
     if is_void(ty) {

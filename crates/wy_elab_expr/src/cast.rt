@@ -23,7 +23,8 @@ use wy_kernel::table::ClassTable;
 use wy_kernel::types::{Base, Ty};
 
 fn number_of(p: Primitive, c: &Const) -> Option<Const>
-    ensures { (token : ℕ) → option_map constant_value result ≡ cast_known (primitive_type p) (Known (constant_value c.now) token) }
+    ensures { (token : ℕ) → option_map constant_value result ≡ cast_known (primitive_type p)
+        (Known (constant_value c.now) token) }
 {
     match value_of(c) {
         Some(v) => match cast(p, v) {
@@ -35,7 +36,8 @@ fn number_of(p: Primitive, c: &Const) -> Option<Const>
 }
 
 fn text_of(ty: Ty, c: &Const) -> Result<Option<Const>, AllocError>
-    ensures { IfOk result (λ k. primitive_in ty ≡ None → (token : ℕ) → option_map constant_value k ≡ cast_known ty (Known (constant_value c.now) token)) }
+    ensures { IfOk result (λ k. primitive_in ty ≡ None → (token : ℕ)
+        → option_map constant_value k ≡ cast_known ty (Known (constant_value c.now) token)) }
 {
     match c {
         Const::Text(units) => {
@@ -73,7 +75,8 @@ fn cast_form(
     m: Meaning,
     token: u32,
 ) -> Result<Meaning, TypeError>
-    ensures { GetsTo meaning_of result texts.new (cast_form to (primitive_in to) (meaning_of m) token texts.old) }
+    ensures { GetsTo meaning_of result texts.new
+        (cast_form to (primitive_in to) (meaning_of m) token texts.old) }
 {
     match primitive_in(to) {
         Some(_) => {
@@ -97,7 +100,8 @@ pub fn cast_of(
     m: Meaning,
     token: u32,
 ) -> Result<Meaning, TypeError>
-    ensures { Judged (table_of table.now) (λ j. GetsTo meaning_of result texts.new (cast_of j (table_of table.now) to (meaning_of m) token texts.old)) }
+    ensures { Judged (table_of table.now) (λ j. GetsTo meaning_of result texts.new
+        (cast_of j (table_of table.now) to (meaning_of m) token texts.old)) }
 {
     let from = type_of(&m);
     if is_void(from) {
@@ -133,7 +137,8 @@ pub fn instance_of(
     m: Meaning,
     token: u32,
 ) -> Result<Meaning, TypeError>
-    ensures { Judged (table_of table.now) (λ j. GetsTo meaning_of result texts.new (instance_of j (table_of table.now) ty (meaning_of m) token texts.old)) }
+    ensures { Judged (table_of table.now) (λ j. GetsTo meaning_of result texts.new
+        (instance_of j (table_of table.now) ty (meaning_of m) token texts.old)) }
 {
     let from = type_of(&m);
     if is_void(from) {

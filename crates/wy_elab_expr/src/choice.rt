@@ -57,7 +57,8 @@ fn class_above(table: &ClassTable, class: u32) -> Option<u32>
 
 // The nearest class from one upward that another type is below, or Object.
 fn nearest_above(table: &ClassTable, first: u32, other: Ty) -> Ty
-    ensures { Judged (table_of table.now) (λ j. result ≡ nearest_above j (table_of table.now) (length (table_of table.now).classes) (Some first) other) }
+    ensures { Judged (table_of table.now) (λ j. result ≡ nearest_above j (table_of table.now)
+        (length (table_of table.now).classes) (Some first) other) }
 {
     let mut at = first;
     let mut left = table.classes();
@@ -118,7 +119,9 @@ fn common_type(table: &ClassTable, a: Ty, b: Ty) -> Ty
 }
 
 fn choice_result(table: &ClassTable, a: &Meaning, b: &Meaning) -> Option<Ty>
-    ensures { Judged (table_of table.now) (λ j. result ≡ choice_result j (table_of table.now) (meaning_of a.now) (primitive_in (type_of (meaning_of a.now))) (meaning_of b.now) (primitive_in (type_of (meaning_of b.now)))) }
+    ensures { Judged (table_of table.now) (λ j. result ≡ choice_result j (table_of table.now)
+        (meaning_of a.now) (primitive_in (type_of (meaning_of a.now))) (meaning_of b.now)
+        (primitive_in (type_of (meaning_of b.now)))) }
 {
     let left = type_of(a);
     let right = type_of(b);
@@ -147,7 +150,8 @@ fn choice_formed(
     b: Meaning,
     token: u32,
 ) -> Result<Meaning, TypeError>
-    ensures { GetsTo meaning_of result texts.new (choice_formed ty (meaning_of test) (meaning_of a) (meaning_of b) token texts.old) }
+    ensures { GetsTo meaning_of result texts.new
+        (choice_formed ty (meaning_of test) (meaning_of a) (meaning_of b) token texts.old) }
 {
     match ty {
         None => Err(refused(Rule::BadOperand, token)),
@@ -164,7 +168,8 @@ fn choice_of_type(
     b: Meaning,
     token: u32,
 ) -> Result<Meaning, TypeError>
-    ensures { GetsTo meaning_of result texts.new (choice_formed (Some ty) (meaning_of test) (meaning_of a) (meaning_of b) token texts.old) }
+    ensures { GetsTo meaning_of result texts.new
+        (choice_formed (Some ty) (meaning_of test) (meaning_of a) (meaning_of b) token texts.old) }
 {
     let z = brought_in(alloc, texts, primitive(Primitive::Bool), test)?;
     let x = brought_in(alloc, texts, ty, a)?;
@@ -174,7 +179,8 @@ fn choice_of_type(
 
 // The value where all three are constants.
 fn choice_known(test: &Meaning, a: &Meaning, b: &Meaning) -> Result<Option<Const>, AllocError>
-    ensures { IfOk result (λ c. option_map constant_value c ≡ choice_constant (truth_known (meaning_of test.now)) (constant_of (meaning_of a.now)) (constant_of (meaning_of b.now))) }
+    ensures { IfOk result (λ c. option_map constant_value c ≡ choice_constant (truth_known
+        (meaning_of test.now)) (constant_of (meaning_of a.now)) (constant_of (meaning_of b.now))) }
 {
     let t = constant_of(test)?;
     let x = constant_of(a)?;
@@ -192,7 +198,8 @@ fn choice_unknown(
     b: Meaning,
     token: u32,
 ) -> Result<Meaning, TypeError>
-    ensures { Judged (table_of table.now) (λ j. GetsTo meaning_of result texts.new (choice_unknown j (table_of table.now) (meaning_of test) (meaning_of a) (meaning_of b) token texts.old)) }
+    ensures { Judged (table_of table.now) (λ j. GetsTo meaning_of result texts.new (choice_unknown j
+        (table_of table.now) (meaning_of test) (meaning_of a) (meaning_of b) token texts.old)) }
 {
     if is_boolean(type_of(&test)) {
         let ty = choice_result(table, &a, &b);
@@ -213,7 +220,8 @@ pub fn choice_of(
     b: Meaning,
     token: u32,
 ) -> Result<Meaning, TypeError>
-    ensures { Judged (table_of table.now) (λ j. GetsTo meaning_of result texts.new (choice_of j (table_of table.now) (meaning_of test) (meaning_of a) (meaning_of b) token texts.old)) }
+    ensures { Judged (table_of table.now) (λ j. GetsTo meaning_of result texts.new (choice_of j
+        (table_of table.now) (meaning_of test) (meaning_of a) (meaning_of b) token texts.old)) }
 {
     match choice_known(&test, &a, &b)? {
         Some(value) => Ok(Meaning::Known {

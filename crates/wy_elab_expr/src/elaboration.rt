@@ -50,7 +50,8 @@ pub fn elaborated(
     texts: &mut Texts,
     e: &Expression,
 ) -> Result<Meaning, TypeError>
-    ensures { Judged (table_of table.now) (λ j. GetsTo meaning_of result texts.new (elaborated j (table_of table.now) scope.now (expression_of e.now) texts.old)) }
+    ensures { Judged (table_of table.now) (λ j. GetsTo meaning_of result texts.new
+        (elaborated j (table_of table.now) scope.now (expression_of e.now) texts.old)) }
 {
     match e {
         Expression::Literal { value, token } => literal_meaning(alloc, value, *token),
@@ -85,7 +86,8 @@ fn elaborated_call(
     e: &Expression,
 ) -> Result<Meaning, TypeError>
     requires { is_no_place (expression_of e.now) ≡ true }
-    ensures { IsFound (table_of table.now) scope.now (expression_of e.now) result texts.old texts.new }
+    ensures { IsFound (table_of table.now) scope.now
+        (expression_of e.now) result texts.old texts.new }
 {
     match e {
         Expression::Invoke { name, args, token } => {
@@ -165,7 +167,8 @@ fn elaborated_operator(
     e: &Expression,
 ) -> Result<Meaning, TypeError>
     requires { is_no_call (expression_of e.now) ≡ true }
-    ensures { IsFound (table_of table.now) scope.now (expression_of e.now) result texts.old texts.new }
+    ensures { IsFound (table_of table.now) scope.now
+        (expression_of e.now) result texts.old texts.new }
 {
     match e {
         Expression::Unary { op, operand, token } => {
@@ -204,7 +207,8 @@ fn elaborated_choice(
     e: &Expression,
 ) -> Result<Meaning, TypeError>
     requires { is_no_operator (expression_of e.now) ≡ true }
-    ensures { IsFound (table_of table.now) scope.now (expression_of e.now) result texts.old texts.new }
+    ensures { IsFound (table_of table.now) scope.now
+        (expression_of e.now) result texts.old texts.new }
 {
     match e {
         Expression::Step {
@@ -246,7 +250,8 @@ fn invoked(
     args: &[Expression],
     token: u32,
 ) -> Result<Meaning, TypeError>
-    ensures { IsFound (table_of table.now) scope.now (source.Invoke name.now (row_of (map expression_of args.now)) token) result texts.old texts.new }
+    ensures { IsFound (table_of table.now) scope.now (source.Invoke name.now
+        (row_of (map expression_of args.now)) token) result texts.old texts.new }
 {
     let args = elaborated_all(alloc, table, scope, texts, args)?;
     let ty = class(scope.class());
@@ -274,7 +279,8 @@ fn read_field(
     name: &str,
     token: u32,
 ) -> Result<Meaning, TypeError>
-    ensures { IsFound (table_of table.now) scope.now (source.Field (expression_of object.now) name.now token) result texts.old texts.new }
+    ensures { IsFound (table_of table.now) scope.now
+        (source.Field (expression_of object.now) name.now token) result texts.old texts.new }
 {
     match class_in(table, scope, object) {
         Some(c) => qualified_name(alloc, table, scope, c.name, name, c.token, token),
@@ -297,7 +303,8 @@ fn invoked_on(
     args: &[Expression],
     token: u32,
 ) -> Result<Meaning, TypeError>
-    ensures { IsFound (table_of table.now) scope.now (source.InvokeOn (expression_of object.now) name.now (row_of (map expression_of args.now)) token) result texts.old texts.new }
+    ensures { IsFound (table_of table.now) scope.now (source.InvokeOn (expression_of object.now)
+        name.now (row_of (map expression_of args.now)) token) result texts.old texts.new }
 {
     match stream_in(table, scope, object) {
         Some(stream) => {
@@ -330,7 +337,8 @@ fn invoked_super(
     args: &[Expression],
     token: u32,
 ) -> Result<Meaning, TypeError>
-    ensures { IsFound (table_of table.now) scope.now (source.SuperInvoke name.now (row_of (map expression_of args.now)) token) result texts.old texts.new }
+    ensures { IsFound (table_of table.now) scope.now (source.SuperInvoke name.now
+        (row_of (map expression_of args.now)) token) result texts.old texts.new }
 {
     let args = elaborated_all(alloc, table, scope, texts, args)?;
     let ty = class(above(table, scope));
@@ -359,7 +367,8 @@ fn read_element(
     index: &Expression,
     token: u32,
 ) -> Result<Meaning, TypeError>
-    ensures { IsFound (table_of table.now) scope.now (source.Element (expression_of array.now) (expression_of index.now) token) result texts.old texts.new }
+    ensures { IsFound (table_of table.now) scope.now (source.Element (expression_of array.now)
+        (expression_of index.now) token) result texts.old texts.new }
 {
     let a = elaborated(alloc, table, scope, texts, array)?;
     let i = elaborated(alloc, table, scope, texts, index)?;
@@ -379,7 +388,8 @@ fn new_object(
     args: &[Expression],
     token: u32,
 ) -> Result<Meaning, TypeError>
-    ensures { IsFound (table_of table.now) scope.now (source.NewObject (named_of of.now) (row_of (map expression_of args.now)) token) result texts.old texts.new }
+    ensures { IsFound (table_of table.now) scope.now (source.NewObject (named_of of.now)
+        (row_of (map expression_of args.now)) token) result texts.old texts.new }
 {
     let c = class_for_new(table, of.name.as_str(), of.token)?;
     let args = elaborated_all(alloc, table, scope, texts, args)?;
@@ -400,7 +410,9 @@ fn new_sized(
     brackets: u32,
     token: u32,
 ) -> Result<Meaning, TypeError>
-    ensures { IsFound (table_of table.now) scope.now (source.NewArray (base_seen base.now) base_token (row_of (map expression_of sizes.now)) brackets token) result texts.old texts.new }
+    ensures { IsFound
+        (table_of table.now) scope.now (source.NewArray (base_seen base.now) base_token
+        (row_of (map expression_of sizes.now)) brackets token) result texts.old texts.new }
 {
     let ty = type_with(table, base, 0, base_token)?;
     let ms = elaborated_all(alloc, table, scope, texts, sizes)?;
@@ -424,7 +436,9 @@ fn new_listed(
     brace: u32,
     token: u32,
 ) -> Result<Meaning, TypeError>
-    ensures { IsFound (table_of table.now) scope.now (source.NewList (base_seen base.now) base_token brackets (elements_seen (map element_seen elements.now)) brace token) result texts.old texts.new }
+    ensures { IsFound
+        (table_of table.now) scope.now (source.NewList (base_seen base.now) base_token brackets
+        (elements_seen (map element_seen elements.now)) brace token) result texts.old texts.new }
 {
     let ty = type_with(table, base, brackets, base_token)?;
     let inner = or_type(element_of(ty), brace)?;
@@ -444,7 +458,8 @@ fn unary(
     operand: &Expression,
     token: u32,
 ) -> Result<Meaning, TypeError>
-    ensures { IsFound (table_of table.now) scope.now (source.Unary op (expression_of operand.now) token) result texts.old texts.new }
+    ensures { IsFound (table_of table.now) scope.now
+        (source.Unary op (expression_of operand.now) token) result texts.old texts.new }
 {
     let m = elaborated(alloc, table, scope, texts, operand)?;
     unary_of(alloc, texts, op, m, token)
@@ -463,7 +478,8 @@ fn step_of(
     operand: &Expression,
     token: u32,
 ) -> Result<Meaning, TypeError>
-    ensures { IsFound (table_of table.now) scope.now (source.Step is_before is_up (expression_of operand.now) token) result texts.old texts.new }
+    ensures { IsFound (table_of table.now) scope.now
+        (source.Step is_before is_up (expression_of operand.now) token) result texts.old texts.new }
 {
     if is_place(operand) {
         let p = target(alloc, table, scope, texts, operand)?;
@@ -486,7 +502,8 @@ fn binary(
     right: &Expression,
     token: u32,
 ) -> Result<Meaning, TypeError>
-    ensures { IsFound (table_of table.now) scope.now (source.Binary op (expression_of left.now) (expression_of right.now) token) result texts.old texts.new }
+    ensures { IsFound (table_of table.now) scope.now (source.Binary op (expression_of left.now)
+        (expression_of right.now) token) result texts.old texts.new }
 {
     let a = elaborated(alloc, table, scope, texts, left)?;
     let b = elaborated(alloc, table, scope, texts, right)?;
@@ -505,7 +522,8 @@ fn both(
     right: &Expression,
     token: u32,
 ) -> Result<Meaning, TypeError>
-    ensures { IsFound (table_of table.now) scope.now (source.Both (expression_of left.now) (expression_of right.now) token) result texts.old texts.new }
+    ensures { IsFound (table_of table.now) scope.now (source.Both (expression_of left.now)
+        (expression_of right.now) token) result texts.old texts.new }
 {
     let a = elaborated(alloc, table, scope, texts, left)?;
     let b = elaborated(alloc, table, scope, texts, right)?;
@@ -524,7 +542,8 @@ fn either(
     right: &Expression,
     token: u32,
 ) -> Result<Meaning, TypeError>
-    ensures { IsFound (table_of table.now) scope.now (source.Either (expression_of left.now) (expression_of right.now) token) result texts.old texts.new }
+    ensures { IsFound (table_of table.now) scope.now (source.Either (expression_of left.now)
+        (expression_of right.now) token) result texts.old texts.new }
 {
     let a = elaborated(alloc, table, scope, texts, left)?;
     let b = elaborated(alloc, table, scope, texts, right)?;
@@ -543,7 +562,8 @@ fn type_test(
     ty: &WrittenType,
     token: u32,
 ) -> Result<Meaning, TypeError>
-    ensures { IsFound (table_of table.now) scope.now (source.InstanceOf (expression_of left.now) (type_seen ty.now) token) result texts.old texts.new }
+    ensures { IsFound (table_of table.now) scope.now (source.InstanceOf (expression_of left.now)
+        (type_seen ty.now) token) result texts.old texts.new }
 {
     let m = elaborated(alloc, table, scope, texts, left)?;
     let to = type_written(table, ty)?;
@@ -562,7 +582,8 @@ fn cast_to(
     operand: &Expression,
     token: u32,
 ) -> Result<Meaning, TypeError>
-    ensures { IsFound (table_of table.now) scope.now (source.Cast (type_seen ty.now) (expression_of operand.now) token) result texts.old texts.new }
+    ensures { IsFound (table_of table.now) scope.now (source.Cast (type_seen ty.now)
+        (expression_of operand.now) token) result texts.old texts.new }
 {
     let to = type_written(table, ty)?;
     let m = elaborated(alloc, table, scope, texts, operand)?;
@@ -582,7 +603,8 @@ fn choice_between(
     other: &Expression,
     token: u32,
 ) -> Result<Meaning, TypeError>
-    ensures { IsFound (table_of table.now) scope.now (source.Choice (expression_of test.now) (expression_of main.now) (expression_of other.now) token) result texts.old texts.new }
+    ensures { IsFound (table_of table.now) scope.now (source.Choice (expression_of test.now)
+        (expression_of main.now) (expression_of other.now) token) result texts.old texts.new }
 {
     let z = elaborated(alloc, table, scope, texts, test)?;
     let a = elaborated(alloc, table, scope, texts, main)?;
@@ -602,7 +624,8 @@ fn assignment_to(
     value: &Expression,
     token: u32,
 ) -> Result<Meaning, TypeError>
-    ensures { IsFound (table_of table.now) scope.now (source.Assign (expression_of left.now) (expression_of value.now) token) result texts.old texts.new }
+    ensures { IsFound (table_of table.now) scope.now (source.Assign (expression_of left.now)
+        (expression_of value.now) token) result texts.old texts.new }
 {
     let p = target(alloc, table, scope, texts, left)?;
     let m = elaborated(alloc, table, scope, texts, value)?;
@@ -622,7 +645,8 @@ fn update_of(
     value: &Expression,
     token: u32,
 ) -> Result<Meaning, TypeError>
-    ensures { IsFound (table_of table.now) scope.now (source.Update op (expression_of left.now) (expression_of value.now) token) result texts.old texts.new }
+    ensures { IsFound (table_of table.now) scope.now (source.Update op (expression_of left.now)
+        (expression_of value.now) token) result texts.old texts.new }
 {
     let p = target(alloc, table, scope, texts, left)?;
     let m = elaborated(alloc, table, scope, texts, value)?;
@@ -638,7 +662,9 @@ pub fn elaborated_all(
     texts: &mut Texts,
     args: &[Expression],
 ) -> Result<Vec<Meaning>, TypeError>
-    ensures { Judged (table_of table.now) (λ j. GetsTo (λ v. map meaning_of v.items) result texts.new (elaborated_all j (table_of table.now) scope.now (row_of (map expression_of args.now)) texts.old)) }
+    ensures { Judged (table_of table.now) (λ j.
+        GetsTo (λ v. map meaning_of v.items) result texts.new (elaborated_all j
+        (table_of table.now) scope.now (row_of (map expression_of args.now)) texts.old)) }
 {
     let mut all = Vec::new(alloc);
     for arg in args {
@@ -658,7 +684,8 @@ pub fn target(
     texts: &mut Texts,
     e: &Expression,
 ) -> Result<Option<Spot>, TypeError>
-    ensures { Judged (table_of table.now) (λ j. GetsTo (λ p. option_map spot_of p) result texts.new (target j (table_of table.now) scope.now (expression_of e.now) texts.old)) }
+    ensures { Judged (table_of table.now) (λ j. GetsTo (λ p. option_map spot_of p) result texts.new
+        (target j (table_of table.now) scope.now (expression_of e.now) texts.old)) }
 {
     match e {
         Expression::Name { name, token } => {
@@ -695,7 +722,8 @@ fn field_place(
     name: &str,
     token: u32,
 ) -> Result<Option<Spot>, TypeError>
-    ensures { IsTarget (table_of table.now) scope.now (source.Field (expression_of object.now) name.now token) result texts.old texts.new }
+    ensures { IsTarget (table_of table.now) scope.now
+        (source.Field (expression_of object.now) name.now token) result texts.old texts.new }
 {
     match class_in(table, scope, object) {
         Some(c) => class_target(table, scope, c, name, token),
@@ -718,7 +746,8 @@ fn element_place(
     index: &Expression,
     token: u32,
 ) -> Result<Option<Spot>, TypeError>
-    ensures { IsTarget (table_of table.now) scope.now (source.Element (expression_of array.now) (expression_of index.now) token) result texts.old texts.new }
+    ensures { IsTarget (table_of table.now) scope.now (source.Element (expression_of array.now)
+        (expression_of index.now) token) result texts.old texts.new }
 {
     let a = elaborated(alloc, table, scope, texts, array)?;
     let i = elaborated(alloc, table, scope, texts, index)?;
@@ -736,7 +765,9 @@ pub fn elements_of(
     ty: Ty,
     elements: &[Element],
 ) -> Result<Listing, TypeError>
-    ensures { Judged (table_of table.now) (λ j. GetsTo listing_of result texts.new (elements_of j (table_of table.now) scope.now ty (elements_seen (map element_seen elements.now)) texts.old)) }
+    ensures { Judged (table_of table.now) (λ j.
+        GetsTo listing_of result texts.new (elements_of j (table_of table.now) scope.now ty
+        (elements_seen (map element_seen elements.now)) texts.old)) }
 {
     let mut forms = Vec::new(alloc);
     let mut sites = Vec::new(alloc);
@@ -761,7 +792,8 @@ pub fn initialized(
     initial: &Initial,
     token: u32,
 ) -> Result<Expr, TypeError>
-    ensures { Judged (table_of table.now) (λ j. GetsTo expression result texts.new (initialized j (table_of table.now) scope.now ty (initial_of initial.now) token texts.old)) }
+    ensures { Judged (table_of table.now) (λ j. GetsTo expression result texts.new (initialized j
+        (table_of table.now) scope.now ty (initial_of initial.now) token texts.old)) }
 {
     match initial {
         Initial::Value { value } => {

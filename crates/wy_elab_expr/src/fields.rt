@@ -44,7 +44,8 @@ fn field_at(table: &ClassTable, k: u32) -> Option<&Field>
 }
 
 fn static_spot(k: u32, f: &Field, token: u32) -> Spot
-    ensures { spot_of result ≡ spot (kernel.Static k token) (field_seen f.now).ty (field_seen f.now).is_fixed }
+    ensures { spot_of result ≡ spot (kernel.Static k token) (field_seen f.now).ty
+        (field_seen f.now).is_fixed }
 {
     Spot {
         place: build::static_field(k, token),
@@ -54,7 +55,8 @@ fn static_spot(k: u32, f: &Field, token: u32) -> Spot
 }
 
 fn field_spot_of(object: Box<Expr>, k: u32, f: &Field, token: u32) -> Spot
-    ensures { spot_of result ≡ spot (kernel.Field (inner_of object) k token) (field_seen f.now).ty (field_seen f.now).is_fixed }
+    ensures { spot_of result ≡ spot (kernel.Field (inner_of object) k token) (field_seen f.now).ty
+        (field_seen f.now).is_fixed }
 {
     Spot {
         place: build::field(object, k, token),
@@ -71,7 +73,8 @@ fn own_field(
     k: u32,
     token: u32,
 ) -> Result<Spot, TypeError>
-    ensures { GivesAlways spot_of result (own_field scope.now k (slice_get (table_of table.now).fields k) token) }
+    ensures { GivesAlways spot_of result
+        (own_field scope.now k (slice_get (table_of table.now).fields k) token) }
 {
     let Some(f) = field_at(table, k) else {
         return Err(refused(Rule::UnknownName, token));
@@ -99,7 +102,8 @@ pub fn named_spot(
     name: &str,
     token: u32,
 ) -> Result<Spot, TypeError>
-    ensures { GivesAlways spot_of result (named_spot (table_of table.now) scope.now name.now token) }
+    ensures { GivesAlways spot_of result
+        (named_spot (table_of table.now) scope.now name.now token) }
 {
     if let Some(v) = scope.variable(name) {
         return Ok(Spot {
@@ -115,7 +119,8 @@ pub fn named_spot(
 }
 
 fn read_as(alloc: Global, value: Option<Const>, p: Spot, token: u32) -> Result<Meaning, AllocError>
-    ensures { IfOk result (λ m. meaning_of m ≡ read_as (option_map constant_value value) (spot_of p) token) }
+    ensures { IfOk result (λ m.
+        meaning_of m ≡ read_as (option_map constant_value value) (spot_of p) token) }
 {
     match value {
         Some(value) => Ok(Meaning::Known { value, token }),
@@ -151,7 +156,8 @@ pub fn no_field(class: u32) -> Rule
 }
 
 fn static_field(table: &ClassTable, scope: &Scope, k: u32, token: u32) -> Result<Spot, TypeError>
-    ensures { GivesAlways spot_of result (static_field scope.now k (slice_get (table_of table.now).fields k) token) }
+    ensures { GivesAlways spot_of result
+        (static_field scope.now k (slice_get (table_of table.now).fields k) token) }
 {
     let Some(f) = field_at(table, k) else {
         return Err(refused(Rule::UnknownName, token));
@@ -173,7 +179,8 @@ fn field_of_class(
     name: &str,
     token: u32,
 ) -> Result<Spot, TypeError>
-    ensures { GivesAlways spot_of result (field_of_class (table_of table.now) scope.now class (field_of (table_of table.now) class name.now) token) }
+    ensures { GivesAlways spot_of result (field_of_class (table_of table.now) scope.now class
+        (field_of (table_of table.now) class name.now) token) }
 {
     match field_by_name(table, class, name) {
         Some(k) => static_field(table, scope, k, token),
@@ -198,7 +205,8 @@ pub fn qualified_spot(
     class_token: u32,
     token: u32,
 ) -> Result<Spot, TypeError>
-    ensures { GivesAlways spot_of result (qualified_spot (table_of table.now) scope.now class.now name.now class_token token) }
+    ensures { GivesAlways spot_of result
+        (qualified_spot (table_of table.now) scope.now class.now name.now class_token token) }
 {
     match class_by_name(table, class) {
         Some(c) => field_of_class(table, scope, c, name, token),
@@ -223,7 +231,8 @@ pub fn qualified_name(
     class_token: u32,
     token: u32,
 ) -> Result<Meaning, TypeError>
-    ensures { GivesAlways meaning_of result (qualified_name (table_of table.now) scope.now class.now name.now class_token token) }
+    ensures { GivesAlways meaning_of result
+        (qualified_name (table_of table.now) scope.now class.now name.now class_token token) }
 {
     let value = value_of_member(table, class, name)?;
     if is_library_name(class) {
@@ -247,7 +256,8 @@ pub fn object_field(
     k: u32,
     token: u32,
 ) -> Result<Spot, TypeError>
-    ensures { GivesAlways spot_of result (object_field scope.now (inner_of object) k (slice_get (table_of table.now).fields k) token) }
+    ensures { GivesAlways spot_of result (object_field scope.now (inner_of object) k
+        (slice_get (table_of table.now).fields k) token) }
 {
     let Some(f) = field_at(table, k) else {
         return Err(refused(Rule::UnknownName, token));
@@ -270,7 +280,8 @@ fn field_through(
     name: &str,
     token: u32,
 ) -> Result<Spot, TypeError>
-    ensures { GivesAlways spot_of result (field_through (table_of table.now) scope.now class (inner_of object) (field_of (table_of table.now) class name.now) token) }
+    ensures { GivesAlways spot_of result (field_through (table_of table.now) scope.now class
+        (inner_of object) (field_of (table_of table.now) class name.now) token) }
 {
     match field_by_name(table, class, name) {
         Some(k) => object_field(table, scope, object, k, token),
@@ -289,7 +300,8 @@ pub fn field_spot(
     name: &str,
     token: u32,
 ) -> Result<Spot, TypeError>
-    ensures { GetsTo spot_of result texts.new (field_spot (table_of table.now) scope.now (meaning_of m) (type_of (meaning_of m)) name.now token texts.old) }
+    ensures { GetsTo spot_of result texts.new (field_spot (table_of table.now) scope.now
+        (meaning_of m) (type_of (meaning_of m)) name.now token texts.old) }
 {
     match type_of(&m) {
         Ty::Of {
@@ -324,7 +336,8 @@ pub fn field_read(
     name: &str,
     token: u32,
 ) -> Result<Meaning, TypeError>
-    ensures { GetsTo meaning_of result texts.new (field_read (table_of table.now) scope.now (meaning_of m) name.now token texts.old) }
+    ensures { GetsTo meaning_of result texts.new
+        (field_read (table_of table.now) scope.now (meaning_of m) name.now token texts.old) }
 {
     if is_length(type_of(&m), name) {
         return length_read(alloc, texts, m, token);

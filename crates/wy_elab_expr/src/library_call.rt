@@ -38,7 +38,8 @@ fn are_below(table: &ClassTable, types: &[Ty], params: &[Ty]) -> bool
 }
 
 fn does_apply(table: &ClassTable, m: &LibraryMethod, name: &str, types: &[Ty]) -> bool
-    ensures { Judged (table_of table.now) (λ j. result ≡ (bytes_eq (library_method m.now).name name.now && are_below j types.now (library_method m.now).params)) }
+    ensures { Judged (table_of table.now) (λ j. result ≡ (bytes_eq (library_method m.now).name
+        name.now && are_below j types.now (library_method m.now).params)) }
 {
     m.name == name && are_below(table, types, m.params)
 }
@@ -49,7 +50,8 @@ fn applicable(
     name: &str,
     types: &[Ty],
 ) -> Option<LibraryMethod>
-    ensures { Judged (table_of table.now) (λ j. option_map library_method result ≡ applicable j (map library_method methods.now) name.now types.now) }
+    ensures { Judged (table_of table.now) (λ j. option_map library_method result
+        ≡ applicable j (map library_method methods.now) name.now types.now) }
 {
     let mut left = methods;
     while let [first, behind @ ..] = left {
@@ -82,7 +84,8 @@ fn forms_behind(
     params: &[Ty],
     args: Vec<Meaning>,
 ) -> Result<Vec<Expr>, TypeError>
-    ensures { GetsTo row_seen result texts.new (fronted (option_map inner_of object) (brought_all params.now (map meaning_of args.items) texts.old)) }
+    ensures { GetsTo row_seen result texts.new (fronted (option_map inner_of object)
+        (brought_all params.now (map meaning_of args.items) texts.old)) }
 {
     match object {
         Some(object) => {
@@ -105,7 +108,8 @@ fn library_form(
     args: Vec<Meaning>,
     token: u32,
 ) -> Result<Meaning, TypeError>
-    ensures { GetsTo meaning_of result texts.new (library_form (option_map library_method m) is_offered (option_map inner_of object) (map meaning_of args.items) token texts.old) }
+    ensures { GetsTo meaning_of result texts.new (library_form (option_map library_method m)
+        is_offered (option_map inner_of object) (map meaning_of args.items) token texts.old) }
 {
     match m {
         Some(m) => {
@@ -135,7 +139,9 @@ pub fn library_call(
     args: Vec<Meaning>,
     token: u32,
 ) -> Result<Meaning, TypeError>
-    ensures { Judged (table_of table.now) (λ j. GetsTo meaning_of result texts.new (library_call j (map library_method methods.now) (option_map inner_of object) name.now (map meaning_of args.items) token texts.old)) }
+    ensures { Judged (table_of table.now) (λ j.
+        GetsTo meaning_of result texts.new (library_call j (map library_method methods.now)
+        (option_map inner_of object) name.now (map meaning_of args.items) token texts.old)) }
 {
     if some_void(args.as_slice()) {
         return Err(refused(Rule::BadOperand, token));

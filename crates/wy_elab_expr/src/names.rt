@@ -47,7 +47,8 @@ fn written_name(e: &Expression) -> Option<ClassName<'_>>
 /// The class that an expression names.
 #[tactic(auto, using(crate::proofs::Layers::class_by_written_name))]
 pub fn class_in<'a>(table: &ClassTable, scope: &Scope, e: &'a Expression) -> Option<ClassName<'a>>
-    ensures { option_map class_name_of result ≡ class_in (table_of table.now) scope.now (expression_of e.now) }
+    ensures { option_map class_name_of result ≡ class_in (table_of table.now) scope.now
+        (expression_of e.now) }
 {
     match written_name(e) {
         Some(class) => {
@@ -85,7 +86,8 @@ fn is_system(class: Option<ClassName>) -> bool
 /// The stream that an expression names.
 #[tactic(auto, using(wy_syntax::proofs::ExpressionViews::view_field))]
 pub fn stream_in(table: &ClassTable, scope: &Scope, e: &Expression) -> Option<Stream>
-    ensures { option_map stream_of result ≡ stream_in (table_of table.now) scope.now (expression_of e.now) }
+    ensures { option_map stream_of result ≡ stream_in (table_of table.now) scope.now
+        (expression_of e.now) }
 {
     match e {
         Expression::Field {
@@ -146,7 +148,8 @@ pub fn type_with(
     brackets: u32,
     token: u32,
 ) -> Result<Ty, TypeError>
-    ensures { GivesAlways (λ ty. ty) result (type_with (table_of table.now) (base_seen base.now) brackets token) }
+    ensures { GivesAlways (λ ty.
+        ty) result (type_with (table_of table.now) (base_seen base.now) brackets token) }
 {
     match base {
         WrittenBase::Primitive(p) => Ok(with_pairs(Base::Primitive(*p), brackets)?),
@@ -167,7 +170,8 @@ pub fn type_written(table: &ClassTable, ty: &WrittenType) -> Result<Ty, TypeErro
 
 /// The class of `new`, by its name.
 pub fn class_for_new(table: &ClassTable, name: &str, token: u32) -> Result<u32, TypeError>
-    ensures { GivesAlways (λ c. c) result (class_for_new (class_named (table_of table.now).classes name.now) token) }
+    ensures { GivesAlways (λ c.
+        c) result (class_for_new (class_named (table_of table.now).classes name.now) token) }
 {
     match class_by_name(table, name) {
         Some(c) => Ok(c),

@@ -69,7 +69,8 @@ fn booleans(a: Ty, b: Ty) -> Option<Primitive>
 
 // References are compared where a cast between them is allowed.
 fn of_references(table: &ClassTable, a: Ty, b: Ty) -> Option<OperandTypes>
-    ensures { Judged (table_of table.now) (λ j. option_map operands_of result ≡ of_references j (table_of table.now) a b) }
+    ensures { Judged (table_of table.now) (λ j.
+        option_map operands_of result ≡ of_references j (table_of table.now) a b) }
 {
     if is_nullable(a) && is_nullable(b) && can_cast(table, a, b) {
         Some(OperandTypes {
@@ -119,7 +120,9 @@ fn is_bitwise(op: BinOp) -> bool
 }
 
 fn of_equality(table: &ClassTable, a: Ty, b: Ty) -> Option<OperandTypes>
-    ensures { Judged (table_of table.now) (λ j. option_map operands_of result ≡ or_else (of_one_type boolean_type (both_numbers a b)) (or_else (of_one_type boolean_type (booleans a b)) (of_references j (table_of table.now) a b))) }
+    ensures { Judged (table_of table.now) (λ j. option_map operands_of result
+        ≡ or_else (of_one_type boolean_type (both_numbers a b)) (or_else
+        (of_one_type boolean_type (booleans a b)) (of_references j (table_of table.now) a b))) }
 {
     let outcome = primitive(Primitive::Bool);
     if let Some(p) = both_numbers(a, b) {
@@ -132,7 +135,8 @@ fn of_equality(table: &ClassTable, a: Ty, b: Ty) -> Option<OperandTypes>
 }
 
 fn of_bits(a: Ty, b: Ty) -> Option<OperandTypes>
-    ensures { option_map operands_of result ≡ or_else (of_number (both_numbers a b)) (of_one_type boolean_type (booleans a b)) }
+    ensures { option_map operands_of result ≡ or_else (of_number (both_numbers a b))
+        (of_one_type boolean_type (booleans a b)) }
 {
     match both_numbers(a, b) {
         Some(p) => of_number(Some(p)),
@@ -143,7 +147,8 @@ fn of_bits(a: Ty, b: Ty) -> Option<OperandTypes>
 /// The types of `a op b`, where there are any.
 #[tactic(auto, unfolding(crate::specs::Operators::operand_types))]
 pub fn operand_types(table: &ClassTable, op: BinOp, a: Ty, b: Ty) -> Option<OperandTypes>
-    ensures { Judged (table_of table.now) (λ j. option_map operands_of result ≡ operand_types j (table_of table.now) op a b) }
+    ensures { Judged (table_of table.now) (λ j.
+        option_map operands_of result ≡ operand_types j (table_of table.now) op a b) }
 {
     if is_shift(op) {
         of_shift(number_type(a), number_type(b))

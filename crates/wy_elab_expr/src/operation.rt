@@ -54,7 +54,8 @@ fn unary_formed(
     m: Meaning,
     token: u32,
 ) -> Result<Meaning, TypeError>
-    ensures { GetsTo meaning_of result texts.new (unary_formed op p (meaning_of m) token texts.old) }
+    ensures { GetsTo meaning_of result texts.new
+        (unary_formed op p (meaning_of m) token texts.old) }
 {
     match p {
         None => Err(refused(Rule::BadOperand, token)),
@@ -91,7 +92,8 @@ fn binary_known(
     a: &Meaning,
     b: &Meaning,
 ) -> Result<Option<Const>, AllocError>
-    ensures { IfOk result (λ c. option_map constant_value c ≡ binary_known op (meaning_of a.now) (meaning_of b.now)) }
+    ensures { IfOk result (λ c.
+        option_map constant_value c ≡ binary_known op (meaning_of a.now) (meaning_of b.now)) }
 {
     match (a, b) {
         (Meaning::Known { value: x, token: _ }, Meaning::Known { value: y, token: _ }) => {
@@ -120,7 +122,8 @@ fn binary_formed(
     b: Meaning,
     token: u32,
 ) -> Result<Meaning, TypeError>
-    ensures { GetsTo meaning_of result texts.new (binary_formed op (option_map operands_of types) (meaning_of a) (meaning_of b) token texts.old) }
+    ensures { GetsTo meaning_of result texts.new (binary_formed op (option_map operands_of types)
+        (meaning_of a) (meaning_of b) token texts.old) }
 {
     match types {
         None => Err(refused(Rule::BadOperand, token)),
@@ -137,7 +140,8 @@ fn binary_of_types(
     b: Meaning,
     token: u32,
 ) -> Result<Meaning, TypeError>
-    ensures { GetsTo meaning_of result texts.new (binary_formed op (Some (operands_of types)) (meaning_of a) (meaning_of b) token texts.old) }
+    ensures { GetsTo meaning_of result texts.new (binary_formed op (Some (operands_of types))
+        (meaning_of a) (meaning_of b) token texts.old) }
 {
     let x = brought_in(alloc, texts, types.left, a)?;
     let y = brought_in(alloc, texts, types.right, b)?;
@@ -153,7 +157,8 @@ fn joined(
     b: Meaning,
     token: u32,
 ) -> Result<Meaning, TypeError>
-    ensures { GetsTo meaning_of result texts.new (joined (meaning_of a) (meaning_of b) token texts.old) }
+    ensures { GetsTo meaning_of result texts.new
+        (joined (meaning_of a) (meaning_of b) token texts.old) }
 {
     let left_ty = type_of(&a);
     let right_ty = type_of(&b);
@@ -174,7 +179,8 @@ pub fn binary_of(
     b: Meaning,
     token: u32,
 ) -> Result<Meaning, TypeError>
-    ensures { Judged (table_of table.now) (λ j. GetsTo meaning_of result texts.new (binary_of j (table_of table.now) op (meaning_of a) (meaning_of b) token texts.old)) }
+    ensures { Judged (table_of table.now) (λ j. GetsTo meaning_of result texts.new
+        (binary_of j (table_of table.now) op (meaning_of a) (meaning_of b) token texts.old)) }
 {
     match binary_known(alloc, op, &a, &b)? {
         Some(value) => Ok(Meaning::Known {
@@ -210,7 +216,8 @@ fn lazy_formed(
     b: Meaning,
     token: u32,
 ) -> Result<Meaning, TypeError>
-    ensures { GetsTo meaning_of result texts.new (lazy_formed form (meaning_of a) (meaning_of b) token texts.old) }
+    ensures { GetsTo meaning_of result texts.new
+        (lazy_formed form (meaning_of a) (meaning_of b) token texts.old) }
 {
     let ty = primitive(Primitive::Bool);
     let x = brought_in(alloc, texts, ty, a)?;
@@ -227,7 +234,10 @@ fn lazy_unless_known(
     b: Meaning,
     token: u32,
 ) -> Result<Meaning, TypeError>
-    ensures { GetsTo meaning_of result texts.new (known_or (as_truth known) (token_of (meaning_of a)) (if is_boolean (type_of (meaning_of a)) && is_boolean (type_of (meaning_of b)) then lazy_formed form (meaning_of a) (meaning_of b) token else refuse Rule.BadOperand token) texts.old) }
+    ensures { GetsTo meaning_of result texts.new
+        (known_or (as_truth known) (token_of (meaning_of a)) (if is_boolean (type_of (meaning_of a))
+        && is_boolean (type_of (meaning_of b)) then lazy_formed form (meaning_of a)
+        (meaning_of b) token else refuse Rule.BadOperand token) texts.old) }
 {
     match known {
         Some(p) => Ok(Meaning::Known {
@@ -253,7 +263,8 @@ pub fn both_of(
     b: Meaning,
     token: u32,
 ) -> Result<Meaning, TypeError>
-    ensures { GetsTo meaning_of result texts.new (lazy_of CondForm.And (λ p q. p && q) (meaning_of a) (meaning_of b) token texts.old) }
+    ensures { GetsTo meaning_of result texts.new
+        (lazy_of CondForm.And (λ p q. p && q) (meaning_of a) (meaning_of b) token texts.old) }
 {
     let known = match (truth_known(&a), truth_known(&b)) {
         (Some(p), Some(q)) => Some(p && q),
@@ -271,7 +282,8 @@ pub fn either_of(
     b: Meaning,
     token: u32,
 ) -> Result<Meaning, TypeError>
-    ensures { GetsTo meaning_of result texts.new (lazy_of CondForm.Or (λ p q. p || q) (meaning_of a) (meaning_of b) token texts.old) }
+    ensures { GetsTo meaning_of result texts.new
+        (lazy_of CondForm.Or (λ p q. p || q) (meaning_of a) (meaning_of b) token texts.old) }
 {
     let known = match (truth_known(&a), truth_known(&b)) {
         (Some(p), Some(q)) => Some(p || q),

@@ -19,7 +19,8 @@ use wy_kernel::table::ClassTable;
 
 /// `this`
 pub fn read_this(alloc: Global, scope: &Scope, token: u32) -> Result<Meaning, TypeError>
-    ensures { GivesAlways meaning_of result (if scope.now.has_this then give (Formed this_form (class_type scope.now.class)) else refuse Rule.NotInStatic token) }
+    ensures { GivesAlways meaning_of result (if scope.now.has_this then give
+        (Formed this_form (class_type scope.now.class)) else refuse Rule.NotInStatic token) }
 {
     if scope.has_this() {
         Ok(of_form(alloc, build::this(), class(scope.class()))?)
@@ -36,7 +37,8 @@ pub fn read_super(
     name: &str,
     token: u32,
 ) -> Result<Meaning, TypeError>
-    ensures { GivesAlways meaning_of result (super_read (table_of table.now) scope.now name.now token) }
+    ensures { GivesAlways meaning_of result
+        (super_read (table_of table.now) scope.now name.now token) }
 {
     let p = super_spot(alloc, table, scope, name, token)?;
     Ok(read(alloc, p)?)

@@ -113,7 +113,8 @@ fn print_one(
     m: Meaning,
     token: u32,
 ) -> Result<Option<Printed>, TypeError>
-    ensures { GetsTo (λ p. option_map printed_of p) result texts.new (print_operand name.now (meaning_of m ∷ []) token texts.old) }
+    ensures { GetsTo (λ p. option_map printed_of p) result texts.new
+        (print_operand name.now (meaning_of m ∷ []) token texts.old) }
 {
     if is_print(name) {
         let p = brought_to_print(alloc, texts, m, token)?;
@@ -128,7 +129,8 @@ fn print_one(
 
 // The rule that too many arguments break.
 fn too_many(name: &str, args: &[Meaning]) -> Rule
-    ensures { result ≡ (if some_void (map meaning_of args.now) then Rule.BadOperand else (if is_print name.now then Rule.NoMethod else Rule.NotOffered)) }
+    ensures { result ≡ (if some_void (map meaning_of args.now) then Rule.BadOperand
+        else (if is_print name.now then Rule.NoMethod else Rule.NotOffered)) }
 {
     if some_void(args) {
         Rule::BadOperand
@@ -148,7 +150,8 @@ pub fn print_operand(
     mut args: Vec<Meaning>,
     token: u32,
 ) -> Result<Option<Printed>, TypeError>
-    ensures { GetsTo (λ p. option_map printed_of p) result texts.new (print_operand name.now (map meaning_of args.items) token texts.old) }
+    ensures { GetsTo (λ p. option_map printed_of p) result texts.new
+        (print_operand name.now (map meaning_of args.items) token texts.old) }
 {
     if args.len() > 1 {
         return Err(refused(too_many(name, args.as_slice()), token));
@@ -167,7 +170,8 @@ fn print_call(
     args: Vec<Meaning>,
     token: u32,
 ) -> Result<Meaning, TypeError>
-    ensures { GetsTo meaning_of result texts.new (print_call name.now (map meaning_of args.items) token texts.old) }
+    ensures { GetsTo meaning_of result texts.new
+        (print_call name.now (map meaning_of args.items) token texts.old) }
 {
     drop(print_operand(alloc, texts, name, args, token)?);
     Ok(of_form(alloc, build::constant(Const::Null), Ty::Void)?)
@@ -197,7 +201,8 @@ pub fn called_on_stream(
     args: Vec<Meaning>,
     token: u32,
 ) -> Result<Meaning, TypeError>
-    ensures { GetsTo meaning_of result texts.new (called_on_stream (stream_of stream) name.now (map meaning_of args.items) token texts.old) }
+    ensures { GetsTo meaning_of result texts.new
+        (called_on_stream (stream_of stream) name.now (map meaning_of args.items) token texts.old) }
 {
     match stream {
         Stream::Input => {

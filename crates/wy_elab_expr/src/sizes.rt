@@ -18,7 +18,8 @@ pub fn sizes_of(
     sizes: Vec<Meaning>,
     token: u32,
 ) -> Result<Vec<Expr>, TypeError>
-    ensures { GetsTo row_seen result texts.new (sizes_of (map meaning_of sizes.items) token texts.old) }
+    ensures { GetsTo row_seen result texts.new
+        (sizes_of (map meaning_of sizes.items) token texts.old) }
 {
     let mut waiting = sizes;
     waiting.reverse();

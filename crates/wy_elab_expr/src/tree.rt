@@ -10,6 +10,7 @@ ghost use Rattle.wy_kernel.specs.Table.{constant_value};
 ghost use Rattle.wy_syntax.specs.Expressions.{expression};
 ghost use Rattle.wy_syntax.specs.Names.{width};
 ghost use Rattle.wy_tree.specs.Ast.{view};
+ghost use Rattle.wy_tree.specs.Tokens.{token_limit};
 
 use crate::typed::{Typed, typed_expression};
 use std::alloc::{AllocError, Global};
@@ -29,8 +30,9 @@ pub fn expr(
     tree: &Tree,
     first: u32,
 ) -> Result<Typed, TypeError>
-    requires { first + width (view tree.now) ≤ 1048576 }
-    ensures typed { Judged (table_of table.now) (λ j. GetsTo typed_of result scope.new.texts (typed j (table_of table.now) scope.old (expression first (view tree.now)) scope.old.texts)) }
+    requires { first + width (view tree.now) ≤ token_limit }
+    ensures typed { Judged (table_of table.now) (λ j. GetsTo typed_of result scope.new.texts (typed
+        j (table_of table.now) scope.old (expression first (view tree.now)) scope.old.texts)) }
     ensures texts { scope.new ≡ with_texts scope.old scope.new.texts }
     ensures err { OnErr result (scope.new ≡ scope.old) }
 {
@@ -45,8 +47,9 @@ pub fn constant(
     scope: &Scope,
     tree: &Tree,
 ) -> Result<Option<Const>, AllocError>
-    requires { width (view tree.now) ≤ 1048576 }
-    ensures { IfOk result (λ c. option_map constant_value c ≡ constant (table_of table.now) scope.now (expression 0 (view tree.now))) }
+    requires { width (view tree.now) ≤ token_limit }
+    ensures { IfOk result (λ c. option_map constant_value c
+        ≡ constant (table_of table.now) scope.now (expression 0 (view tree.now))) }
 {
     let e = Box::new(alloc, expression(alloc, tree, 0)?)?;
     constant_of(alloc, table, scope, &e)

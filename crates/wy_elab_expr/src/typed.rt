@@ -32,7 +32,8 @@ pub fn typed_expression(
     scope: &mut Scope,
     e: &Expression,
 ) -> Result<Typed, TypeError>
-    ensures typed { Judged (table_of table.now) (λ j. GetsTo typed_of result scope.new.texts (typed j (table_of table.now) scope.old (expression_of e.now) scope.old.texts)) }
+    ensures typed { Judged (table_of table.now) (λ j. GetsTo typed_of result scope.new.texts
+        (typed j (table_of table.now) scope.old (expression_of e.now) scope.old.texts)) }
     ensures texts { scope.new ≡ with_texts scope.old scope.new.texts }
     ensures err { OnErr result (scope.new ≡ scope.old) }
 {

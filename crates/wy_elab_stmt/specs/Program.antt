@@ -3,7 +3,7 @@ use Rattle.std.specs.Prelude.{ℕ, suc, ◌+◌, Bool, ◌&&◌, ◌==◌, nat_l
 use Rattle.std.specs.List.{position_from}
 use Rattle.wy_kernel.specs.declared.types.Ty.TheVariants.{Of}
 use Rattle.wy_kernel.specs.declared.types.Base.TheVariants.{Class as Named}
-use Rattle.wy_kernel.specs.Program.{Program, Body, Method, string_class, first_source_class, same_types}
+use Rattle.wy_kernel.specs.Program.{Program, Body, Method, string_class, first_source_class, same_types, library_statements}
 use Rattle.wy_kernel.specs.Table.{Table}
 use Rattle.wy_syntax.specs.declared.declaration.Modifier.TheVariants as modifier
 use Rattle.wy_syntax.specs.Syntax.{Header, Member, ClassSyntax}
@@ -14,7 +14,7 @@ use Rattle.wy_constant.specs.Scope.{FixedText}
 use Rattle.wy_members.specs.Declarations.{CompilationUnit, classes_of, has, parameter_types}
 use Rattle.wy_elab_expr.specs.Operators.{Judgement}
 use Rattle.wy_elab_expr.specs.Meaning.{Gets, give, ◌>>=◌}
-use Rattle.wy_statement.specs.Places.{places_of, library_statements}
+use Rattle.wy_statement.specs.Places.{places_of}
 use Rattle.wy_statement.specs.Statements.{Setting}
 use Rattle.wy_elab_stmt.specs.Classes.{ClassBodies, class_bodies}
 use Rattle.wy_library.specs.Library.{library_bodies, library_init_bodies}

@@ -6,7 +6,7 @@ ghost use Rattle.wy_constant.specs.Refusal.{Gives};
 ghost use Rattle.wy_constant.specs.Scope.{FixedText as PlainText};
 ghost use Rattle.wy_constant.specs.declared.variable.FixedText.{FixedText as MemoryText};
 ghost use Rattle.wy_elab_expr.specs.Views.{GetsTo, Judged};
-ghost use Rattle.wy_statement.specs.Places.{library_statements, places_of};
+ghost use Rattle.wy_statement.specs.Places.{places_of};
 ghost use Rattle.wy_elab_stmt.specs.Program.{bodies_of, library_text, main_of, no_bodies, program, setting};
 ghost use Rattle.wy_statement.specs.Statements.{Setting as PlainSetting};
 ghost use Rattle.wy_elab_stmt.specs.ClassViews.{class_bodies_seen};
@@ -15,6 +15,8 @@ ghost use Rattle.wy_elab_stmt.specs.Whole.{all_texts, and_class, behind_bodies, 
 ghost use Rattle.wy_kernel.specs.ClassTable.{table_of};
 ghost use Rattle.wy_kernel.specs.Parts.{program_of};
 ghost use Rattle.wy_syntax.specs.View.{class_of, declaration_of};
+ghost use Rattle.wy_kernel.specs.Program.{library_statements};
+ghost use Rattle.wy_tree.specs.Tokens.{token_limit};
 
 use crate::class_body::{ClassBodies, class_bodies};
 use crate::main_method::main_of;
@@ -65,7 +67,8 @@ fn of_library(alloc: Global) -> Result<Bodies, AllocError>
 }
 
 fn put_made(all: &mut Bodies, class: ClassBodies) -> Result<(), AllocError>
-    ensures { OnOk result (bodies_view all.new ≡ and_class (bodies_view all.old) (class_bodies_seen class)) }
+    ensures { OnOk result
+        (bodies_view all.new ≡ and_class (bodies_view all.old) (class_bodies_seen class)) }
 {
     let ClassBodies {
         mut bodies,
@@ -93,7 +96,9 @@ fn put_class(
     number: u32,
     class: &ClassSyntax,
 ) -> Result<u32, TypeError>
-    ensures { (w : PlainSetting) → IsSetting setting.now w → GetsTo (λ n. (bodies_view all.new, n)) result texts.new (class_behind w (bodies_view all.old) number (class_of class.now) texts.old) }
+    ensures { (w : PlainSetting)
+        → IsSetting setting.now w → GetsTo (λ n. (bodies_view all.new, n)) result texts.new
+        (class_behind w (bodies_view all.old) number (class_of class.now) texts.old) }
 {
     let made = class_bodies(setting, texts, number, class)?;
     put_made(all, made)?;
@@ -107,7 +112,9 @@ fn put_declaration(
     number: u32,
     declaration: &Declaration,
 ) -> Result<u32, TypeError>
-    ensures { (w : PlainSetting) → IsSetting setting.now w → GetsTo (λ n. (bodies_view all.new, n)) result texts.new (declared_behind w (bodies_view all.old) number (declaration_of declaration.now) texts.old) }
+    ensures { (w : PlainSetting) → IsSetting setting.now w
+        → GetsTo (λ n. (bodies_view all.new, n)) result texts.new (declared_behind w
+        (bodies_view all.old) number (declaration_of declaration.now) texts.old) }
 {
     match declaration {
         Declaration::Class(class) => put_class(setting, texts, all, number, class),
@@ -123,7 +130,9 @@ fn put_bodies(
     all: &mut Bodies,
     unit: &[Declaration],
 ) -> Result<(), TypeError>
-    ensures { (w : PlainSetting) → IsSetting setting.now w → GetsTo (λ u. bodies_view all.new) result texts.new (behind_bodies (bodies_view all.old) (bodies_of w (map declaration_of unit.now) texts.old)) }
+    ensures { (w : PlainSetting) → IsSetting setting.now w
+        → GetsTo (λ u. bodies_view all.new) result texts.new (behind_bodies (bodies_view all.old)
+        (bodies_of w (map declaration_of unit.now) texts.old)) }
 {
     let mut number = 18;
     for declaration in unit {
@@ -145,7 +154,8 @@ fn library_texts(alloc: Global) -> Result<Texts, AllocError>
 
 // The texts that the forms of all bodies hold, in the order of their first tokens.
 fn all_texts(setting: &Setting, unit: &[Declaration]) -> Result<Texts, TypeError>
-    ensures { (w : PlainSetting) → IsSetting setting.now w → Gives (λ texts. texts) result (all_texts w (map declaration_of unit.now)) }
+    ensures { (w : PlainSetting) → IsSetting setting.now w
+        → Gives (λ texts. texts) result (all_texts w (map declaration_of unit.now)) }
 {
     let mut texts = library_texts(setting.alloc)?;
     let mut all = none_yet(setting.alloc);
@@ -155,7 +165,8 @@ fn all_texts(setting: &Setting, unit: &[Declaration]) -> Result<Texts, TypeError
 
 // All bodies: made again from all texts in order, each form has the number of its text.
 fn all_made(setting: &Setting, unit: &[Declaration]) -> Result<Made, TypeError>
-    ensures { (w : PlainSetting) → IsSetting setting.now w → Gives made_view result (made w (map declaration_of unit.now)) }
+    ensures { (w : PlainSetting) → IsSetting setting.now w
+        → Gives made_view result (made w (map declaration_of unit.now)) }
 {
     let mut texts = all_texts(setting, unit)?;
     let mut bodies = of_library(setting.alloc)?;
@@ -177,7 +188,8 @@ fn units_among(alloc: Global, list: Vec<FixedText>) -> Result<Vec<Vec<u16>>, All
 }
 
 fn units_of(alloc: Global, texts: Texts) -> Result<Vec<Vec<u16>>, AllocError>
-    ensures units { IfOk result (λ all. map (λ v. v.items) all.items ≡ map (λ (t : PlainText). t.units) texts) }
+    ensures units { IfOk result (λ all.
+        map (λ v. v.items) all.items ≡ map (λ (t : PlainText). t.units) texts) }
     ensures few { IfOk result (λ all. length all.items < 2 ^ 32) }
 {
     let all = units_among(alloc, texts.into_list())?;
@@ -202,7 +214,8 @@ fn made_at(
     places: Vec<Place>,
 ) -> Result<Made, TypeError>
     requires { places.items ≡ places_of (table_of table.now) (map declaration_of unit.now) }
-    ensures { Judged (table_of table.now) (λ j. Gives made_view result (made (setting j (table_of table.now) (map declaration_of unit.now)) (map declaration_of unit.now))) }
+    ensures { Judged (table_of table.now) (λ j. Gives made_view result (made (setting j
+        (table_of table.now) (map declaration_of unit.now)) (map declaration_of unit.now))) }
 {
     let numbers = numbers_of(places)?;
     let setting = Setting {
@@ -215,8 +228,9 @@ fn made_at(
 
 // The number of main, or the refusal behind the last token where there is none.
 fn main_found(table: &ClassTable, unit: &[Declaration], tokens: u32) -> Result<u32, TypeError>
-    requires { length unit.now ≤ 1048576 }
-    ensures { Gives (λ m. m) result (main_or_refused (main_of (table_of table.now) (map declaration_of unit.now)) tokens) }
+    requires { length unit.now ≤ token_limit }
+    ensures { Gives (λ m. m) result
+        (main_or_refused (main_of (table_of table.now) (map declaration_of unit.now)) tokens) }
 {
     match main_of(table, unit) {
         Some(main) => Ok(main),
@@ -236,7 +250,8 @@ fn program_from(
     statements: u32,
     main: u32,
 ) -> Result<Program, AllocError>
-    ensures program { IfOk result (λ p. program_of p ≡ program_from (table_of table) statements main (made_view made)) }
+    ensures program { IfOk result (λ p.
+        program_of p ≡ program_from (table_of table) statements main (made_view made)) }
     ensures lines { IfOk result (λ p. p.lines.items ≡ lines.items) }
     ensures texts { IfOk result (λ p. length p.fixed_texts.items < 2 ^ 32) }
 {
@@ -275,8 +290,9 @@ pub fn elaborate_unit(
     lines: Vec<u32>,
     alloc: Global,
 ) -> Result<Program, TypeError>
-    requires { length lines.items ≤ 1048576 }
-    ensures program { Judged (table_of table) (λ j. Gives program_of result (program j (table_of table) (map declaration_of unit.now) (length lines.items))) }
+    requires { length lines.items ≤ token_limit }
+    ensures program { Judged (table_of table) (λ j. Gives program_of result
+        (program j (table_of table) (map declaration_of unit.now) (length lines.items))) }
     ensures lines { IfOk result (λ p. p.lines.items ≡ lines.items) }
     ensures texts { IfOk result (λ p. length p.fixed_texts.items < 2 ^ 32) }
 {

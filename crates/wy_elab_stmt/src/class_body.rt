@@ -63,7 +63,10 @@ fn method_body(
     outcome: &Outcome,
     b: &Block,
 ) -> Result<Body, TypeError>
-    ensures { (w : PlainSetting) → IsSetting setting.now w → GetsTo body_of result texts.new (whole (begun number (not (is_static (header_of header.now).modifiers)) header.now.name.token) (end_of (block_of b.now)) (method_block w (header_of header.now) (outcome_of outcome.now) (block_of b.now)) texts.old) }
+    ensures { (w : PlainSetting) → IsSetting setting.now w → GetsTo body_of result texts.new (whole
+        (begun number (not (is_static (header_of header.now).modifiers)) header.now.name.token)
+        (end_of (block_of b.now)) (method_block w (header_of header.now) (outcome_of outcome.now)
+        (block_of b.now)) texts.old) }
 {
     let mut making = begun(setting.alloc, number, has_this(header), header.name.token)?;
     let block = method_block(setting, &mut making, texts, header, outcome, b)?;
@@ -85,7 +88,10 @@ fn constructor_body(
     parts: &[Statement],
     end: u32,
 ) -> Result<Body, TypeError>
-    ensures { (w : PlainSetting) → IsSetting setting.now w → GetsTo body_of result texts.new (whole (begun number true header.now.name.token) end (constructor_block w number (class_of class.now) (header_of header.now) (option_map own_call_of own_call.now) brace (statements_of (map statement_of parts.now))) texts.old) }
+    ensures { (w : PlainSetting) → IsSetting setting.now w
+        → GetsTo body_of result texts.new (whole (begun number true header.now.name.token) end
+        (constructor_block w number (class_of class.now) (header_of header.now) (option_map
+        own_call_of own_call.now) brace (statements_of (map statement_of parts.now))) texts.old) }
 {
     let mut making = begun(setting.alloc, number, true, header.name.token)?;
     let block = constructor_block(
@@ -112,7 +118,9 @@ fn implied_constructor_body(
     number: u32,
     class: &ClassSyntax,
 ) -> Result<Body, TypeError>
-    ensures { (w : PlainSetting) → IsSetting setting.now w → GetsTo body_of result texts.new (whole (begun number true class.now.name.token) class.now.name.token (implied_constructor_block w number (class_of class.now)) texts.old) }
+    ensures { (w : PlainSetting) → IsSetting setting.now w
+        → GetsTo body_of result texts.new (whole (begun number true class.now.name.token)
+        class.now.name.token (implied_constructor_block w number (class_of class.now)) texts.old) }
 {
     let site = class.name.token;
     let making = begun(setting.alloc, number, true, site)?;
@@ -132,7 +140,8 @@ fn implied_constructor(
     number: u32,
     class: &ClassSyntax,
 ) -> Result<Vec<Option<Body>>, TypeError>
-    ensures { (w : PlainSetting) → IsSetting setting.now w → GetsTo bodies_seen result texts.new (implied_constructor w number (class_of class.now) texts.old) }
+    ensures { (w : PlainSetting) → IsSetting setting.now w → GetsTo bodies_seen result texts.new
+        (implied_constructor w number (class_of class.now) texts.old) }
 {
     if declares_constructor(class) {
         return Ok(Vec::new(setting.alloc));
@@ -149,7 +158,10 @@ fn add_static_block(
     class: &ClassSyntax,
     b: &Block,
 ) -> Result<(), TypeError>
-    ensures { (w : PlainSetting) (first second : List FixedText) → IsSetting setting.now w → GetsTo (λ u. growth_of growth.new [] []) result texts.new (at_rest (in_initializer (growth_of growth.old first second) (initializer_block w (class_of class.now) Role.InitializerBody (block_of b.now)) texts.old)) }
+    ensures { (w : PlainSetting) (first second : List FixedText)
+        → IsSetting setting.now w → GetsTo (λ u. growth_of growth.new [] []) result texts.new
+        (at_rest (in_initializer (growth_of growth.old first second) (initializer_block w
+        (class_of class.now) Role.InitializerBody (block_of b.now)) texts.old)) }
 {
     growth
         .initializer
@@ -165,7 +177,10 @@ fn add_instance_block(
     class: &ClassSyntax,
     b: &Block,
 ) -> Result<(), TypeError>
-    ensures { (w : PlainSetting) (first second : List FixedText) → IsSetting setting.now w → GetsTo (λ u. growth_of growth.new [] []) result texts.new (at_rest (in_fields (growth_of growth.old first second) (initializer_block w (class_of class.now) Role.FieldsBody (block_of b.now)) texts.old)) }
+    ensures { (w : PlainSetting) (first second : List FixedText)
+        → IsSetting setting.now w → GetsTo (λ u. growth_of growth.new [] []) result texts.new
+        (at_rest (in_fields (growth_of growth.old first second)
+        (initializer_block w (class_of class.now) Role.FieldsBody (block_of b.now)) texts.old)) }
 {
     growth
         .fields
@@ -182,7 +197,10 @@ fn add_block(
     is_static: bool,
     b: &Block,
 ) -> Result<(), TypeError>
-    ensures { (w : PlainSetting) (c : ℕ) (first second : List FixedText) → IsSetting setting.now w → GetsTo (λ u. growth_of growth.new [] []) result texts.new (at_rest (member w c (class_of class.now) (growth_of growth.old first second) (plain.Initializer is_static (block_of b.now)) texts.old)) }
+    ensures { (w : PlainSetting) (c : ℕ) (first second : List FixedText)
+        → IsSetting setting.now w → GetsTo (λ u. growth_of growth.new [] []) result texts.new
+        (at_rest (member w c (class_of class.now) (growth_of growth.old first second)
+        (plain.Initializer is_static (block_of b.now)) texts.old)) }
 {
     if is_static {
         add_static_block(setting, growth, texts, class, b)
@@ -200,7 +218,10 @@ fn add_static_fields(
     ty: &WrittenType,
     all: &[Declarator],
 ) -> Result<(), TypeError>
-    ensures { (w : PlainSetting) (first second : List FixedText) → IsSetting setting.now w → GetsTo (λ u. growth_of growth.new [] []) result texts.new (at_rest (in_initializer (growth_of growth.old first second) (field_initials w number true (type_seen ty.now) (map declarator_of all.now)) texts.old)) }
+    ensures { (w : PlainSetting) (first second : List FixedText)
+        → IsSetting setting.now w → GetsTo (λ u. growth_of growth.new [] []) result texts.new
+        (at_rest (in_initializer (growth_of growth.old first second)
+        (field_initials w number true (type_seen ty.now) (map declarator_of all.now)) texts.old)) }
 {
     growth
         .initializer
@@ -217,7 +238,10 @@ fn add_instance_fields(
     ty: &WrittenType,
     all: &[Declarator],
 ) -> Result<(), TypeError>
-    ensures { (w : PlainSetting) (first second : List FixedText) → IsSetting setting.now w → GetsTo (λ u. growth_of growth.new [] []) result texts.new (at_rest (in_fields (growth_of growth.old first second) (field_initials w number false (type_seen ty.now) (map declarator_of all.now)) texts.old)) }
+    ensures { (w : PlainSetting) (first second : List FixedText)
+        → IsSetting setting.now w → GetsTo (λ u. growth_of growth.new [] []) result texts.new
+        (at_rest (in_fields (growth_of growth.old first second)
+        (field_initials w number false (type_seen ty.now) (map declarator_of all.now)) texts.old)) }
 {
     growth
         .fields
@@ -235,7 +259,10 @@ fn add_fields(
     ty: &WrittenType,
     all: &[Declarator],
 ) -> Result<(), TypeError>
-    ensures { (w : PlainSetting) (k : plain.ClassSyntax) (first second : List FixedText) → IsSetting setting.now w → GetsTo (λ u. growth_of growth.new [] []) result texts.new (at_rest (member w number k (growth_of growth.old first second) (plain.Fields (map placed_of modifiers.now) (type_seen ty.now) (map declarator_of all.now)) texts.old)) }
+    ensures { (w : PlainSetting) (k : plain.ClassSyntax) (first second : List FixedText)
+        → IsSetting setting.now w → GetsTo (λ u. growth_of growth.new [] []) result texts.new
+        (at_rest (member w number k (growth_of growth.old first second) (plain.Fields
+        (map placed_of modifiers.now) (type_seen ty.now) (map declarator_of all.now)) texts.old)) }
 {
     if is_static(modifiers) {
         add_static_fields(setting, growth, texts, number, ty, all)
@@ -254,7 +281,10 @@ fn add_method(
     outcome: &Outcome,
     body: &Option<Block>,
 ) -> Result<(), TypeError>
-    ensures { (w : PlainSetting) (k : plain.ClassSyntax) (first second : List FixedText) → IsSetting setting.now w → GetsTo (λ u. growth_of growth.new [] []) result texts.new (at_rest (member w number k (growth_of growth.old first second) (plain.Method (header_of header.now) (outcome_of outcome.now) (option_map block_of body.now)) texts.old)) }
+    ensures { (w : PlainSetting) (k : plain.ClassSyntax) (first second : List FixedText)
+        → IsSetting setting.now w → GetsTo (λ u. growth_of growth.new [] []) result texts.new
+        (at_rest (member w number k (growth_of growth.old first second) (plain.Method (header_of
+        header.now) (outcome_of outcome.now) (option_map block_of body.now)) texts.old)) }
 {
     match body {
         None => Ok(growth.add(None)?),
@@ -278,7 +308,11 @@ fn add_constructor(
     parts: &[Statement],
     end: u32,
 ) -> Result<(), TypeError>
-    ensures { (w : PlainSetting) (first second : List FixedText) → IsSetting setting.now w → GetsTo (λ u. growth_of growth.new [] []) result texts.new (at_rest (member w number (class_of class.now) (growth_of growth.old first second) (plain.Constructor (header_of header.now) (option_map own_call_of own_call.now) brace (statements_of (map statement_of parts.now)) end) texts.old)) }
+    ensures { (w : PlainSetting) (first second : List FixedText)
+        → IsSetting setting.now w → GetsTo (λ u. growth_of growth.new [] []) result texts.new
+        (at_rest (member w number (class_of class.now) (growth_of growth.old first second)
+        (plain.Constructor (header_of header.now) (option_map own_call_of own_call.now) brace
+        (statements_of (map statement_of parts.now)) end) texts.old)) }
 {
     let made = constructor_body(
         setting, texts, number, class, header, own_call, brace, parts, end,
@@ -295,7 +329,9 @@ fn member(
     class: &ClassSyntax,
     m: &Member,
 ) -> Result<(), TypeError>
-    ensures { (w : PlainSetting) (first second : List FixedText) → IsSetting setting.now w → GetsTo (λ u. growth_of growth.new [] []) result texts.new (at_rest (member w number (class_of class.now) (growth_of growth.old first second) (member_of m.now) texts.old)) }
+    ensures { (w : PlainSetting) (first second : List FixedText) → IsSetting setting.now w
+        → GetsTo (λ u. growth_of growth.new [] []) result texts.new (at_rest (member w number
+        (class_of class.now) (growth_of growth.old first second) (member_of m.now) texts.old)) }
 {
     match m {
         Member::Initializer { is_static, block } => {
@@ -351,7 +387,9 @@ fn members(
     class: &ClassSyntax,
     all: &[Member],
 ) -> Result<(), TypeError>
-    ensures { (w : PlainSetting) (first second : List FixedText) → IsSetting setting.now w → GetsTo (λ u. growth_of growth.new [] []) result texts.new (at_rest (members w number (class_of class.now) (growth_of growth.old first second) (map member_of all.now) texts.old)) }
+    ensures { (w : PlainSetting) (first second : List FixedText) → IsSetting setting.now w → GetsTo
+        (λ u. growth_of growth.new [] []) result texts.new (at_rest (members w number (class_of
+        class.now) (growth_of growth.old first second) (map member_of all.now) texts.old)) }
 {
     for m in all {
         member(setting, growth, texts, number, class, m)?;
@@ -365,7 +403,9 @@ fn all_members(
     number: u32,
     class: &ClassSyntax,
 ) -> Result<Growth, TypeError>
-    ensures { (w : PlainSetting) → IsSetting setting.now w → GetsTo (λ g. growth_of g [] []) result texts.new (at_rest (members w number (class_of class.now) (none_yet number (class_of class.now)) (class_of class.now).members texts.old)) }
+    ensures { (w : PlainSetting) → IsSetting setting.now w → GetsTo (λ g.
+        growth_of g [] []) result texts.new (at_rest (members w number (class_of class.now)
+        (none_yet number (class_of class.now)) (class_of class.now).members texts.old)) }
 {
     let mut growth = none_yet(setting.alloc, number, class)?;
     members(
@@ -396,7 +436,9 @@ fn own_fields(
     class: &ClassSyntax,
     fields: Growing,
 ) -> Result<Vec<Option<Body>>, AllocError>
-    ensures { (w : PlainSetting) (stale : List FixedText) → IsSetting setting.now w → IfOk result (λ all. bodies_seen all ≡ Some (implied_body w (class_of class.now) Role.FieldsBody (growing_of fields stale)) ∷ []) }
+    ensures { (w : PlainSetting) (stale : List FixedText)
+        → IsSetting setting.now w → IfOk result (λ all. bodies_seen all ≡ Some
+        (implied_body w (class_of class.now) Role.FieldsBody (growing_of fields stale)) ∷ []) }
 {
     let body = fields.implied_body(setting, class, Role::FieldsBody);
     Ok(vec![in setting.alloc; Some(body)]?)
@@ -407,7 +449,8 @@ fn fields_body(
     class: &ClassSyntax,
     fields: Growing,
 ) -> Result<Vec<Option<Body>>, AllocError>
-    ensures { (w : PlainSetting) (stale : List FixedText) → IsSetting setting.now w → IfOk result (λ all. bodies_seen all ≡ fields_body w (class_of class.now) (growing_of fields stale)) }
+    ensures { (w : PlainSetting) (stale : List FixedText) → IsSetting setting.now w → IfOk result
+        (λ all. bodies_seen all ≡ fields_body w (class_of class.now) (growing_of fields stale)) }
 {
     if has_fields_unit(class) {
         own_fields(setting, class, fields)
@@ -422,7 +465,9 @@ fn finished(
     implied: Vec<Option<Body>>,
     growth: Growth,
 ) -> Result<ClassBodies, AllocError>
-    ensures { (w : PlainSetting) (first second : List FixedText) → IsSetting setting.now w → IfOk result (λ all. class_bodies_seen all ≡ finished w (class_of class.now) (bodies_seen implied) (growth_of growth first second)) }
+    ensures { (w : PlainSetting) (first second : List FixedText) → IsSetting setting.now w
+        → IfOk result (λ all. class_bodies_seen all ≡ finished w (class_of class.now)
+        (bodies_seen implied) (growth_of growth first second)) }
 {
     let own = fields_body(setting, class, growth.fields)?;
     let front = both(own, implied)?;
@@ -442,7 +487,8 @@ fn of_class(
     number: u32,
     class: &ClassSyntax,
 ) -> Result<ClassBodies, TypeError>
-    ensures { (w : PlainSetting) → IsSetting setting.now w → GetsTo class_bodies_seen result texts.new (of_class w number (class_of class.now) texts.old) }
+    ensures { (w : PlainSetting) → IsSetting setting.now w → GetsTo class_bodies_seen result
+        texts.new (of_class w number (class_of class.now) texts.old) }
 {
     let implied = implied_constructor(setting, texts, number, class)?;
     let growth = all_members(setting, texts, number, class)?;
@@ -455,7 +501,8 @@ fn of_interface(
     number: u32,
     class: &ClassSyntax,
 ) -> Result<ClassBodies, TypeError>
-    ensures { (w : PlainSetting) → IsSetting setting.now w → GetsTo class_bodies_seen result texts.new (of_interface w number (class_of class.now) texts.old) }
+    ensures { (w : PlainSetting) → IsSetting setting.now w → GetsTo class_bodies_seen result
+        texts.new (of_interface w number (class_of class.now) texts.old) }
 {
     let growth = all_members(setting, texts, number, class)?;
     Ok(ClassBodies {
@@ -472,7 +519,8 @@ pub fn class_bodies(
     number: u32,
     class: &ClassSyntax,
 ) -> Result<ClassBodies, TypeError>
-    ensures { (w : PlainSetting) → IsSetting setting.now w → GetsTo class_bodies_seen result texts.new (class_bodies w number (class_of class.now) texts.old) }
+    ensures { (w : PlainSetting) → IsSetting setting.now w → GetsTo class_bodies_seen result
+        texts.new (class_bodies w number (class_of class.now) texts.old) }
 {
     if class.is_interface {
         of_interface(setting, texts, number, class)

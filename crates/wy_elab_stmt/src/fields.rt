@@ -26,7 +26,9 @@ pub fn field_initials(
     ty: &WrittenType,
     all: &[Declarator],
 ) -> Result<Vec<Stmt>, TypeError>
-    ensures { (w : PlainSetting) → IsSetting setting.now w → MakesTo statements_seen result (making_of making.now texts.new) (field_initials w class is_static (type_seen ty.now) (map declarator_of all.now) (making_of making.now texts.old)) }
+    ensures { (w : PlainSetting) → IsSetting setting.now w
+        → MakesTo statements_seen result (making_of making.now texts.new) (field_initials w class
+        is_static (type_seen ty.now) (map declarator_of all.now) (making_of making.now texts.old)) }
 {
     let mut made = Vec::new(setting.alloc);
     for d in all {

@@ -59,7 +59,9 @@ impl Growing {
         role: Role,
         b: &Block,
     ) -> Result<(), TypeError>
-        ensures { (w : PlainSetting) (stale : List FixedText) → IsSetting setting.now w → GetsTo (λ u. growing_of self.new texts.new) result texts.new (grown (growing_of self.old stale) (initializer_block w (class_of class.now) role (block_of b.now)) texts.old) }
+        ensures { (w : PlainSetting) (stale : List FixedText) → IsSetting setting.now w → GetsTo
+            (λ u. growing_of self.new texts.new) result texts.new (grown (growing_of self.old stale)
+            (initializer_block w (class_of class.now) role (block_of b.now)) texts.old) }
     {
         let mut more = initializer_block(setting, &mut self.making, texts, class, role, b)?;
         self.parts.append(&mut more)?;
@@ -77,7 +79,10 @@ impl Growing {
         ty: &WrittenType,
         all: &[Declarator],
     ) -> Result<(), TypeError>
-        ensures { (w : PlainSetting) (stale : List FixedText) → IsSetting setting.now w → GetsTo (λ u. growing_of self.new texts.new) result texts.new (grown (growing_of self.old stale) (field_initials w class is_static (type_seen ty.now) (map declarator_of all.now)) texts.old) }
+        ensures { (w : PlainSetting) (stale : List FixedText)
+            → IsSetting setting.now w → GetsTo (λ u. growing_of self.new texts.new) result texts.new
+            (grown (growing_of self.old stale) (field_initials w class is_static (type_seen ty.now)
+            (map declarator_of all.now)) texts.old) }
     {
         let mut more = field_initials(setting, &self.making, texts, class, is_static, ty, all)?;
         self.parts.append(&mut more)?;
@@ -87,7 +92,8 @@ impl Growing {
     /// The whole body, which stands at the name of its class.
     #[tactic(auto, using(wy_statement::proofs::Blocks::row_is))]
     pub fn implied_body(self, setting: &Setting, class: &ClassSyntax, role: Role) -> Body
-        ensures { (w : PlainSetting) (stale : List FixedText) → IsSetting setting.now w → body_of result ≡ implied_body w (class_of class.now) role (growing_of self stale) }
+        ensures { (w : PlainSetting) (stale : List FixedText) → IsSetting setting.now w
+            → body_of result ≡ implied_body w (class_of class.now) role (growing_of self stale) }
     {
         let site = class.name.token;
         Body {
@@ -121,7 +127,8 @@ pub fn none_yet(alloc: Global, number: u32, class: &ClassSyntax) -> Result<Growt
 impl Growth {
     /// Puts the body of a method or a constructor behind the others.
     pub fn add(&mut self, body: Option<Body>) -> Result<(), AllocError>
-        ensures { OnOk result ((first second : List FixedText) → growth_of self.new first second ≡ with_body (growth_of self.old first second) (option_map body_of body)) }
+        ensures { OnOk result ((first second : List FixedText) → growth_of self.new first second
+            ≡ with_body (growth_of self.old first second) (option_map body_of body)) }
     {
         Ok(self.bodies.push(body)?)
     }

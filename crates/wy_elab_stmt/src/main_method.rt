@@ -7,6 +7,7 @@ ghost use Rattle.wy_elab_stmt.specs.Program.{main_of, stands_at};
 ghost use Rattle.wy_kernel.specs.ClassTable.{table_of};
 ghost use Rattle.wy_kernel.specs.View.{method_of};
 ghost use Rattle.wy_syntax.specs.View.{base_seen, declaration_of, header_of, member_of, parameter_of};
+ghost use Rattle.wy_tree.specs.Tokens.{token_limit};
 
 use wy_kernel::table::ClassTable;
 use wy_kernel::types::Method;
@@ -124,7 +125,7 @@ fn method_at(table: &ClassTable, token: u32) -> Option<u32>
 
 /// The number of the first main in the text, if there is one.
 pub fn main_of(table: &ClassTable, unit: &[Declaration]) -> Option<u32>
-    requires { length unit.now ≤ 1048576 }
+    requires { length unit.now ≤ token_limit }
     ensures { result ≡ main_of (table_of table.now) (map declaration_of unit.now) }
 {
     match main_token(unit) {

@@ -5,6 +5,7 @@ ghost use Rattle.wy_elab_stmt.specs.Elaborates.{ElaboratesTo};
 ghost use Rattle.wy_syntax.specs.Declarations.{unit};
 ghost use Rattle.wy_tree.specs.Ast.{tokens as leaves_of, view};
 ghost use Rattle.wy_tree.specs.Seen.{seen};
+ghost use Rattle.wy_tree.specs.Tokens.{token_limit};
 
 use crate::assembly::elaborate_unit;
 use std::alloc::{AllocError, Global};
@@ -20,7 +21,7 @@ use wy_tree::tree::Tree;
 /// least token; then bodies are gone through in the order of the text, operands before their operator; that there is no main comes
 /// last, at the number of tokens.
 pub fn elaborate(alloc: Global, tree: &Tree, tokens: &[Spanned]) -> Result<Program, TypeError>
-    requires few { length tokens.now ≤ 1048576 }
+    requires few { length tokens.now ≤ token_limit }
     requires leaves { leaves_of (view tree.now) ≡ map (λ t. seen t.token) tokens.now }
     ensures program { ElaboratesTo (unit 0 (view tree.now)) (length tokens.now) result }
     ensures lines { IfOk result (λ p. p.lines.items ≡ map (λ t. t.line) tokens.now) }

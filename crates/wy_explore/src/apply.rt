@@ -15,7 +15,7 @@ ghost use Rattle.wy_explore.specs.declared.world.World.{World};
 ghost use Rattle.wy_explore.specs.Explorer.{AllAnswered, AllWithin, Fulfils, IsReplyWithin, IsWorldOf, Rising, reply_of, session_of};
 ghost use Rattle.wy_explore.specs.Session.{Replies};
 
-use crate::command::{Command, said};
+use crate::command::{Command, command_of};
 use crate::explorer::{Answered, Explorer};
 use crate::reply::Reply;
 use crate::world::World;
@@ -103,7 +103,7 @@ impl Explorer {
         ensures answers { Answers result (V.tells view.old) (V.tells view.new) }
         ensures forward { steps.old ≤ steps.new }
     {
-        match said(line) {
+        match command_of(line) {
             Some(Command::Ask(word)) => self.ask(alloc, word, world, view, steps),
             Some(Command::Listing) => Ok(self.listing()),
             Some(Command::Up) => Ok(self.go_up()),

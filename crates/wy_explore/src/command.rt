@@ -20,7 +20,7 @@ pub enum Command<'a> {
 }
 
 /// The command that a line says. A line that is no text says none.
-pub fn said(line: &[u8]) -> Option<Command<'_>>
+pub fn command_of(line: &[u8]) -> Option<Command<'_>>
     ensures { Reads line.now result }
 {
     match str::from_utf8(line) {

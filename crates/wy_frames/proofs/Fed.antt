@@ -6,7 +6,7 @@ use Rattle.wy_payload.specs.declared.ranges.Ranges.{Ranges}
 use Rattle.wy_payload.specs.Ranges.{ranges_of}
 use Rattle.wy_frames.specs.declared.error.TraceError.{TraceError}
 use Rattle.wy_frames.specs.declared.past.Past.{Past}
-use Rattle.wy_frames.specs.declared.stage.Placed.{Placed}
+use Rattle.wy_frames.specs.declared.stage.ReadEvent.{ReadEvent}
 use Rattle.wy_frames.specs.declared.scanner.Scanner.{Scanner}
 use Rattle.wy_frames.specs.Standing.{Standing, start}
 use Rattle.wy_frames.specs.Holds.{Holds}
@@ -33,9 +33,9 @@ module _ (s : Scanner) (p : Program) (head : Head) (fed piece : List ℕ) (t : S
   pub refused : (e : TraceError) → Refused r steps (start head) (fed ++ piece) e → Refused (ranges_of p) head.steps (start head) (fed ++ piece) e
   refused e refusal = subst (λ (x : Ranges). Refused x head.steps (start head) (fed ++ piece) e) handed.ranges_is (subst (λ (n : ℕ). Refused r n (start head) (fed ++ piece) e) handed.steps_is refusal)
 
-  pub scanned : (n : Scanner) (old new : List Placed) (q : Past) (rest : List ℕ) → (x : Rests r steps (start head) (fed ++ piece) t old new q rest)
+  pub scanned : (n : Scanner) (old new : List ReadEvent) (q : Past) (rest : List ℕ) → (x : Rests r steps (start head) (fed ++ piece) t old new q rest)
       → n.program ≡ s.program → n.steps ≡ s.steps → n.ranges ≡ Some r → n.past ≡ q → n.rest.items ≡ rest → n.failure ≡ s.failure
-      → (u : Standing) × (more : List Placed) × Scans n p head (fed ++ piece) u × (u.placed ≡ t.placed ++ more) × (new ≡ old ++ more)
+      → (u : Standing) × (more : List ReadEvent) × Scans n p head (fed ++ piece) u × (u.placed ≡ t.placed ++ more) × (new ≡ old ++ more)
   scanned n old new q rest x program is_steps ranges is_past is_rest failure = (
     x.0.standing,
     x.0.more,

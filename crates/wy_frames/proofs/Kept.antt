@@ -16,7 +16,7 @@ use Rattle.wy_payload.specs.Closing.{coverage_at, tail_at}
 use Rattle.wy_frames.specs.declared.stage.Stage.{Stage}
 use Rattle.wy_frames.specs.declared.stage.Stage.TheVariants as stages
 use Rattle.wy_frames.specs.Frames.{Frame, opening_length, said_length, frame_of_length, frame_of}
-use Rattle.wy_frames.specs.Standing.{Standing, Next, Breaks, Unsealed, knowns, read_as, with_event, with_stage, event_next, coverage_next, end_next, seal_next, seal_length, where_letter, open_next, covered_next, ended_next, next_at, next_of}
+use Rattle.wy_frames.specs.Standing.{Standing, Next, Violates, Unsealed, knowns, read_as, with_event, with_stage, event_next, coverage_next, end_next, seal_next, seal_length, where_letter, open_next, covered_next, ended_next, next_at, next_of}
 use Rattle.wy_frames.specs.Scan.{Goes, turn_frame, is_passed, Leaves, frame, nothing}
 use Rattle.wy_frames.proofs.Scans.{inner_is, some_is}
 use Rattle.wy_frames.proofs.Pieces.{no_frame, next_goes, turn_is}
@@ -43,7 +43,7 @@ end_before : (steps : ℕ) (s : Standing) (c : Coverage) (whole payload : List �
 unfolding end_next with_stage
 end_before steps s c whole payload t e = read_before (λ x. with_stage s whole (stages.Ended x)) (s.before ++ whole) (λ x. refl) (all_of (tail_at (knowns s) (record { steps = steps; uses = s.uses; output = s.output }) c payload)) t e
 
-sealed_before : (s : Standing) (tail : Tail) (whole : List ℕ) (a b : Bool) (t : Standing) → cond a (cond b (Ok (with_stage s whole (stages.Sealed tail (sha256 s.before)))) (Err Unsealed)) (Err (Breaks rule.Length)) ≡ Ok t → t.before ≡ s.before ++ whole
+sealed_before : (s : Standing) (tail : Tail) (whole : List ℕ) (a b : Bool) (t : Standing) → cond a (cond b (Ok (with_stage s whole (stages.Sealed tail (sha256 s.before)))) (Err Unsealed)) (Err (Violates rule.Length)) ≡ Ok t → t.before ≡ s.before ++ whole
 unfolding with_stage
 sealed_before s tail whole true true t e = ap (λ (x : Standing). x.before) (sym (ok_is (with_stage s whole (stages.Sealed tail (sha256 s.before))) t (Ok (with_stage s whole (stages.Sealed tail (sha256 s.before)))) refl e))
 sealed_before s tail whole true false t e = absurd cc
@@ -53,7 +53,7 @@ seal_before : (s : Standing) (tail : Tail) (whole payload : List ℕ) (t : Stand
 unfolding seal_next
 seal_before s tail whole payload t e = sealed_before s tail whole (eqb (length payload) seal_length) (bytes_eq payload (sha256 s.before)) t e
 
-lettered : (b : Bool) (next : Next) (bytes : List ℕ) (t : Standing) → ((next ≡ Ok t) → t.before ≡ bytes) → cond b next (Err (Breaks rule.FrameKind)) ≡ Ok t → t.before ≡ bytes
+lettered : (b : Bool) (next : Next) (bytes : List ℕ) (t : Standing) → ((next ≡ Ok t) → t.before ≡ bytes) → cond b next (Err (Violates rule.FrameKind)) ≡ Ok t → t.before ≡ bytes
 lettered true next bytes t f e = f e
 lettered false next bytes t f e = absurd cc
 

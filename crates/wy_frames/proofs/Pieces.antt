@@ -9,7 +9,7 @@ use Rattle.wy_payload.specs.declared.ranges.Ranges.{Ranges}
 use Rattle.wy_frames.specs.declared.stage.Stage.{Stage}
 use Rattle.wy_frames.specs.declared.stage.Stage.TheVariants as stages
 use Rattle.wy_frames.specs.Frames.{Frame, opening_length, said_length, frame_of_length, frame_of}
-use Rattle.wy_frames.specs.Standing.{Standing, Next, Breaks, Unsealed, next_at, next_of, open_next, covered_next, ended_next, start}
+use Rattle.wy_frames.specs.Standing.{Standing, Next, Violates, Unsealed, next_at, next_of, open_next, covered_next, ended_next, start}
 use Rattle.wy_frames.specs.Scan.{Waits, Goes, turn_next, turn_frame, turn, without_frame, is_passed, Leaves, frame, nothing}
 use Rattle.wy_frames.proofs.Scans.{inner_is, some_is, turn_with}
 
@@ -57,7 +57,7 @@ no_frame at false t others e = cc
 
 pub next_goes : (s : Standing) (rest : List ℕ) (n : Next) (t : Standing) (others : List ℕ) → turn_next s rest n ≡ Goes t others → (n ≡ Ok t) × (rest ≡ others)
 next_goes s rest (Ok u) t others e = (cc, cc)
-next_goes s rest (Err (Breaks r)) t others e = absurd cc
+next_goes s rest (Err (Violates r)) t others e = absurd cc
 next_goes s rest (Err Unsealed) t others e = absurd cc
 
 pub turn_is : (r : Ranges) (steps : ℕ) (s : Standing) (bytes : List ℕ) → turn r steps s bytes ≡ turn_frame (next_of r steps s) s bytes (frame_of bytes)

@@ -8,7 +8,7 @@ use Rattle.wy_payload.specs.declared.ranges.Ranges.{Ranges}
 use Rattle.wy_frames.specs.declared.past.Past.{Past}
 use Rattle.wy_frames.specs.declared.error.TraceError.{TraceError}
 use Rattle.wy_frames.specs.declared.error.TraceError.TheVariants.{Cut, Damaged, BadSeal, NoMemory}
-use Rattle.wy_frames.specs.declared.stage.Placed.{Placed}
+use Rattle.wy_frames.specs.declared.stage.ReadEvent.{ReadEvent}
 use Rattle.wy_frames.specs.declared.stage.Stage.{Stage}
 use Rattle.wy_frames.specs.Frames.{Frame, opening_length, said_length, frame_of_length, frame_of}
 use Rattle.wy_frames.specs.Standing.{Standing, Next, next_of}
@@ -54,11 +54,11 @@ pub turn_without : (r : Ranges) (steps : ℕ) (s : Standing) (bytes : List ℕ) 
 unfolding turn
 turn_without r steps s bytes e = rw e refl
 
-module _ (r : Ranges) (steps : ℕ) (from s : Standing) (fed : List ℕ) (old : List Placed) where
+module _ (r : Ranges) (steps : ℕ) (from s : Standing) (fed : List ℕ) (old : List ReadEvent) where
   pub at_first : (p : Past) (bytes : List ℕ) → Holds p s → Leaves r steps from fed s bytes → Reached r steps from fed s old old p bytes
   at_first p bytes h l = record { standing = s; holds = h; leaves = l; more = []; placed = sym (append-nil s.placed); kept = sym (append-nil old) }
 
-  more_stands : (new newer : List Placed) (p q : Past) (rest others : List ℕ) (x : Reached r steps from fed s old new p rest) (more : List Placed) (n : Next) → turn r steps x.standing rest ≡ turn_next x.standing others n
+  more_stands : (new newer : List ReadEvent) (p q : Past) (rest others : List ℕ) (x : Reached r steps from fed s old new p rest) (more : List ReadEvent) (n : Next) → turn r steps x.standing rest ≡ turn_next x.standing others n
       → Stands q more x.standing n → newer ≡ new ++ more → Reached r steps from fed s old newer q others
   more_stands new newer p q rest others x more (Ok t) e stands kept = record {
     standing = t;
@@ -70,22 +70,22 @@ module _ (r : Ranges) (steps : ℕ) (from s : Standing) (fed : List ℕ) (old : 
   }
   more_stands new newer p q rest others x more (Err w) e stands kept = absurd stands
 
-  pub one_more : (new newer : List Placed) (p q : Past) (rest : List ℕ) (f : Frame) (more : List Placed) → (x : Reached r steps from fed s old new p rest) → frame_of rest ≡ Some f
+  pub one_more : (new newer : List ReadEvent) (p q : Past) (rest : List ℕ) (f : Frame) (more : List ReadEvent) → (x : Reached r steps from fed s old new p rest) → frame_of rest ≡ Some f
       → Stands q more x.standing (next_of r steps x.standing f) → newer ≡ new ++ more → Reached r steps from fed s old newer q f.rest
   one_more new newer p q rest f more x e stands kept = more_stands new newer p q rest f.rest x more (next_of r steps x.standing f) (turn_with r steps x.standing rest f e) stands kept
 
-  fails : (new : List Placed) (p : Past) (rest : List ℕ) (x : Reached r steps from fed s old new p rest) (e : TraceError) → turn r steps x.standing rest ≡ Fails e → IsRefused r steps from fed e
+  fails : (new : List ReadEvent) (p : Past) (rest : List ℕ) (x : Reached r steps from fed s old new p rest) (e : TraceError) → turn r steps x.standing rest ≡ Fails e → IsRefused r steps from fed e
   fails new p rest x e is = record { standing = x.standing; rest = rest; leaves = x.leaves; fails = is }
 
-  pub refused_there : (new : List Placed) (p : Past) (rest : List ℕ) (f : Frame) (e : TraceError) → (x : Reached r steps from fed s old new p rest) → frame_of rest ≡ Some f → Refuses e x.standing (next_of r steps x.standing f) → Refused r steps from fed e
+  pub refused_there : (new : List ReadEvent) (p : Past) (rest : List ℕ) (f : Frame) (e : TraceError) → (x : Reached r steps from fed s old new p rest) → frame_of rest ≡ Some f → Refuses e x.standing (next_of r steps x.standing f) → Refused r steps from fed e
   refused_there new p rest f NoMemory x e h = tt
   refused_there new p rest f (Damaged byte broken) x e h = fails new p rest x (Damaged byte broken) (turn_with r steps x.standing rest f e ∙ ap (turn_next x.standing f.rest) h.1 ∙ ap (λ n. Fails (Damaged n broken)) (sym h.0))
   refused_there new p rest f BadSeal x e h = fails new p rest x BadSeal (turn_with r steps x.standing rest f e ∙ ap (turn_next x.standing f.rest) h)
   refused_there new p rest f (Cut byte) x e h = absurd h
 
-  pub passed_there : (new : List Placed) (p : Past) (rest : List ℕ) → (x : Reached r steps from fed s old new p rest) → frame_of rest ≡ Absent → is_passed p.stage rest ≡ true → IsRefused r steps from fed (Damaged p.at rule.After)
+  pub passed_there : (new : List ReadEvent) (p : Past) (rest : List ℕ) → (x : Reached r steps from fed s old new p rest) → frame_of rest ≡ Absent → is_passed p.stage rest ≡ true → IsRefused r steps from fed (Damaged p.at rule.After)
   passed_there new p rest x e passed = fails new p rest x (Damaged p.at rule.After)
       (turn_without r steps x.standing rest e ∙ ap (λ (stage : Stage). without_frame (length x.standing.before) (is_passed stage rest)) (sym x.holds.stage) ∙ ap (without_frame (length x.standing.before)) passed ∙ ap (λ n. Fails (Damaged n rule.After)) (sym x.holds.counts.at))
 
-  pub rests_there : (new : List Placed) (p : Past) (rest : List ℕ) → Reached r steps from fed s old new p rest → frame_of rest ≡ Absent → is_passed p.stage rest ≡ false → Rests r steps from fed s old new p rest
+  pub rests_there : (new : List ReadEvent) (p : Past) (rest : List ℕ) → Reached r steps from fed s old new p rest → frame_of rest ≡ Absent → is_passed p.stage rest ≡ false → Rests r steps from fed s old new p rest
   rests_there new p rest x e passed = (x, turn_without r steps x.standing rest e ∙ ap (λ (stage : Stage). without_frame (length x.standing.before) (is_passed stage rest)) (sym x.holds.stage) ∙ ap (without_frame (length x.standing.before)) passed)

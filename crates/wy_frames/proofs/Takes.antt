@@ -21,7 +21,7 @@ use Rattle.wy_frames.specs.Frames.{Frame}
 use Rattle.wy_frames.specs.declared.past.Past.{Past}
 use Rattle.wy_frames.specs.declared.stage.Stage.{Stage}
 use Rattle.wy_frames.specs.declared.stage.Stage.TheVariants as stages
-use Rattle.wy_frames.specs.Standing.{Standing, Breaks, Unsealed, knowns, open_next, covered_next, ended_next, next_at, next_of, known_as_placed, read_as, with_event, with_stage, event_next, coverage_next, end_next, seal_next, seal_length}
+use Rattle.wy_frames.specs.Standing.{Standing, Violates, Unsealed, knowns, open_next, covered_next, ended_next, next_at, next_of, known_as_placed, read_as, with_event, with_stage, event_next, coverage_next, end_next, seal_next, seal_length}
 use Rattle.wy_frames.specs.Holds.{Counts, Refuses, Stands, damaged_at}
 
 -- what was passed behind a frame
@@ -124,7 +124,7 @@ pub open_is_coverage : (r : Ranges) (s : Standing) (f : Frame) → (f.letter ≡
 unfolding open_next
 open_is_coverage r s f n e = rw (ne_eqb f.letter 69 n, eq-eqb f.letter 67 e) refl
 
-pub open_is_wrong : (r : Ranges) (s : Standing) (f : Frame) → (f.letter ≡ 69 → ⊥) → (f.letter ≡ 67 → ⊥) → open_next r s f ≡ Err (Breaks rule.FrameKind)
+pub open_is_wrong : (r : Ranges) (s : Standing) (f : Frame) → (f.letter ≡ 69 → ⊥) → (f.letter ≡ 67 → ⊥) → open_next r s f ≡ Err (Violates rule.FrameKind)
 unfolding open_next
 open_is_wrong r s f n m = rw (ne_eqb f.letter 69 n, ne_eqb f.letter 67 m) refl
 
@@ -132,7 +132,7 @@ pub covered_is_end : (steps : ℕ) (s : Standing) (c : Coverage) (f : Frame) →
 unfolding covered_next
 covered_is_end steps s c f e = rw (eq-eqb f.letter 84 e) refl
 
-pub covered_is_wrong : (steps : ℕ) (s : Standing) (c : Coverage) (f : Frame) → (f.letter ≡ 84 → ⊥) → covered_next steps s c f ≡ Err (Breaks rule.FrameKind)
+pub covered_is_wrong : (steps : ℕ) (s : Standing) (c : Coverage) (f : Frame) → (f.letter ≡ 84 → ⊥) → covered_next steps s c f ≡ Err (Violates rule.FrameKind)
 unfolding covered_next
 covered_is_wrong steps s c f n = rw (ne_eqb f.letter 84 n) refl
 
@@ -140,7 +140,7 @@ pub ended_is_seal : (s : Standing) (t : Tail) (f : Frame) → f.letter ≡ 83 �
 unfolding ended_next
 ended_is_seal s t f e = rw (eq-eqb f.letter 83 e) refl
 
-pub ended_is_wrong : (s : Standing) (t : Tail) (f : Frame) → (f.letter ≡ 83 → ⊥) → ended_next s t f ≡ Err (Breaks rule.FrameKind)
+pub ended_is_wrong : (s : Standing) (t : Tail) (f : Frame) → (f.letter ≡ 83 → ⊥) → ended_next s t f ≡ Err (Violates rule.FrameKind)
 unfolding ended_next
 ended_is_wrong s t f n = rw (ne_eqb f.letter 83 n) refl
 

@@ -5,12 +5,12 @@ use Rattle.wy_payload.specs.declared.fault.DamageRule.TheVariants as rule
 use Rattle.wy_payload.specs.declared.ranges.Ranges.{Ranges}
 use Rattle.wy_frames.specs.declared.error.TraceError.{TraceError}
 use Rattle.wy_frames.specs.declared.error.TraceError.TheVariants.{Damaged, BadSeal, NoMemory}
-use Rattle.wy_frames.specs.declared.stage.Placed.{Placed}
+use Rattle.wy_frames.specs.declared.stage.ReadEvent.{ReadEvent}
 use Rattle.wy_frames.specs.declared.stage.Stage.{Stage}
 use Rattle.wy_frames.specs.declared.stage.Stage.TheVariants as stages
 use Rattle.wy_frames.specs.declared.past.Past.{Past}
 use Rattle.wy_frames.specs.Frames.{Frame, frame_of}
-use Rattle.wy_frames.specs.Standing.{Standing, Next, Breaks, Unsealed, next_of}
+use Rattle.wy_frames.specs.Standing.{Standing, Next, Violates, Unsealed, next_of}
 use Rattle.wy_frames.specs.Holds.{Holds}
 
 -- what comes of the bytes behind what stands: more are needed, or a frame more stands, or something is wrong
@@ -21,7 +21,7 @@ pub data Turn : Type 0 where
 
 abbrev pub turn_next : Standing → List ℕ → Next → Turn
 turn_next s rest (Ok t) = Goes t rest
-turn_next s rest (Err (Breaks r)) = Fails (Damaged (length s.before) r)
+turn_next s rest (Err (Violates r)) = Fails (Damaged (length s.before) r)
 turn_next s rest (Err Unsealed) = Fails BadSeal
 
 -- nothing may stand behind the seal
@@ -59,14 +59,14 @@ Refused r steps from bytes NoMemory = Unit {0}
 Refused r steps from bytes e = IsRefused r steps from bytes e
 
 -- what is in memory stands, with these events more than before
-pub record Reached (r : Ranges) (steps : ℕ) (from : Standing) (bytes : List ℕ) (s : Standing) (old new : List Placed) (p : Past) (rest : List ℕ) : Type 0 where
+pub record Reached (r : Ranges) (steps : ℕ) (from : Standing) (bytes : List ℕ) (s : Standing) (old new : List ReadEvent) (p : Past) (rest : List ℕ) : Type 0 where
   pub standing : Standing
   pub holds : Holds p standing
   pub leaves : Leaves r steps from bytes standing rest
-  pub more : List Placed
+  pub more : List ReadEvent
   pub placed : standing.placed ≡ s.placed ++ more
   pub kept : new ≡ old ++ more
 
 -- and no frame more of the bytes is whole
-abbrev pub Rests : Ranges → ℕ → Standing → List ℕ → Standing → List Placed → List Placed → Past → List ℕ → Type 0
+abbrev pub Rests : Ranges → ℕ → Standing → List ℕ → Standing → List ReadEvent → List ReadEvent → Past → List ℕ → Type 0
 Rests r steps from bytes s old new p rest = (x : Reached r steps from bytes s old new p rest) × (turn r steps x.standing rest ≡ Waits)

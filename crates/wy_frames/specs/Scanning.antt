@@ -10,7 +10,7 @@ use Rattle.wy_spelling.specs.Spelling.{opening}
 use Rattle.wy_frames.specs.declared.error.TraceError.{TraceError}
 use Rattle.wy_frames.specs.declared.error.TraceError.TheVariants.{Cut, NoMemory}
 use Rattle.wy_frames.specs.declared.stage.Stage.TheVariants as stages
-use Rattle.wy_frames.specs.declared.stage.Placed.{Placed}
+use Rattle.wy_frames.specs.declared.stage.ReadEvent.{ReadEvent}
 use Rattle.wy_frames.specs.declared.scanner.Scanner.{Scanner}
 use Rattle.wy_frames.specs.Ends.{IsUnsealed}
 use Rattle.wy_frames.specs.Standing.{Standing, start}
@@ -37,15 +37,15 @@ pub record Stays (s : Scanner) (p : Program) (head : Head) (fed : List ℕ) (e :
   pub refused : Refused (ranges_of p) head.steps (start head) fed e
 
 -- with a piece more, these events more stand, or the bytes are refused
-abbrev pub Scanned : Result Unit TraceError → List Placed → List Placed → Scanner → Program → Head → List ℕ → Standing → Type 0
-Scanned (Ok u) old new s p head fed before = (t : Standing) × (more : List Placed) × Scans s p head fed t × (t.placed ≡ before.placed ++ more) × (new ≡ old ++ more)
+abbrev pub Scanned : Result Unit TraceError → List ReadEvent → List ReadEvent → Scanner → Program → Head → List ℕ → Standing → Type 0
+Scanned (Ok u) old new s p head fed before = (t : Standing) × (more : List ReadEvent) × Scans s p head fed t × (t.placed ≡ before.placed ++ more) × (new ≡ old ++ more)
 Scanned (Err e) old new s p head fed before = Refused (ranges_of p) head.steps (start head) fed e
 
-abbrev pub Fed : Result Unit TraceError → List Placed → List Placed → Scanner → Program → Head → List ℕ → Standing → Type 0
-Fed (Ok u) old new s p head fed before = (t : Standing) × (more : List Placed) × Scans s p head fed t × (t.placed ≡ before.placed ++ more) × (new ≡ old ++ more)
+abbrev pub Fed : Result Unit TraceError → List ReadEvent → List ReadEvent → Scanner → Program → Head → List ℕ → Standing → Type 0
+Fed (Ok u) old new s p head fed before = (t : Standing) × (more : List ReadEvent) × Scans s p head fed t × (t.placed ≡ before.placed ++ more) × (new ≡ old ++ more)
 Fed (Err e) old new s p head fed before = Stays s p head fed e
 
-abbrev pub Feeds : Result (Vec Placed) TraceError → Scanner → Program → Head → List ℕ → Standing → Type 0
+abbrev pub Feeds : Result (Vec ReadEvent) TraceError → Scanner → Program → Head → List ℕ → Standing → Type 0
 Feeds (Ok placed) s p head fed before = (t : Standing) × Scans s p head fed t × (t.placed ≡ before.placed ++ placed.items)
 Feeds (Err e) s p head fed before = Stays s p head fed e
 

@@ -16,7 +16,7 @@ use Rattle.wy_payload.specs.Ranges.{known_of}
 use Rattle.wy_payload.specs.Reading.{all_of}
 use Rattle.wy_payload.specs.Events.{event_at}
 use Rattle.wy_payload.specs.Closing.{coverage_at, tail_at}
-use Rattle.wy_frames.specs.declared.stage.Placed.{Placed}
+use Rattle.wy_frames.specs.declared.stage.ReadEvent.{ReadEvent}
 use Rattle.wy_frames.specs.declared.stage.Stage.{Stage}
 use Rattle.wy_frames.specs.declared.stage.Stage.TheVariants as stages
 use Rattle.wy_frames.specs.Frames.{Frame}
@@ -24,7 +24,7 @@ use Rattle.wy_frames.specs.Frames.{Frame}
 -- the bytes of the frames that stand, the events of them with the places behind their frames, and how many uses and bytes of output these have
 pub record Standing : Type 0 where
   pub before : List ℕ
-  pub placed : List Placed
+  pub placed : List ReadEvent
   pub uses : ℕ
   pub output : ℕ
   pub stage : Stage
@@ -32,10 +32,10 @@ pub record Standing : Type 0 where
 unfoldable pub start : Head → Standing
 start head = record { before = opening head; placed = []; uses = 0; output = 0; stage = stages.Open }
 
-abbrev pub event_in : Placed → Event
+abbrev pub event_in : ReadEvent → Event
 event_in p = p.event
 
-abbrev pub known_as_placed : Placed → Known
+abbrev pub known_as_placed : ReadEvent → Known
 known_as_placed p = known_of p.event
 
 abbrev pub knowns : Standing → List Known
@@ -43,7 +43,7 @@ knowns s = map known_as_placed s.placed
 
 -- a frame breaks a rule, or seals other bytes than these
 pub data Wrong : Type 0 where
-  Breaks : DamageRule → Wrong
+  Violates : DamageRule → Wrong
   Unsealed : Wrong
 
 abbrev pub Next : Type 0
@@ -52,7 +52,7 @@ Next = Result Standing Wrong
 -- what reading a frame gives
 abbrev pub read_as : {A : Type 0} → (A → Standing) → Result A DamageRule → Next
 read_as f (Ok x) = Ok (f x)
-read_as f (Err r) = Err (Breaks r)
+read_as f (Err r) = Err (Violates r)
 
 unfoldable pub with_event : Standing → List ℕ → Written → Standing
 with_event s bytes w = record { before = s.before ++ bytes; placed = s.placed ++ record { event = w.event; end = length (s.before ++ bytes) } ∷ []; uses = s.uses + length w.event.uses; output = w.output; stage = stages.Open }
@@ -77,10 +77,10 @@ seal_length = 32
 unfoldable pub seal_next : Standing → Tail → List ℕ → List ℕ → Next
 seal_next s t whole payload = if length payload == seal_length
     then (if bytes_eq payload (sha256 s.before) then Ok (with_stage s whole (stages.Sealed t (sha256 s.before))) else Err Unsealed)
-    else Err (Breaks rule.Length)
+    else Err (Violates rule.Length)
 
 abbrev pub where_letter : ℕ → ℕ → Next → Next
-where_letter wanted letter next = if letter == wanted then next else Err (Breaks rule.FrameKind)
+where_letter wanted letter next = if letter == wanted then next else Err (Violates rule.FrameKind)
 
 -- `E` or `C`
 unfoldable pub open_next : Ranges → Standing → Frame → Next
@@ -98,7 +98,7 @@ unfoldable pub next_at : Ranges → ℕ → Standing → Stage → Frame → Nex
 next_at r steps s stages.Open f = open_next r s f
 next_at r steps s (stages.Covered c) f = covered_next steps s c f
 next_at r steps s (stages.Ended t) f = ended_next s t f
-next_at r steps s (stages.Sealed t seal) f = Err (Breaks rule.After)
+next_at r steps s (stages.Sealed t seal) f = Err (Violates rule.After)
 
 -- what stands with the frame, by the ranges of the program and the step budget of the head
 abbrev pub next_of : Ranges → ℕ → Standing → Frame → Next

@@ -7,7 +7,7 @@ ghost use Rattle.wy_frames.specs.Standing.{event_in};
 
 use crate::error::TraceError;
 use crate::scanner::Scanner;
-use crate::stage::Placed;
+use crate::stage::ReadEvent;
 use std::alloc::{AllocError, Global};
 use wy_event::record::{Event, Head, Trace};
 use wy_event::sequence::Sequence;
@@ -19,10 +19,10 @@ pub struct Decoder<'a> {
     alloc: Global,
     scanner: Scanner<'a>,
     head: Head,
-    placed: Vec<Placed>,
+    placed: Vec<ReadEvent>,
 }
 
-fn events_of(alloc: Global, placed: Vec<Placed>) -> Result<Vec<Event>, AllocError>
+fn events_of(alloc: Global, placed: Vec<ReadEvent>) -> Result<Vec<Event>, AllocError>
     ensures { IfOk result (λ v. v.items ≡ map event_in placed.items) }
 {
     placed.into_iter().map(|one| one.event).collect(alloc)

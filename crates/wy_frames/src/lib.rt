@@ -19,6 +19,6 @@ pub use error::TraceError;
 pub use head::read_head;
 pub use reading::decode;
 pub use scanner::Scanner;
-pub use stage::Placed;
+pub use stage::ReadEvent;
 pub use wy_payload::fault::DamageRule;
 pub use wy_spelling::{encode_event, encode_head, encode_seal, encode_tail};

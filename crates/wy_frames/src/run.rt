@@ -9,12 +9,12 @@ ghost use Rattle.wy_frames.specs.Scan.{Leaves, Refused, Rests, is_passed};
 use crate::error::TraceError;
 use crate::past::Past;
 use crate::split::split;
-use crate::stage::{Placed, Stage};
+use crate::stage::{ReadEvent, Stage};
 use std::alloc::Global;
 use wy_payload::fault::DamageRule;
 use wy_payload::ranges::Ranges;
 
-fn keep(placed: &mut Vec<Placed>, next: Option<Placed>) -> Result<(), TraceError>
+fn keep(placed: &mut Vec<ReadEvent>, next: Option<ReadEvent>) -> Result<(), TraceError>
     ensures ok { OnOk result (placed.new.items ≡ placed.old.items ++ option_to_list next) }
     ensures err { OnErr result (result ≡ Err TraceError.NoMemory) }
 {
@@ -42,11 +42,12 @@ impl Past {
         ranges: &Ranges,
         steps: u32,
         bytes: &'a [u8],
-        placed: &mut Vec<Placed>,
+        placed: &mut Vec<ReadEvent>,
     ) -> Result<&'a [u8], TraceError>
         ensures ok { IfOk result (λ rest. (from s : Standing) (fed : List ℕ) → Holds self.old s
             → Leaves ranges.now steps from fed s bytes.now
-            → Rests ranges.now steps from fed s placed.old.items placed.new.items self.new rest.now) }
+            → Rests ranges.now steps from fed s placed.old.items placed.new.items
+            self.new rest.now) }
         ensures err { IfErr result (λ e. (from s : Standing) (fed : List ℕ) → Holds self.old s
             → Leaves ranges.now steps from fed s bytes.now → Refused ranges.now steps from fed e) }
     {

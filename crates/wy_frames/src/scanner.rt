@@ -7,7 +7,7 @@ ghost use Rattle.wy_frames.specs.Ends.{IsEndOf};
 
 use crate::error::TraceError;
 use crate::past::Past;
-use crate::stage::{Placed, Stage};
+use crate::stage::{ReadEvent, Stage};
 use crate::take::sum;
 use std::alloc::{AllocError, Global};
 use std::mem;
@@ -84,10 +84,11 @@ impl<'a> Scanner<'a> {
         }
     }
 
-    fn scan(&mut self, piece: &[u8], placed: &mut Vec<Placed>) -> Result<(), TraceError>
+    fn scan(&mut self, piece: &[u8], placed: &mut Vec<ReadEvent>) -> Result<(), TraceError>
         ensures { (p : Program) (head : Head) (fed : List ℕ) (t : Standing)
             → Scans self.old p head fed t
-            → Scanned result placed.old.items placed.new.items self.new p head (fed ++ piece.now) t }
+            → Scanned result placed.old.items placed.new.items self.new p head
+            (fed ++ piece.now) t }
     {
         let ranges = self.ranges()?;
         let mut bytes = mem::replace(&mut self.rest, Vec::new(self.alloc));
@@ -104,7 +105,7 @@ impl<'a> Scanner<'a> {
     }
 
     /// Takes a piece more, and puts the events whose frames end in it behind others.
-    pub fn feed_into(&mut self, piece: &[u8], placed: &mut Vec<Placed>) -> Result<(), TraceError>
+    pub fn feed_into(&mut self, piece: &[u8], placed: &mut Vec<ReadEvent>) -> Result<(), TraceError>
         ensures fed { (p : Program) (head : Head) (fed : List ℕ) (t : Standing)
             → Scans self.old p head fed t
             → Fed result placed.old.items placed.new.items self.new p head (fed ++ piece.now) t }
@@ -124,7 +125,7 @@ impl<'a> Scanner<'a> {
     }
 
     /// Takes a piece more. It gives the events whose frames end in the piece, in their order.
-    pub fn feed(&mut self, piece: &[u8]) -> Result<Vec<Placed>, TraceError>
+    pub fn feed(&mut self, piece: &[u8]) -> Result<Vec<ReadEvent>, TraceError>
         ensures fed { (p : Program) (head : Head) (fed : List ℕ) (t : Standing)
             → Scans self.old p head fed t → Feeds result self.new p head (fed ++ piece.now) t }
         ensures again { (e : TraceError) → self.old.failure ≡ Some e

@@ -13,7 +13,7 @@ pub enum Stage {
 
 /// An event that was read, and the place behind its frame.
 #[derive(Drop)]
-pub struct Placed {
+pub struct ReadEvent {
     pub event: Event,
     pub end: u32,
 }

@@ -12,7 +12,7 @@ ghost use Rattle.wy_frames.specs.Holds.{Counts, Holds, TakesEvent, TakesFrame, T
 use crate::error::TraceError;
 use crate::past::Past;
 use crate::split::Piece;
-use crate::stage::{Placed, Stage};
+use crate::stage::{ReadEvent, Stage};
 use crate::whole::{known_in, whole_coverage, whole_event, whole_tail};
 use sha2::Digest;
 use std::alloc::{AllocError, Global};
@@ -86,7 +86,7 @@ impl Past {
         ranges: &Ranges,
         whole: &[u8],
         payload: &[u8],
-    ) -> Result<Placed, TraceError>
+    ) -> Result<ReadEvent, TraceError>
         requires { self.old.stage ≡ Stage.Open }
         ensures { (s : Standing) → Counts self.old s
             → TakesEvent result self.new s (event_next ranges.now s whole.now payload.now) }
@@ -104,7 +104,7 @@ impl Past {
         self.uses = uses;
         self.output = written.output;
         self.pass(whole)?;
-        Ok(Placed {
+        Ok(ReadEvent {
             event: written.event,
             end: self.at,
         })
@@ -180,7 +180,7 @@ impl Past {
         alloc: Global,
         ranges: &Ranges,
         piece: Piece<'_>,
-    ) -> Result<Option<Placed>, TraceError>
+    ) -> Result<Option<ReadEvent>, TraceError>
         requires { self.old.stage ≡ Stage.Open }
         ensures { (s : Standing) → Counts self.old s
             → TakesNext result self.new s (open_next ranges.now s (frame_in piece.entry)) }
@@ -205,7 +205,7 @@ impl Past {
         steps: u32,
         coverage: Coverage,
         piece: Piece<'_>,
-    ) -> Result<Option<Placed>, TraceError>
+    ) -> Result<Option<ReadEvent>, TraceError>
         ensures { (s : Standing) → Counts self.old s
             → TakesNext result self.new s (covered_next steps s coverage (frame_in piece.entry)) }
     {
@@ -218,7 +218,7 @@ impl Past {
         }
     }
 
-    fn take_ended(&mut self, tail: Tail, piece: Piece<'_>) -> Result<Option<Placed>, TraceError>
+    fn take_ended(&mut self, tail: Tail, piece: Piece<'_>) -> Result<Option<ReadEvent>, TraceError>
         ensures { (s : Standing) → Counts self.old s
             → TakesNext result self.new s (ended_next s tail (frame_in piece.entry)) }
     {
@@ -238,7 +238,7 @@ impl Past {
         ranges: &Ranges,
         steps: u32,
         piece: Piece<'_>,
-    ) -> Result<Option<Placed>, TraceError>
+    ) -> Result<Option<ReadEvent>, TraceError>
         ensures { (s : Standing) → Holds self.old s
             → TakesNext result self.new s (next_of ranges.now steps s (frame_in piece.entry)) }
     {

@@ -37,7 +37,8 @@ pub struct Heap {
     units: Vec<u16>,
     elements: u32,
     ghost is_apart: { AreApart
-        (plan_in layouts) layouts.rows.items blocks.items (length values.items) (length units.items) },
+        (plan_in layouts) layouts.rows.items blocks.items (length values.items)
+        (length units.items) },
     ghost is_first: { AreFirst (plan_in layouts) begun.items statics.items },
 }
 

@@ -19,7 +19,8 @@ use wy_kernel::types::NONE;
 
 #[tactic(auto, unfolding(wy_event::specs::Record::recorded))]
 fn note_write(writes: &mut Vec<Posting>, n: u32, event: &Event) -> Result<(), AllocError>
-    ensures { OnOk result (writes.new.items ≡ writes.old.items ++ posting_of n (recorded event.now)) }
+    ensures { OnOk result
+        (writes.new.items ≡ writes.old.items ++ posting_of n (recorded event.now)) }
 {
     if is_write(event.kind) {
         writes.push(Posting {
@@ -54,7 +55,8 @@ fn note_first(firsts: &mut BTreeMap<u32, u32>, key: u32, n: u32) -> Result<(), A
 #[tactic(auto, unfolding(wy_event::specs::Record::recorded))]
 fn note_call(calls: &mut BTreeMap<u32, u32>, n: u32, event: &Event) -> Result<(), AllocError>
     ensures { OnOk result ((q : ℕ) → get nat_cmp calls.new q
-        ≡ or_else (get nat_cmp calls.old q) (if is_call_of q (recorded event.now) then Some n else None)) }
+        ≡ or_else (get nat_cmp calls.old q)
+        (if is_call_of q (recorded event.now) then Some n else None)) }
 {
     if is_call(event.kind) {
         note_first(calls, event.what, n)?;
@@ -65,7 +67,8 @@ fn note_call(calls: &mut BTreeMap<u32, u32>, n: u32, event: &Event) -> Result<()
 #[tactic(auto, unfolding(wy_event::specs::Record::recorded))]
 fn note_init(inits: &mut BTreeMap<u32, u32>, n: u32, event: &Event) -> Result<(), AllocError>
     ensures { OnOk result ((q : ℕ) → get nat_cmp inits.new q
-        ≡ or_else (get nat_cmp inits.old q) (if is_init_of q (recorded event.now) then Some n else None)) }
+        ≡ or_else (get nat_cmp inits.old q)
+        (if is_init_of q (recorded event.now) then Some n else None)) }
 {
     if is_init(event.kind) {
         note_first(inits, event.what, n)?;

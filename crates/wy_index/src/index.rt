@@ -170,7 +170,8 @@ impl Index {
 
     /// What wrote the slot last or created it, by the last posting before the moment.
     fn writer(&self, slot: Slot, before: u32, found: Option<Find>) -> Option<u32>
-        requires last { IsLastBefore self.now.postings (record { slot = slot; event = before }) found }
+        requires last { IsLastBefore self.now.postings
+            (record { slot = slot; event = before }) found }
         ensures write { (rs : List Recorded) → IsIndexOf self.now rs
             → result ≡ last_write (owners_of self.now) rs slot before }
         ensures before { IfSome result (λ event. event < before) }
@@ -182,7 +183,8 @@ impl Index {
     }
 
     fn written(&self, slot: Slot, before: u32, found: Option<Find>) -> Option<u32>
-        requires last { IsLastBefore self.now.postings (record { slot = slot; event = before }) found }
+        requires last { IsLastBefore self.now.postings
+            (record { slot = slot; event = before }) found }
         ensures write { (rs : List Recorded) → IsIndexOf self.now rs
             → result ≡ written rs slot before }
         ensures before { IfSome result (λ event. event < before) }

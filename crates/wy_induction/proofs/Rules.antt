@@ -7,7 +7,7 @@ use Rattle.wy_steps.specs.Sets.{Sets}
 use Rattle.wy_steps.specs.State.{Carried, Reach, Stop, InitFailed, Reason, Run, ◌>>=◌, ◌>>◌, return, leave, stop, catching, choose}
 use Rattle.wy_steps.specs.Steps.{Made, Draft, tick, frame, event_at, is_begun, read, declare, note, note_write, activating, scoped, reaching, in_frame, take_elements, take_units, room_for_output, write_out, next_byte, covered}
 use Rattle.wy_meaning.specs.Statement.{while_form, do_form}
-use Rattle.wy_induction.specs.Law.{Moments, Fact, nothing, both, Entails, Frame, Region, In, Ends, IsControl, IsPlain, IsNoted, IsWritten, Recording, Law}
+use Rattle.wy_induction.specs.Law.{Moments, Fact, nothing, both, Entails, Frame, Region, In, Ends, IsControl, IsPlain, IsNoted, IsWrite, Recording, Law}
 
 pub newest : {T : Moments} (P Q : Fact T) → Entails (both P Q) Q
 unfolding both
@@ -139,10 +139,10 @@ module _ (A : Sets) (L : Law A) where
   pub keeps_entered : {r : Region} {P : Known} (reach : Reach) (d : Draft) (c : Carried A) (m : Run A (Made A)) → Recording L.program d c m → IsControl d.kind → Entails P (L.value d.value) → Entails P (L.fit c) → Keeps r P (activating reach m) (L.made d)
   keeps_entered {r = r} {P = P} reach d c m g t v e = record { by = L.enters r P reach d c m g t v e }
 
-  pub keeps_written : {r : Region} {P : Known} (d : Draft) (c : Carried A) → IsWritten d c → Entails P (L.place d.slot) → Entails P (L.stores d.slot d.value) → Entails P (L.value d.value) → Entails P (L.fit c) → Keeps r P (note_write d c) (L.made d)
+  pub keeps_written : {r : Region} {P : Known} (d : Draft) (c : Carried A) → IsWrite d c → Entails P (L.place d.slot) → Entails P (L.stores d.slot d.value) → Entails P (L.value d.value) → Entails P (L.fit c) → Keeps r P (note_write d c) (L.made d)
   keeps_written {r = r} {P = P} d c g x y v e = record { by = L.writes r P d c g x y v e }
 
-  pub keeps_entered_writing : {r : Region} {P : Known} (reach : Reach) (d : Draft) (c : Carried A) → IsWritten d c → IsControl d.kind → Entails P (L.place d.slot) → Entails P (L.stores d.slot d.value) → Entails P (L.value d.value) → Entails P (L.fit c) → Keeps r P (activating reach (note_write d c)) (L.made d)
+  pub keeps_entered_writing : {r : Region} {P : Known} (reach : Reach) (d : Draft) (c : Carried A) → IsWrite d c → IsControl d.kind → Entails P (L.place d.slot) → Entails P (L.stores d.slot d.value) → Entails P (L.value d.value) → Entails P (L.fit c) → Keeps r P (activating reach (note_write d c)) (L.made d)
   keeps_entered_writing {r = r} {P = P} reach d c g t x y v e = record { by = L.enters_writing r P reach d c g t x y v e }
 
   pub keeps_printed : {r : Region} {P : Known} (d : Draft) (c : Carried A) (bytes : List ℕ) → IsNoted d c → Entails P (L.value d.value) → Entails P (L.fit c) → Keeps r P (room_for_output bytes >> (note d c >>= (λ e. write_out bytes))) (λ t. nothing)

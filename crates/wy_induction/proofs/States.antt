@@ -11,7 +11,7 @@ use Rattle.wy_steps.specs.State.{OutputLimit, Carried, Reach, State, Stop, InitF
 use Rattle.wy_steps.specs.Steps.{event_limit, use_limit, element_limit, unit_limit, output_limit, Made, made, pay, tick, steps_left, frame, event_at, is_begun, read, declare, Draft, next_event, with_event, held_by, with_stored, with_created, room_for, noting as note_it, note, writing as write_it, note_write, creating as create_it, note_new, with_active, entered, go_in, activating, active_again, scoped, without, end_reaches, reaching, frame_again, in_frame, with_elements, take_elements, with_units, take_units, room_for_output, write_out, take_byte, next_byte, covering, begun, arrives, end_normally, be_left, cover_end, covered}
 use Rattle.wy_event.specs.Record.{Recorded}
 use Rattle.wy_meaning.specs.Run.{end}
-use Rattle.wy_induction.specs.Law.{Fact, nothing, both, Entails, Region, In, Ends, Frame, IsControl, IsPlain, IsNoted, IsWritten, Recording, noted, created, StepLaw, Law}
+use Rattle.wy_induction.specs.Law.{Fact, nothing, both, Entails, Region, In, Ends, Frame, IsControl, IsPlain, IsNoted, IsWrite, Recording, noted, created, StepLaw, Law}
 use Rattle.wy_induction.specs.States.{quietly, carried_in, Room, StateLaw}
 use Rattle.wy_induction.proofs.Loops.{counted}
 
@@ -114,7 +114,7 @@ module _ (A : Sets) (S : StateLaw A) where
     kept = λ h i p. let h1 = S.part_before _ _ on h in (S.inv_created r s d1 c1 g room h1 i (v p) (e p), (S.made d1 _).up _ _ (S.goes_later _ _ on) (S.made_recorded s d1 c1 h1 (e p)));
   })
 
-  pub written_kept : (r : Region) (known : Type 0) (d : Draft) (c : Carried A) (s : State A) → IsWritten d c → (known → (S.place d.slot).holds (S.now s)) → (known → (S.stores d.slot d.value).holds (S.now s)) → (known → (S.value d.value).holds (S.now s)) → (known → (S.fit c).holds (S.now s)) → Kept r known (S.made d) s (note_write d c s)
+  pub written_kept : (r : Region) (known : Type 0) (d : Draft) (c : Carried A) (s : State A) → IsWrite d c → (known → (S.place d.slot).holds (S.now s)) → (known → (S.stores d.slot d.value).holds (S.now s)) → (known → (S.value d.value).holds (S.now s)) → (known → (S.fit c).holds (S.now s)) → Kept r known (S.made d) s (note_write d c s)
   unfolding note_write write_it end
   written_kept r known d c s g x y v e = room_kept r _ (S.made d) c (write_it d c) s (λ room. let on = S.goes_stored (with_event (next_event d c s) s) d.slot (held_by d.value (next_event d c s)) in record {
     goes = S.goes_on _ _ _ (S.goes_recorded s d c) on;
@@ -304,7 +304,7 @@ module _ (A : Sets) (S : StateLaw A) where
   unfolding activating
   enters r P reach d c m g t v e = record { by = λ s. go_in_kept r _ reach d c s (m s) t (recording_records S.program d c m s g) (recorded_kept r _ d c m s g (v.by _) (e.by _)) }
 
-  pub enters_writing : (r : Region) (P : Known) (reach : Reach) (d : Draft) (c : Carried A) → IsWritten d c → IsControl d.kind → Entails P (S.place d.slot) → Entails P (S.stores d.slot d.value) → Entails P (S.value d.value) → Entails P (S.fit c) → Keeps r P (activating reach (note_write d c)) (S.made d)
+  pub enters_writing : (r : Region) (P : Known) (reach : Reach) (d : Draft) (c : Carried A) → IsWrite d c → IsControl d.kind → Entails P (S.place d.slot) → Entails P (S.stores d.slot d.value) → Entails P (S.value d.value) → Entails P (S.fit c) → Keeps r P (activating reach (note_write d c)) (S.made d)
   unfolding activating
   enters_writing r P reach d c g t x y v e = record { by = λ s. go_in_kept r _ reach d c s (note_write d c s) t (writing_records d c s) (written_kept r _ d c s g (x.by _) (y.by _) (v.by _) (e.by _)) }
 

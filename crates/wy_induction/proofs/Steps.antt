@@ -17,7 +17,7 @@ use Rattle.wy_steps.specs.Steps.{Made, Draft, constant, with_value, joined, join
 use Rattle.wy_meaning.specs.World.{plain, about, into, spelling}
 use Rattle.wy_meaning.specs.Place.{Spot}
 use Rattle.wy_meaning.specs.Statement.{while_form, do_form}
-use Rattle.wy_induction.specs.Law.{Fact, nothing, both, Entails, Frame, OfCall, OfInit, Region, In, Ends, IsInt, IsControl, IsPlain, a_throw, a_print, a_return, a_test, a_read, a_jump, a_text, a_call, IsWritten, a_set, a_bind, a_catch, an_object, an_array, an_init, Recording, noted, created}
+use Rattle.wy_induction.specs.Law.{Fact, nothing, both, Entails, Frame, OfCall, OfInit, Region, In, Ends, IsInt, IsControl, IsPlain, a_throw, a_print, a_return, a_test, a_read, a_jump, a_text, a_call, IsWrite, a_set, a_bind, a_catch, an_object, an_array, an_init, Recording, noted, created}
 use Rattle.wy_induction.specs.Uniform.{IsNoReference, IsValued, Uniform}
 use Rattle.wy_induction.proofs.Rules.{before, trivially, same}
 
@@ -403,11 +403,11 @@ module _ (A : Sets) (L : Uniform A) where
   unfolding value_fact fits made_fit
   enters {r = r} {P = P} reach d c m g t v e = kind_made d _ (L.enters r P reach d c m g t v e)
 
-  writes : {r : Region} {P : Known} (d : Draft) (c : Carried A) → IsWritten d c → Entails P (slot_fact d.slot) → Entails P (stores_fact d.slot d.value) → Entails P (value_fact d.value) → Entails P (fits c) → Keeps r P (note_write d c) (made_fit d.kind)
+  writes : {r : Region} {P : Known} (d : Draft) (c : Carried A) → IsWrite d c → Entails P (slot_fact d.slot) → Entails P (stores_fact d.slot d.value) → Entails P (value_fact d.value) → Entails P (fits c) → Keeps r P (note_write d c) (made_fit d.kind)
   unfolding slot_fact stores_fact value_fact fits made_fit
   writes {r = r} {P = P} d c g x y v e = kind_made d _ (L.writes r P d c g x y v e)
 
-  enters_writing : {r : Region} {P : Known} (reach : Reach) (d : Draft) (c : Carried A) → IsWritten d c → IsControl d.kind → Entails P (slot_fact d.slot) → Entails P (stores_fact d.slot d.value) → Entails P (value_fact d.value) → Entails P (fits c) → Keeps r P (activating reach (note_write d c)) (made_fit d.kind)
+  enters_writing : {r : Region} {P : Known} (reach : Reach) (d : Draft) (c : Carried A) → IsWrite d c → IsControl d.kind → Entails P (slot_fact d.slot) → Entails P (stores_fact d.slot d.value) → Entails P (value_fact d.value) → Entails P (fits c) → Keeps r P (activating reach (note_write d c)) (made_fit d.kind)
   unfolding slot_fact stores_fact value_fact fits made_fit
   enters_writing {r = r} {P = P} reach d c g t x y v e = kind_made d _ (L.enters_writing r P reach d c g t x y v e)
 

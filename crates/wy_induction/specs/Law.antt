@@ -78,10 +78,10 @@ pub data IsNoted {A : Sets} : Draft → Carried A → Type 0 where
   a_text : (site : ℕ) (units : List ℕ) (c : Carried A) → IsNoted (spelling site units) c
   a_call : (site method : ℕ) (c : Carried A) → IsNoted (about kind.Call site method val.None) c
 
-pub data IsWritten {A : Sets} : Draft → Carried A → Type 0 where
-  a_set : (site : ℕ) (x : Slot) (v : Value) (c : Carried A) → IsWritten (into kind.Set site x v) c
-  a_bind : (site f i : ℕ) (v : Value) (c : Carried A) → IsWritten (into kind.Bind site (slot_at.Local f i) v) c
-  a_catch : (site f i : ℕ) (v : Value) (c : Carried A) → IsWritten (into kind.Catch site (slot_at.Local f i) v) c
+pub data IsWrite {A : Sets} : Draft → Carried A → Type 0 where
+  a_set : (site : ℕ) (x : Slot) (v : Value) (c : Carried A) → IsWrite (into kind.Set site x v) c
+  a_bind : (site f i : ℕ) (v : Value) (c : Carried A) → IsWrite (into kind.Bind site (slot_at.Local f i) v) c
+  a_catch : (site f i : ℕ) (v : Value) (c : Carried A) → IsWrite (into kind.Catch site (slot_at.Local f i) v) c
 
 pub data IsCreated {A : Sets} : Draft → Carried A → Type 0 where
   an_object : (site code : ℕ) (c : Carried A) → IsCreated (about kind.New site code val.None) c
@@ -147,8 +147,8 @@ pub record StepLaw (A : Sets) : Type 1 where
   pub declares : (r : Region) (P : Fact moments) (f k : ℕ) → Entails P (place (slot_at.Local f k)) → keeps r P (declare (slot_at.Local f k)) (λ t. nothing)
   pub records : (r : Region) (P : Fact moments) (d : Draft) (c : Carried A) (m : Run A (Made A)) → Recording program d c m → Entails P (value d.value) → Entails P (fit c) → keeps r P m (made d)
   pub enters : (r : Region) (P : Fact moments) (reach : Reach) (d : Draft) (c : Carried A) (m : Run A (Made A)) → Recording program d c m → IsControl d.kind → Entails P (value d.value) → Entails P (fit c) → keeps r P (activating reach m) (made d)
-  pub writes : (r : Region) (P : Fact moments) (d : Draft) (c : Carried A) → IsWritten d c → Entails P (place d.slot) → Entails P (stores d.slot d.value) → Entails P (value d.value) → Entails P (fit c) → keeps r P (note_write d c) (made d)
-  pub enters_writing : (r : Region) (P : Fact moments) (reach : Reach) (d : Draft) (c : Carried A) → IsWritten d c → IsControl d.kind → Entails P (place d.slot) → Entails P (stores d.slot d.value) → Entails P (value d.value) → Entails P (fit c) → keeps r P (activating reach (note_write d c)) (made d)
+  pub writes : (r : Region) (P : Fact moments) (d : Draft) (c : Carried A) → IsWrite d c → Entails P (place d.slot) → Entails P (stores d.slot d.value) → Entails P (value d.value) → Entails P (fit c) → keeps r P (note_write d c) (made d)
+  pub enters_writing : (r : Region) (P : Fact moments) (reach : Reach) (d : Draft) (c : Carried A) → IsWrite d c → IsControl d.kind → Entails P (place d.slot) → Entails P (stores d.slot d.value) → Entails P (value d.value) → Entails P (fit c) → keeps r P (activating reach (note_write d c)) (made d)
   pub prints : (r : Region) (P : Fact moments) (d : Draft) (c : Carried A) (bytes : List ℕ) → IsNoted d c → Entails P (value d.value) → Entails P (fit c) → keeps r P (room_for_output bytes >> (note d c >>= (λ e. write_out bytes))) (λ t. nothing)
   pub scopes : (r : Region) {X : Type 0} (P : Fact moments) (m : Run A X) (Q : X → Fact moments) → keeps r P m Q → keeps r P (scoped m) Q
   pub reaches : (r : Region) {X : Type 0} (P : Fact moments) (n : ℕ) (m : Run A X) (Q : X → Fact moments) → keeps r P m Q → keeps r P (reaching n m) Q

@@ -7,7 +7,7 @@ use Rattle.wy_event.specs.Record.{same_slot}
 use Rattle.wy_steps.specs.Sets.{Sets}
 use Rattle.wy_steps.specs.State.{Carried, Held, Active, Covered, Reach, State, Stop, InitFailed, Reason}
 use Rattle.wy_steps.specs.Steps.{Draft, event_limit, use_limit, output_limit, held_of, no_value, event_in, has_init, next_event, made as made_of, with_event, held_by, with_stored, with_created, with_active, without, covering, begun, ended, left_by, stop_cause, event_of}
-use Rattle.wy_induction.specs.Law.{Region, In, Ends, Frame, IsControl, IsPlain, IsNoted, IsWritten, IsCreated, Facts}
+use Rattle.wy_induction.specs.Law.{Region, In, Ends, Frame, IsControl, IsPlain, IsNoted, IsWrite, IsCreated, Facts}
 
 -- what no property is about: steps that are left, elements, units and input
 abbrev pub quietly : {A : Sets} → State A → (left elements units : ℕ) → List ℕ → State A
@@ -55,7 +55,7 @@ pub record StateLaw (A : Sets) : Type 1 where
   pub inv_recorded : (r : Region) (s : State A) (d : Draft) (c : Carried A) → IsNoted d c → Room c s → part (with_event (next_event d c s) s) → inv r s → (value d.value).holds (now s) → (fit c).holds (now s) → inv r (with_event (next_event d c s) s)
   pub made_recorded : (s : State A) (d : Draft) (c : Carried A) → part (with_event (next_event d c s) s) → (fit c).holds (now s) → (made d (made_of (next_event d c s) s)).holds (now (with_event (next_event d c s) s))
   pub goes_stored : (t : State A) (x : Slot) (h : Held A) → goes t (with_stored x h t)
-  pub inv_stored : (r : Region) (s : State A) (d : Draft) (c : Carried A) → IsWritten d c → Room c s → part (with_event (next_event d c s) s) → inv r s → (place d.slot).holds (now s) → (stores d.slot d.value).holds (now s) → (value d.value).holds (now s) → (fit c).holds (now s) → inv r (with_stored d.slot (held_by d.value (next_event d c s)) (with_event (next_event d c s) s))
+  pub inv_stored : (r : Region) (s : State A) (d : Draft) (c : Carried A) → IsWrite d c → Room c s → part (with_event (next_event d c s) s) → inv r s → (place d.slot).holds (now s) → (stores d.slot d.value).holds (now s) → (value d.value).holds (now s) → (fit c).holds (now s) → inv r (with_stored d.slot (held_by d.value (next_event d c s)) (with_event (next_event d c s) s))
   pub goes_created : (s : State A) (d : Draft) (c : Carried A) → goes (with_event (next_event d c s) s) (with_created program (length s.noted) (next_event d c s) (with_event (next_event d c s) s))
   pub inv_created : (r : Region) (s : State A) (d : Draft) (c : Carried A) → IsCreated d c → Room c s → part (with_event (next_event d c s) s) → inv r s → (value d.value).holds (now s) → (fit c).holds (now s) → inv r (with_created program (length s.noted) (next_event d c s) (with_event (next_event d c s) s))
   pub goes_printed : (t : State A) (bytes : List ℕ) → goes t (record t { output = t.output ++ bytes })

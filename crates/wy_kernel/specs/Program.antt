@@ -100,6 +100,14 @@ string_class = 1
 abbrev pub first_source_class : ℕ
 first_source_class = 18
 
+-- so many methods has the library
+abbrev pub library_methods : ℕ
+library_methods = 36
+
+-- so many statements have its bodies
+abbrev pub library_statements : ℕ
+library_statements = 74
+
 unfoldable pub is_source : ℕ → Bool
 is_source c = not (nat_lt c first_source_class)
 

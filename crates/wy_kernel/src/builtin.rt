@@ -5,10 +5,14 @@ ghost use Rattle.std.specs.Prelude.{◌≡◌, ◌<◌, IfOk, OnOk, [], ◌∷�
 ghost use Rattle.std.specs.Option.{option_to_list};
 ghost use Rattle.wy_kernel.specs.Builtin as builtin;
 ghost use Rattle.wy_kernel.specs.View.{class_of, field_of, method_of, present};
+ghost use Rattle.wy_kernel.specs.Program.{library_methods};
 
 use crate::operator::Primitive;
 use crate::types::{Base, Class, Field, Method, MethodForm, NONE, Ty};
 use std::alloc::{AllocError, Global};
+
+/// The classes of a source are numbered from here on, behind those of the library.
+pub const FIRST_SOURCE_CLASS: u32 = 18;
 
 const OBJECT: u32 = 0;
 
@@ -52,7 +56,8 @@ pub fn classes(alloc: Global) -> Result<Vec<Class>, AllocError>
 }
 
 fn put_first_classes(alloc: Global, all: &mut Vec<Class>) -> Result<(), AllocError>
-    ensures { OnOk result (map class_of all.new.items ≡ map class_of all.old.items ++ take 6 builtin.classes) }
+    ensures { OnOk result
+        (map class_of all.new.items ≡ map class_of all.old.items ++ take 6 builtin.classes) }
 {
     put(alloc, all, "Object", NONE)?;
     put_string(alloc, all)?;
@@ -63,7 +68,8 @@ fn put_first_classes(alloc: Global, all: &mut Vec<Class>) -> Result<(), AllocErr
 }
 
 fn put_next_classes(alloc: Global, all: &mut Vec<Class>) -> Result<(), AllocError>
-    ensures { OnOk result (map class_of all.new.items ≡ map class_of all.old.items ++ take 6 (drop 6 builtin.classes)) }
+    ensures { OnOk result (map class_of all.new.items ≡ map class_of all.old.items
+        ++ take 6 (drop 6 builtin.classes)) }
 {
     put(alloc, all, "ArithmeticException", RUNTIME_EXCEPTION)?;
     put(alloc, all, "ArrayStoreException", RUNTIME_EXCEPTION)?;
@@ -79,7 +85,8 @@ fn put_next_classes(alloc: Global, all: &mut Vec<Class>) -> Result<(), AllocErro
 }
 
 fn put_last_classes(alloc: Global, all: &mut Vec<Class>) -> Result<(), AllocError>
-    ensures { OnOk result (map class_of all.new.items ≡ map class_of all.old.items ++ drop 12 builtin.classes) }
+    ensures { OnOk result
+        (map class_of all.new.items ≡ map class_of all.old.items ++ drop 12 builtin.classes) }
 {
     let bounds = INDEX_OUT_OF_BOUNDS_EXCEPTION;
     put(alloc, all, "IndexOutOfBoundsException", RUNTIME_EXCEPTION)?;
@@ -98,14 +105,16 @@ fn put_last_classes(alloc: Global, all: &mut Vec<Class>) -> Result<(), AllocErro
 // Puts a class behind the others.
 #[tactic(auto, using(crate::proofs::Builtins::class_behind))]
 fn put(alloc: Global, all: &mut Vec<Class>, name: &str, above: u32) -> Result<(), AllocError>
-    ensures { OnOk result (map class_of all.new.items ≡ map class_of all.old.items ++ builtin.extending (present above) name.now ∷ []) }
+    ensures { OnOk result (map class_of all.new.items ≡ map class_of all.old.items
+        ++ builtin.extending (present above) name.now ∷ []) }
 {
     all.push(class(alloc, name, above)?)?;
     Ok(())
 }
 
 fn put_string(alloc: Global, all: &mut Vec<Class>) -> Result<(), AllocError>
-    ensures { OnOk result (map class_of all.new.items ≡ map class_of all.old.items ++ builtin.string ∷ []) }
+    ensures { OnOk result
+        (map class_of all.new.items ≡ map class_of all.old.items ++ builtin.string ∷ []) }
 {
     let class = class(alloc, "String", OBJECT)?;
     all.push(Class {
@@ -134,7 +143,7 @@ pub fn methods(alloc: Global) -> Result<Vec<Method>, AllocError>
     ensures { IfOk result (λ v. map method_of v.items ≡ builtin.methods) }
 {
     let mut all = first_methods(alloc)?;
-    for class in EXCEPTION..18 {
+    for class in EXCEPTION..FIRST_SOURCE_CLASS {
         let first = 6 + 2 * (class - EXCEPTION);
         all.push(constructor(alloc, first, class, None)?)?;
         all.push(constructor(alloc, first + 1, class, Some(TEXT))?)?;
@@ -164,8 +173,9 @@ fn instance(
     param: Option<Ty>,
     result_type: Ty,
 ) -> Result<Method, AllocError>
-    requires { number < 36 }
-    ensures { IfOk result (λ m. method_of m ≡ builtin.instance number class name.now (option_to_list param) result_type) }
+    requires { number < library_methods }
+    ensures { IfOk result (λ m.
+        method_of m ≡ builtin.instance number class name.now (option_to_list param) result_type) }
 {
     Ok(Method {
         name: name.to_string(alloc)?,
@@ -186,8 +196,9 @@ fn constructor(
     class: u32,
     param: Option<Ty>,
 ) -> Result<Method, AllocError>
-    requires { number < 36 }
-    ensures { IfOk result (λ m. method_of m ≡ builtin.constructor number class (option_to_list param)) }
+    requires { number < library_methods }
+    ensures { IfOk result (λ m.
+        method_of m ≡ builtin.constructor number class (option_to_list param)) }
 {
     Ok(Method {
         name: "new".to_string(alloc)?,
@@ -204,7 +215,7 @@ fn constructor(
 
 // All sites in a method of the library.
 fn site_of(number: u32) -> u32
-    requires { number < 36 }
+    requires { number < library_methods }
     ensures { result ≡ builtin.method_site number }
 {
     2147483648 + number

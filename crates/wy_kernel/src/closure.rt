@@ -13,7 +13,8 @@ use std::alloc::{AllocError, Global};
 pub fn supertypes(alloc: Global, classes: &[Class]) -> Result<Vec<Vec<u32>>, AllocError>
     requires few { length classes.now < 4294967295 }
     requires among { NamesAmong (map class_of classes.now) }
-    ensures { IfOk result (λ rows. KeepsSupertypes (map class_of classes.now) (map (λ row. row.items) rows.items)) }
+    ensures { IfOk result (λ rows.
+        KeepsSupertypes (map class_of classes.now) (map (λ row. row.items) rows.items)) }
 {
     let mut rows = Vec::new(alloc);
     for c in 0..classes.len() {
@@ -42,7 +43,8 @@ fn supertypes_of(alloc: Global, classes: &[Class], c: u32) -> Result<Vec<u32>, A
 // Takes what a class extends and implements.
 #[tactic(auto, unfolding(crate::specs::View::present))]
 fn take_above(row: &mut Vec<u32>, class: &Class) -> Result<(), AllocError>
-    ensures { OnOk result (TakesEach row.old.items (named_above (Some (class_of class.now))) row.new.items) }
+    ensures { OnOk result
+        (TakesEach row.old.items (named_above (Some (class_of class.now))) row.new.items) }
 {
     if class.above != NONE {
         take(row, class.above)?;

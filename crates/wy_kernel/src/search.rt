@@ -10,7 +10,8 @@ use crate::form::{Body, Catch, Stmt, StmtForm};
 // The first statement with this number, of a statement and those within it.
 #[cycle(search)]
 fn find_in(s: &Stmt, n: u32) -> Option<&Stmt>
-    ensures { option_map (λ found. statement found.now) result ≡ find (has_number n) (statements (statement s.now)) }
+    ensures { option_map (λ found.
+        statement found.now) result ≡ find (has_number n) (statements (statement s.now)) }
 {
     if s.number == n {
         return Some(s);
@@ -20,7 +21,8 @@ fn find_in(s: &Stmt, n: u32) -> Option<&Stmt>
 
 #[cycle(search)]
 fn find_within(form: &StmtForm, n: u32) -> Option<&Stmt>
-    ensures { option_map (λ found. statement found.now) result ≡ find (has_number n) (statements_within (act form.now)) }
+    ensures { option_map (λ found.
+        statement found.now) result ≡ find (has_number n) (statements_within (act form.now)) }
 {
     match form {
         StmtForm::Block { parts } => find_in_all(parts, n),
@@ -65,7 +67,8 @@ fn find_within(form: &StmtForm, n: u32) -> Option<&Stmt>
 
 #[cycle(search)]
 fn find_in_other(s: &Option<Box<Stmt>>, n: u32) -> Option<&Stmt>
-    ensures { option_map (λ found. statement found.now) result ≡ find (has_number n) (statements_of_other (other s.now)) }
+    ensures { option_map (λ found.
+        statement found.now) result ≡ find (has_number n) (statements_of_other (other s.now)) }
 {
     match s {
         Some(s) => find_in(s, n),
@@ -75,7 +78,8 @@ fn find_in_other(s: &Option<Box<Stmt>>, n: u32) -> Option<&Stmt>
 
 #[cycle(search)]
 fn find_in_all(parts: &[Stmt], n: u32) -> Option<&Stmt>
-    ensures { option_map (λ found. statement found.now) result ≡ find (has_number n) (statements_of_all (statements_of (map statement parts.now))) }
+    ensures { option_map (λ found. statement found.now) result
+        ≡ find (has_number n) (statements_of_all (statements_of (map statement parts.now))) }
 {
     for part in parts {
         if let Some(found) = find_in(part, n) {
@@ -87,7 +91,8 @@ fn find_in_all(parts: &[Stmt], n: u32) -> Option<&Stmt>
 
 #[cycle(search)]
 fn find_in_catches(clauses: &[Catch], n: u32) -> Option<&Stmt>
-    ensures { option_map (λ found. statement found.now) result ≡ find (has_number n) (statements_of_catches (clauses_of (map clause clauses.now))) }
+    ensures { option_map (λ found. statement found.now) result
+        ≡ find (has_number n) (statements_of_catches (clauses_of (map clause clauses.now))) }
 {
     for clause in clauses {
         if let Some(found) = find_in(&clause.block, n) {
@@ -98,7 +103,8 @@ fn find_in_catches(clauses: &[Catch], n: u32) -> Option<&Stmt>
 }
 
 fn find_in_body(body: &Option<Body>, n: u32) -> Option<&Stmt>
-    ensures { option_map (λ found. statement found.now) result ≡ find (has_number n) (statements_of_body (option_map body_of body.now)) }
+    ensures { option_map (λ found. statement found.now) result
+        ≡ find (has_number n) (statements_of_body (option_map body_of body.now)) }
 {
     match body {
         Some(body) => find_in(&body.block, n),
@@ -108,7 +114,8 @@ fn find_in_body(body: &Option<Body>, n: u32) -> Option<&Stmt>
 
 /// The first statement with this number, of bodies in their order.
 pub fn find_in_bodies(bodies: &[Option<Body>], n: u32) -> Option<&Stmt>
-    ensures { option_map (λ found. statement found.now) result ≡ find (has_number n) (statements_of_bodies (map (option_map body_of) bodies.now)) }
+    ensures { option_map (λ found. statement found.now) result
+        ≡ find (has_number n) (statements_of_bodies (map (option_map body_of) bodies.now)) }
 {
     for body in bodies {
         if let Some(found) = find_in_body(body, n) {

@@ -18,8 +18,10 @@ pub struct ClassTable {
     pub constants: Vec<Option<Const>>,
     /// For each class, all classes and interfaces at or above it.
     pub supertypes: Vec<Vec<u32>>,
-    pub ghost is_table: { ∥ IsTable (table_with classes.items methods.items fields.items constants.items) ∥₁ },
-    pub ghost keeps_supertypes: { ∥ KeepsSupertypes (map class_of classes.items) (map (λ row. row.items) supertypes.items) ∥₁ },
+    pub ghost is_table: { ∥ IsTable
+        (table_with classes.items methods.items fields.items constants.items) ∥₁ },
+    pub ghost keeps_supertypes: { ∥ KeepsSupertypes (map class_of classes.items)
+        (map (λ row. row.items) supertypes.items) ∥₁ },
 }
 
 #[tactic(auto, unfolding(crate::specs::ClassTable::table_of))]
@@ -55,7 +57,8 @@ impl ClassTable {
     /// The value of a field that is a constant variable, and None exactly where it isn't one.
     pub fn field_constant(&self, n: u32) -> Option<&Const>
         requires { n < length (table_of self.now).fields }
-        ensures { slice_get (table_of self.now).constants n ≡ Some (option_map (λ c. constant_value c.now) result) }
+        ensures { slice_get (table_of self.now).constants n
+            ≡ Some (option_map (λ c. constant_value c.now) result) }
     {
         self.constants[n as usize].as_ref()
     }

@@ -7,17 +7,17 @@ use Rattle.wy_lexer.specs.Reading.{found}
 use Rattle.wy_tree.specs.Seen.{Tok}
 use Rattle.wy_tree.specs.Bytes.{line_ends}
 use Rattle.wy_tree.specs.Pieces.{Piece, Between, Lexeme, Fault, IsLongest, NothingFits}
-use Rattle.wy_tree.specs.Tokens.{Placed, Refusal, BadToken, BadLiteral, refusal_at, Stops, Adds, Begins, Reads, Tokens, Refuses}
+use Rattle.wy_tree.specs.Tokens.{SpannedToken, Refusal, BadToken, BadLiteral, refusal_at, Stops, Adds, Begins, Reads, Tokens, Refuses}
 use Rattle.wy_lexer.proofs.Longest.{Right}
 use Rattle.wy_lexer.proofs.Found.{found_right}
 
 -- However the rest is read, the whole is read so, with these tokens first. A line has a byte or more.
-pub record IsReadTo (text : List ℕ) (spans : List Placed) (place : ℕ) (line : ℕ) (rest : List ℕ) : Type 0 where
-  pub so_far : (k : ℕ) (more : List Placed) (end : Option Refusal) → Reads k place line rest more end → (j : ℕ) × Reads j 0 1 text (spans ++ more) end
+pub record IsReadTo (text : List ℕ) (spans : List SpannedToken) (place : ℕ) (line : ℕ) (rest : List ℕ) : Type 0 where
+  pub so_far : (k : ℕ) (more : List SpannedToken) (end : Option Refusal) → Reads k place line rest more end → (j : ℕ) × Reads j 0 1 text (spans ++ more) end
   pub reach : place + length rest ≡ length text
   pub lines : line ≤ place + 1
 
-pub at_first : (text : List ℕ) (spans : List Placed) → spans ≡ [] → IsReadTo text spans 0 1 text
+pub at_first : (text : List ℕ) (spans : List SpannedToken) → spans ≡ [] → IsReadTo text spans 0 1 text
 at_first text spans e = subst (λ z. IsReadTo text z 0 1 text) (sym e) (record { so_far = λ k more end r. (k, r); reach = omega arith; lines = omega arith })
 
 pub right_at : (rest : List ℕ) (b : ℕ) (behind : List ℕ) (p : Piece) (n : ℕ) → rest ≡ b ∷ behind → (p, n) ≡ found b behind → Right rest p n
@@ -36,8 +36,8 @@ shorter rest after p n r e =
     let some = r.1 in
     omega (arith, f, within, some)
 
-pub go_on : (text : List ℕ) (spans more_spans : List Placed) (place line : ℕ) (rest : List ℕ) → IsReadTo text spans place line rest → (n e : ℕ) (after : List ℕ) (p : Piece) → IsLongest rest n p × (0 < n)
-    → ((more : List Placed) → (all : List Placed) × (Adds p place n line all more × (spans ++ all ≡ more_spans ++ more)))
+pub go_on : (text : List ℕ) (spans more_spans : List SpannedToken) (place line : ℕ) (rest : List ℕ) → IsReadTo text spans place line rest → (n e : ℕ) (after : List ℕ) (p : Piece) → IsLongest rest n p × (0 < n)
+    → ((more : List SpannedToken) → (all : List SpannedToken) × (Adds p place n line all more × (spans ++ all ≡ more_spans ++ more)))
     → after ≡ drop n rest → e ≡ line_ends (take n rest) → e ≤ n → IsReadTo text more_spans (place + n) (line + e) after
 go_on text spans more_spans place line rest i n e after p r adds f g le =
     let size : length after ≡ length rest - n = ap length f ∙ length-drop n rest in
@@ -55,15 +55,15 @@ go_on text spans more_spans place line rest i n e after p r adds f g le =
       lines = omega (arith, lines, le);
     }
 
-pub over_blank : (text : List ℕ) (spans same : List Placed) (place line : ℕ) (rest : List ℕ) → IsReadTo text spans place line rest → (n e : ℕ) (after : List ℕ) → IsLongest rest n Between × (0 < n)
+pub over_blank : (text : List ℕ) (spans same : List SpannedToken) (place line : ℕ) (rest : List ℕ) → IsReadTo text spans place line rest → (n e : ℕ) (after : List ℕ) → IsLongest rest n Between × (0 < n)
     → same ≡ spans → after ≡ drop n rest → e ≡ line_ends (take n rest) → e ≤ n → IsReadTo text same (place + n) (line + e) after
 over_blank text spans same place line rest i n e after r p f g le =
     go_on text spans same place line rest i n e after Between r (λ more. (more, (refl, ap (λ z. z ++ more) (sym p)))) f g le
 
-pub over_token : (text : List ℕ) (spans longer : List Placed) (place line : ℕ) (rest : List ℕ) → IsReadTo text spans place line rest → (n e : ℕ) (after : List ℕ) (t : Tok) → IsLongest rest n (Lexeme t) × (0 < n)
+pub over_token : (text : List ℕ) (spans longer : List SpannedToken) (place line : ℕ) (rest : List ℕ) → IsReadTo text spans place line rest → (n e : ℕ) (after : List ℕ) (t : Tok) → IsLongest rest n (Lexeme t) × (0 < n)
     → longer ≡ spans ++ (record { token = t; start = place; end = place + n; line = line } ∷ []) → after ≡ drop n rest → e ≡ line_ends (take n rest) → e ≤ n → IsReadTo text longer (place + n) (line + e) after
 over_token text spans longer place line rest i n e after t r p f g le =
-    let here : Placed = record { token = t; start = place; end = place + n; line = line } in
+    let here : SpannedToken = record { token = t; start = place; end = place + n; line = line } in
     go_on text spans longer place line rest i n e after (Lexeme t) r
     (λ more. (here ∷ more, (refl, sym (append_assoc spans (here ∷ []) more) ∙ ap (λ z. z ++ more) (sym p)))) f g le
 
@@ -71,7 +71,7 @@ ended : (place : ℕ) (rest : List ℕ) → length rest ≡ 0 → Stops place re
 ended place [] e = refl
 ended place (b ∷ rest) e = absurd (omega arith)
 
-pub all_read : (text : List ℕ) (spans : List Placed) (place line : ℕ) (rest : List ℕ) → IsReadTo text spans place line rest → IsUtf8 text → length rest ≡ 0 → Tokens text spans
+pub all_read : (text : List ℕ) (spans : List SpannedToken) (place line : ℕ) (rest : List ℕ) → IsReadTo text spans place line rest → IsUtf8 text → length rest ≡ 0 → Tokens text spans
 all_read text spans place line rest i u e =
     let whole = i.so_far 0 [] None (refl, ended place rest e) in
     (u, (whole.0, subst (λ z. Reads whole.0 0 1 text z None) (append-nil spans) whole.1))
@@ -84,7 +84,7 @@ stopped : (place : ℕ) (rest : List ℕ) (b : ℕ) (behind : List ℕ) → rest
 stopped place [] b behind e f = absurd (cc)
 stopped place (c ∷ rest) b behind e f = (f, refl)
 
-pub is_refused : (text : List ℕ) (spans : List Placed) (place line : ℕ) (rest : List ℕ) (b : ℕ) (behind : List ℕ) (p : Piece) (n : ℕ) → IsReadTo text spans place line rest → IsUtf8 text
+pub is_refused : (text : List ℕ) (spans : List SpannedToken) (place line : ℕ) (rest : List ℕ) (b : ℕ) (behind : List ℕ) (p : Piece) (n : ℕ) → IsReadTo text spans place line rest → IsUtf8 text
     → rest ≡ b ∷ behind → p ≡ Fault → Right rest p n → IsCause text (refused (refusal_at place (b ∷ behind)))
 is_refused text spans place line rest b behind p n i u e f r =
     let free : NothingFits rest = subst (λ z. Right rest z n) f r in

@@ -2,7 +2,7 @@
 use Rattle.std.specs.Prelude.{ℕ, ◌≡◌, List, Result, Ok, Err, ◌⊎◌}
 use Rattle.wy_lexer.specs.declared.error.LexError.{LexError}
 use Rattle.wy_lexer.specs.declared.error.LexError.TheVariants as errors
-use Rattle.wy_tree.specs.Tokens.{Refusal, BadToken, BadLiteral, Placed, Refuses, IsNotUtf8}
+use Rattle.wy_tree.specs.Tokens.{Refusal, BadToken, BadLiteral, SpannedToken, Refuses, IsNotUtf8}
 
 -- The fault that is named is the text's; memory can run out at any text.
 abbrev pub IsCause : List ℕ → LexError → Type 0
@@ -16,7 +16,7 @@ refused (BadToken byte) = errors.BadToken byte
 refused (BadLiteral byte) = errors.BadLiteral byte
 
 -- these tokens, unless memory ran out
-abbrev pub Finds : {X : Type 0} → (X → List Placed) → List Placed → Result X LexError → Type 0
+abbrev pub Finds : {X : Type 0} → (X → List SpannedToken) → List SpannedToken → Result X LexError → Type 0
 Finds view spans (Ok x) = view x ≡ spans
 Finds view spans (Err e) = e ≡ errors.NoMemory
 

@@ -2,7 +2,7 @@
 
 ghost use Rattle.std.specs.Prelude.{ℕ, ◌≡◌, ◌≤◌, ◌∷◌, map, length, List, IfOk, IfErr};
 ghost use Rattle.std.specs.Str.{IsUtf8};
-ghost use Rattle.wy_tree.specs.Tokens.{Placed, placed, Refusal, refusal_at, Tokens, Refuses, IsNotUtf8};
+ghost use Rattle.wy_tree.specs.Tokens.{SpannedToken, spanned_token, Refusal, refusal_at, Tokens, Refuses, IsNotUtf8};
 ghost use Rattle.wy_lexer.specs.declared.error.LexError.TheVariants.{NotUtf8};
 ghost use Rattle.wy_lexer.specs.Lexing.{IsCause, refused, Finds, Fails};
 
@@ -27,7 +27,7 @@ fn refusal(first: u8, rest: &[u8], byte: u32) -> LexError
 fn tokens(alloc: Global, text: &[u8]) -> Result<Vec<Spanned>, LexError>
     requires small { length text.now ≤ 1048576 }
     requires utf8 { IsUtf8 text.now }
-    ensures found { IfOk result (λ v. Tokens text.now (map placed v.items)) }
+    ensures found { IfOk result (λ v. Tokens text.now (map spanned_token v.items)) }
     ensures cause { IfErr result (λ e. IsCause text.now e) }
 {
     let mut tokens = Vec::new(alloc);
@@ -59,11 +59,12 @@ fn tokens(alloc: Global, text: &[u8]) -> Result<Vec<Spanned>, LexError>
 pub fn lex(alloc: Global, text: &[u8]) -> Result<Vec<Spanned>, LexError>
     requires { length text.now ≤ 1048576 }
     // What is found are the text's tokens.
-    ensures found { IfOk result (λ v. Tokens text.now (map placed v.items)) }
+    ensures found { IfOk result (λ v. Tokens text.now (map spanned_token v.items)) }
     // The fault that is named is the text's.
     ensures cause { IfErr result (λ e. IsCause text.now e) }
     // Where the text has tokens, they are found; where it has a fault, it is named.
-    ensures tokens { (spans : List Placed) → Tokens text.now spans → Finds (λ v. map placed v.items) spans result }
+    ensures tokens { (spans : List SpannedToken) → Tokens text.now spans
+        → Finds (λ v. map spanned_token v.items) spans result }
     ensures fault { (r : Refusal) → Refuses text.now r → Fails (refused r) result }
     ensures not_utf8 { (byte : ℕ) → IsNotUtf8 text.now byte → Fails (NotUtf8 byte) result }
 {

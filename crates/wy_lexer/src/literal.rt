@@ -141,7 +141,8 @@ fn escape(text: &[u8]) -> Option<(u16, &[u8])>
 fn with_byte(number: u32, text: &[u8]) -> Option<(u32, &[u8])>
     requires { number < 524288 }
     ensures none { result ≡ None → text.now ≡ [] }
-    ensures some { IfSome result (λ x. (b : ℕ) × (text.now ≡ b ∷ x.1.now) × (x.0 ≡ number * 64 + (b - 128)) × (x.0 < number * 64 + 128)) }
+    ensures some { IfSome result (λ x. (b : ℕ) × (text.now ≡ b ∷ x.1.now)
+        × (x.0 ≡ number * 64 + (b - 128)) × (x.0 < number * 64 + 128)) }
 {
     let (byte, rest) = text.split_first()?;
     Some((number * 64 + u32::from(byte.saturating_sub(128)), rest))
@@ -217,7 +218,8 @@ fn push(text: &mut Vec<u16>, found: Units) -> Result<(), AllocError>
 
 /// A string literal's units, and what is behind its closing quote; nothing if it has a fault.
 pub fn text_literal(alloc: Global, text: &[u8]) -> Result<Option<(Vec<u16>, &[u8])>, AllocError>
-    ensures same { IfOk result (λ o. option_map (λ x. (x.0.items, x.1.now)) o ≡ text_literal text.now) }
+    ensures same { IfOk result (λ o.
+        option_map (λ x. (x.0.items, x.1.now)) o ≡ text_literal text.now) }
     ensures shorter { IfOk result (λ o. IfSome o (λ x. length x.1.now < length text.now)) }
 {
     let mut found = Vec::new(alloc);

@@ -75,7 +75,8 @@ fn with_digit(radix: u64, value: u128, digit: u8) -> u128
 fn value_within(radix: u64, largest: u64, digits: &[u8]) -> Option<u64>
     requires some { 1 ≤ radix }
     requires few { radix ≤ 16 }
-    ensures same { result ≡ (if nat_le (value_from radix 0 digits.now) largest then Some (value_from radix 0 digits.now) else None) }
+    ensures same { result ≡ (if nat_le (value_from radix 0 digits.now) largest
+        then Some (value_from radix 0 digits.now) else None) }
     ensures within { IfSome result (λ n. n ≤ largest) }
 {
     let mut value: u128 = 0;

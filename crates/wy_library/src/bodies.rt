@@ -40,7 +40,8 @@ pub fn library_bodies(alloc: Global) -> Result<Vec<Option<Body>>, AllocError>
 /// The initializers of the library's 18 classes: there are none.
 #[tactic(auto, unfolding(crate::specs::Library::library_init_bodies))]
 pub fn library_init_bodies(alloc: Global) -> Result<Vec<Option<Body>>, AllocError>
-    ensures { IfOk result (λ all. map (option_map body_of) all.items ≡ library.library_init_bodies) }
+    ensures { IfOk result (λ all.
+        map (option_map body_of) all.items ≡ library.library_init_bodies) }
 {
     let mut all = Vec::new(alloc);
     for _class in 0..CLASSES {

@@ -3,6 +3,7 @@
 ghost use Rattle.std.specs.Prelude.{◌≡◌, ◌<◌, ◌≤◌, ◌+◌, ◌-◌, ◌*◌, ◌++◌, IfOk, OnOk, map, option_map};
 ghost use Rattle.wy_kernel.specs.View.{act, body_of, expression, row_of};
 ghost use Rattle.wy_library.specs.Library as library;
+ghost use Rattle.wy_kernel.specs.Program.{library_methods, first_source_class};
 
 use crate::form::{call_on_this, other};
 use crate::make::{alone, body, evaluated, local, site_of, statement};
@@ -18,9 +19,9 @@ const EXCEPTION: u32 = 3;
 // The number of the constructor without a message.
 fn first_constructor(class: u32) -> u32
     requires low { 2 ≤ class }
-    requires high { class < 18 }
+    requires high { class < first_source_class }
     ensures is { result ≡ library.first_constructor class }
-    ensures few { result < 36 }
+    ensures few { result < library_methods }
 {
     if class == THROWABLE {
         2
@@ -36,8 +37,9 @@ fn superclass_called(
     above: u32,
     args: Vec<Expr>,
 ) -> Result<StmtForm, AllocError>
-    requires { method < 36 }
-    ensures { IfOk result (λ f. act f ≡ library.superclass_called method called above (row_of (map expression args.items))) }
+    requires { method < library_methods }
+    ensures { IfOk result (λ f. act f ≡ library.superclass_called method called above
+        (row_of (map expression args.items))) }
 {
     let site = site_of(method);
     let value = call_on_this(alloc, CallForm::Direct, called, above, args, site)?;
@@ -46,10 +48,11 @@ fn superclass_called(
 
 fn plain_constructor(alloc: Global, class: u32, above: u32) -> Result<Option<Body>, AllocError>
     requires low { 3 ≤ class }
-    requires high { class < 18 }
+    requires high { class < first_source_class }
     requires above_low { 2 ≤ above }
-    requires above_high { above < 18 }
-    ensures { IfOk result (λ b. option_map body_of b ≡ library.plain_constructor class (6 + 2 * (class - 3)) above) }
+    requires above_high { above < first_source_class }
+    ensures { IfOk result (λ b.
+        option_map body_of b ≡ library.plain_constructor class (6 + 2 * (class - 3)) above) }
 {
     let method = 6 + 2 * (class - EXCEPTION);
     let number = 14 + 4 * (class - EXCEPTION);
@@ -65,10 +68,11 @@ fn constructor_with_message(
     above: u32,
 ) -> Result<Option<Body>, AllocError>
     requires low { 3 ≤ class }
-    requires high { class < 18 }
+    requires high { class < first_source_class }
     requires above_low { 2 ≤ above }
-    requires above_high { above < 18 }
-    ensures { IfOk result (λ b. option_map body_of b ≡ library.constructor_with_message class (7 + 2 * (class - 3)) above) }
+    requires above_high { above < first_source_class }
+    ensures { IfOk result (λ b.
+        option_map body_of b ≡ library.constructor_with_message class (7 + 2 * (class - 3)) above) }
 {
     let method = 7 + 2 * (class - EXCEPTION);
     let number = 16 + 4 * (class - EXCEPTION);
@@ -88,10 +92,11 @@ pub fn put_constructors(
     above: u32,
 ) -> Result<(), AllocError>
     requires low { 3 ≤ class }
-    requires high { class < 18 }
+    requires high { class < first_source_class }
     requires above_low { 2 ≤ above }
-    requires above_high { above < 18 }
-    ensures { OnOk result (map (option_map body_of) all.new.items ≡ map (option_map body_of) all.old.items ++ library.constructors_below class above) }
+    requires above_high { above < first_source_class }
+    ensures { OnOk result (map (option_map body_of) all.new.items
+        ≡ map (option_map body_of) all.old.items ++ library.constructors_below class above) }
 {
     all.push(plain_constructor(alloc, class, above)?)?;
     all.push(constructor_with_message(alloc, class, above)?)?;

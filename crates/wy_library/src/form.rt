@@ -91,7 +91,8 @@ pub fn set(place: Place, value: Box<Expr>, site: u32) -> Expr
 /// `==`
 #[tactic(auto, using(crate::proofs::FormViews::view_bin))]
 pub fn equal(left: Box<Expr>, right: Box<Expr>, site: u32) -> Expr
-    ensures { expression result ≡ kernel.Bin BinOp.Eq (expression left.value) (expression right.value) site }
+    ensures { expression result ≡ kernel.Bin BinOp.Eq (expression left.value)
+        (expression right.value) site }
 {
     Expr::Bin {
         op: BinOp::Eq,
@@ -104,7 +105,8 @@ pub fn equal(left: Box<Expr>, right: Box<Expr>, site: u32) -> Expr
 /// `+` of two texts.
 #[tactic(auto, using(crate::proofs::FormViews::view_cat))]
 pub fn join(left: Box<Expr>, right: Box<Expr>, site: u32) -> Expr
-    ensures { expression result ≡ kernel.Cat (expression left.value) (expression right.value) library.text_type library.text_type site }
+    ensures { expression result ≡ kernel.Cat (expression left.value)
+        (expression right.value) library.text_type library.text_type site }
 {
     Expr::Cat {
         left,
@@ -137,7 +139,8 @@ pub fn call_on_this(
     args: Vec<Expr>,
     site: u32,
 ) -> Result<Expr, AllocError>
-    ensures { IfOk result (λ e. expression e ≡ kernel.Call form method (kernel.the library.this_form) (subtyping.class_type class) (row_of (map expression args.items)) site) }
+    ensures { IfOk result (λ e. expression e ≡ kernel.Call form method (kernel.the
+        library.this_form) (subtyping.class_type class) (row_of (map expression args.items)) site) }
 {
     Ok(Expr::Call {
         form,

@@ -6,6 +6,7 @@ ghost use Rattle.wy_kernel.specs.Builtin.{method_site};
 ghost use Rattle.wy_kernel.specs.Form as kernel;
 ghost use Rattle.wy_kernel.specs.View.{act, body_of, expression, local_of, statement, statements_of};
 ghost use Rattle.wy_library.specs.Library as library;
+ghost use Rattle.wy_kernel.specs.Program.{library_methods};
 
 use crate::form::class_type;
 use std::alloc::{AllocError, Global};
@@ -13,7 +14,7 @@ use wy_kernel::form::{Body, Expr, Stmt, StmtForm};
 use wy_kernel::types::{Local, NONE};
 
 pub fn site_of(method: u32) -> u32
-    requires { method < 36 }
+    requires { method < library_methods }
     ensures { result ≡ method_site method }
 {
     2147483648 + method
@@ -22,7 +23,7 @@ pub fn site_of(method: u32) -> u32
 /// A statement whose test reaches to the end of the statement with the number `reach`.
 #[tactic(auto, using(wy_kernel::proofs::Views::view_statement))]
 pub fn reaching(method: u32, number: u32, reach: u32, form: StmtForm) -> Stmt
-    requires { method < 36 }
+    requires { method < library_methods }
     ensures { statement result ≡ kernel.Stmt number (method_site method) false reach (act form) }
 {
     Stmt {
@@ -36,7 +37,7 @@ pub fn reaching(method: u32, number: u32, reach: u32, form: StmtForm) -> Stmt
 
 /// A statement without a test.
 pub fn statement(method: u32, number: u32, form: StmtForm) -> Stmt
-    requires { method < 36 }
+    requires { method < library_methods }
     ensures { statement result ≡ library.statement method number (act form) }
 {
     reaching(method, number, NONE, form)
@@ -81,7 +82,7 @@ pub fn alone(alloc: Global, part: Stmt) -> Result<Vec<Stmt>, AllocError>
 
 /// A local of a method, of a class of the library.
 pub fn local(alloc: Global, method: u32, name: &str, class: u32) -> Result<Local, AllocError>
-    requires { method < 36 }
+    requires { method < library_methods }
     ensures { IfOk result (λ l. local_of l ≡ library.library_local method name.now class) }
 {
     Ok(Local {
@@ -97,8 +98,9 @@ fn locals(
     class: u32,
     other: Option<Local>,
 ) -> Result<Vec<Local>, AllocError>
-    requires { method < 36 }
-    ensures { IfOk result (λ v. map local_of v.items ≡ library.library_local method (codes "this") class ∷ map local_of (option_to_list other)) }
+    requires { method < library_methods }
+    ensures { IfOk result (λ v. map local_of v.items ≡ library.library_local method
+        (codes "this") class ∷ map local_of (option_to_list other)) }
 {
     let this = local(alloc, method, "this", class)?;
     match other {
@@ -109,8 +111,9 @@ fn locals(
 
 #[tactic(auto, using(wy_kernel::proofs::Views::view_block))]
 fn block(method: u32, number: u32, parts: Vec<Stmt>) -> Stmt
-    requires { method < 36 }
-    ensures { statement result ≡ library.statement method number (kernel.Block (statements_of (map statement parts.items))) }
+    requires { method < library_methods }
+    ensures { statement result ≡ library.statement method number
+        (kernel.Block (statements_of (map statement parts.items))) }
 {
     statement(method, number, StmtForm::Block { parts })
 }
@@ -124,8 +127,9 @@ pub fn body(
     other: Option<Local>,
     parts: Vec<Stmt>,
 ) -> Result<Option<Body>, AllocError>
-    requires { method < 36 }
-    ensures { IfOk result (λ b. option_map body_of b ≡ library.body_of method number class (map local_of (option_to_list other)) (statements_of (map statement parts.items))) }
+    requires { method < library_methods }
+    ensures { IfOk result (λ b. option_map body_of b ≡ library.body_of method number class
+        (map local_of (option_to_list other)) (statements_of (map statement parts.items))) }
 {
     let locals = locals(alloc, method, class, other)?;
     Ok(Some(Body {

@@ -5,6 +5,7 @@ ghost use Rattle.wy_kernel.specs.View.{act, body_of, expression, place};
 ghost use Rattle.wy_kernel.specs.Form as kernel;
 ghost use Rattle.wy_kernel.specs.Builtin.{method_site};
 ghost use Rattle.wy_library.specs.Library as library;
+ghost use Rattle.wy_kernel.specs.Program.{library_methods};
 
 use crate::form::{
     self, boxed, call_on_this, equal, field, join, null, on_this, other, read, set, text, this,
@@ -26,7 +27,7 @@ pub fn plain_throwable(alloc: Global) -> Result<Option<Body>, AllocError>
 
 // The field of `this` that has the message, by the method that speaks of it.
 fn message(alloc: Global, method: u32) -> Result<Place, AllocError>
-    requires { method < 36 }
+    requires { method < library_methods }
     ensures { IfOk result (λ p. place p ≡ kernel.Field library.this_form 0 (method_site method)) }
 {
     Ok(field(boxed(alloc, this())?, 0, site_of(method)))

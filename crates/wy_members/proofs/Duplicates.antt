@@ -9,7 +9,7 @@ use Rattle.wy_syntax.specs.Syntax as syntax
 use Rattle.wy_members.specs.Least.{IsLeast}
 use Rattle.wy_members.specs.Within.{ModifierTwice, ParameterTwice, RepeatsInMember, RepeatsInClass, RepeatsIn}
 use Rattle.wy_members.specs.Declarations.{CompilationUnit, classes_of, table}
-use Rattle.wy_members.specs.Broken.{known_part, modifiers_of, modifiers_in, header_of, HasMember, IsWritten, IsDuplicate, again_class, reserved, again_field, again_method, again_parameter, again_modifier}
+use Rattle.wy_members.specs.Broken.{known_part, modifiers_of, modifiers_in, header_of, HasMember, IsSourceClass, IsDuplicate, again_class, reserved, again_field, again_method, again_parameter, again_modifier}
 use Rattle.wy_members.proofs.Contained.{contained, placed, in_mapped, of_mapped, in_numbered, of_numbered}
 use Rattle.wy_members.proofs.Leasts.{like}
 
@@ -83,7 +83,7 @@ module _ (unit : CompilationUnit) where
   class_with : (i : ℕ) (k : ClassSyntax) (j : ℕ) (m : Member) → slice_get (classes_of unit) i ≡ Some k → slice_get k.members j ≡ Some m → (n : ℕ) → RepeatsInMember m n → Repeats unit n
   class_with i k j m there here n r = inr (inr (i, k, there, inr (inr (j, m, here, r))))
 
-  written_at : (c : ℕ) (k : ClassSyntax) → IsWritten unit c k → (i : ℕ) × (slice_get (classes_of unit) i ≡ Some k)
+  written_at : (c : ℕ) (k : ClassSyntax) → IsSourceClass unit c k → (i : ℕ) × (slice_get (classes_of unit) i ≡ Some k)
   written_at c k w = let at = of_numbered first_source_class (classes_of unit) c k w in (at.0, at.1)
 
   one_in : {X : Type 0} (x y : X) → Contains (y ∷ []) x → y ≡ x

@@ -7,7 +7,7 @@ use Rattle.wy_constant.specs.declared.rule.Rule.TheVariants as rule
 use Rattle.wy_members.specs.declared.broken.breach.Breach.{Breach}
 use Rattle.wy_members.specs.Least.{IsLeast, nowhere, least}
 use Rattle.wy_members.specs.Earlier.{earlier}
-use Rattle.wy_members.specs.Refusal.{place_of, IsRefusal, KeepsRules}
+use Rattle.wy_members.specs.Refusal.{rule_order, IsRefusal, KeepsRules}
 use Rattle.wy_members.specs.Declarations.{CompilationUnit}
 use Rattle.wy_members.specs.Broken.{Breaks}
 
@@ -18,7 +18,7 @@ With B rule Q other n = B other n ⊎ ((other ≡ rule) × Q n)
 pub record IsFirstAt (B : Rule → ℕ → Type 0) (b : Breach) : Type 0 where
   pub broken : B b.rule b.token
   pub least_token : (other : Rule) (n : ℕ) → B other n → b.token ≤ n
-  pub first_rule : (other : Rule) → B other b.token → place_of b.rule ≤ place_of other
+  pub first_rule : (other : Rule) → B other b.token → rule_order b.rule ≤ rule_order other
 
 pub data IsFirst (B : Rule → ℕ → Type 0) : Option Breach → Type 0 where
   keeps : ((other : Rule) (n : ℕ) → B other n → ⊥) → IsFirst B Absent
@@ -30,11 +30,11 @@ Nothing other n = ⊥
 pub none_yet : IsFirst Nothing Absent
 none_yet = keeps (λ other n h. h)
 
-same_place : (a b : Rule) → a ≡ b → place_of b ≤ place_of a
-same_place a b e = let f = ap place_of e in omega arith
+same_place : (a b : Rule) → a ≡ b → rule_order b ≤ rule_order a
+same_place a b e = let f = ap rule_order e in omega arith
 
 module _ (B : Rule → ℕ → Type 0) (r : Rule) (Q : ℕ → Type 0) where
-  more : (b : Breach) (t : ℕ) → IsFirstAt B b → Q t → ((n : ℕ) → Q n → t ≤ n) → place_of b.rule ≤ place_of r → (c : Bool) → nat_lt t b.token ≡ c → IsFirst (With B r Q) (cond c (Some (record { rule = r; token = t })) (Some b))
+  more : (b : Breach) (t : ℕ) → IsFirstAt B b → Q t → ((n : ℕ) → Q n → t ≤ n) → rule_order b.rule ≤ rule_order r → (c : Bool) → nat_lt t b.token ≡ c → IsFirst (With B r Q) (cond c (Some (record { rule = r; token = t })) (Some b))
   more b t f q low before true is =
       let lt : t < b.token = ltb-true t b.token is in
       breaks (record {
@@ -47,11 +47,11 @@ module _ (B : Rule → ℕ → Type 0) (r : Rule) (Q : ℕ → Type 0) where
       breaks (record {
         broken = inl f.broken;
         least_token = λ other n h. elim h [ inl x ↦ f.least_token other n x | inr y ↦ (let less = low n y.1 in omega arith) ];
-        first_rule = λ other h. elim h [ inl x ↦ f.first_rule other x | inr y ↦ (let e = ap place_of y.0 in omega arith) ];
+        first_rule = λ other h. elim h [ inl x ↦ f.first_rule other x | inr y ↦ (let e = ap rule_order y.0 in omega arith) ];
       })
 
   -- a rule behind those so far
-  pub with_rule : ((other : Rule) (n : ℕ) → B other n → place_of other ≤ place_of r) → (found : Option Breach) (t : Option ℕ) → IsFirst B found → IsLeast Q t → IsFirst (With B r Q) (earlier found r t)
+  pub with_rule : ((other : Rule) (n : ℕ) → B other n → rule_order other ≤ rule_order r) → (found : Option Breach) (t : Option ℕ) → IsFirst B found → IsLeast Q t → IsFirst (With B r Q) (earlier found r t)
   with_rule order Absent Absent (keeps f) (nowhere g) = keeps (λ other n h. elim h [ inl x ↦ f other n x | inr y ↦ g n y.1 ])
   with_rule order (Some b) Absent (breaks f) (nowhere g) =
       breaks (record {
@@ -104,26 +104,26 @@ module _ (unit : CompilationUnit) where
   of_rules rule.NotImplemented n h = inr (refl, h)
   of_rules _ n h = absurd h
 
-  at_most : (r other : Rule) (m n : ℕ) → other ≡ r → place_of r ≡ m → m ≤ n → place_of other ≤ n
-  at_most r other m n e f le = let g = ap place_of e in omega arith
+  at_most : (r other : Rule) (m n : ℕ) → other ≡ r → rule_order r ≡ m → m ≤ n → rule_order other ≤ n
+  at_most r other m n e f le = let g = ap rule_order e in omega arith
 
-  first_order : (other : Rule) (n : ℕ) → First other n → place_of other ≤ 1
-  unfolding place_of
+  first_order : (other : Rule) (n : ℕ) → First other n → rule_order other ≤ 1
+  unfolding rule_order
   first_order other n (inl h) = absurd h
   first_order other n (inr h) = at_most rule.Duplicate other 1 1 h.0 refl (omega arith)
 
-  second_order : (other : Rule) (n : ℕ) → Second other n → place_of other ≤ 2
-  unfolding place_of
+  second_order : (other : Rule) (n : ℕ) → Second other n → rule_order other ≤ 2
+  unfolding rule_order
   second_order other n (inl h) = let le = first_order other n h in omega arith
   second_order other n (inr h) = at_most rule.UnknownName other 2 2 h.0 refl (omega arith)
 
-  third_order : (other : Rule) (n : ℕ) → Third other n → place_of other ≤ 3
-  unfolding place_of
+  third_order : (other : Rule) (n : ℕ) → Third other n → rule_order other ≤ 3
+  unfolding rule_order
   third_order other n (inl h) = let le = second_order other n h in omega arith
   third_order other n (inr h) = at_most rule.Cycle other 3 3 h.0 refl (omega arith)
 
-  fourth_order : (other : Rule) (n : ℕ) → Fourth other n → place_of other ≤ 4
-  unfolding place_of
+  fourth_order : (other : Rule) (n : ℕ) → Fourth other n → rule_order other ≤ 4
+  unfolding rule_order
   fourth_order other n (inl h) = let le = third_order other n h in omega arith
   fourth_order other n (inr h) = at_most rule.BadOverride other 4 4 h.0 refl (omega arith)
 
@@ -140,7 +140,7 @@ module _ (unit : CompilationUnit) where
       IsLeast (Breaks unit rule.Duplicate) d → IsLeast (Breaks unit rule.UnknownName) u → IsLeast (Breaks unit rule.Cycle) c → IsLeast (Breaks unit rule.BadOverride) o → IsLeast (Breaks unit rule.NotImplemented) i →
       a ≡ earlier Absent rule.Duplicate d → b ≡ earlier a rule.UnknownName u → e ≡ earlier b rule.Cycle c → f ≡ earlier e rule.BadOverride o → r ≡ earlier f rule.NotImplemented i →
       MatchOption r (KeepsRules unit) (λ b. IsRefusal unit b.rule b.token)
-  unfolding place_of
+  unfolding rule_order
   first_of_all d u c o i a b e f r is_d is_u is_c is_o is_i of_a of_b of_e of_f of_r =
       let first : IsFirst First a = subst (IsFirst First) (sym of_a) (with_rule Nothing rule.Duplicate (Breaks unit rule.Duplicate) (λ other n h. absurd h) Absent d none_yet is_d) in
       let second : IsFirst Second b = subst (IsFirst Second) (sym of_b) (with_rule First rule.UnknownName (Breaks unit rule.UnknownName) (λ other n h. (let le = first_order other n h in omega arith)) a u first is_u) in

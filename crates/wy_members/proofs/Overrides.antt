@@ -11,7 +11,7 @@ use Rattle.wy_overloads.specs.Choice.{Equivalent}
 use Rattle.wy_members.specs.Least.{Among, Here}
 use Rattle.wy_members.specs.Within.{CycleAt, OverridesAt, InheritsAt, WrongAboveAt, WrongBodyIn, WantsBody, ExtendsWrongly, NotExtended, NamesClass, HasWrongAbove, BadOverridesIn, NotImplementedsIn}
 use Rattle.wy_members.specs.Declarations.{CompilationUnit, classes_of, has, table}
-use Rattle.wy_members.specs.Broken.{compared, IsWritten, HasMember, Extends, Overrides, IsCycle, above_itself, IsJudged, HasWrongSupertype, extends_interface, implements_class, extends_final, extends_library, HasWrongMethod, wrong_result, static_against_instance, overrides_final, inherited_results, inherited_static, IsNotImplemented, declares_abstract, left_in, body_missing, body_too_much, abstract_constructor, static_without_body, private_without_body, header_without_body, header_with_body, constructor_header, Breaks}
+use Rattle.wy_members.specs.Broken.{compared, IsSourceClass, HasMember, Extends, Overrides, IsCycle, above_itself, IsJudged, HasWrongSupertype, extends_interface, implements_class, extends_final, extends_library, HasWrongMethod, wrong_result, static_against_instance, overrides_final, inherited_results, inherited_static, IsNotImplemented, declares_abstract, left_in, body_missing, body_too_much, abstract_constructor, static_without_body, private_without_body, header_without_body, header_with_body, constructor_header, Breaks}
 use Rattle.wy_constant.specs.declared.rule.Rule.TheVariants as rule
 use Rattle.wy_members.proofs.Contained.{contained, placed, in_numbered, of_numbered}
 
@@ -38,7 +38,7 @@ module _ (unit : CompilationUnit) where
   at_token : (c m n : ℕ) → m ≡ n → HasWrongSupertype unit c m → HasWrongSupertype unit c n
   at_token c m n e h = subst (HasWrongSupertype unit c) e h
 
-  extends_wrongly : (c : ℕ) (k : ClassSyntax) → IsWritten unit c k → (above : Option Named) → k.above ≡ above → ExtendsWrongly unit classes above → HasWrongSupertype unit c k.name.token
+  extends_wrongly : (c : ℕ) (k : ClassSyntax) → IsSourceClass unit c k → (above : Option Named) → k.above ≡ above → ExtendsWrongly unit classes above → HasWrongSupertype unit c k.name.token
   extends_wrongly c k w Absent is h = absurd h
   extends_wrongly c k w (Some name) is (d, row, denotes, found, wrong) =
       let extends : Extends unit c k d row = record { name = name; written = w; clause = is; denotes = denotes; found = found } in
@@ -47,7 +47,7 @@ module _ (unit : CompilationUnit) where
         | inr rest ↦ elim rest [ inl f ↦ extends_final extends f | inr l ↦ extends_library extends l.0 l.1 l.2 ]
       ]
 
-  implements_wrongly : (c : ℕ) (k : ClassSyntax) → IsWritten unit c k → (i : ℕ) (name : Named) → slice_get k.interfaces i ≡ Some name → NamesClass unit classes name → HasWrongSupertype unit c k.name.token
+  implements_wrongly : (c : ℕ) (k : ClassSyntax) → IsSourceClass unit c k → (i : ℕ) (name : Named) → slice_get k.interfaces i ≡ Some name → NamesClass unit classes name → HasWrongSupertype unit c k.name.token
   implements_wrongly c k w i name at (d, row, denotes, found, wrong) =
       implements_class (record { name = name; written = w; clause = contained k.interfaces i name at; denotes = denotes; found = found }) wrong
 
@@ -79,7 +79,7 @@ module _ (unit : CompilationUnit) where
   pub override_of_parts : (n : ℕ) → BadOverrides n → Breaks unit rule.BadOverride n
   override_of_parts n h = elim h [ inl s ↦ supertype_of_parts n s | inr rest ↦ elim rest [ inl o ↦ overriding_of_parts n o | inr i ↦ inheriting_of_parts n i ] ]
 
-  above_in_parts : (c : ℕ) (k : ClassSyntax) → IsWritten unit c k → IsJudged unit c → HasWrongAbove unit classes k → BadOverrides k.name.token
+  above_in_parts : (c : ℕ) (k : ClassSyntax) → IsSourceClass unit c k → IsJudged unit c → HasWrongAbove unit classes k → BadOverrides k.name.token
   above_in_parts c k w judged wrong =
       let at = of_numbered first_source_class (classes_of unit) c k w in
       inl (at.0, k, at.1, ((subst (IsJudged unit) (sym at.2) judged, wrong), refl))

@@ -11,8 +11,8 @@ use Rattle.wy_constant.specs.declared.rule.Rule.{Rule}
 use Rattle.wy_constant.specs.declared.rule.Rule.TheVariants as rule
 use Rattle.wy_members.specs.Declarations.{CompilationUnit, classes_of, table, denoted}
 use Rattle.wy_members.specs.Broken as broken
-use Rattle.wy_members.specs.Broken.{Breaks, HasMember, IsWritten, IsDuplicate, IsUnknownName, IsCycle, HasWrongSupertype, HasWrongMethod, IsNotImplemented, compared, known_part, names_in, modifiers_in}
-use Rattle.wy_members.specs.Refusal.{place_of, IsRefusal}
+use Rattle.wy_members.specs.Broken.{Breaks, HasMember, IsSourceClass, IsDuplicate, IsUnknownName, IsCycle, HasWrongSupertype, HasWrongMethod, IsNotImplemented, compared, known_part, names_in, modifiers_in}
+use Rattle.wy_members.specs.Refusal.{rule_order, IsRefusal}
 use Rattle.wy_members.proofs.Written.{class}
 
 both : (a b : Bool) → a && b ≡ true → (a ≡ true) × (b ≡ true)
@@ -39,7 +39,7 @@ no_member {c} {k} h =
     let lt : h.member.0 < length k.members = h.member.1 in
     absurd (omega arith)
 
-written_at : (c : ℕ) (k : ClassSyntax) → IsWritten math c k → 0 < k.name.token
+written_at : (c : ℕ) (k : ClassSyntax) → IsSourceClass math c k → 0 < k.name.token
 written_at c k (i, lt, is) = ltb-true 0 k.name.token (contained_passes (λ (p : ℕ × ClassSyntax). nat_lt 0 p.1.name.token) (enumerate_from 18 (classes_of math)) i (c, k) refl lt is)
 
 class_at : (j : ℕ) (row : Class) → slice_get (table math).classes j ≡ Some row → 0 < row.site
@@ -125,13 +125,13 @@ broken_at rule.BadOverride t (c, judged, inr h) = let lt : 0 < t = wrong_method_
 broken_at rule.NotImplemented t (c, judged, h) = let lt : 0 < t = not_implemented_at h in omega arith
 broken_at _ t h = absurd h
 
-from_the_first : (r : Rule) → 1 ≤ place_of r
-unfolding place_of
+from_the_first : (r : Rule) → 1 ≤ rule_order r
+unfolding rule_order
 from_the_first rule.Duplicate = omega arith
 from_the_first _ = omega arith
 
 refused : IsRefusal math rule.Duplicate 1
-unfolding place_of
+unfolding rule_order
 refused = record {
   broken = broken.reserved (0, omega arith, refl) (3, omega arith, refl);
   least_token = broken_at;

@@ -113,12 +113,12 @@ abbrev pub IsRow : Table → ℕ → Class → Type 0
 IsRow t c row = slice_get t.classes c ≡ Some row
 
 -- class c as it stands in the text
-abbrev pub IsWritten : CompilationUnit → ℕ → ClassSyntax → Type 0
-IsWritten unit c k = Contains (enumerate_from first_source_class (classes_of unit)) (c, k)
+abbrev pub IsSourceClass : CompilationUnit → ℕ → ClassSyntax → Type 0
+IsSourceClass unit c k = Contains (enumerate_from first_source_class (classes_of unit)) (c, k)
 
 -- class c, written as k, has this member
 pub record HasMember (unit : CompilationUnit) (c : ℕ) (k : ClassSyntax) (m : Member) : Type 0 where
-  pub written : IsWritten unit c k
+  pub written : IsSourceClass unit c k
   pub member : Contains k.members m
 
 -- ---- Duplicate
@@ -167,7 +167,7 @@ IsJudged unit c = (d : ℕ) → Supertype (table unit).classes c d → IsAboveIt
 -- class c, written as k, extends class d with this row
 pub record Extends (unit : CompilationUnit) (c : ℕ) (k : ClassSyntax) (d : ℕ) (row : Class) : Type 0 where
   pub name : Named
-  pub written : IsWritten unit c k
+  pub written : IsSourceClass unit c k
   pub clause : k.above ≡ Some name
   pub denotes : denoted unit name.name ≡ Some d
   pub found : IsRow (table unit) d row
@@ -175,7 +175,7 @@ pub record Extends (unit : CompilationUnit) (c : ℕ) (k : ClassSyntax) (d : ℕ
 -- class c, written as k, implements class d with this row, or extends it as an interface does
 pub record Implements (unit : CompilationUnit) (c : ℕ) (k : ClassSyntax) (d : ℕ) (row : Class) : Type 0 where
   pub name : Named
-  pub written : IsWritten unit c k
+  pub written : IsSourceClass unit c k
   pub clause : Contains k.interfaces name
   pub denotes : denoted unit name.name ≡ Some d
   pub found : IsRow (table unit) d row

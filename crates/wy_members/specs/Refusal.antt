@@ -6,28 +6,28 @@ use Rattle.wy_members.specs.Declarations.{CompilationUnit}
 use Rattle.wy_members.specs.Broken.{Breaks}
 
 -- the place of a rule in their order
-unfoldable pub place_of : Rule → ℕ
-place_of rule.Duplicate = 1
-place_of rule.UnknownName = 2
-place_of rule.Cycle = 3
-place_of rule.BadOverride = 4
-place_of rule.NotImplemented = 5
-place_of rule.NoMethod = 6
-place_of rule.Ambiguous = 7
-place_of rule.BadOperand = 8
-place_of rule.BadAssign = 9
-place_of rule.BadCast = 10
-place_of rule.Private = 11
-place_of rule.NotInStatic = 12
-place_of rule.NotOffered = 13
-place_of rule.BadJump = 14
-place_of rule.BadReturn = 15
-place_of rule.NoMain = 16
+unfoldable pub rule_order : Rule → ℕ
+rule_order rule.Duplicate = 1
+rule_order rule.UnknownName = 2
+rule_order rule.Cycle = 3
+rule_order rule.BadOverride = 4
+rule_order rule.NotImplemented = 5
+rule_order rule.NoMethod = 6
+rule_order rule.Ambiguous = 7
+rule_order rule.BadOperand = 8
+rule_order rule.BadAssign = 9
+rule_order rule.BadCast = 10
+rule_order rule.Private = 11
+rule_order rule.NotInStatic = 12
+rule_order rule.NotOffered = 13
+rule_order rule.BadJump = 14
+rule_order rule.BadReturn = 15
+rule_order rule.NoMain = 16
 
 pub record IsRefusal (unit : CompilationUnit) (rule : Rule) (token : ℕ) : Type 0 where
   pub broken : Breaks unit rule token
   pub least_token : (other : Rule) (later : ℕ) → Breaks unit other later → token ≤ later
-  pub first_rule : (other : Rule) → Breaks unit other token → place_of rule ≤ place_of other
+  pub first_rule : (other : Rule) → Breaks unit other token → rule_order rule ≤ rule_order other
 
 -- no rule on declarations is broken
 abbrev pub KeepsRules : CompilationUnit → Type 0

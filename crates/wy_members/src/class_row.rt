@@ -25,7 +25,8 @@ fn superclass(names: &Names, above: &Option<Named>) -> u32
 }
 
 fn interfaces(alloc: Global, names: &Names, written: &[Named]) -> Result<Vec<u32>, AllocError>
-    ensures { IfOk result (λ found. found.items ≡ interfaces_of (unit_of names.now) (map named_of written.now)) }
+    ensures { IfOk result (λ found.
+        found.items ≡ interfaces_of (unit_of names.now) (map named_of written.now)) }
 {
     let mut found = Vec::new(alloc);
     let mut left = written;
@@ -51,7 +52,8 @@ fn above(names: &Names, class: &ClassSyntax) -> u32
 }
 
 fn class_row(alloc: Global, names: &Names, class: &ClassSyntax) -> Result<Class, AllocError>
-    ensures { IfOk result (λ row. class_of row ≡ class_row (unit_of names.now) (class_syntax class.now)) }
+    ensures { IfOk result (λ row.
+        class_of row ≡ class_row (unit_of names.now) (class_syntax class.now)) }
 {
     Ok(Class {
         name: class.name.name.clone()?,
@@ -66,7 +68,8 @@ fn class_row(alloc: Global, names: &Names, class: &ClassSyntax) -> Result<Class,
 
 /// Adds the rows of the classes that a program declares.
 pub fn add_classes(rows: &mut Vec<Class>, alloc: Global, names: &Names) -> Result<(), AllocError>
-    ensures { OnOk result (map class_of rows.new.items ≡ map class_of rows.old.items ++ class_rows (unit_of names.now) (unit_of names.now)) }
+    ensures { OnOk result (map class_of rows.new.items ≡ map class_of rows.old.items
+        ++ class_rows (unit_of names.now) (unit_of names.now)) }
 {
     let mut left = names.unit;
     while let [first, behind @ ..] = left {

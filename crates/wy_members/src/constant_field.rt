@@ -22,7 +22,8 @@ fn initial_value(
     e: &Expression,
 ) -> Result<Option<Const>, AllocError>
     requires { field < length (table_of table.now).fields }
-    ensures { IfOk result (λ c. option_map constant_value c ≡ initial_value_of (table_of table.now) (slice_get (table_of table.now).fields field) (Some (Some (expression_of e.now)))) }
+    ensures { IfOk result (λ c. option_map constant_value c ≡ initial_value_of (table_of table.now)
+        (slice_get (table_of table.now).fields field) (Some (Some (expression_of e.now)))) }
 {
     let row = table.field(field);
     let scope = Scope::new(alloc, row.class, !row.is_static)?;
@@ -40,7 +41,8 @@ fn told(
     field: u32,
 ) -> Result<Option<Const>, AllocError>
     requires { field < length (table_of table.now).fields }
-    ensures { IfOk result (λ c. option_map constant_value c ≡ told (table_of table.now) (initializers_seen all.now) field) }
+    ensures { IfOk result (λ c.
+        option_map constant_value c ≡ told (table_of table.now) (initializers_seen all.now) field) }
 {
     match all.get(field as usize) {
         Some(Some(e)) => initial_value(alloc, table, field, e),
@@ -57,7 +59,8 @@ fn news(
     field: u32,
 ) -> Result<Option<Const>, AllocError>
     requires { field < length (table_of table.now).fields }
-    ensures { IfOk result (λ c. option_map constant_value c ≡ news (table_of table.now) (initializers_seen all.now) field) }
+    ensures { IfOk result (λ c.
+        option_map constant_value c ≡ news (table_of table.now) (initializers_seen all.now) field) }
 {
     if table.field_constant(field).is_some() {
         return Ok(None);
@@ -67,7 +70,8 @@ fn news(
 
 fn learn(table: &mut ClassTable, field: u32, value: Const)
     requires { field < length (table_of table.old).fields }
-    ensures same { table_of table.new ≡ with_constants (table_of table.old) (slice_set (table_of table.old).constants field (Some (constant_value value))) }
+    ensures same { table_of table.new ≡ with_constants (table_of table.old)
+        (slice_set (table_of table.old).constants field (Some (constant_value value))) }
     ensures within { field < length (table_of table.old).constants }
 {
     table.constants[field as usize] = Some(value);
@@ -79,8 +83,11 @@ fn sweep(
     table: &mut ClassTable,
     all: &[Option<&Expression>],
 ) -> Result<bool, AllocError>
-    ensures goes_on { OnOk result (GoesOn (initializers_seen all.now) (table_of table.old) (table_of table.new)) }
-    ensures found { IfOk result (λ found. MatchBool found (unknown (table_of table.new).constants < unknown (table_of table.old).constants) (IsFinished (table_of table.new) (initializers_seen all.now))) }
+    ensures goes_on { OnOk result
+        (GoesOn (initializers_seen all.now) (table_of table.old) (table_of table.new)) }
+    ensures found { IfOk result (λ found. MatchBool found
+        (unknown (table_of table.new).constants < unknown (table_of table.old).constants)
+        (IsFinished (table_of table.new) (initializers_seen all.now))) }
 {
     let mut found = false;
     for field in 0..table.fields() {
@@ -98,7 +105,8 @@ pub fn find_constants(
     table: &mut ClassTable,
     all: &[Option<&Expression>],
 ) -> Result<(), AllocError>
-    ensures goes_on { OnOk result (GoesOn (initializers_seen all.now) (table_of table.old) (table_of table.new)) }
+    ensures goes_on { OnOk result
+        (GoesOn (initializers_seen all.now) (table_of table.old) (table_of table.new)) }
     ensures finished { OnOk result (IsFinished (table_of table.new) (initializers_seen all.now)) }
 {
     loop {

@@ -22,7 +22,8 @@ fn field_row(
     ty: &WrittenType,
     declarator: &Declarator,
 ) -> Result<Field, AllocError>
-    ensures { IfOk result (λ row. field_of row ≡ field_row (unit_of names.now) number (map placed_of modifiers.now) (type_seen ty.now) (declarator_of declarator.now)) }
+    ensures { IfOk result (λ row. field_of row ≡ field_row (unit_of names.now) number
+        (map placed_of modifiers.now) (type_seen ty.now) (declarator_of declarator.now)) }
 {
     let is_final = has(Modifier::Final, modifiers);
     Ok(Field {
@@ -45,7 +46,9 @@ fn add_declared(
     ty: &WrittenType,
     declarators: &[Declarator],
 ) -> Result<(), AllocError>
-    ensures { OnOk result (map field_of rows.new.items ≡ map field_of rows.old.items ++ field_rows (unit_of names.now) number (map placed_of modifiers.now) (type_seen ty.now) (map declarator_of declarators.now)) }
+    ensures { OnOk result (map field_of rows.new.items ≡ map field_of rows.old.items
+        ++ field_rows (unit_of names.now) number (map placed_of modifiers.now) (type_seen ty.now)
+        (map declarator_of declarators.now)) }
 {
     let mut left = declarators;
     while let [first, behind @ ..] = left {
@@ -61,7 +64,8 @@ fn add_member(
     number: u32,
     member: &Member,
 ) -> Result<(), AllocError>
-    ensures { OnOk result (map field_of rows.new.items ≡ map field_of rows.old.items ++ fields_in (unit_of names.now) number (member_of member.now)) }
+    ensures { OnOk result (map field_of rows.new.items ≡ map field_of rows.old.items
+        ++ fields_in (unit_of names.now) number (member_of member.now)) }
 {
     match member {
         Member::Fields {
@@ -86,7 +90,8 @@ fn add_members(
     number: u32,
     members: &[Member],
 ) -> Result<(), AllocError>
-    ensures { OnOk result (map field_of rows.new.items ≡ map field_of rows.old.items ++ fields_among (unit_of names.now) number (map member_of members.now)) }
+    ensures { OnOk result (map field_of rows.new.items ≡ map field_of rows.old.items
+        ++ fields_among (unit_of names.now) number (map member_of members.now)) }
 {
     let mut left = members;
     while let [first, behind @ ..] = left {
@@ -98,7 +103,8 @@ fn add_members(
 
 /// Adds the rows of the fields that a program declares, class by class.
 pub fn add_fields(rows: &mut Vec<Field>, names: &Names) -> Result<(), AllocError>
-    ensures { OnOk result (map field_of rows.new.items ≡ map field_of rows.old.items ++ class_by_class (fields_of (unit_of names.now)) (unit_of names.now)) }
+    ensures { OnOk result (map field_of rows.new.items ≡ map field_of rows.old.items
+        ++ class_by_class (fields_of (unit_of names.now)) (unit_of names.now)) }
 {
     let mut number = FIRST_SOURCE_CLASS;
     let mut left = names.unit;

@@ -14,7 +14,8 @@ use wy_syntax::statement::Declarator;
 
 #[tactic(auto, using(wy_syntax::proofs::ExpressionViews::view_value, wy_syntax::proofs::ExpressionViews::view_listed))]
 fn expression_in(initial: &Option<Initial>) -> Option<&Expression>
-    ensures { option_map (λ e. expression_of e.now) result ≡ expression_in (option_map initial_of initial.now) }
+    ensures { option_map (λ e.
+        expression_of e.now) result ≡ expression_in (option_map initial_of initial.now) }
 {
     match initial {
         Some(Initial::Value { value }) => Some(value),
@@ -29,7 +30,8 @@ fn expression_in(initial: &Option<Initial>) -> Option<&Expression>
 }
 
 fn initializer<'a>(modifiers: &[Placed], declarator: &'a Declarator) -> Option<&'a Expression>
-    ensures { option_map (λ e. expression_of e.now) result ≡ initializer (map placed_of modifiers.now) (declarator_of declarator.now) }
+    ensures { option_map (λ e. expression_of e.now) result
+        ≡ initializer (map placed_of modifiers.now) (declarator_of declarator.now) }
 {
     if has(Modifier::Final, modifiers) {
         expression_in(&declarator.initial)
@@ -43,7 +45,8 @@ fn add_declared<'a>(
     modifiers: &[Placed],
     declarators: &'a [Declarator],
 ) -> Result<(), AllocError>
-    ensures { OnOk result (initializers_seen found.new.items ≡ initializers_seen found.old.items ++ initializer_rows (map placed_of modifiers.now) (map declarator_of declarators.now)) }
+    ensures { OnOk result (initializers_seen found.new.items ≡ initializers_seen found.old.items
+        ++ initializer_rows (map placed_of modifiers.now) (map declarator_of declarators.now)) }
 {
     let mut left = declarators;
     while let [first, behind @ ..] = left {
@@ -57,7 +60,8 @@ fn add_member<'a>(
     found: &mut Vec<Option<&'a Expression>>,
     member: &'a Member,
 ) -> Result<(), AllocError>
-    ensures { OnOk result (initializers_seen found.new.items ≡ initializers_seen found.old.items ++ initializers_in (member_of member.now)) }
+    ensures { OnOk result (initializers_seen found.new.items ≡ initializers_seen found.old.items
+        ++ initializers_in (member_of member.now)) }
 {
     match member {
         Member::Fields {
@@ -73,7 +77,8 @@ fn add_members<'a>(
     found: &mut Vec<Option<&'a Expression>>,
     members: &'a [Member],
 ) -> Result<(), AllocError>
-    ensures { OnOk result (initializers_seen found.new.items ≡ initializers_seen found.old.items ++ initializers_among (map member_of members.now)) }
+    ensures { OnOk result (initializers_seen found.new.items ≡ initializers_seen found.old.items
+        ++ initializers_among (map member_of members.now)) }
 {
     let mut left = members;
     while let [first, behind @ ..] = left {
@@ -89,7 +94,8 @@ pub fn initializers(
     alloc: Global,
     unit: &[Declaration],
 ) -> Result<Vec<Option<&Expression>>, AllocError>
-    ensures { IfOk result (λ found. initializers_seen found.items ≡ initializers (map declaration_of unit.now)) }
+    ensures { IfOk result (λ found.
+        initializers_seen found.items ≡ initializers (map declaration_of unit.now)) }
 {
     // The library has one field.
     let mut found = vec![in alloc; None]?;

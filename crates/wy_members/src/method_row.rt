@@ -26,7 +26,8 @@ fn method_row(
     result_type: Ty,
     form: MethodForm,
 ) -> Result<Method, AllocError>
-    ensures { IfOk result (λ row. method_of row ≡ method_row (unit_of names.now) number (class_syntax class.now) (header_of header.now) name.now result_type form) }
+    ensures { IfOk result (λ row. method_of row ≡ method_row (unit_of names.now) number
+        (class_syntax class.now) (header_of header.now) name.now result_type form) }
 {
     let modifiers = header.modifiers.as_slice();
     Ok(Method {
@@ -60,7 +61,10 @@ fn row_of_method(
     header: &Header,
     outcome: &Outcome,
 ) -> Result<Method, AllocError>
-    ensures { IfOk result (λ row. method_of row ≡ method_row (unit_of names.now) number (class_syntax class.now) (header_of header.now) (header_of header.now).name.name (result_type (unit_of names.now) (outcome_of outcome.now)) (form_of (header_of header.now))) }
+    ensures { IfOk result (λ row.
+        method_of row ≡ method_row (unit_of names.now) number (class_syntax class.now)
+        (header_of header.now) (header_of header.now).name.name (result_type (unit_of names.now)
+        (outcome_of outcome.now)) (form_of (header_of header.now))) }
 {
     let name = header.name.name.as_str();
     let gives = result_type(names, outcome)?;
@@ -75,7 +79,9 @@ fn row_of_constructor(
     class: &ClassSyntax,
     header: &Header,
 ) -> Result<Method, AllocError>
-    ensures { IfOk result (λ row. method_of row ≡ method_row (unit_of names.now) number (class_syntax class.now) (header_of header.now) (codes "new") Ty.Void MethodForm.Constructor) }
+    ensures { IfOk result (λ row.
+        method_of row ≡ method_row (unit_of names.now) number (class_syntax class.now)
+        (header_of header.now) (codes "new") Ty.Void MethodForm.Constructor) }
 {
     let form = MethodForm::Constructor;
     method_row(alloc, names, number, class, header, "new", Ty::Void, form)
@@ -89,7 +95,8 @@ fn row_of_member(
     class: &ClassSyntax,
     member: &Member,
 ) -> Result<Option<Method>, AllocError>
-    ensures { IfOk result (λ row. option_map method_of row ≡ method_in (unit_of names.now) number (class_syntax class.now) (member_of member.now)) }
+    ensures { IfOk result (λ row. option_map method_of row ≡ method_in (unit_of names.now) number
+        (class_syntax class.now) (member_of member.now)) }
 {
     match member {
         Member::Method {
@@ -116,7 +123,8 @@ fn add_declared(
     class: &ClassSyntax,
     members: &[&Member],
 ) -> Result<(), AllocError>
-    ensures { OnOk result (map method_of rows.new.items ≡ map method_of rows.old.items ++ methods_in (unit_of names.now) number (class_syntax class.now) (members_seen members.now)) }
+    ensures { OnOk result (map method_of rows.new.items ≡ map method_of rows.old.items ++ methods_in
+        (unit_of names.now) number (class_syntax class.now) (members_seen members.now)) }
 {
     let mut left = members;
     while let [first, behind @ ..] = left {
@@ -135,7 +143,8 @@ fn implied(
     name: &str,
     form: MethodForm,
 ) -> Result<Method, AllocError>
-    ensures { IfOk result (λ row. method_of row ≡ implied number (class_syntax class.now) name.now form) }
+    ensures { IfOk result (λ row.
+        method_of row ≡ implied number (class_syntax class.now) name.now form) }
 {
     Ok(Method {
         name: name.to_string(alloc)?,
@@ -233,7 +242,8 @@ fn add_fields_unit(
     class: &ClassSyntax,
     members: &[&Member],
 ) -> Result<(), AllocError>
-    ensures { OnOk result (map method_of rows.new.items ≡ map method_of rows.old.items ++ fields_unit number (with_members (class_syntax class.now) (members_seen members.now))) }
+    ensures { OnOk result (map method_of rows.new.items ≡ map method_of rows.old.items
+        ++ fields_unit number (with_members (class_syntax class.now) (members_seen members.now))) }
 {
     if some_initializes_objects(members) {
         rows.push(implied(alloc, number, class, "<fields>", MethodForm::Fields)?)?;
@@ -248,7 +258,9 @@ fn add_implied_constructor(
     class: &ClassSyntax,
     members: &[&Member],
 ) -> Result<(), AllocError>
-    ensures { OnOk result (map method_of rows.new.items ≡ map method_of rows.old.items ++ implied_constructor number (with_members (class_syntax class.now) (members_seen members.now))) }
+    ensures { OnOk result
+        (map method_of rows.new.items ≡ map method_of rows.old.items ++ implied_constructor number
+        (with_members (class_syntax class.now) (members_seen members.now))) }
 {
     if !(class.is_interface || some_is_constructor(members)) {
         rows.push(implied(alloc, number, class, "new", MethodForm::Constructor)?)?;
@@ -265,7 +277,9 @@ pub fn add_methods_of(
     class: &ClassSyntax,
     members: &[&Member],
 ) -> Result<(), AllocError>
-    ensures { OnOk result (map method_of rows.new.items ≡ map method_of rows.old.items ++ methods_of (unit_of names.now) number (with_members (class_syntax class.now) (members_seen members.now))) }
+    ensures { OnOk result (map method_of rows.new.items ≡ map method_of rows.old.items
+        ++ methods_of (unit_of names.now) number
+        (with_members (class_syntax class.now) (members_seen members.now))) }
 {
     add_fields_unit(rows, alloc, number, class, members)?;
     add_implied_constructor(rows, alloc, number, class, members)?;
@@ -273,7 +287,8 @@ pub fn add_methods_of(
 }
 
 fn members_of(alloc: Global, class: &ClassSyntax) -> Result<Vec<&Member>, AllocError>
-    ensures { IfOk result (λ members. members_seen members.items ≡ map member_of class.now.members.items) }
+    ensures { IfOk result (λ members.
+        members_seen members.items ≡ map member_of class.now.members.items) }
 {
     let mut members = Vec::new(alloc);
     let mut left = class.members.as_slice();
@@ -286,7 +301,8 @@ fn members_of(alloc: Global, class: &ClassSyntax) -> Result<Vec<&Member>, AllocE
 
 /// Adds the rows of the methods that a program declares or implies, class by class.
 pub fn add_methods(rows: &mut Vec<Method>, alloc: Global, names: &Names) -> Result<(), AllocError>
-    ensures { OnOk result (map method_of rows.new.items ≡ map method_of rows.old.items ++ class_by_class (methods_of (unit_of names.now)) (unit_of names.now)) }
+    ensures { OnOk result (map method_of rows.new.items ≡ map method_of rows.old.items
+        ++ class_by_class (methods_of (unit_of names.now)) (unit_of names.now)) }
 {
     let mut number = FIRST_SOURCE_CLASS;
     let mut left = names.unit;

@@ -22,7 +22,8 @@ pub struct Names<'a> {
     pub unit: &'a [Declaration],
     numbers: HashMap<String, u32>,
     ghost few: { length (class_names (map declaration_of unit.now)) < no_site },
-    ghost exact: { (name : List ℕ) → get_by_text numbers name ≡ denoted (map declaration_of unit.now) name },
+    ghost exact: { (name : List ℕ)
+        → get_by_text numbers name ≡ denoted (map declaration_of unit.now) name },
 }
 
 impl Names<'_> {
@@ -53,7 +54,8 @@ fn number(
     name: &str,
     next: u32,
 ) -> Result<(), AllocError>
-    ensures { OnOk result ((q : List ℕ) → get_by_text numbers.new q ≡ numbered_also (get_by_text numbers.old q) (bytes_eq q name.now) next) }
+    ensures { OnOk result ((q : List ℕ) → get_by_text numbers.new q
+        ≡ numbered_also (get_by_text numbers.old q) (bytes_eq q name.now) next) }
 {
     if !numbers.contains_key(name) {
         numbers.insert(name.to_string(alloc)?, next)?;
@@ -78,7 +80,8 @@ fn number_classes(
     classes: &[Class],
 ) -> Result<u32, AllocError>
     ensures many { IfOk result (λ n. n ≡ length classes.now) }
-    ensures numbered { OnOk result ((q : List ℕ) → get_by_text numbers.new q ≡ numbered_all q (get_by_text numbers.old q) 0 (map name_of (map class_of classes.now))) }
+    ensures numbered { OnOk result ((q : List ℕ) → get_by_text numbers.new q
+        ≡ numbered_all q (get_by_text numbers.old q) 0 (map name_of (map class_of classes.now))) }
 {
     let mut next = 0;
     let mut left = classes;
@@ -96,9 +99,11 @@ fn number_declarations(
     unit: &[Declaration],
     first_number: u32,
 ) -> Result<u32, AllocError>
-    ensures many { IfOk result (λ n. n ≡ first_number + length (written_names (map declaration_of unit.now))) }
+    ensures many { IfOk result (λ n.
+        n ≡ first_number + length (written_names (map declaration_of unit.now))) }
     ensures few { IfOk result (λ n. first_number < no_site → n < no_site) }
-    ensures numbered { OnOk result ((q : List ℕ) → get_by_text numbers.new q ≡ numbered_all q (get_by_text numbers.old q) first_number (written_names (map declaration_of unit.now))) }
+    ensures numbered { OnOk result ((q : List ℕ) → get_by_text numbers.new q ≡ numbered_all q
+        (get_by_text numbers.old q) first_number (written_names (map declaration_of unit.now))) }
 {
     let mut next = first_number;
     let mut left = unit;

@@ -29,7 +29,8 @@ fn unknown() -> Option<Const>
 
 // A place for the constant of each field.
 fn no_constants(alloc: Global, fields: &[Field]) -> Result<Vec<Option<Const>>, AllocError>
-    ensures { IfOk result (λ places. map (option_map constant_value) places.items ≡ no_constants (map field_of fields.now)) }
+    ensures { IfOk result (λ places.
+        map (option_map constant_value) places.items ≡ no_constants (map field_of fields.now)) }
 {
     let mut places = Vec::new(alloc);
     let mut left = fields;

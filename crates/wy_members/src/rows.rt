@@ -40,7 +40,8 @@ pub fn rows_of(alloc: Global, names: &Names) -> Result<Rows, AllocError>
 
 #[tactic(auto, unfolding(crate::specs::Declarations::table))]
 fn all_classes(alloc: Global, names: &Names) -> Result<Vec<Class>, AllocError>
-    ensures value { IfOk result (λ rows. map class_of rows.items ≡ (table (unit_of names.now)).classes) }
+    ensures value { IfOk result (λ rows.
+        map class_of rows.items ≡ (table (unit_of names.now)).classes) }
     ensures few { IfOk result (λ rows. length rows.items < no_site) }
 {
     let mut rows = builtin::classes(alloc)?;
@@ -54,7 +55,8 @@ fn all_classes(alloc: Global, names: &Names) -> Result<Vec<Class>, AllocError>
 
 #[tactic(auto, unfolding(crate::specs::Declarations::table))]
 fn all_methods(alloc: Global, names: &Names) -> Result<Vec<Method>, AllocError>
-    ensures value { IfOk result (λ rows. map method_of rows.items ≡ (table (unit_of names.now)).methods) }
+    ensures value { IfOk result (λ rows.
+        map method_of rows.items ≡ (table (unit_of names.now)).methods) }
     ensures few { IfOk result (λ rows. length rows.items < no_site) }
 {
     let mut rows = builtin::methods(alloc)?;
@@ -68,7 +70,8 @@ fn all_methods(alloc: Global, names: &Names) -> Result<Vec<Method>, AllocError>
 
 #[tactic(auto, unfolding(crate::specs::Declarations::table))]
 fn all_fields(alloc: Global, names: &Names) -> Result<Vec<Field>, AllocError>
-    ensures value { IfOk result (λ rows. map field_of rows.items ≡ (table (unit_of names.now)).fields) }
+    ensures value { IfOk result (λ rows.
+        map field_of rows.items ≡ (table (unit_of names.now)).fields) }
     ensures few { IfOk result (λ rows. length rows.items < no_site) }
 {
     let mut rows = builtin::fields(alloc)?;

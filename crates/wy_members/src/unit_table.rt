@@ -24,7 +24,8 @@ use wy_syntax::declaration::Declaration;
 pub fn class_table_of(alloc: Global, unit: &[Declaration]) -> Result<ClassTable, TypeError>
     ensures table { IfOk result (λ t. IsTableOf (map declaration_of unit.now) (table_of t)) }
     ensures keeps { OnOk result (KeepsRules (map declaration_of unit.now)) }
-    ensures refused { (rule : Rule) (token : ℕ) → result ≡ Err (TypeError.Broken rule token) → IsRefusal (map declaration_of unit.now) rule token }
+    ensures refused { (rule : Rule) (token : ℕ) → result ≡ Err (TypeError.Broken rule token)
+        → IsRefusal (map declaration_of unit.now) rule token }
 {
     match names_of(alloc, unit) {
         Ok(names) => table_of_names(alloc, &names),
@@ -35,7 +36,8 @@ pub fn class_table_of(alloc: Global, unit: &[Declaration]) -> Result<ClassTable,
 fn table_of_names(alloc: Global, names: &Names) -> Result<ClassTable, TypeError>
     ensures table { IfOk result (λ t. IsTableOf (unit_of names.now) (table_of t)) }
     ensures keeps { OnOk result (KeepsRules (unit_of names.now)) }
-    ensures refused { (rule : Rule) (token : ℕ) → result ≡ Err (TypeError.Broken rule token) → IsRefusal (unit_of names.now) rule token }
+    ensures refused { (rule : Rule) (token : ℕ) → result ≡ Err (TypeError.Broken rule token)
+        → IsRefusal (unit_of names.now) rule token }
 {
     match rows_of(alloc, names) {
         Ok(rows) => table_of_rows(alloc, names, rows),
@@ -47,7 +49,8 @@ fn table_of_rows(alloc: Global, names: &Names, rows: Rows) -> Result<ClassTable,
     requires { AreRows (unit_of names.now) rows }
     ensures table { IfOk result (λ t. IsTableOf (unit_of names.now) (table_of t)) }
     ensures keeps { OnOk result (KeepsRules (unit_of names.now)) }
-    ensures refused { (rule : Rule) (token : ℕ) → result ≡ Err (TypeError.Broken rule token) → IsRefusal (unit_of names.now) rule token }
+    ensures refused { (rule : Rule) (token : ℕ) → result ≡ Err (TypeError.Broken rule token)
+        → IsRefusal (unit_of names.now) rule token }
 {
     match refusal(alloc, names, &rows) {
         Ok(found) => table_or_refusal(alloc, names, rows, found),
@@ -63,10 +66,12 @@ fn table_or_refusal(
     found: Option<Breach>,
 ) -> Result<ClassTable, TypeError>
     requires rows { AreRows (unit_of names.now) rows }
-    requires judged { MatchOption found (KeepsRules (unit_of names.now)) (λ b. IsRefusal (unit_of names.now) b.rule b.token) }
+    requires judged { MatchOption found (KeepsRules (unit_of names.now)) (λ b.
+        IsRefusal (unit_of names.now) b.rule b.token) }
     ensures table { IfOk result (λ t. IsTableOf (unit_of names.now) (table_of t)) }
     ensures keeps { OnOk result (KeepsRules (unit_of names.now)) }
-    ensures refused { (rule : Rule) (token : ℕ) → result ≡ Err (TypeError.Broken rule token) → IsRefusal (unit_of names.now) rule token }
+    ensures refused { (rule : Rule) (token : ℕ) → result ≡ Err (TypeError.Broken rule token)
+        → IsRefusal (unit_of names.now) rule token }
 {
     match found {
         Some(breach) => Err(TypeError::Broken {

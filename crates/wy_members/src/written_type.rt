@@ -70,7 +70,8 @@ pub fn parameter_types(
     names: &Names,
     params: &[Parameter],
 ) -> Result<Vec<Ty>, AllocError>
-    ensures { IfOk result (λ types. types.items ≡ types_of (unit_of names.now) (map parameter_of params.now)) }
+    ensures { IfOk result (λ types.
+        types.items ≡ types_of (unit_of names.now) (map parameter_of params.now)) }
 {
     let mut types = Vec::new(alloc);
     let mut left = params;

@@ -128,7 +128,8 @@ impl Operands {
     fn place_of_uses(&self, above: usize) -> (usize, usize)
         ensures in_order { result.0 ≤ result.1 }
         ensures within { result.1 ≤ length self.now.uses.items }
-        ensures uses { slice_range self.now.uses.items result.0 result.1 ≡ (at above (values_of self.now)).uses }
+        ensures uses { slice_range self.now.uses.items result.0 result.1
+            ≡ (at above (values_of self.now)).uses }
     {
         if above >= self.values.len() {
             return (0, 0);
@@ -212,7 +213,8 @@ impl Operands {
 
     /// Puts a value made of the last ones and of one more in their place.
     pub fn join_with(&mut self, many: usize, value: Value, used: Use) -> Result<(), AllocError>
-        ensures { OnOk result (values_of self.new ≡ joined_with many value used (values_of self.old)) }
+        ensures { OnOk result
+            (values_of self.new ≡ joined_with many value used (values_of self.old)) }
     {
         let from = self.beginning_of_last(many);
         forget_last(&mut self.values, many);
@@ -223,7 +225,8 @@ impl Operands {
 
     /// Puts the value of an event in place of the last ones.
     pub fn replace(&mut self, many: usize, value: Value, event: u32) -> Result<(), AllocError>
-        ensures { OnOk result (values_of self.new ≡ with_event many value event (values_of self.old)) }
+        ensures { OnOk result
+            (values_of self.new ≡ with_event many value event (values_of self.old)) }
     {
         self.drop_last(many);
         self.push_with(value, Use::Value { event })

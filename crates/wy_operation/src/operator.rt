@@ -127,7 +127,7 @@ fn fits_unary(op: UnOp, value: Value) -> bool
 }
 
 /// The value in a primitive type, where it can be converted to that.
-pub fn converted(to: Primitive, value: Value) -> Option<Value>
+pub fn convert_to(to: Primitive, value: Value) -> Option<Value>
     ensures { MatchOption result (can_convert to value ≡ false) (λ v. v ≡ converted to value) }
 {
     if !can_convert(to, value) {

@@ -13,4 +13,4 @@ mod two;
 pub use found::Found;
 pub use operation::library;
 pub use printing::{print_nothing, print_text};
-pub use text::{join_texts, make_text, spelled, text_equals};
+pub use text::{join_texts, make_text, spelling_units, text_equals};

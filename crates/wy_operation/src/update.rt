@@ -12,7 +12,7 @@ ghost use Rattle.wy_state.specs.Seen.{valued};
 ghost use Rattle.wy_steps.specs.Sets.{nothing};
 
 use crate::exception::{ARITHMETIC, fail};
-use crate::operator::{Operated, binary_of, converted, is_shift};
+use crate::operator::{Operated, binary_of, convert_to, is_shift};
 use crate::place::assign;
 use wy_event::record::{Slot, Use};
 use wy_kernel::operator::{BinOp, Primitive};
@@ -42,7 +42,8 @@ pub fn update<R: Recorder>(
     operands: &[Use],
     uses: &[Use],
 ) -> Result<(Value, u32), Halt>
-    ensures step { (p : Program) (w : World nothing) (o : Places slot old right operands.now uses.now)
+    ensures step { (p : Program) (w : World nothing)
+        (o : Places slot old right operands.now uses.now)
         → w.program ≡ p → Answers p (λ r. valued r.1 r.0) result (shape R.keeps R.kept state.old)
         (updated w form.op form.ty form.wide form.site o.spot o.old o.value)
         (shape R.keeps R.kept state.new) }
@@ -65,7 +66,7 @@ pub fn update<R: Recorder>(
 fn operated(op: BinOp, wide: Primitive, left: Value, right: Value) -> Operated
     ensures { DoneAs result (operated op wide left right) }
 {
-    let Some(left) = converted(wide, left) else {
+    let Some(left) = convert_to(wide, left) else {
         return Operated::Unfit;
     };
     let Some(right) = right_operand(op, wide, right) else {
@@ -80,7 +81,7 @@ fn right_operand(op: BinOp, wide: Primitive, right: Value) -> Option<Value>
     if is_shift(op) {
         return promoted(right);
     }
-    converted(wide, right)
+    convert_to(wide, right)
 }
 
 /// Unary promotion (JLS 5.6.1).
@@ -90,7 +91,7 @@ fn promoted(value: Value) -> Option<Value>
 {
     match value {
         Value::Long(n) => Some(Value::Long(n)),
-        _ => converted(Primitive::Int, value),
+        _ => convert_to(Primitive::Int, value),
     }
 }
 
@@ -102,7 +103,7 @@ fn primitive_of(ty: Ty, value: Value) -> Option<Value>
         Ty::Of {
             base: Base::Primitive(to),
             brackets: 0,
-        } => converted(to, value),
+        } => convert_to(to, value),
         _ => Some(value),
     }
 }

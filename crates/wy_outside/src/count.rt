@@ -7,7 +7,7 @@ use crate::shelf::ShelfError;
 use crate::source::SourceError;
 
 /// The count once one more was counted.
-pub fn raised(count: u64) -> u64
+pub fn one_more(count: u64) -> u64
     ensures value { result ≡ count_after count 1 }
     ensures rose { Rose count result }
     ensures kept { count ≤ result }
@@ -49,12 +49,12 @@ impl ShelfCounts {
         ensures fulls_kept { self.old.fulls ≤ self.new.fulls }
         ensures gets_kept { self.old.gets ≤ self.new.gets }
     {
-        self.gets = raised(self.gets);
+        self.gets = one_more(self.gets);
         match answer {
-            Ok(bytes) if bytes.len() == max as usize => self.fulls = raised(self.fulls),
+            Ok(bytes) if bytes.len() == max as usize => self.fulls = one_more(self.fulls),
             Ok(_) | Err(ShelfError::NoMemory) => {}
-            Err(ShelfError::Failed) => self.faults = raised(self.faults),
-            Err(ShelfError::Absent) => self.misses = raised(self.misses),
+            Err(ShelfError::Failed) => self.faults = one_more(self.faults),
+            Err(ShelfError::Absent) => self.misses = one_more(self.misses),
         }
     }
 }
@@ -87,7 +87,7 @@ impl SourceCounts {
     {
         match answer {
             Ok(bytes) => self.taken = self.taken.saturating_add(bytes.len() as u64),
-            Err(SourceError::Failed) => self.faults = raised(self.faults),
+            Err(SourceError::Failed) => self.faults = one_more(self.faults),
             Err(SourceError::NoMemory) => {}
         }
     }

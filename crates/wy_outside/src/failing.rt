@@ -2,7 +2,7 @@
 ghost use Rattle.std.specs.Prelude.{◌≡◌};
 ghost use Rattle.wy_outside.specs.Failing.{uncalled, fails_next, after_call};
 
-use crate::count::raised;
+use crate::count::one_more;
 
 /// The numbers of the calls that fail, counted from 1, and how many calls were made.
 #[derive(Drop)]
@@ -23,7 +23,7 @@ impl FailingCalls {
         ensures fails { result ≡ fails_next self.old }
         ensures counted { self.new ≡ after_call self.old }
     {
-        self.calls = raised(self.calls);
+        self.calls = one_more(self.calls);
         let call = self.calls;
         self.numbers.iter().any(|number| u64::from(*number) == call)
     }

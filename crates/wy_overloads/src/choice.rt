@@ -23,8 +23,10 @@ pub fn choose(
     args: &[Ty],
     token: u32,
 ) -> Result<u32, TypeError>
-    ensures chosen { (m : ℕ) → (result ≡ Ok m) ↔ Chosen (table_of table.now) receiver.now name.now args.now m }
-    ensures refused { (rule : Rule) → (result ≡ Err (TypeError.Broken rule token)) ↔ Refused (table_of table.now) receiver.now name.now args.now rule }
+    ensures chosen { (m : ℕ) → (result ≡ Ok m)
+        ↔ Chosen (table_of table.now) receiver.now name.now args.now m }
+    ensures refused { (rule : Rule) → (result ≡ Err (TypeError.Broken rule token))
+        ↔ Refused (table_of table.now) receiver.now name.now args.now rule }
     ensures no_memory { result ≢ Err TypeError.NoMemory }
 {
     let lineage = Lineage::of_table(table);
@@ -38,7 +40,8 @@ pub fn choose(
 }
 
 fn chosen(lineage: &Lineage, ty: &Ty, name: &str, args: &[Ty]) -> Option<u32>
-    ensures { MatchOption result ((k : ℕ) → Chosen (lineage_of lineage.now) ty.now name.now args.now k → ⊥) (λ k. Chosen (lineage_of lineage.now) ty.now name.now args.now k) }
+    ensures { MatchOption result ((k : ℕ) → Chosen (lineage_of lineage.now) ty.now name.now args.now
+        k → ⊥) (λ k. Chosen (lineage_of lineage.now) ty.now name.now args.now k) }
 {
     for k in 0..lineage.methods() {
         if is_chosen(lineage, ty, name, args, k, lineage.method(k)) {
@@ -59,7 +62,8 @@ fn is_chosen(lineage: &Lineage, ty: &Ty, name: &str, args: &[Ty], k: u32, m: &Me
 
 // The rule by which there is no choice.
 fn refusal(lineage: &Lineage, ty: &Ty, name: &str, args: &[Ty]) -> Rule
-    ensures { ((k : ℕ) → Chosen (lineage_of lineage.now) ty.now name.now args.now k → ⊥) → Refused (lineage_of lineage.now) ty.now name.now args.now result }
+    ensures { ((k : ℕ) → Chosen (lineage_of lineage.now) ty.now name.now args.now k → ⊥)
+        → Refused (lineage_of lineage.now) ty.now name.now args.now result }
 {
     if some_applies(lineage, ty, name, args) {
         Rule::Ambiguous
@@ -71,13 +75,15 @@ fn refusal(lineage: &Lineage, ty: &Ty, name: &str, args: &[Ty]) -> Rule
 }
 
 fn applies(lineage: &Lineage, ty: &Ty, name: &str, args: &[Ty], m: &Method) -> bool
-    ensures { IsTrue result ↔ Applies (lineage_of lineage.now).classes ty.now name.now args.now (method_of m.now) }
+    ensures { IsTrue result
+        ↔ Applies (lineage_of lineage.now).classes ty.now name.now args.now (method_of m.now) }
 {
     is_member(lineage, ty, name, m) && are_below(lineage, args, m.params.as_slice())
 }
 
 fn is_most_specific(lineage: &Lineage, ty: &Ty, name: &str, args: &[Ty], m: &Method) -> bool
-    ensures { IsTrue result ↔ IsMostSpecific (lineage_of lineage.now) ty.now name.now args.now (method_of m.now) }
+    ensures { IsTrue result
+        ↔ IsMostSpecific (lineage_of lineage.now) ty.now name.now args.now (method_of m.now) }
 {
     for j in 0..lineage.methods() {
         let other = lineage.method(j);

@@ -40,7 +40,8 @@ fn is_nearest(lineage: &Lineage, ty: &Ty, k: u32, m: &Method) -> bool
 
 // Whether method `j`, if a class declares it, is declared by a class above that of method `k`, or behind it in the same class.
 fn is_further(lineage: &Lineage, k: u32, m: &Method, j: u32, other: &Method) -> bool
-    ensures { IsTrue result ↔ IsFurther (lineage_of lineage.now).classes k (method_of m.now) j (method_of other.now) }
+    ensures { IsTrue result
+        ↔ IsFurther (lineage_of lineage.now).classes k (method_of m.now) j (method_of other.now) }
 {
     if other.class == m.class && j < k {
         return false;
@@ -64,7 +65,8 @@ fn has_lowest_result(lineage: &Lineage, ty: &Ty, k: u32, m: &Method) -> bool
 }
 
 fn has_higher_result(lineage: &Lineage, k: u32, m: &Method, j: u32, other: &Method) -> bool
-    ensures { IsTrue result ↔ HasHigherResult (lineage_of lineage.now).classes k (method_of m.now) j (method_of other.now) }
+    ensures { IsTrue result ↔ HasHigherResult (lineage_of lineage.now).classes k (method_of m.now) j
+        (method_of other.now) }
 {
     if is_same_type(&other.result, &m.result) && j < k {
         return false;

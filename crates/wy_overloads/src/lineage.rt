@@ -17,7 +17,8 @@ pub struct Lineage<'a> {
     /// For each class, all classes and interfaces at or above it.
     pub supertypes: &'a [Vec<u32>],
     pub ghost has_top: { ∥ HasTop (map class_of classes.now) ∥₁ },
-    pub ghost keeps_supertypes: { ∥ KeepsSupertypes (map class_of classes.now) (map (λ row. row.items) supertypes.now) ∥₁ },
+    pub ghost keeps_supertypes: { ∥ KeepsSupertypes (map class_of classes.now)
+        (map (λ row. row.items) supertypes.now) ∥₁ },
     pub ghost few_classes: { length classes.now < 4294967295 },
     pub ghost few_methods: { length methods.now < 4294967295 },
 }
@@ -48,10 +49,16 @@ impl<'a> Lineage<'a> {
     /// These classes and methods, and what is at or above each class.
     pub fn of_rows(classes: &'a [Class], methods: &'a [Method], supertypes: &'a [Vec<u32>]) -> Self
         requires has_top { HasTop (map class_of classes.now) }
-        requires keeps_supertypes { KeepsSupertypes (map class_of classes.now) (map (λ row. row.items) supertypes.now) }
+        requires keeps_supertypes { KeepsSupertypes (map class_of classes.now)
+            (map (λ row. row.items) supertypes.now) }
         requires few_classes { length classes.now < no_site }
         requires few_methods { length methods.now < no_site }
-        ensures { lineage_of result ≡ record { classes = map class_of classes.now; methods = map method_of methods.now; fields = []; constants = [] } }
+        ensures { lineage_of result ≡ record {
+          classes = map class_of classes.now;
+          methods = map method_of methods.now;
+          fields = [];
+          constants = [];
+        } }
     {
         Lineage {
             classes,

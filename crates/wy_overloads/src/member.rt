@@ -25,7 +25,8 @@ pub fn type_of_class(class: u32) -> Ty
 
 /// Whether a type has this method, by this name.
 pub fn is_member(lineage: &Lineage, ty: &Ty, name: &str, m: &Method) -> bool
-    ensures { IsTrue result ↔ IsMember (lineage_of lineage.now).classes ty.now name.now (method_of m.now) }
+    ensures { IsTrue result
+        ↔ IsMember (lineage_of lineage.now).classes ty.now name.now (method_of m.now) }
 {
     m.name.as_str() == name && is_declared_for(lineage, ty, m.class, m.form)
 }

@@ -49,7 +49,8 @@ pub fn is_substitutable(lineage: &Lineage, a: &Ty, b: &Ty) -> bool
 
 /// Whether a type has the other method with the name and the parameter types of this one.
 pub fn is_equivalent(lineage: &Lineage, ty: &Ty, m: &Method, other: &Method) -> bool
-    ensures { IsTrue result ↔ IsEquivalent (lineage_of lineage.now).classes ty.now (method_of m.now) (method_of other.now) }
+    ensures { IsTrue result ↔ IsEquivalent (lineage_of lineage.now).classes ty.now (method_of m.now)
+        (method_of other.now) }
 {
     is_member(lineage, ty, m.name.as_str(), other)
         && are_same_types(other.params.as_slice(), m.params.as_slice())

@@ -98,7 +98,8 @@ pub fn is_reference(ty: &Ty) -> bool
 
 // Whether `lower` is below `upper` where both have so many brackets.
 fn is_base_below(lineage: &Lineage, lower: Base, upper: Base, brackets: u8) -> bool
-    ensures { IsTrue result ↔ Below (lineage_of lineage.now).classes (Ty.Of lower brackets) (Ty.Of upper brackets) }
+    ensures { IsTrue result
+        ↔ Below (lineage_of lineage.now).classes (Ty.Of lower brackets) (Ty.Of upper brackets) }
 {
     match (lower, upper) {
         (Base::Class(c), Base::Class(d)) => d == OBJECT || is_supertype(lineage, c, d),

@@ -13,7 +13,8 @@ use wy_tree::kind::{Kind, is_kind};
 
 #[tactic(auto, unfolding(crate::specs::Prediction::predict_unary))]
 fn unary_ways(pending: &mut Vec<Item>, symbols: &[Symbol]) -> Result<(), AllocError>
-    ensures { OnOk result (reverse pending.new.items ≡ unary_way (symbols_seen symbols.now) ++ reverse pending.old.items) }
+    ensures { OnOk result (reverse pending.new.items ≡ unary_way (symbols_seen symbols.now)
+        ++ reverse pending.old.items) }
 {
     let first = front_kind(symbols);
     if is_kind(first, Kind::Minus) {
@@ -36,7 +37,8 @@ pub fn operator_ways(
     row: Row,
     symbols: &[Symbol],
 ) -> Result<(), AllocError>
-    ensures { OnOk result (reverse pending.new.items ≡ operator_way row (symbols_seen symbols.now) ++ reverse pending.old.items) }
+    ensures { OnOk result (reverse pending.new.items ≡ operator_way row (symbols_seen symbols.now)
+        ++ reverse pending.old.items) }
 {
     let first = front_kind(symbols);
     let second = front_kind(behind(symbols));
@@ -107,7 +109,8 @@ pub fn operator_ways(
 
 #[tactic(auto, unfolding(crate::specs::Prediction::predict_primary))]
 pub fn primary_ways(pending: &mut Vec<Item>, symbols: &[Symbol]) -> Result<(), AllocError>
-    ensures { OnOk result (reverse pending.new.items ≡ primary_way (symbols_seen symbols.now) ++ reverse pending.old.items) }
+    ensures { OnOk result (reverse pending.new.items ≡ primary_way (symbols_seen symbols.now)
+        ++ reverse pending.old.items) }
 {
     let first = front_kind(symbols);
     if is_kind(first, Kind::Literal) {
@@ -145,7 +148,8 @@ pub fn primary_ways(pending: &mut Vec<Item>, symbols: &[Symbol]) -> Result<(), A
 
 #[tactic(auto, unfolding(crate::specs::Prediction::predict_new))]
 pub fn new_ways(pending: &mut Vec<Item>, symbols: &[Symbol]) -> Result<(), AllocError>
-    ensures { OnOk result (reverse pending.new.items ≡ new_way (symbols_seen symbols.now) ++ reverse pending.old.items) }
+    ensures { OnOk result (reverse pending.new.items ≡ new_way (symbols_seen symbols.now)
+        ++ reverse pending.old.items) }
 {
     let second = front_kind(behind(symbols));
     let third = front_kind(behind(behind(symbols)));
@@ -180,7 +184,8 @@ pub fn new_ways(pending: &mut Vec<Item>, symbols: &[Symbol]) -> Result<(), Alloc
 
 #[tactic(auto, unfolding(crate::specs::Prediction::predict_dimension))]
 pub fn dimension_ways(pending: &mut Vec<Item>, symbols: &[Symbol]) -> Result<(), AllocError>
-    ensures { OnOk result (reverse pending.new.items ≡ dimension_way (symbols_seen symbols.now) ++ reverse pending.old.items) }
+    ensures { OnOk result (reverse pending.new.items ≡ dimension_way (symbols_seen symbols.now)
+        ++ reverse pending.old.items) }
 {
     let first = front_kind(symbols);
     let second = front_kind(behind(symbols));

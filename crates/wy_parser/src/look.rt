@@ -80,7 +80,8 @@ pub fn allowed(class: Class, kind: Kind) -> bool
 #[tactic(auto, unfolding(crate::specs::Reading::taken))]
 pub fn take<'a>(symbols: &'a [Symbol], class: Class) -> Option<(&'a Symbol, &'a [Symbol])>
     ensures shorter { IfSome result (λ x. length x.1.now < length symbols.now) }
-    ensures value { option_map (λ x. (symbol_seen x.0.now, symbols_seen x.1.now)) result ≡ taken class (symbols_seen symbols.now) }
+    ensures value { option_map (λ x. (symbol_seen x.0.now, symbols_seen x.1.now)) result
+        ≡ taken class (symbols_seen symbols.now) }
 {
     let (first, after) = symbols.split_first()?;
     if allowed(class, first.kind) {

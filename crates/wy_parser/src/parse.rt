@@ -6,6 +6,7 @@ ghost use Rattle.wy_parser.specs.Symbols.{symbols_seen, spanned_seen};
 ghost use Rattle.wy_parser.specs.Parsed.{Tells, PlaceIn, IsSyntax, whole};
 ghost use Rattle.wy_tree.specs.Trees.{IsTreeOf, IsOnlyTreeOf};
 ghost use Rattle.wy_parser.specs.Causes.{IsCause};
+ghost use Rattle.wy_tree.specs.Tokens.{token_limit};
 
 use crate::read::tree;
 use crate::stop::Stop;
@@ -29,7 +30,7 @@ pub enum ParseError {
 
 /// The tree of these tokens.
 pub fn parse(alloc: Global, tokens: &[Spanned]) -> Result<Tree, ParseError>
-    requires { length tokens.now ≤ 1048576 }
+    requires { length tokens.now ≤ token_limit }
     // What is found is a tree of the grammar, and its leaves are the tokens.
     ensures found { IfOk result (λ t. IsTreeOf (map spanned_seen tokens.now) (view t)) }
     // No other tree of the grammar has these leaves.
@@ -61,7 +62,7 @@ fn symbols(alloc: Global, tokens: &[Spanned]) -> Result<Vec<Symbol>, AllocError>
 
 #[tactic(auto, unfolding(crate::specs::Parsed::whole))]
 fn whole_tree(alloc: Global, all: &[Symbol]) -> Result<Tree, ParseError>
-    requires { length all.now ≤ 1048576 }
+    requires { length all.now ≤ token_limit }
     ensures exact { Tells result (whole (symbols_seen all.now)) }
     ensures place { IfErr result (λ e. PlaceIn e (length all.now)) }
 {
@@ -75,7 +76,7 @@ fn whole_tree(alloc: Global, all: &[Symbol]) -> Result<Tree, ParseError>
 
 // The refusal where this many tokens are left.
 fn refusal(total: usize, left: usize) -> ParseError
-    requires { total ≤ 1048576 }
+    requires { total ≤ token_limit }
     ensures place { PlaceIn result total }
     ensures told { IsSyntax result }
 {

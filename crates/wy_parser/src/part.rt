@@ -45,7 +45,8 @@ pub fn no_parts(alloc: Global) -> PartList
 
 #[tactic(auto, using(wy_tree::proofs::Views::views_push, wy_tree::proofs::Views::deepest_push))]
 pub fn push(parts: &mut PartList, part: Sub) -> Result<(), AllocError>
-    ensures items { OnOk result (views parts.new.items.items ≡ joined (views parts.old.items.items) (one (view part.tree))) }
+    ensures items { OnOk result (views parts.new.items.items ≡ joined (views parts.old.items.items)
+        (one (view part.tree))) }
     ensures depth { OnOk result (parts.new.depth ≡ max parts.old.depth part.depth) }
 {
     parts.items.push(part.tree)?;
@@ -70,7 +71,8 @@ pub fn node_of(form: Form, parts: PartList) -> Sub
 pub fn node_around(form: Form, left: Sub, parts: PartList) -> Result<Sub, AllocError>
     requires left_short { left.depth < 1000 }
     requires parts_short { parts.depth < 1000 }
-    ensures tree { IfOk result (λ t. view t.tree ≡ Node form (more (view left.tree) (views parts.items.items))) }
+    ensures tree { IfOk result (λ t.
+        view t.tree ≡ Node form (more (view left.tree) (views parts.items.items))) }
     ensures depth { IfOk result (λ t. t.depth ≡ max left.depth parts.depth + 1) }
 {
     let PartList { mut items, depth } = parts;

@@ -8,6 +8,7 @@ ghost use Rattle.wy_parser.specs.Reading.{run, reader, parts as read_parts, step
 ghost use Rattle.wy_parser.specs.Prediction.{front};
 ghost use Rattle.wy_parser.specs.declared.stop.Stop.TheVariants.{Memory};
 ghost use Rattle.wy_parser.specs.Parsed.{Gives, GivesGrown, Deepens, Shortens, read_of, parts_of};
+ghost use Rattle.wy_tree.specs.Tokens.{token_limit};
 
 use crate::condition::{fine, joins};
 use crate::look::{front_kind, take};
@@ -31,8 +32,9 @@ pub fn tree<'a>(
 ) -> Result<(Sub, &'a [Symbol]), Stop>
     requires depth_bound { depth ≤ 300 }
     requires rank_bound { rank ≤ 24 }
-    requires tokens_bound { length symbols.now ≤ 1048576 }
-    ensures read { Gives (λ x. read_of x.0 x.1.now) result (reader depth rank sort (symbols_seen symbols.now)) }
+    requires tokens_bound { length symbols.now ≤ token_limit }
+    ensures read { Gives (λ x.
+        read_of x.0 x.1.now) result (reader depth rank sort (symbols_seen symbols.now)) }
     ensures short { IfOk result (λ x. x.0.depth ≤ depth) }
     ensures fewer { IfOk result (λ x. length x.1.now ≤ length symbols.now) }
 {
@@ -55,8 +57,9 @@ fn base<'a>(
 ) -> Result<(Sub, &'a [Symbol]), Stop>
     requires below_bound { below < 300 }
     requires rank_bound { rank < 24 }
-    requires tokens_bound { length symbols.now ≤ 1048576 }
-    ensures read { Gives (λ x. read_of x.0 x.1.now) result (read_base (reader (below + 1) rank) (run below) below sort (symbols_seen symbols.now)) }
+    requires tokens_bound { length symbols.now ≤ token_limit }
+    ensures read { Gives (λ x. read_of x.0 x.1.now) result
+        (read_base (reader (below + 1) rank) (run below) below sort (symbols_seen symbols.now)) }
     ensures short { IfOk result (λ x. x.0.depth ≤ below + 1) }
     ensures fewer { IfOk result (λ x. length x.1.now ≤ length symbols.now) }
 {
@@ -71,7 +74,8 @@ fn base<'a>(
 fn closed(sort: Sort, found: PartList, rest: &[Symbol], below: u32) -> Result<Sub, Stop>
     requires below_bound { below < 300 }
     requires short { found.depth ≤ below + 1 }
-    ensures read { Gives (λ x. (view x.tree, symbols_seen rest.now)) result (read_closed below sort (views found.items.items) (symbols_seen rest.now)) }
+    ensures read { Gives (λ x. (view x.tree, symbols_seen rest.now)) result
+        (read_closed below sort (views found.items.items) (symbols_seen rest.now)) }
     ensures short { IfOk result (λ x. x.depth ≤ below + 1) }
 {
     if !fine(sort, &found.items) {
@@ -83,7 +87,8 @@ fn closed(sort: Sort, found: PartList, rest: &[Symbol], below: u32) -> Result<Su
 fn closed_by(sort: Sort, found: PartList, rest: &[Symbol], below: u32) -> Result<Sub, Stop>
     requires below_bound { below < 300 }
     requires short { found.depth ≤ below + 1 }
-    ensures read { Gives (λ x. (view x.tree, symbols_seen rest.now)) result (read_closed_by below sort (views found.items.items) (symbols_seen rest.now)) }
+    ensures read { Gives (λ x. (view x.tree, symbols_seen rest.now)) result
+        (read_closed_by below sort (views found.items.items) (symbols_seen rest.now)) }
     ensures short { IfOk result (λ x. x.depth ≤ below + 1) }
 {
     if found.items.len() == 1 {
@@ -124,8 +129,10 @@ fn parts<'a>(
     requires below_bound { below < 300 }
     requires rank_bound { first_rank ≤ 24 }
     requires falls { 128 * below + 96 ≤ 128 * first_depth + 4 * first_rank }
-    requires tokens_bound { length symbols.now ≤ 1048576 }
-    ensures read { Gives (λ x. parts_of x.0 x.1.now) result (read_parts (reader first_depth first_rank) (run below) (steps (symbols_seen symbols.now)) (reverse items.items) (symbols_seen symbols.now)) }
+    requires tokens_bound { length symbols.now ≤ token_limit }
+    ensures read { Gives (λ x.
+        parts_of x.0 x.1.now) result (read_parts (reader first_depth first_rank) (run below)
+        (steps (symbols_seen symbols.now)) (reverse items.items) (symbols_seen symbols.now)) }
     ensures short { IfOk result (λ x. x.0.depth ≤ max first_depth (below + 1)) }
     ensures fewer { IfOk result (λ x. length x.1.now ≤ length symbols.now) }
 {
@@ -174,8 +181,9 @@ fn grown<'a>(
 ) -> Result<(Sub, &'a [Symbol]), Stop>
     requires short { first.depth ≤ below + 1 }
     requires bound { below < 300 }
-    requires tokens_bound { length symbols.now ≤ 1048576 }
-    ensures read { Gives (λ x. read_of x.0 x.1.now) result (growing (read_grow (run below) below sort) (suc (suc below)) (view first.tree) (symbols_seen symbols.now)) }
+    requires tokens_bound { length symbols.now ≤ token_limit }
+    ensures read { Gives (λ x. read_of x.0 x.1.now) result (growing (read_grow
+        (run below) below sort) (suc (suc below)) (view first.tree) (symbols_seen symbols.now)) }
     ensures short { IfOk result (λ x. x.0.depth ≤ below + 1) }
     ensures fewer { IfOk result (λ x. length x.1.now ≤ length symbols.now) }
 {
@@ -203,8 +211,9 @@ fn grow<'a>(
 ) -> Result<Growth<'a>, Stop>
     requires short { left.depth ≤ below + 1 }
     requires bound { below < 300 }
-    requires tokens_bound { length symbols.now ≤ 1048576 }
-    ensures grown { GivesGrown result (view left.tree) (read_grow (run below) below sort (view left.tree) (symbols_seen symbols.now)) }
+    requires tokens_bound { length symbols.now ≤ token_limit }
+    ensures grown { GivesGrown result (view left.tree)
+        (read_grow (run below) below sort (view left.tree) (symbols_seen symbols.now)) }
     ensures deeper { IfOk result (λ g. Deepens g left.depth below) }
     ensures fewer { IfOk result (λ g. Shortens g (length symbols.now)) }
 {

@@ -56,7 +56,8 @@ fn is_there(sort: Sort, kind: Kind) -> bool
 
 #[tactic(auto, unfolding(crate::specs::Prediction::predict_list))]
 fn list_ways(pending: &mut Vec<Item>, row: Row, symbols: &[Symbol]) -> Result<(), AllocError>
-    ensures { OnOk result (reverse pending.new.items ≡ list_way row (symbols_seen symbols.now) ++ reverse pending.old.items) }
+    ensures { OnOk result (reverse pending.new.items ≡ list_way row (symbols_seen symbols.now)
+        ++ reverse pending.old.items) }
 {
     let first = front_kind(symbols);
     match row {
@@ -138,7 +139,8 @@ fn list_ways(pending: &mut Vec<Item>, row: Row, symbols: &[Symbol]) -> Result<()
 
 #[tactic(auto, unfolding(crate::specs::Prediction::predict_method))]
 fn method_ways(pending: &mut Vec<Item>, symbols: &[Symbol]) -> Result<(), AllocError>
-    ensures { OnOk result (reverse pending.new.items ≡ method_way (symbols_seen symbols.now) ++ reverse pending.old.items) }
+    ensures { OnOk result (reverse pending.new.items ≡ method_way (symbols_seen symbols.now)
+        ++ reverse pending.old.items) }
 {
     let first = front_kind(symbols);
     if is_kind(first, Kind::CloseBrace) {
@@ -166,7 +168,8 @@ fn method_ways(pending: &mut Vec<Item>, symbols: &[Symbol]) -> Result<(), AllocE
 
 #[tactic(auto, unfolding(crate::specs::Prediction::predict_declared))]
 fn declared_ways(pending: &mut Vec<Item>, symbols: &[Symbol]) -> Result<(), AllocError>
-    ensures { OnOk result (reverse pending.new.items ≡ declared_way (symbols_seen symbols.now) ++ reverse pending.old.items) }
+    ensures { OnOk result (reverse pending.new.items ≡ declared_way (symbols_seen symbols.now)
+        ++ reverse pending.old.items) }
 {
     let first = front_kind(symbols);
     if is_kind(first, Kind::Semicolon) {
@@ -180,7 +183,8 @@ fn declared_ways(pending: &mut Vec<Item>, symbols: &[Symbol]) -> Result<(), Allo
 
 #[tactic(auto, unfolding(crate::specs::Prediction::predict_declaration))]
 fn declaration_ways(pending: &mut Vec<Item>, row: Row, symbols: &[Symbol]) -> Result<(), AllocError>
-    ensures { OnOk result (reverse pending.new.items ≡ declaration_way row (symbols_seen symbols.now) ++ reverse pending.old.items) }
+    ensures { OnOk result (reverse pending.new.items
+        ≡ declaration_way row (symbols_seen symbols.now) ++ reverse pending.old.items) }
 {
     let first = front_kind(symbols);
     match row {
@@ -233,7 +237,8 @@ fn declaration_ways(pending: &mut Vec<Item>, row: Row, symbols: &[Symbol]) -> Re
 
 #[tactic(auto, unfolding(crate::specs::Prediction::predict_member_form))]
 fn member_form_ways(pending: &mut Vec<Item>, symbols: &[Symbol]) -> Result<(), AllocError>
-    ensures { OnOk result (reverse pending.new.items ≡ member_form_way (symbols_seen symbols.now) ++ reverse pending.old.items) }
+    ensures { OnOk result (reverse pending.new.items ≡ member_form_way (symbols_seen symbols.now)
+        ++ reverse pending.old.items) }
 {
     let first = front_kind(symbols);
     let second = front_kind(behind(symbols));
@@ -256,7 +261,8 @@ fn member_form_ways(pending: &mut Vec<Item>, symbols: &[Symbol]) -> Result<(), A
 
 #[tactic(auto, unfolding(crate::specs::Prediction::predict_member_tail))]
 fn member_tail_ways(pending: &mut Vec<Item>, symbols: &[Symbol]) -> Result<(), AllocError>
-    ensures { OnOk result (reverse pending.new.items ≡ member_tail_way (symbols_seen symbols.now) ++ reverse pending.old.items) }
+    ensures { OnOk result (reverse pending.new.items ≡ member_tail_way (symbols_seen symbols.now)
+        ++ reverse pending.old.items) }
 {
     let first = front_kind(symbols);
     let second = front_kind(behind(symbols));
@@ -298,7 +304,8 @@ fn member_tail_ways(pending: &mut Vec<Item>, symbols: &[Symbol]) -> Result<(), A
 
 #[tactic(auto, unfolding(crate::specs::Prediction::predict_member))]
 fn member_ways(pending: &mut Vec<Item>, row: Row, symbols: &[Symbol]) -> Result<(), AllocError>
-    ensures { OnOk result (reverse pending.new.items ≡ member_way row (symbols_seen symbols.now) ++ reverse pending.old.items) }
+    ensures { OnOk result (reverse pending.new.items ≡ member_way row (symbols_seen symbols.now)
+        ++ reverse pending.old.items) }
 {
     let first = front_kind(symbols);
     let second = front_kind(behind(symbols));
@@ -338,7 +345,8 @@ fn member_ways(pending: &mut Vec<Item>, row: Row, symbols: &[Symbol]) -> Result<
 
 #[tactic(auto, unfolding(crate::specs::Prediction::predict_elements))]
 fn elements_ways(pending: &mut Vec<Item>, symbols: &[Symbol]) -> Result<(), AllocError>
-    ensures { OnOk result (reverse pending.new.items ≡ elements_way (symbols_seen symbols.now) ++ reverse pending.old.items) }
+    ensures { OnOk result (reverse pending.new.items ≡ elements_way (symbols_seen symbols.now)
+        ++ reverse pending.old.items) }
 {
     let first = front_kind(symbols);
     if is_kind(first, Kind::CloseBrace) {
@@ -355,7 +363,8 @@ fn elements_ways(pending: &mut Vec<Item>, symbols: &[Symbol]) -> Result<(), Allo
 
 #[tactic(auto, unfolding(crate::specs::Prediction::predict_initial))]
 fn initial_ways(pending: &mut Vec<Item>, row: Row, symbols: &[Symbol]) -> Result<(), AllocError>
-    ensures { OnOk result (reverse pending.new.items ≡ initial_way row (symbols_seen symbols.now) ++ reverse pending.old.items) }
+    ensures { OnOk result (reverse pending.new.items ≡ initial_way row (symbols_seen symbols.now)
+        ++ reverse pending.old.items) }
 {
     let first = front_kind(symbols);
     match row {
@@ -403,7 +412,8 @@ fn initial_ways(pending: &mut Vec<Item>, row: Row, symbols: &[Symbol]) -> Result
 
 #[tactic(auto, unfolding(crate::specs::Prediction::predict_leaving))]
 fn leaving_ways(pending: &mut Vec<Item>, symbols: &[Symbol]) -> Result<(), AllocError>
-    ensures { OnOk result (reverse pending.new.items ≡ leaving_way (symbols_seen symbols.now) ++ reverse pending.old.items) }
+    ensures { OnOk result (reverse pending.new.items ≡ leaving_way (symbols_seen symbols.now)
+        ++ reverse pending.old.items) }
 {
     let first = front_kind(symbols);
     let second = front_kind(behind(symbols));
@@ -459,7 +469,8 @@ fn leaving_ways(pending: &mut Vec<Item>, symbols: &[Symbol]) -> Result<(), Alloc
 
 #[tactic(auto, unfolding(crate::specs::Prediction::predict_looping))]
 fn looping_ways(pending: &mut Vec<Item>, symbols: &[Symbol]) -> Result<(), AllocError>
-    ensures { OnOk result (reverse pending.new.items ≡ looping_way (symbols_seen symbols.now) ++ reverse pending.old.items) }
+    ensures { OnOk result (reverse pending.new.items ≡ looping_way (symbols_seen symbols.now)
+        ++ reverse pending.old.items) }
 {
     let first = front_kind(symbols);
     if is_kind(first, Kind::While) {
@@ -508,7 +519,8 @@ fn looping_ways(pending: &mut Vec<Item>, symbols: &[Symbol]) -> Result<(), Alloc
 
 #[tactic(auto, unfolding(crate::specs::Prediction::predict_statement_form))]
 fn statement_form_ways(pending: &mut Vec<Item>, symbols: &[Symbol]) -> Result<(), AllocError>
-    ensures { OnOk result (reverse pending.new.items ≡ statement_form_way (symbols_seen symbols.now) ++ reverse pending.old.items) }
+    ensures { OnOk result (reverse pending.new.items ≡ statement_form_way (symbols_seen symbols.now)
+        ++ reverse pending.old.items) }
 {
     let first = front_kind(symbols);
     if is_kind(first, Kind::OpenBrace) {
@@ -543,7 +555,8 @@ fn statement_form_ways(pending: &mut Vec<Item>, symbols: &[Symbol]) -> Result<()
 
 #[tactic(auto, unfolding(crate::specs::Prediction::predict_statement))]
 fn statement_ways(pending: &mut Vec<Item>, row: Row, symbols: &[Symbol]) -> Result<(), AllocError>
-    ensures { OnOk result (reverse pending.new.items ≡ statement_way row (symbols_seen symbols.now) ++ reverse pending.old.items) }
+    ensures { OnOk result (reverse pending.new.items ≡ statement_way row (symbols_seen symbols.now)
+        ++ reverse pending.old.items) }
 {
     let first = front_kind(symbols);
     match row {
@@ -623,7 +636,8 @@ fn statement_ways(pending: &mut Vec<Item>, row: Row, symbols: &[Symbol]) -> Resu
 
 /// Puts the alternative of a row that the text takes before what is pending.
 pub fn predict(pending: &mut Vec<Item>, row: Row, symbols: &[Symbol]) -> Result<(), AllocError>
-    ensures { OnOk result (reverse pending.new.items ≡ way row (symbols_seen symbols.now) ++ reverse pending.old.items) }
+    ensures { OnOk result (reverse pending.new.items ≡ way row (symbols_seen symbols.now)
+        ++ reverse pending.old.items) }
 {
     match row {
         Row::Any(_)

@@ -13,7 +13,8 @@ use wy_tree::tree::Form;
 
 #[tactic(auto, unfolding(crate::specs::Rules::declaration_rule))]
 fn put_declaration_rule(pending: &mut Vec<Item>, sort: Sort) -> Result<(), AllocError>
-    ensures { OnOk result (reverse pending.new.items ≡ declaration_rule sort ++ reverse pending.old.items) }
+    ensures { OnOk result
+        (reverse pending.new.items ≡ declaration_rule sort ++ reverse pending.old.items) }
 {
     match sort {
         Sort::Unit => put(pending, &[Item::Parts(Row::Any(Sort::Declaration))]),
@@ -67,7 +68,8 @@ fn put_declaration_rule(pending: &mut Vec<Item>, sort: Sort) -> Result<(), Alloc
 
 #[tactic(auto, unfolding(crate::specs::Rules::type_rule))]
 fn put_type_rule(pending: &mut Vec<Item>, sort: Sort) -> Result<(), AllocError>
-    ensures { OnOk result (reverse pending.new.items ≡ type_rule sort ++ reverse pending.old.items) }
+    ensures { OnOk result
+        (reverse pending.new.items ≡ type_rule sort ++ reverse pending.old.items) }
 {
     match sort {
         Sort::Throws => put(
@@ -105,7 +107,8 @@ fn put_type_rule(pending: &mut Vec<Item>, sort: Sort) -> Result<(), AllocError>
 
 #[tactic(auto, unfolding(crate::specs::Rules::statement_rule))]
 fn put_statement_rule(pending: &mut Vec<Item>, sort: Sort) -> Result<(), AllocError>
-    ensures { OnOk result (reverse pending.new.items ≡ statement_rule sort ++ reverse pending.old.items) }
+    ensures { OnOk result
+        (reverse pending.new.items ≡ statement_rule sort ++ reverse pending.old.items) }
 {
     match sort {
         Sort::Block => put(
@@ -137,7 +140,8 @@ fn put_statement_rule(pending: &mut Vec<Item>, sort: Sort) -> Result<(), AllocEr
 
 #[tactic(auto, unfolding(crate::specs::Rules::expression_rule))]
 fn put_expression_rule(pending: &mut Vec<Item>, sort: Sort) -> Result<(), AllocError>
-    ensures { OnOk result (reverse pending.new.items ≡ expression_rule sort ++ reverse pending.old.items) }
+    ensures { OnOk result
+        (reverse pending.new.items ≡ expression_rule sort ++ reverse pending.old.items) }
 {
     match sort {
         Sort::Expr => put(
@@ -288,7 +292,8 @@ fn operates(sort: Sort, kind: Kind) -> bool
 #[tactic(auto, unfolding(crate::specs::Prediction::continued_level))]
 fn continue_level(pending: &mut Vec<Item>, sort: Sort, kind: Kind) -> Result<bool, AllocError>
     ensures told { IfOk result (λ b. b ≡ is_some (continued_level sort kind)) }
-    ensures put { OnOk result (reverse pending.new.items ≡ items_of (continued_level sort kind) ++ reverse pending.old.items) }
+    ensures put { OnOk result (reverse pending.new.items ≡ items_of (continued_level sort kind)
+        ++ reverse pending.old.items) }
 {
     if !operates(sort, kind) {
         return Ok(false);
@@ -303,7 +308,8 @@ fn continue_level(pending: &mut Vec<Item>, sort: Sort, kind: Kind) -> Result<boo
 #[tactic(auto, unfolding(crate::specs::Prediction::continued_relation))]
 fn continue_relation(pending: &mut Vec<Item>, kind: Kind) -> Result<bool, AllocError>
     ensures told { IfOk result (λ b. b ≡ is_some (continued_relation kind)) }
-    ensures put { OnOk result (reverse pending.new.items ≡ items_of (continued_relation kind) ++ reverse pending.old.items) }
+    ensures put { OnOk result (reverse pending.new.items ≡ items_of (continued_relation kind)
+        ++ reverse pending.old.items) }
 {
     if !is_kind(kind, Kind::Instanceof) {
         return continue_level(pending, Sort::Relation, kind);
@@ -321,7 +327,8 @@ fn continue_relation(pending: &mut Vec<Item>, kind: Kind) -> Result<bool, AllocE
 #[tactic(auto, unfolding(crate::specs::Prediction::continued_primary))]
 fn continue_primary(pending: &mut Vec<Item>, kind: Kind) -> Result<bool, AllocError>
     ensures told { IfOk result (λ b. b ≡ is_some (continued_primary kind)) }
-    ensures put { OnOk result (reverse pending.new.items ≡ items_of (continued_primary kind) ++ reverse pending.old.items) }
+    ensures put { OnOk result (reverse pending.new.items ≡ items_of (continued_primary kind)
+        ++ reverse pending.old.items) }
 {
     if is_kind(kind, Kind::Dot) {
         put(
@@ -351,7 +358,8 @@ fn continue_primary(pending: &mut Vec<Item>, kind: Kind) -> Result<bool, AllocEr
 /// Puts what goes on with a tree of a sort before what is pending, if a token of this kind begins it.
 pub fn continue_with(pending: &mut Vec<Item>, sort: Sort, kind: Kind) -> Result<bool, AllocError>
     ensures told { IfOk result (λ b. b ≡ is_some (goes_on sort kind)) }
-    ensures put { OnOk result (reverse pending.new.items ≡ items_of (goes_on sort kind) ++ reverse pending.old.items) }
+    ensures put { OnOk result
+        (reverse pending.new.items ≡ items_of (goes_on sort kind) ++ reverse pending.old.items) }
 {
     match sort {
         Sort::Relation => continue_relation(pending, kind),

@@ -11,6 +11,7 @@ use Rattle.wy_payload.specs.declared.known.Known.{Known}
 use Rattle.wy_payload.specs.declared.known.Known.TheVariants as known
 use Rattle.wy_payload.specs.declared.known.Role.{Role}
 use Rattle.wy_payload.specs.declared.known.Role.TheVariants as role
+use Rattle.wy_kernel.specs.Program.{library_methods}
 
 abbrev pub Broken : Type 0
 Broken = Option DamageRule
@@ -97,9 +98,6 @@ optional_rule r earlier n = if n == NONE then Absent else reference_rule r earli
 
 abbrev pub library_sites : ℕ
 library_sites = 2147483648
-
-abbrev pub library_methods : ℕ
-library_methods = 36
 
 -- a token, or a method of the library
 unfoldable pub site_rule : Ranges → ℕ → Broken

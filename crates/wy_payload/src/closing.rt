@@ -50,7 +50,7 @@ pub fn head(alloc: Global, bytes: &[u8]) -> Result<(Head, &[u8]), Fault>
     ensures { Gives (λ x. (x.0, x.1.now)) result (head_at bytes.now) }
 {
     let (steps, rest) = u32_at(bytes)?;
-    let rest = passing(rules::ranged(steps >= 1 && steps <= STEPS), rest)?;
+    let rest = passing(rules::range_rule(steps >= 1 && steps <= STEPS), rest)?;
     let (input, rest) = block(alloc, INPUT, rest)?;
     let (source, rest) = block(alloc, SOURCE, rest)?;
     let head = Head {
@@ -65,9 +65,9 @@ fn of_first(begins: u32, count: usize, n: u32) -> Option<DamageRule>
     ensures { result ≡ first_rule begins count n }
 {
     if begins == 0 {
-        rules::ranged(n == NONE)
+        rules::range_rule(n == NONE)
     } else {
-        rules::ranged(n as usize <= count)
+        rules::range_rule(n as usize <= count)
     }
 }
 
@@ -155,7 +155,7 @@ fn of_last(earlier: &[Known], stop: u8, n: u32) -> Option<DamageRule>
     if stop == 1 || stop == LAST_STOP {
         rules::of_reference(Role::Throw, earlier, n)
     } else {
-        rules::ranged(n == NONE)
+        rules::range_rule(n == NONE)
     }
 }
 
@@ -186,7 +186,7 @@ pub fn tail<'a>(
         (tail_at earlier.now totals coverage bytes.now) }
 {
     let (stop, rest) = u8_at(bytes)?;
-    let rest = passing(rules::ranged(stop <= LAST_STOP), rest)?;
+    let rest = passing(rules::range_rule(stop <= LAST_STOP), rest)?;
     let (last, rest) = u32_at(rest)?;
     let rest = passing(of_last(earlier, stop, last), rest)?;
     let (steps, rest) = at_most(totals.steps as usize, rest)?;

@@ -6,7 +6,7 @@ ghost use Rattle.wy_payload.specs.Events.{content_at, event_at, kind_at, kinds, 
 ghost use Rattle.wy_payload.specs.Values.{output_limit};
 
 use crate::fault::{DamageRule, Fault};
-use crate::field::{at_most, below, kept, optional, passing, reference, u8_at, u32_at};
+use crate::field::{at_most, below, checked_number, optional, passing, reference, u8_at, u32_at};
 use crate::known::{Known, Role};
 use crate::print::{Printing, output_behind};
 use crate::ranges::Ranges;
@@ -167,7 +167,7 @@ fn kind<'a>(earlier: &[Known], bytes: &'a [u8]) -> Result<(Kind, &'a [u8]), Faul
 {
     let (b, rest) = u8_at(bytes)?;
     let kind = kind_of(b).ok_or(Fault::Broken(DamageRule::Range))?;
-    let rest = passing(rules::ranged(earlier.len() < EVENTS), rest)?;
+    let rest = passing(rules::range_rule(earlier.len() < EVENTS), rest)?;
     Ok((kind, rest))
 }
 
@@ -176,7 +176,7 @@ fn site<'a>(ranges: &Ranges, bytes: &'a [u8]) -> Result<(u32, &'a [u8]), Fault>
     ensures { Gives (λ x. (x.0, x.1.now)) result (site_at ranges.now bytes.now) }
 {
     let (n, rest) = u32_at(bytes)?;
-    kept(rules::of_site(ranges, n), n, rest)
+    checked_number(rules::of_site(ranges, n), n, rest)
 }
 
 #[tactic(auto, unfolding(crate::specs::Events::what_at))]
@@ -184,7 +184,7 @@ fn what<'a>(ranges: &Ranges, kind: Kind, bytes: &'a [u8]) -> Result<(u32, &'a [u
     ensures { Gives (λ x. (x.0, x.1.now)) result (what_at ranges.now kind bytes.now) }
 {
     let (n, rest) = u32_at(bytes)?;
-    kept(rules::of_what(ranges, kind, n), n, rest)
+    checked_number(rules::of_what(ranges, kind, n), n, rest)
 }
 
 #[tactic(auto, unfolding(crate::specs::Events::origin_at))]

@@ -9,7 +9,7 @@ use crate::known::{Known, Role};
 use crate::rules;
 
 /// What a rule says of a number that was read.
-pub fn kept(rule: Option<DamageRule>, n: u32, rest: &[u8]) -> Result<(u32, &[u8]), Fault>
+pub fn checked_number(rule: Option<DamageRule>, n: u32, rest: &[u8]) -> Result<(u32, &[u8]), Fault>
     ensures { Gives (λ x. (x.0, x.1.now)) result (passed_number rule n rest.now) }
 {
     match rule {
@@ -80,7 +80,7 @@ pub fn reference<'a>(
     ensures { Gives (λ x. (x.0, x.1.now)) result (reference_at role earlier.now bytes.now) }
 {
     let (n, rest) = u32_at(bytes)?;
-    kept(rules::of_reference(role, earlier, n), n, rest)
+    checked_number(rules::of_reference(role, earlier, n), n, rest)
 }
 
 #[tactic(auto, unfolding(crate::specs::Reading::optional_at))]
@@ -92,7 +92,7 @@ pub fn optional<'a>(
     ensures { Gives (λ x. (x.0, x.1.now)) result (optional_at role earlier.now bytes.now) }
 {
     let (n, rest) = u32_at(bytes)?;
-    kept(rules::of_optional(role, earlier, n), n, rest)
+    checked_number(rules::of_optional(role, earlier, n), n, rest)
 }
 
 #[tactic(auto, unfolding(crate::specs::Reading::below_at))]
@@ -100,7 +100,7 @@ pub fn below(limit: usize, bytes: &[u8]) -> Result<(u32, &[u8]), Fault>
     ensures { Gives (λ x. (x.0, x.1.now)) result (below_at limit bytes.now) }
 {
     let (n, rest) = u32_at(bytes)?;
-    kept(rules::ranged((n as usize) < limit), n, rest)
+    checked_number(rules::range_rule((n as usize) < limit), n, rest)
 }
 
 #[tactic(auto, unfolding(crate::specs::Reading::at_most_at))]
@@ -108,5 +108,5 @@ pub fn at_most(limit: usize, bytes: &[u8]) -> Result<(u32, &[u8]), Fault>
     ensures { Gives (λ x. (x.0, x.1.now)) result (at_most_at limit bytes.now) }
 {
     let (n, rest) = u32_at(bytes)?;
-    kept(rules::ranged(n as usize <= limit), n, rest)
+    checked_number(rules::range_rule(n as usize <= limit), n, rest)
 }

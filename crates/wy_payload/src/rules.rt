@@ -20,7 +20,7 @@ const PRIMITIVES: u32 = 6;
 
 const FIRST_CLASS: u32 = 16;
 
-pub fn ranged(test: bool) -> Option<DamageRule>
+pub fn range_rule(test: bool) -> Option<DamageRule>
     ensures { result ≡ in_range test }
 {
     if test { None } else { Some(DamageRule::Range) }
@@ -55,7 +55,7 @@ pub fn of_site(ranges: &Ranges, n: u32) -> Option<DamageRule>
     ensures { result ≡ site_rule ranges.now n }
 {
     let is_token = (n as usize) < ranges.tokens;
-    ranged(is_token || (n >= LIBRARY_SITES && n < LIBRARY_SITES + LIBRARY_METHODS))
+    range_rule(is_token || (n >= LIBRARY_SITES && n < LIBRARY_SITES + LIBRARY_METHODS))
 }
 
 #[tactic(auto, unfolding(crate::specs::Rules::is_code))]
@@ -73,10 +73,10 @@ pub fn of_what(ranges: &Ranges, kind: Kind, n: u32) -> Option<DamageRule>
     ensures { result ≡ what_rule ranges.now kind n }
 {
     match kind {
-        Kind::Init => ranged((n as usize) < ranges.classes),
-        Kind::New => ranged(is_type_code(ranges, n)),
-        Kind::Call => ranged((n as usize) < ranges.methods),
-        _ => ranged(n == NONE),
+        Kind::Init => range_rule((n as usize) < ranges.classes),
+        Kind::New => range_rule(is_type_code(ranges, n)),
+        Kind::Call => range_rule((n as usize) < ranges.methods),
+        _ => range_rule(n == NONE),
     }
 }
 
@@ -101,7 +101,7 @@ fn at(counts: &[usize], n: u32) -> usize
 pub fn of_local(ranges: &Ranges, earlier: &[Known], frame: u32, n: u32) -> Option<DamageRule>
     ensures { result ≡ local_rule ranges.now earlier.now frame n }
 {
-    ranged((n as usize) < locals_of_frame(ranges, earlier.get(frame as usize).copied()))
+    range_rule((n as usize) < locals_of_frame(ranges, earlier.get(frame as usize).copied()))
 }
 
 /// Of a field that is static, or one of objects.
@@ -110,7 +110,7 @@ pub fn of_field(ranges: &Ranges, wanted: bool, n: u32) -> Option<DamageRule>
     ensures { result ≡ field_rule ranges.now wanted n }
 {
     match ranges.statics.as_slice().get(n as usize) {
-        Some(found) => ranged(*found == wanted),
-        None => ranged(false),
+        Some(found) => range_rule(*found == wanted),
+        None => range_rule(false),
     }
 }

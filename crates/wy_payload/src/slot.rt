@@ -136,6 +136,6 @@ pub fn slot<'a>(
 {
     let (b, rest) = u8_at(bytes)?;
     let tag = tag_of(b).ok_or(Fault::Broken(DamageRule::Range))?;
-    let rest = passing(rules::ranged(is_allowed(wanted, tag)), rest)?;
+    let rest = passing(rules::range_rule(is_allowed(wanted, tag)), rest)?;
     behind_tag(ranges, earlier, tag, rest)
 }

@@ -104,8 +104,8 @@ fn of_int(wanted: ValueForm, n: i32) -> Option<DamageRule>
     ensures { result ≡ int_rule wanted n }
 {
     match wanted {
-        ValueForm::Length => rules::ranged(n >= 0),
-        ValueForm::Byte => rules::ranged(n >= -1 && n < 256),
+        ValueForm::Length => rules::range_rule(n >= 0),
+        ValueForm::Byte => rules::range_rule(n >= -1 && n < 256),
         _ => None,
     }
 }
@@ -124,7 +124,7 @@ fn truth(bytes: &[u8]) -> Result<(Value, &[u8]), Fault>
     ensures { Gives (λ x. (x.0, x.1.now)) result (bool_at bytes.now) }
 {
     let (b, rest) = u8_at(bytes)?;
-    let rest = passing(rules::ranged(b < 2), rest)?;
+    let rest = passing(rules::range_rule(b < 2), rest)?;
     Ok((Value::Bool(b == 1), rest))
 }
 
@@ -190,7 +190,7 @@ fn fixed<'a>(ranges: &Ranges, bytes: &'a [u8]) -> Result<(Value, &'a [u8]), Faul
 {
     let (n, rest) = u32_at(bytes)?;
     let is_fixed = (n as usize) < ranges.fixed.as_slice().len();
-    let rest = passing(rules::ranged(is_fixed), rest)?;
+    let rest = passing(rules::range_rule(is_fixed), rest)?;
     Ok((Value::Fixed(n), rest))
 }
 
@@ -228,7 +228,7 @@ pub fn value<'a>(
 {
     let (b, rest) = u8_at(bytes)?;
     let tag = tag_of(b).ok_or(Fault::Broken(DamageRule::Range))?;
-    let rest = passing(rules::ranged(is_allowed(wanted, tag)), rest)?;
+    let rest = passing(rules::range_rule(is_allowed(wanted, tag)), rest)?;
     behind_tag(ranges, earlier, wanted, tag, rest)
 }
 
@@ -251,7 +251,7 @@ pub fn units(alloc: Global, bytes: &[u8]) -> Result<(Vec<u16>, &[u8]), Fault>
     ensures { Gives (λ x. (x.0.items, x.1.now)) result (units_at bytes.now) }
 {
     let (b, rest) = u8_at(bytes)?;
-    let rest = passing(rules::ranged(b == UNITS_TAG), rest)?;
+    let rest = passing(rules::range_rule(b == UNITS_TAG), rest)?;
     let (count, rest) = u32_at(rest)?;
     units_behind(alloc, count, rest)
 }

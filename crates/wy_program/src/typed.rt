@@ -9,7 +9,7 @@ ghost use Rattle.wy_program.specs.Texts.{Reads};
 ghost use Rattle.wy_sites.specs.Sites.{HasSites};
 ghost use Rattle.wy_syntax.specs.Declarations.{unit};
 ghost use Rattle.wy_tree.specs.Ast.{view};
-ghost use Rattle.wy_tree.specs.Tokens.{placed};
+ghost use Rattle.wy_tree.specs.Tokens.{spanned_token, token_limit};
 ghost use Rattle.wy_typing.specs.Programs.{IsProgram};
 
 use crate::laws::texts_are_programs;
@@ -39,20 +39,22 @@ pub struct TypedProgram {
     pub ghost few_methods: { length program.methods.items < 2 ^ 32 },
     pub ghost few_fields: { length program.fields.items < 2 ^ 32 },
     pub ghost few_texts: { length program.fixed_texts.items < 2 ^ 32 },
-    pub ghost few_tokens: { length program.lines.items ≤ 1048576 },
+    pub ghost few_tokens: { length program.lines.items ≤ token_limit },
 }
 
 impl TypedProgram {
     /// The body of main, with which a run begins once the classes are initialized (JLS 12.1.4).
     pub fn main_body(&self) -> &Body
-        ensures { body (program_of self.now.program) (program_of self.now.program).main ≡ Some (body_of result.now) }
+        ensures { body (program_of self.now.program) (program_of self.now.program).main
+            ≡ Some (body_of result.now) }
     {
         self.program.body(self.program.main).unwrap()
     }
 
     /// The line of the name of main, which the text declares.
     pub fn main_line(&self) -> u32
-        ensures { slice_get self.now.program.lines.items (method (program_of self.now.program) (program_of self.now.program).main).site ≡ Some result }
+        ensures { slice_get self.now.program.lines.items (method (program_of self.now.program)
+            (program_of self.now.program).main).site ≡ Some result }
     {
         let main = self.program.method(self.program.main);
         self.program.line(main.site)
@@ -65,11 +67,13 @@ pub fn typed_program(
     tree: &Tree,
     tokens: &[Spanned],
 ) -> Result<TypedProgram, TypeError>
-    requires few { length tokens.now ≤ 1048576 }
-    requires read { Reads (map placed tokens.now) (view tree.now) }
-    ensures found { IfOk result (λ p. Elaborates (unit 0 (view tree.now)) (length tokens.now) (Ok (program_of p.program))) }
+    requires few { length tokens.now ≤ token_limit }
+    requires read { Reads (map spanned_token tokens.now) (view tree.now) }
+    ensures found { IfOk result (λ p.
+        Elaborates (unit 0 (view tree.now)) (length tokens.now) (Ok (program_of p.program))) }
     ensures lines { IfOk result (λ p. p.program.lines.items ≡ map (λ t. t.line) tokens.now) }
-    ensures refused { IfErr result (λ e. ElaboratesTo (unit 0 (view tree.now)) (length tokens.now) (Err e)) }
+    ensures refused { IfErr result (λ e.
+        ElaboratesTo (unit 0 (view tree.now)) (length tokens.now) (Err e)) }
 {
     let program = elaborate(alloc, tree, tokens)?;
     texts_are_programs();

@@ -13,7 +13,7 @@ use Rattle.wy_syntax.specs.Syntax.{Member, ClassSyntax}
 use Rattle.wy_syntax.specs.Syntax as source
 use Rattle.wy_syntax.specs.Declarations as syntax
 use Rattle.wy_members.specs.Declarations.{CompilationUnit, classes_of, has, is_abstract_in, method_in, methods_of}
-use Rattle.wy_members.specs.Broken.{HasMember, IsWritten, body_too_much, abstract_constructor, static_without_body, private_without_body}
+use Rattle.wy_members.specs.Broken.{HasMember, IsSourceClass, body_too_much, abstract_constructor, static_without_body, private_without_body}
 use Rattle.wy_members.specs.Refusal.{KeepsRules}
 use Rattle.wy_typed.specs.Rows.{IsHeader, rows_from}
 use Rattle.wy_typed.specs.Programs.{TablesHaveRows}
@@ -66,7 +66,7 @@ member_concrete unit keeps c k source.Member.Unknown header there = tt
 
 -- ---- a class, and all of them
 
-class_concrete : (unit : CompilationUnit) → KeepsRules unit → (c : ℕ) (k : ClassSyntax) → IsWritten unit c k → HasHeaders k → AllByRecursion IsConcrete (methods_of unit c k)
+class_concrete : (unit : CompilationUnit) → KeepsRules unit → (c : ℕ) (k : ClassSyntax) → IsSourceClass unit c k → HasHeaders k → AllByRecursion IsConcrete (methods_of unit c k)
 class_concrete unit keeps c k written headers =
     class_by IsConcrete unit c k (λ never. refl) (λ never. refl)
     (all_at (λ (m : Member). OfRow IsConcrete (method_in unit c k m)) k.members

@@ -8,7 +8,7 @@ use Rattle.wy_syntax.specs.Syntax as source
 use Rattle.wy_syntax.specs.Declarations as syntax
 use Rattle.wy_constant.specs.declared.rule.Rule.TheVariants as rule
 use Rattle.wy_members.specs.Declarations.{CompilationUnit, classes_of, is_abstract_in, table}
-use Rattle.wy_members.specs.Broken.{HasMember, IsWritten, IsJudged, IsNotImplemented, above_itself, body_missing}
+use Rattle.wy_members.specs.Broken.{HasMember, IsSourceClass, IsJudged, IsNotImplemented, above_itself, body_missing}
 use Rattle.wy_members.specs.Refusal.{KeepsRules}
 use Rattle.wy_members.proofs.Contained.{contained, in_numbered}
 use Rattle.wy_members.proofs.Cycles.{not_above_beyond}
@@ -30,10 +30,10 @@ pub implemented : (unit : CompilationUnit) → KeepsRules unit → (c token : �
 implemented unit keeps c token broken = keeps rule.NotImplemented token (c, keeps_judged unit keeps c, broken)
 
 -- the members of a class, which has a number
-pub has_members : (unit : CompilationUnit) (c : ℕ) (k : ClassSyntax) → IsWritten unit c k → AllByRecursion (HasMember unit c k) k.members
+pub has_members : (unit : CompilationUnit) (c : ℕ) (k : ClassSyntax) → IsSourceClass unit c k → AllByRecursion (HasMember unit c k) k.members
 has_members unit c k written = all_at (HasMember unit c k) k.members (λ i m e. record { written = written; member = contained k.members i m e })
 
-pub is_written : (unit : CompilationUnit) (i : ℕ) (k : ClassSyntax) → slice_get (classes_of unit) i ≡ Some k → IsWritten unit (first_source_class + i) k
+pub is_written : (unit : CompilationUnit) (i : ℕ) (k : ClassSyntax) → slice_get (classes_of unit) i ≡ Some k → IsSourceClass unit (first_source_class + i) k
 is_written unit i k e = in_numbered first_source_class (classes_of unit) i k e
 
 may_lack : (unit : CompilationUnit) → KeepsRules unit → (c : ℕ) (k : ClassSyntax) (m : Member) → HasMember unit c k m → MayLackBody k m
@@ -49,7 +49,7 @@ may_lack unit keeps c k (source.Constructor h own brace parts end) has = tt
 may_lack unit keeps c k source.Member.Nothing has = tt
 may_lack unit keeps c k source.Member.Unknown has = tt
 
-class_keeps : (unit : CompilationUnit) → KeepsRules unit → (c : ℕ) (k : ClassSyntax) → IsWritten unit c k → HasHeaders k → (b : Bool) → k.is_interface ≡ b → DeclarationKeeps k b
+class_keeps : (unit : CompilationUnit) → KeepsRules unit → (c : ℕ) (k : ClassSyntax) → IsSourceClass unit c k → HasHeaders k → (b : Bool) → k.is_interface ≡ b → DeclarationKeeps k b
 class_keeps unit keeps c k written headers true e = headers e
 class_keeps unit keeps c k written headers false e =
     all_at (MayLackBody k) k.members (λ i m f. may_lack unit keeps c k m (record { written = written; member = contained k.members i m f }))

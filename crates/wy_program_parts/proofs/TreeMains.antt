@@ -6,7 +6,7 @@ use Rattle.wy_syntax.specs.Syntax.{Braced, Header, ClassSyntax}
 use Rattle.wy_syntax.specs.Syntax as source
 use Rattle.wy_syntax.specs.Declarations.{unit}
 use Rattle.wy_members.specs.Declarations.{CompilationUnit, is_abstract_in, table}
-use Rattle.wy_members.specs.Broken.{IsWritten, body_too_much}
+use Rattle.wy_members.specs.Broken.{IsSourceClass, body_too_much}
 use Rattle.wy_members.specs.Refusal.{KeepsRules}
 use Rattle.wy_members.proofs.Contained.{contained}
 use Rattle.wy_program_parts.specs.BodiesLaws.{MethodsOfTreesHaveBodies}
@@ -17,7 +17,7 @@ use Rattle.wy_program_parts.proofs.Mains.{mains_are_found}
 use Rattle.wy_program_parts.proofs.MainRows.{mains_run_first}
 
 -- a method with a body isn't abstract
-concrete : (text : CompilationUnit) → KeepsRules text → (c : ℕ) (k : ClassSyntax) (h : Header) (b : Braced) → IsWritten text c k → Contains k.members (source.Method h None (Some b)) → is_abstract_in k h ≡ false
+concrete : (text : CompilationUnit) → KeepsRules text → (c : ℕ) (k : ClassSyntax) (h : Header) (b : Braced) → IsSourceClass text c k → Contains k.members (source.Method h None (Some b)) → is_abstract_in k h ≡ false
 concrete text keeps c k h b stands there = by (is_abstract_in k h) refl
   where
     by : (x : Bool) → is_abstract_in k h ≡ x → is_abstract_in k h ≡ false

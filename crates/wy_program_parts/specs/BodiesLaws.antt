@@ -2,7 +2,7 @@
 use Rattle.std.specs.Prelude.{◌≡◌, ℕ, false, List, map, Ok}
 use Rattle.wy_tree.specs.Ast.{Ast, tokens}
 use Rattle.wy_tree.specs.Grammar.{WellFormed}
-use Rattle.wy_tree.specs.Tokens.{Placed, Tokens}
+use Rattle.wy_tree.specs.Tokens.{SpannedToken, Tokens}
 use Rattle.wy_tree.specs.Trees.{IsTreeOf}
 use Rattle.wy_kernel.specs.Program.{Program, Method}
 use Rattle.wy_syntax.specs.Declarations.{unit}
@@ -43,5 +43,5 @@ MethodsOfTreesFit = (tree : Ast) → WellFormed tree → HasNoKeyword (tokens tr
 -- no name of a text is a keyword, so this holds of the program of each text
 abbrev pub MethodsOfTextsFit : Type 0
 MethodsOfTextsFit =
-    (text : List ℕ) (spans : List Placed) (tree : Ast) → Tokens text spans → IsTreeOf (map (λ (s : Placed). s.token) spans) tree
+    (text : List ℕ) (spans : List SpannedToken) (tree : Ast) → Tokens text spans → IsTreeOf (map (λ (s : SpannedToken). s.token) spans) tree
     → (count : ℕ) (p : Program) → Elaborates (unit 0 tree) count (Ok p) → MethodsFit p

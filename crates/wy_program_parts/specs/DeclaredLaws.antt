@@ -3,7 +3,7 @@ use Rattle.std.specs.Prelude.{◌≡◌, ◌≤◌, ℕ, Bool, true, false, List
 use Rattle.std.specs.List.{AllByRecursion, list_any}
 use Rattle.wy_tree.specs.Ast.{Ast}
 use Rattle.wy_tree.specs.Grammar.{WellFormed}
-use Rattle.wy_kernel.specs.Program.{Program, first_source_class}
+use Rattle.wy_kernel.specs.Program.{Program, first_source_class, library_statements}
 use Rattle.wy_kernel.specs.Table.{BeginsWith, Table}
 use Rattle.wy_syntax.specs.Syntax.{ClassSyntax}
 use Rattle.wy_syntax.specs.Declarations.{unit}
@@ -26,7 +26,7 @@ DeclarationsStand = (unit : CompilationUnit) (tokens : ℕ) (p : Program) → El
 -- its bodies begin with the library's, and the library's statements are among its own
 pub record HasLibraryBodies (p : Program) : Type 0 where
   pub bodies : BeginsWith p.bodies library_bodies
-  pub statements : 74 ≤ p.statements
+  pub statements : library_statements ≤ p.statements
 
 abbrev pub LibraryStands : Type 0
 LibraryStands = (unit : CompilationUnit) (tokens : ℕ) (p : Program) → Elaborates unit tokens (Ok p) → HasLibraryBodies p

@@ -7,11 +7,12 @@ use Rattle.wy_syntax.specs.Declarations.{unit}
 use Rattle.wy_elab_stmt.specs.Elaborates.{Elaborates}
 use Rattle.wy_typing.specs.Programs.{HasMain}
 use Rattle.wy_program_parts.specs.Mains.{MainsStandAlone}
+use Rattle.wy_tree.specs.Tokens.{token_limit}
 
 -- in a well-formed tree of at most 2^20 tokens, what has its name at the token of a main is that main
 abbrev pub MainsOfTreesStandAlone : Type 0
-MainsOfTreesStandAlone = (tree : Ast) → WellFormed tree → length (tokens tree) ≤ 1048576 → MainsStandAlone (unit 0 tree)
+MainsOfTreesStandAlone = (tree : Ast) → WellFormed tree → length (tokens tree) ≤ token_limit → MainsStandAlone (unit 0 tree)
 
 -- so the main of such a tree's program is `static void` with one array of texts, and has a body (JLS 12.1.4)
 abbrev pub TextsHaveMain : Type 0
-TextsHaveMain = (tree : Ast) → WellFormed tree → length (tokens tree) ≤ 1048576 → (count : ℕ) (p : Program) → Elaborates (unit 0 tree) count (Ok p) → HasMain p
+TextsHaveMain = (tree : Ast) → WellFormed tree → length (tokens tree) ≤ token_limit → (count : ℕ) (p : Program) → Elaborates (unit 0 tree) count (Ok p) → HasMain p

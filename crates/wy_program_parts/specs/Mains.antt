@@ -10,12 +10,13 @@ use Rattle.wy_kernel.specs.Program.{Program, Method, string_class}
 use Rattle.wy_syntax.specs.Syntax.{Braced, Header, ClassSyntax}
 use Rattle.wy_syntax.specs.Syntax as source
 use Rattle.wy_syntax.specs.Declarations.{unit}
-use Rattle.wy_members.specs.Broken.{IsWritten}
+use Rattle.wy_members.specs.Broken.{IsSourceClass}
 use Rattle.wy_members.specs.Declarations.{CompilationUnit, classes_of, form_of, method_row, result_type, table}
 use Rattle.wy_elab_stmt.specs.Elaborates.{Elaborates}
 use Rattle.wy_elab_stmt.specs.Program.{is_main}
 use Rattle.wy_typing.specs.Expressions.{IsMethod}
 use Rattle.wy_typing.specs.Programs.{HasMain}
+use Rattle.wy_program_parts.specs.TableLaws.{class_limit}
 
 -- a class of the text has a main with a body, and the program's main is a method at the token of its name
 pub record FindsMain (unit : CompilationUnit) (p : Program) : Type 0 where
@@ -41,14 +42,14 @@ pub record RunsFirst (m : Method) : Type 0 where
 -- the method that is written as main, in a text of so many classes that each type has a code of its own
 abbrev pub MainsRunFirst : Type 0
 MainsRunFirst =
-    (unit : CompilationUnit) (c : ℕ) (k : ClassSyntax) (h : Header) → length (table unit).classes ≤ 1048594 → is_main unit h ≡ true → RunsFirst (method_row unit c k h h.name.name (result_type unit None) (form_of h))
+    (unit : CompilationUnit) (c : ℕ) (k : ClassSyntax) (h : Header) → length (table unit).classes ≤ class_limit → is_main unit h ≡ true → RunsFirst (method_row unit c k h h.name.name (result_type unit None) (form_of h))
 
 -- what has its name at the token of a main is that main
 abbrev pub MainsStandAlone : CompilationUnit → Type 0
 MainsStandAlone unit =
     (k : ClassSyntax) (h : Header) (b : Braced) (m : Method) → Contains (classes_of unit) k → Contains k.members (source.Method h None (Some b)) → is_main unit h ≡ true → Contains (table unit).methods m → m.site ≡ h.name.token
-    → (c : ℕ) × IsWritten unit c k × (m ≡ method_row unit c k h h.name.name (result_type unit None) (form_of h))
+    → (c : ℕ) × IsSourceClass unit c k × (m ≡ method_row unit c k h h.name.name (result_type unit None) (form_of h))
 
 -- so the main of a well-formed tree is one, and has a body
 abbrev pub TreesHaveMain : Type 0
-TreesHaveMain = (tree : Ast) → WellFormed tree → MainsStandAlone (unit 0 tree) → length (table (unit 0 tree)).classes ≤ 1048594 → (tokens : ℕ) (p : Program) → Elaborates (unit 0 tree) tokens (Ok p) → HasMain p
+TreesHaveMain = (tree : Ast) → WellFormed tree → MainsStandAlone (unit 0 tree) → length (table (unit 0 tree)).classes ≤ class_limit → (tokens : ℕ) (p : Program) → Elaborates (unit 0 tree) tokens (Ok p) → HasMain p

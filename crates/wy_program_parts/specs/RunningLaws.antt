@@ -5,8 +5,9 @@ use Rattle.wy_members.specs.Declarations.{CompilationUnit}
 use Rattle.wy_elab_stmt.specs.Elaborates.{Elaborates}
 use Rattle.wy_typing.specs.Programs.{RunsMethods}
 use Rattle.wy_typed_expr.specs.Typed.{MethodsFit}
+use Rattle.wy_program_parts.specs.TableLaws.{class_limit}
 
 -- in a program each class that objects are made of runs, for each method that may be called on it, one with a body that takes what is
 -- called takes and gives what may stand for what it gives
 abbrev pub ClassesRunMethods : Type 0
-ClassesRunMethods = (unit : CompilationUnit) (count : ℕ) (p : Program) → length p.classes ≤ 1048594 → MethodsFit p → Elaborates unit count (Ok p) → RunsMethods p
+ClassesRunMethods = (unit : CompilationUnit) (count : ℕ) (p : Program) → length p.classes ≤ class_limit → MethodsFit p → Elaborates unit count (Ok p) → RunsMethods p

@@ -48,7 +48,8 @@ fn copied(alloc: Global, event: &Event) -> Result<Event, AllocError>
 /// Puts a copy of an event behind those that are kept.
 fn keep(alloc: Global, events: &mut Vec<Event>, event: &Event) -> Result<(), AllocError>
     ensures { map recorded events.new.items ≡ (if is_ok result
-        then map recorded events.old.items ++ recorded event.now ∷ [] else map recorded events.old.items) }
+        then map recorded events.old.items ++ recorded event.now ∷ []
+        else map recorded events.old.items) }
 {
     let copy = copied(alloc, event)?;
     events.push(copy)?;

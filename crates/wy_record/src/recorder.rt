@@ -68,9 +68,11 @@ pub trait Recorder {
         ensures phase { phase self.new ≡ (if is_ok result then Phase.Recording else Phase.Failed) }
         ensures kept { OnOk result (kept self.new ≡ []) }
         ensures expected { compares ≡ true
-            → OnOk result ((expected self.new ≡ map recorded events.items) × (position self.new ≡ 0)) }
+            → OnOk result ((expected self.new ≡ map recorded events.items)
+            × (position self.new ≡ 0)) }
         ensures faults { FaultsAs result (faults self.old) (faults self.new) }
-        ensures mirrors { MirrorsTake result (opening head.now) (opened (mirrors self.old)) (mirrors self.new) }
+        ensures mirrors { MirrorsTake result (opening head.now) (opened (mirrors self.old))
+            (mirrors self.new) }
         ensures differs { DiffersFor result compares (position self.old) ⊥ };
 
     /// Takes the next event.
@@ -101,7 +103,8 @@ pub trait Recorder {
         ensures expected { expected self.new ≡ expected self.old }
         ensures position { position self.new ≡ position self.old }
         ensures faults { FaultsAs result (faults self.old) (faults self.new) }
-        ensures mirrors { MirrorsClose result (closing tail.now) (mirrors self.old) (mirrors self.new) }
+        ensures mirrors { MirrorsClose result (closing tail.now) (mirrors self.old)
+            (mirrors self.new) }
         ensures as_expected { compares ≡ true
             → OnOk result (slice_get (expected self.old) (position self.old) ≡ None) }
         ensures differs { DiffersFor result compares (position self.old)

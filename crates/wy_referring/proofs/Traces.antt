@@ -20,11 +20,11 @@ use Rattle.wy_payload.specs.Ranges.{ranges_of}
 use Rattle.wy_payload.specs.Reading.{Read, all_of}
 use Rattle.wy_payload.specs.Events.{event_limit, event_at}
 use Rattle.wy_frames.specs.declared.error.TraceError.{TraceError}
-use Rattle.wy_frames.specs.declared.stage.Placed.{Placed}
+use Rattle.wy_frames.specs.declared.stage.ReadEvent.{ReadEvent}
 use Rattle.wy_frames.specs.declared.stage.Stage.{Stage}
 use Rattle.wy_frames.specs.declared.stage.Stage.TheVariants as stages
 use Rattle.wy_frames.specs.Frames.{Frame, frame_of}
-use Rattle.wy_frames.specs.Standing.{Standing, start, event_in, known_as_placed, knowns, Breaks, Unsealed, Next, read_as, with_event, with_stage, event_next, coverage_next, end_next, seal_length, seal_next, open_next, covered_next, ended_next, next_at, next_of}
+use Rattle.wy_frames.specs.Standing.{Standing, start, event_in, known_as_placed, knowns, Violates, Unsealed, Next, read_as, with_event, with_stage, event_next, coverage_next, end_next, seal_length, seal_next, open_next, covered_next, ended_next, next_at, next_of}
 use Rattle.wy_frames.specs.Scan.{Goes, turn_next, without_frame, turn_frame, is_passed, turn, Leaves, nothing, frame}
 use Rattle.wy_frames.specs.Heads.{head_of}
 use Rattle.wy_frames.specs.Traces.{IsReadBehind, IsReadAs}
@@ -32,7 +32,7 @@ use Rattle.wy_referring.proofs.Numbers.{Has, then_has, whatever}
 use Rattle.wy_referring.proofs.Events.{Stands, event_has}
 
 -- the events that stand are few and refer below themselves
-record Sound (placed : List Placed) : Type 0 where
+record Sound (placed : List ReadEvent) : Type 0 where
   few : length placed ≤ event_limit
   refer : AllRefersBelow (map event_in placed)
 
@@ -47,9 +47,9 @@ one_more P [] e before last (suc n) f is = absurd cc
 one_more P (d ∷ es) e before last zero f is = before zero f is
 one_more P (d ∷ es) e before last (suc n) f is = one_more (λ m. P (suc m)) es e (λ m. before (suc m)) last n f is
 
-with_last : (placed : List Placed) (w : Written) (end : ℕ) → Sound placed → Stands (length (map known_as_placed placed)) w → Sound (placed ++ record { event = w.event; end = end } ∷ [])
+with_last : (placed : List ReadEvent) (w : Written) (end : ℕ) → Sound placed → Stands (length (map known_as_placed placed)) w → Sound (placed ++ record { event = w.event; end = end } ∷ [])
 with_last placed w end sound stands =
-    let last : Placed = record { event = w.event; end = end } in
+    let last : ReadEvent = record { event = w.event; end = end } in
     let counted : length (map known_as_placed placed) ≡ length placed = length-map placed known_as_placed in
     let place : length (map known_as_placed placed) ≡ length (map event_in placed) = counted ∙ sym (length-map placed event_in) in
     record {
@@ -90,7 +90,7 @@ seal_stays s t whole payload sound = by_length (eqb (length payload) seal_length
     by_digest true seal = sound
     by_digest false seal = tt
 
-    by_length : (b : Bool) (seal : List ℕ) → StaysSound (cond b (cond (bytes_eq payload seal) (Ok (with_stage s whole (stages.Sealed t seal))) (Err Unsealed)) (Err (Breaks rule.Length)))
+    by_length : (b : Bool) (seal : List ℕ) → StaysSound (cond b (cond (bytes_eq payload seal) (Ok (with_stage s whole (stages.Sealed t seal))) (Err Unsealed)) (Err (Violates rule.Length)))
     by_length true seal = by_digest (bytes_eq payload seal) seal
     by_length false seal = tt
 
@@ -107,7 +107,7 @@ stage_stays r steps s (stages.Sealed t seal) f sound = tt
 
 next_goes : (s t : Standing) (rest others : List ℕ) (next : Next) → StaysSound next → turn_next s rest next ≡ Goes t others → Sound t.placed
 next_goes s t rest others (Ok u) stays e = let same : u ≡ t = cc in subst (λ (v : Standing). Sound v.placed) same stays
-next_goes s t rest others (Err (Breaks r)) stays e = absurd cc
+next_goes s t rest others (Err (Violates r)) stays e = absurd cc
 next_goes s t rest others (Err Unsealed) stays e = absurd cc
 
 never_goes : (at : ℕ) (b : Bool) (t : Standing) (others : List ℕ) → without_frame at b ≡ Goes t others → ⊥

@@ -36,7 +36,7 @@ use Rattle.wy_refusals.proofs.Fields.{hidden}
 use Rattle.wy_refusals.proofs.Invoked.{void_among, values_among, all_never, found_method, Found}
 use Rattle.wy_refusals.proofs.ExpressionParts.{are_found, type_only, type_found}
 use Rattle.wy_refusals.proofs.Refused.{Bad, void, unfit, braces, InInitial, all_explained, initial_explained}
-use Rattle.wy_well_formed.specs.Complete.{IsWritten, AreWritten, HasWrittenInitial, IsWrittenDeclarator, IsWrittenBlock, AreWrittenStatements, HasWrittenCall}
+use Rattle.wy_well_formed.specs.Complete.{IsComplete, AreComplete, HasCompleteInitial, IsCompleteDeclarator, IsCompleteBlock, AreCompleteStatements, HasCompleteCall}
 use Rattle.wy_refusals.specs.Standing.{Leads}
 use Rattle.wy_refusals.specs.Members.{InParameters, HasBadParameter, Gives, IsBrokenMethod, IsBadConstruction, IsBadObjectCall, HasBadStart, IsBrokenConstructor, InFields, IsFieldGiven, IsFieldFilled, HasBadField}
 use Rattle.wy_refusals.specs.Members as member
@@ -82,10 +82,10 @@ module _ (w : Setting) (g : Settles w.table w.judgement) where
       only_bind {m = method_for w.judgement (class_type class) (codes "new") ms n} {f = λ k. constructed_by s class k (slice_get w.table.methods k) ms n} (method_only s class args n ms f)
       (λ k u v is. row_by s class args n k ms f (found_method w.judgement (class_type class) (codes "new") ms k n u v is) (slice_get w.table.methods k) refl)
 
-  args_whole : (s : Scope) (args : Row) → AreWritten args → (part : Expression) → Contains (listed args) part → IsWhole w.table s part
-  args_whole s args h part c = whole w.table s part (All-contains IsWritten (listed args) part (all_row args h) c)
+  args_whole : (s : Scope) (args : Row) → AreComplete args → (part : Expression) → Contains (listed args) part → IsWhole w.table s part
+  args_whole s args h part c = whole w.table s part (All-contains IsComplete (listed args) part (all_row args h) c)
 
-  call_only : (s : Scope) (class : ℕ) (args : Row) (n : ℕ) → AreWritten args → Only (BadConstruction s class args n) (constructor_call w.judgement w.table class args n s)
+  call_only : (s : Scope) (class : ℕ) (args : Row) (n : ℕ) → AreComplete args → Only (BadConstruction s class args n) (constructor_call w.judgement w.table class args n s)
   unfolding constructor_call
   call_only s class args n h =
       only_bind {m = elaborated_all w.judgement w.table s args} {f = λ ms. constructor_called w.judgement w.table class ms n s}
@@ -101,7 +101,7 @@ module _ (w : Setting) (g : Settles w.table w.judgement) where
   none_by s args n (m ∷ rest) f =
       only_refuse_if (some_void (m ∷ rest)) rule.BadOperand rule.NoMethod (λ h. member.IsBadObjectCall.void_argument f (void_among (m ∷ rest) h)) (λ h. member.some_argument (some_arguments s args m rest f))
 
-  object_only : (s : Scope) (args : Row) (n : ℕ) → AreWritten args → Only (λ r. IsBadObjectCall w s args n r.rule r.token) (object_called w.judgement w.table args n s)
+  object_only : (s : Scope) (args : Row) (n : ℕ) → AreComplete args → Only (λ r. IsBadObjectCall w s args n r.rule r.token) (object_called w.judgement w.table args n s)
   unfolding object_called
   object_only s args n h =
       only_bind {m = elaborated_all w.judgement w.table s args} {f = λ ms. none_for_object ms n}
@@ -122,22 +122,22 @@ module _ (w : Setting) (g : Settles w.table w.judgement) where
       (only_weaker (λ r k. member.HasBadStart.implied h k) (called_only b.scope (superclass_of w c) source.none site [] found.none_found)) (λ e c1 ex. from_give))
       (λ h. from_give)
 
-  own_only : {P : Refusal → Type 0} (c d : ℕ) (call : OwnCall) (b : Making) → AreWritten call.args → ((r : Refusal) → BadConstruction b.scope d call.args call.paren r → P r) → OnlyFrom P (own_call w c d call) b
+  own_only : {P : Refusal → Type 0} (c d : ℕ) (call : OwnCall) (b : Making) → AreComplete call.args → ((r : Refusal) → BadConstruction b.scope d call.args call.paren r → P r) → OnlyFrom P (own_call w c d call) b
   unfolding own_call
   own_only c d call b h f =
       bind_expressed (constructor_call w.judgement w.table d call.args call.paren) (λ e. give (plain w call.token true (kernel.Eval e) ∷ [])) b (only_weaker f (call_only b.scope d call.args call.paren h)) (λ e c1 ex. from_give)
 
-  no_call_only : {P : Refusal → Type 0} (call : OwnCall) (b : Making) → AreWritten call.args → ((r : Refusal) → IsBadObjectCall w b.scope call.args call.paren r.rule r.token → P r) → OnlyFrom P (no_call w call) b
+  no_call_only : {P : Refusal → Type 0} (call : OwnCall) (b : Making) → AreComplete call.args → ((r : Refusal) → IsBadObjectCall w b.scope call.args call.paren r.rule r.token → P r) → OnlyFrom P (no_call w call) b
   unfolding no_call
   no_call_only call b h f = bind_expressed (object_called w.judgement w.table call.args call.paren) (λ nothing. give []) b (only_weaker f (object_only b.scope call.args call.paren h)) (λ e c1 ex. from_give)
 
-  super_only : (c site : ℕ) (call : OwnCall) (b : Making) → AreWritten call.args → call.is_super ≡ true → OnlyFrom (BadStart b.scope c site (Some call)) (written_super_call w c call) b
+  super_only : (c site : ℕ) (call : OwnCall) (b : Making) → AreComplete call.args → call.is_super ≡ true → OnlyFrom (BadStart b.scope c site (Some call)) (written_super_call w c call) b
   unfolding written_super_call
   super_only c site call b h is_super =
       from_if {c = calls_superclass w.table c} {f = own_call w c (superclass_of w c) call} {g = no_call w call} (λ e. own_only c (superclass_of w c) call b h (λ r k. member.HasBadStart.of_super is_super e k))
       (λ e. no_call_only call b h (λ r k. member.of_object is_super e k))
 
-  start_only : (c : ℕ) (k : ClassSyntax) (site : ℕ) (own : Option OwnCall) (b : Making) → HasWrittenCall own → OnlyFrom (BadStart b.scope c site own) (first_calls w c k site own) b
+  start_only : (c : ℕ) (k : ClassSyntax) (site : ℕ) (own : Option OwnCall) (b : Making) → HasCompleteCall own → OnlyFrom (BadStart b.scope c site own) (first_calls w c k site own) b
   unfolding first_calls
   start_only c k site Absent b h = from_bind {f = implied_super_call w c site} {g = λ xs. give (xs ++ implied_fields_call w c k site)} (implied_only c site b) (λ xs c1 is. from_give)
   start_only c k site (Some call) b h =
@@ -225,7 +225,7 @@ module _ (w : Setting) (g : Settles w.table w.judgement) where
   bad_result : (s : Scope) (h : Header) (result : Option WrittenType) (b : Braced) (ty : WrittenType) → result ≡ Some ty → IsNoType w.table ty.base → IsBrokenMethod w s h result b rule.UnknownName ty.token
   bad_result s h result b ty e none = let Q : Option WrittenType → Type 0 = λ z. IsBrokenMethod w s h z b rule.UnknownName ty.token in subst Q (sym e) (member.result none)
 
-  method_only_from : (h : Header) (result : Option WrittenType) (x : Braced) (b : Making) → IsWrittenBlock x → OnlyFrom (λ r. IsBrokenMethod w b.scope h result x r.rule r.token) (method_block w h result x) b
+  method_only_from : (h : Header) (result : Option WrittenType) (x : Braced) (b : Making) → IsCompleteBlock x → OnlyFrom (λ r. IsBrokenMethod w b.scope h result x r.rule r.token) (method_block w h result x) b
   unfolding method_block
   method_only_from h result x b written =
       from_bind {f = outcome_of w result} {g = λ outcome. parameters w h.params >>= λ params. block w (alone (number w (brace_of x)) outcome) x} (outcome_only result b (bad_result b.scope h result x))
@@ -234,7 +234,7 @@ module _ (w : Setting) (g : Settles w.table w.judgement) where
       (from_weaker (λ r k. let Q : Scope → Type 0 = λ z. HasBadParameter w z h.params r.rule r.token in member.IsBrokenMethod.of_parameter (subst Q o.scope k)) (parameters_only w h.params c))
       (λ params d it. from_weaker (λ r k. member.IsBrokenMethod.of_block o.gives (leading_from (parameters w h.params) b.scope c params d o.scope it) k.stands k.broken) (block_explained w g x (alone (number w (brace_of x)) outcome) d written)))
 
-  constructor_only_from : (c : ℕ) (k : ClassSyntax) (h : Header) (own : Option OwnCall) (brace : ℕ) (parts : Statements) (b : Making) → HasWrittenCall own → AreWrittenStatements parts →
+  constructor_only_from : (c : ℕ) (k : ClassSyntax) (h : Header) (own : Option OwnCall) (brace : ℕ) (parts : Statements) (b : Making) → HasCompleteCall own → AreCompleteStatements parts →
       OnlyFrom (λ r. IsBrokenConstructor w b.scope c k h own brace parts r.rule r.token) (constructor_block w c k h own brace parts) b
   unfolding constructor_block
   constructor_only_from c k h own brace parts b call written =
@@ -267,7 +267,7 @@ module _ (w : Setting) (g : Settles w.table w.judgement) where
   field_refused c is_static ty s all there d i base r given is (InInitial.a_value b) = member.HasBadField.expression given b.stands b.broken
   field_refused c is_static ty s all there d i base r given is (InInitial.a_fill it inner n fills b) = bad_field c is_static ty s all there it inner n r (member.fills given is fills) b
 
-  field_only : (c : ℕ) (is_static : Bool) (ty : WrittenType) (s : Scope) (all : List Declarator) (d : Declarator) (b : Making) → InFields w c is_static ty s all b.scope d → (o : Option Initial) → d.initial ≡ o → HasWrittenInitial o →
+  field_only : (c : ℕ) (is_static : Bool) (ty : WrittenType) (s : Scope) (all : List Declarator) (d : Declarator) (b : Making) → InFields w c is_static ty s all b.scope d → (o : Option Initial) → d.initial ≡ o → HasCompleteInitial o →
       OnlyFrom (BadField c is_static ty s all) (field_initial w c is_static ty d o) b
   field_only c is_static ty s all d b among Absent e h = from_give
   field_only c is_static ty s all d b among (Some i) e h =
@@ -276,24 +276,24 @@ module _ (w : Setting) (g : Settles w.table w.judgement) where
       (λ t b1 e1. let x = type_declared w ty d.brackets b t b1 e1 in
       let Q : Scope → Type 0 = λ z. InFields w c is_static ty s all z d in
       let given : IsFieldGiven w c is_static ty s all b1.scope d i = record { among = subst Q (sym x.scope) among; given = e } in
-      let are_whole : (part : Expression) → Contains (values_of i) part → IsWhole w.table b1.scope part = λ part k. whole w.table b1.scope part (All-contains IsWritten (values_of i) part (written_values i h) k) in
+      let are_whole : (part : Expression) → Contains (values_of i) part → IsWhole w.table b1.scope part = λ part k. whole w.table b1.scope part (All-contains IsComplete (values_of i) part (written_values i h) k) in
       let R : Ty → Refusal → Type 0 = λ z r. InInitial w.judgement w.table b1.scope z i d.name.token r in
       from_bind {f = assigned_first w c is_static t d.name i} {g = λ y. give (y ∷ [])}
       (bind_expressed (λ s1. initialized w.judgement w.table s1 t i d.name.token) (λ e2. give (plain w d.name.token true (kernel.Eval (kernel.Set (own_place is_static (field_number w c d.name.name) d.name.token) e2 d.name.token)))) b1
       (only_weaker (λ r q. field_refused c is_static ty s all b1.scope d i x.base r given x.is_type (let S : Ty → Type 0 = λ z. R z r in subst S (sym x.same) q)) (initial_explained w.judgement w.table b1.scope g i t d.name.token are_whole))
       (λ e2 b2 ex. from_give)) (λ y b2 e2. from_give))
 
-  fields_among : (c : ℕ) (is_static : Bool) (ty : WrittenType) (s : Scope) (all rest : List Declarator) (b : Making) → All IsWrittenDeclarator rest →
+  fields_among : (c : ℕ) (is_static : Bool) (ty : WrittenType) (s : Scope) (all rest : List Declarator) (b : Making) → All IsCompleteDeclarator rest →
       ((there : Scope) (d : Declarator) → InFields w c is_static ty b.scope rest there d → InFields w c is_static ty s all there d) → OnlyFrom (BadField c is_static ty s all) (each (λ d. field_initial w c is_static ty d d.initial) rest) b
   unfolding each
   fields_among c is_static ty s all [] b h f = from_give
   fields_among c is_static ty s all (d ∷ rest) b h f =
       from_bind {f = field_initial w c is_static ty d d.initial} {g = λ x. each (λ e. field_initial w c is_static ty e e.initial) rest >>= λ xs. give (x ∷ xs)}
-      (field_only c is_static ty s all d b (f b.scope d member.InFields.here) d.initial refl (All-head IsWrittenDeclarator d rest h))
+      (field_only c is_static ty s all d b (f b.scope d member.InFields.here) d.initial refl (All-head IsCompleteDeclarator d rest h))
       (λ x b1 e1. from_bind {f = each (λ e. field_initial w c is_static ty e e.initial) rest} {g = λ xs. give (x ∷ xs)}
-      (fields_among c is_static ty s all rest b1 (All-tail IsWrittenDeclarator d rest h) (λ there e k. f there e (member.InFields.later (leading (field_initial w c is_static ty d d.initial) b x b1 e1) k))) (λ xs b2 e2. from_give))
+      (fields_among c is_static ty s all rest b1 (All-tail IsCompleteDeclarator d rest h) (λ there e k. f there e (member.InFields.later (leading (field_initial w c is_static ty d d.initial) b x b1 e1) k))) (λ xs b2 e2. from_give))
 
-  fields_only_from : (c : ℕ) (is_static : Bool) (ty : WrittenType) (all : List Declarator) (b : Making) → All IsWrittenDeclarator all → OnlyFrom (BadField c is_static ty b.scope all) (field_initials w c is_static ty all) b
+  fields_only_from : (c : ℕ) (is_static : Bool) (ty : WrittenType) (all : List Declarator) (b : Making) → All IsCompleteDeclarator all → OnlyFrom (BadField c is_static ty b.scope all) (field_initials w c is_static ty all) b
   unfolding field_initials
   fields_only_from c is_static ty all b h =
       from_bind {f = each (λ d. field_initial w c is_static ty d d.initial) all} {g = λ xss. give (flat_map (λ xs. xs) xss)} (fields_among c is_static ty b.scope all all b h (λ there d k. k)) (λ xss c1 e1. from_give)

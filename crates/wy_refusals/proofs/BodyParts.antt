@@ -21,7 +21,7 @@ use Rattle.wy_statement.specs.Statements.{Setting, plain, effect, effects, teste
 use Rattle.wy_refusals.specs.ExpressionLaws.{IsBroken}
 use Rattle.wy_refusals.proofs.Walk.{Only, only_give, only_refuse, only_weaker}
 use Rattle.wy_refusals.proofs.Contained.{contains_here, contains_later}
-use Rattle.wy_well_formed.specs.Complete.{IsWrittenEffect}
+use Rattle.wy_well_formed.specs.Complete.{IsCompleteEffect}
 use Rattle.wy_refusals.specs.Standing.{Leads}
 use Rattle.wy_refusals.proofs.Steps.{OnlyFrom, from_give, from_refuse, from_if, from_bind, from_declaring, from_block, bind_expressed, was_expressed, in_opened}
 use Rattle.wy_refusals.proofs.Expressed.{performed_only}
@@ -77,21 +77,21 @@ module _ (w : Setting) where
     not_throwable : {c : ℕ} → class_named w.table.classes class.name ≡ Some c → (Below w.table.classes (class_type c) (class_type throwable_class) → ⊥) → BadClause s class name (refused BadOperand name.token)
 
 module _ (w : Setting) (g : Settles w.table w.judgement) where
-  pub effect_only : {P : Refusal → Type 0} (e : Effect) (b : Making) → IsWrittenEffect e → ((r : Refusal) → IsBroken w.judgement w.table b.scope e.value r.rule r.token → P r) → OnlyFrom P (effect w e) b
+  pub effect_only : {P : Refusal → Type 0} (e : Effect) (b : Making) → IsCompleteEffect e → ((r : Refusal) → IsBroken w.judgement w.table b.scope e.value r.rule r.token → P r) → OnlyFrom P (effect w e) b
   unfolding effect
   effect_only e b h f =
       bind_expressed (performed w.judgement w.table e.value) (λ act. give (plain w e.token true act)) b (only_weaker f (performed_only w.judgement w.table g b.scope e.value h)) (λ act c ex. from_give)
 
-  pub effects_only : {P : Refusal → Type 0} (all : List Effect) (s : Scope) (b : Making) → b.scope ≡ s → All IsWrittenEffect all →
+  pub effects_only : {P : Refusal → Type 0} (all : List Effect) (s : Scope) (b : Making) → b.scope ≡ s → All IsCompleteEffect all →
       ((e : Effect) → Contains all e → (r : Refusal) → IsBroken w.judgement w.table s e.value r.rule r.token → P r) → OnlyFrom P (effects w all) b
   unfolding each
   effects_only [] s b same h f = from_give
   effects_only (e ∷ rest) s b same h f =
       from_bind {f = effect w e} {g = λ y. each (effect w) rest >>= λ ys. give (y ∷ ys)}
-      (effect_only e b (All-head IsWrittenEffect e rest h)
+      (effect_only e b (All-head IsCompleteEffect e rest h)
       (λ r k. let Q : Scope → Type 0 = λ z. IsBroken w.judgement w.table z e.value r.rule r.token in f e (contains_here rest refl) r (subst Q same k)))
       (λ y c is. from_bind {f = each (effect w) rest} {g = λ ys. give (y ∷ ys)}
-      (effects_only rest s c (effect_keeps w e b y c is ∙ same) (All-tail IsWrittenEffect e rest h) (λ d k. f d (contains_later e d rest k))) (λ ys d is2. from_give))
+      (effects_only rest s c (effect_keeps w e b y c is ∙ same) (All-tail IsCompleteEffect e rest h) (λ d k. f d (contains_later e d rest k))) (λ ys d is2. from_give))
 
   -- ---- clauses
 

@@ -23,7 +23,7 @@ use Rattle.wy_statement.specs.Bodies.{Growing, Growth, around_initializer, end_o
 use Rattle.wy_statement.specs.Bodies as bodies
 use Rattle.wy_elab_stmt.specs.Classes.{whole, with_body, grown, in_initializer, in_fields, is_static, member, members, implied_constructor, none_yet, finished, of_class, of_interface, class_bodies}
 use Rattle.wy_refusals.proofs.Walk.{Only, only_give, only_if, only_bind, only_weaker}
-use Rattle.wy_well_formed.specs.Complete.{IsWrittenDeclarator, IsWrittenBlock, AreWrittenStatements, HasWrittenCall, IsWrittenMember, IsWrittenClass}
+use Rattle.wy_well_formed.specs.Complete.{IsCompleteDeclarator, IsCompleteBlock, AreCompleteStatements, HasCompleteCall, IsCompleteMember, IsCompleteClass}
 use Rattle.wy_refusals.specs.Members.{IsBrokenMethod, IsBrokenConstructor, HasBadStart, HasBadField, IsBrokenBlock}
 use Rattle.wy_refusals.proofs.Steps.{OnlyFrom, from_give, from_bind, from_weaker}
 use Rattle.wy_refusals.proofs.Nested.{block_due}
@@ -56,15 +56,15 @@ module _ (w : Setting) (g : Settles w.table w.judgement) (c : ℕ) (k : ClassSyn
   MemberBroken growth m r = IsBrokenMember w c k growth m r.rule r.token
 
   -- a block, a method and the rest, from here
-  block_from : (a : Around) (x : Braced) (b : Making) → IsWrittenBlock x → OnlyFrom (λ r. IsBrokenBlock w a b.scope x r.rule r.token) (block w a x) b
+  block_from : (a : Around) (x : Braced) (b : Making) → IsCompleteBlock x → OnlyFrom (λ r. IsBrokenBlock w a b.scope x r.rule r.token) (block w a x) b
   block_from a x b h = record { at = λ r e. block_due w g a x b r.rule r.token h e }
 
-  initializer_from : (role : Role) (x : Braced) (s : Scope) (b : Making) → b.scope ≡ s → IsWrittenBlock x → OnlyFrom (λ r. IsBrokenBlock w (around_initializer w k role) s x r.rule r.token) (initializer_block w k role x) b
+  initializer_from : (role : Role) (x : Braced) (s : Scope) (b : Making) → b.scope ≡ s → IsCompleteBlock x → OnlyFrom (λ r. IsBrokenBlock w (around_initializer w k role) s x r.rule r.token) (initializer_block w k role x) b
   initializer_from role x s b same h =
       from_bind {f = block w (around_initializer w k role) x} {g = λ y. making.give (y ∷ [])}
       (from_weaker (λ r q. let Q : Scope → Type 0 = λ z. IsBrokenBlock w (around_initializer w k role) z x r.rule r.token in subst Q same q) (block_from (around_initializer w k role) x b h)) (λ y d is. from_give)
 
-  fields_from : (is_static_one : Bool) (ty : WrittenType) (all : List Declarator) (s : Scope) (b : Making) → b.scope ≡ s → All IsWrittenDeclarator all → OnlyFrom (λ r. HasBadField w c is_static_one ty s all r.rule r.token) (field_initials w c is_static_one ty all) b
+  fields_from : (is_static_one : Bool) (ty : WrittenType) (all : List Declarator) (s : Scope) (b : Making) → b.scope ≡ s → All IsCompleteDeclarator all → OnlyFrom (λ r. HasBadField w c is_static_one ty s all r.rule r.token) (field_initials w c is_static_one ty all) b
   fields_from is_static_one ty all s b same h =
       record { at = λ r e. let Q : Scope → Type 0 = λ z. HasBadField w c is_static_one ty z all r.rule r.token in subst Q same (field_due w g c is_static_one ty all b r.rule r.token h e) }
 
@@ -74,16 +74,16 @@ module _ (w : Setting) (g : Settles w.table w.judgement) (c : ℕ) (k : ClassSyn
   in_fields_only : {P : Refusal → Type 0} (growth : Growth) (f : Makes (List kernel.Statement)) → ((b : Making) → b.scope ≡ growth.fields.making.scope → OnlyFrom P f b) → Only P (in_fields growth f)
   in_fields_only growth f h = only_bind {m = grown growth.fields f} {f = λ x. give (record growth { fields = x })} (grown_only growth.fields f h) (λ x u v is. only_give)
 
-  method_from : (h : Header) (result : Option WrittenType) (x : Braced) (s : Scope) (b : Making) → b.scope ≡ s → IsWrittenBlock x → OnlyFrom (λ r. IsBrokenMethod w s h result x r.rule r.token) (method_block w h result x) b
+  method_from : (h : Header) (result : Option WrittenType) (x : Braced) (s : Scope) (b : Making) → b.scope ≡ s → IsCompleteBlock x → OnlyFrom (λ r. IsBrokenMethod w s h result x r.rule r.token) (method_block w h result x) b
   method_from h result x s b same written =
       record { at = λ r e. let Q : Scope → Type 0 = λ z. IsBrokenMethod w z h result x r.rule r.token in subst Q same (method_due w g h result x b r.rule r.token written e) }
 
-  constructor_from : (h : Header) (own : Option OwnCall) (brace : ℕ) (parts : Statements) (s : Scope) (b : Making) → b.scope ≡ s → HasWrittenCall own → AreWrittenStatements parts →
+  constructor_from : (h : Header) (own : Option OwnCall) (brace : ℕ) (parts : Statements) (s : Scope) (b : Making) → b.scope ≡ s → HasCompleteCall own → AreCompleteStatements parts →
       OnlyFrom (λ r. IsBrokenConstructor w s c k h own brace parts r.rule r.token) (constructor_block w c k h own brace parts) b
   constructor_from h own brace parts s b same call written =
       record { at = λ r e. let Q : Scope → Type 0 = λ z. IsBrokenConstructor w z c k h own brace parts r.rule r.token in subst Q same (constructor_due w g c k h own brace parts b r.rule r.token call written e) }
 
-  member_only : (growth : Growth) (m : Member) → IsWrittenMember m → Only (MemberBroken growth m) (member w c k growth m)
+  member_only : (growth : Growth) (m : Member) → IsCompleteMember m → Only (MemberBroken growth m) (member w c k growth m)
   unfolding member
   member_only growth (source.Initializer true x) h =
       in_initializer_only growth (initializer_block w k InitializerBody x) (λ b same. from_weaker (λ r q. units.of_static_block q) (initializer_from InitializerBody x growth.initializer.making.scope b same h))
@@ -114,19 +114,19 @@ module _ (w : Setting) (g : Settles w.table w.judgement) (c : ℕ) (k : ClassSyn
     stands : InMembers w c k growth rest there part
     broken : MemberBroken there part r
 
-  members_only : (growth : Growth) (rest : List Member) → All IsWrittenMember rest → Only (MembersBroken growth rest) (members w c k growth rest)
+  members_only : (growth : Growth) (rest : List Member) → All IsCompleteMember rest → Only (MembersBroken growth rest) (members w c k growth rest)
   unfolding members
   members_only growth [] h = only_give
   members_only growth (m ∷ rest) h =
       only_bind {m = member w c k growth m} {f = λ next. members w c k next rest}
-      (only_weaker (λ r q. record { there = growth; part = m; stands = units.InMembers.here; broken = q }) (member_only growth m (All-head IsWrittenMember m rest h)))
+      (only_weaker (λ r q. record { there = growth; part = m; stands = units.InMembers.here; broken = q }) (member_only growth m (All-head IsCompleteMember m rest h)))
       (λ next u v is. only_weaker (λ r q. record { there = q.there; part = q.part; stands = units.InMembers.later (record { before = u; after = v; made = is }) q.stands; broken = q.broken })
-      (members_only next rest (All-tail IsWrittenMember m rest h)))
+      (members_only next rest (All-tail IsCompleteMember m rest h)))
 
   abbrev ClassBroken : Refusal → Type 0
   ClassBroken r = IsBrokenClass w c k r.rule r.token
 
-  of_members : IsWrittenClass k → Only ClassBroken (members w c k (none_yet c k) k.members)
+  of_members : IsCompleteClass k → Only ClassBroken (members w c k (none_yet c k) k.members)
   of_members h = only_weaker (λ r q. units.of_member q.stands q.broken) (members_only (none_yet c k) k.members h)
 
   implied_only : k.is_interface ≡ false → Only ClassBroken (implied_constructor w c k)
@@ -139,7 +139,7 @@ module _ (w : Setting) (g : Settles w.table w.judgement) (c : ℕ) (k : ClassSyn
       (λ b same. record { at = λ r h. let Q : Scope → Type 0 = λ z. HasBadStart w z c k.name.token Absent r.rule r.token in units.implied plain e (subst Q (same ∙ begun_scope c true k.name.token) (implied_due w g c k b r.rule r.token h)) }))
       (λ x u v is. only_give))
 
-  pub class_only : IsWrittenClass k → Only ClassBroken (class_bodies w c k)
+  pub class_only : IsCompleteClass k → Only ClassBroken (class_bodies w c k)
   unfolding class_bodies
   class_only h =
       only_if {b = k.is_interface} {m = of_interface w c k} {n = of_class w c k}

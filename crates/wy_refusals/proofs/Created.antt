@@ -26,7 +26,7 @@ use Rattle.wy_refusals.specs.Found as found
 use Rattle.wy_refusals.specs.Found.{IsFound, AreFound}
 use Rattle.wy_refusals.specs.Calls.{HaveValues, Means, ByNew}
 use Rattle.wy_refusals.specs.Calls as calls
-use Rattle.wy_refusals.specs.Ways.{Breaks}
+use Rattle.wy_refusals.specs.Ways.{ExpressionBreaks}
 use Rattle.wy_refusals.specs.Ways as way
 use Rattle.wy_refusals.proofs.Walk.{Only, only_give, only_refuse, only_if, only_bind, only_brought}
 use Rattle.wy_refusals.proofs.Contained.{contains_here}
@@ -66,7 +66,7 @@ module _ (j : Judgement) (t : Table) (s : Scope) (g : Settles t j) where
   plain_row class token is [] args f = only_give
   plain_row class token is (m ∷ rest) args f =
       only_refuse_if (some_void (m ∷ rest)) rule.BadOperand rule.NoMethod (λ h. way.void_argument way.Passes.by_new f (void_among (m ∷ rest) h))
-      (λ h. some_more j t s (λ a. Breaks j t s (NewObject class a token) rule.NoMethod token) m rest args f (λ e others x y. way.IsNoMethod.of_object is))
+      (λ h. some_more j t s (λ a. ExpressionBreaks j t s (NewObject class a token) rule.NoMethod token) m rest args f (λ e others x y. way.IsNoMethod.of_object is))
 
   constructed_by : (class : Named) (args : Row) (token c k : ℕ) (ms : List Meaning) → class_named t.classes class.name ≡ Some c → (c ≡ object_class → ⊥) → (IsInterface t c → ⊥) → AreFound j t s args ms →
       Found j (class_type c) (codes "new") ms k → (o : Option Method) → slice_get t.methods k ≡ o → Only (Blamed j t s (NewObject class args token)) (constructed s c (is_abstract (class_of t c)) k o ms token)
@@ -105,10 +105,10 @@ module _ (j : Judgement) (t : Table) (s : Scope) (g : Settles t j) where
   read_by object name token e [] args f =
       only_if {b = bytes_eq name (codes "read")} {m = give (Formed (kernel.Lib lib.ReadByte kernel.none token) int_type)} {n = refuse rule.NotOffered token} (λ h. only_give) (λ h. only_refuse (way.of_input e h))
   read_by object name token e (m ∷ rest) args f =
-      only_refuse_if (bytes_eq name (codes "read")) rule.NoMethod rule.NotOffered (λ h. some_more j t s (λ a. Breaks j t s (InvokeOn object name a token) rule.NoMethod token) m rest args f (λ x others y z. way.read e h)) (λ h. way.of_input e h)
+      only_refuse_if (bytes_eq name (codes "read")) rule.NoMethod rule.NotOffered (λ h. some_more j t s (λ a. ExpressionBreaks j t s (InvokeOn object name a token) rule.NoMethod token) m rest args f (λ x others y z. way.read e h)) (λ h. way.of_input e h)
 
   not_printed : (object value : Expression) (name : List ℕ) (token : ℕ) (m : Meaning) → stream_in t s object ≡ Some Output → IsFound j t s value m → (ty : Ty) → type_of m ≡ ty → is_printed ty ≡ false →
-      Breaks j t s (InvokeOn object name (source.more value source.none) token) rule.NotOffered token
+      ExpressionBreaks j t s (InvokeOn object name (source.more value source.none) token) rule.NotOffered token
   not_printed object value name token m e f Null is hidden_one = way.null_printed e f is
   not_printed object value name token m e f (Of (Basic prim.Char) (suc zero)) is hidden_one = way.chars_printed e f is
   not_printed object value name token m e f _ is hidden_one = absurd (cc)
@@ -147,7 +147,7 @@ module _ (j : Judgement) (t : Table) (s : Scope) (g : Settles t j) where
       only_refuse_if (some_void all) rule.BadOperand (if is_print name then rule.NoMethod else rule.NotOffered) (λ h. way.void_argument way.Passes.of_object f (void_among all h))
       (λ h. other_printed (is_print name) refl)
     where
-      other_printed : (b : Bool) → is_print name ≡ b → Breaks j t s (InvokeOn object name (source.more first (source.more second rest)) token) (if b then rule.NoMethod else rule.NotOffered) token
+      other_printed : (b : Bool) → is_print name ≡ b → ExpressionBreaks j t s (InvokeOn object name (source.more first (source.more second rest)) token) (if b then rule.NoMethod else rule.NotOffered) token
       other_printed true p = way.print_more e p
       other_printed false p = way.of_output e p
 

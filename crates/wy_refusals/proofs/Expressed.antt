@@ -25,15 +25,15 @@ use Rattle.wy_refusals.proofs.Taken.{assign_true}
 use Rattle.wy_refusals.proofs.Created.{operand_only}
 use Rattle.wy_refusals.proofs.ExpressionParts.{At, of_form, of_row, is_found, are_found, argument_operand}
 use Rattle.wy_refusals.proofs.Refused.{explained, all_explained}
-use Rattle.wy_well_formed.specs.Complete.{IsWritten}
+use Rattle.wy_well_formed.specs.Complete.{IsComplete}
 use Rattle.wy_refusals.proofs.Whole.{whole}
 
 module _ (j : Judgement) (t : Table) (g : Settles t j) where
   -- an expression, for what stands around it
-  pub expression_only : {P : Refusal → Type 0} (s : Scope) (e : Expression) → IsWritten e → ((r : Refusal) → IsBroken j t s e r.rule r.token → P r) → Only P (elaborated j t s e)
+  pub expression_only : {P : Refusal → Type 0} (s : Scope) (e : Expression) → IsComplete e → ((r : Refusal) → IsBroken j t s e r.rule r.token → P r) → Only P (elaborated j t s e)
   expression_only s e h f = only_weaker f (explained j t s g e (whole t s e h))
 
-  pub condition_only : {P : Refusal → Type 0} (s : Scope) (e : Expression) (site : ℕ) → IsWritten e → ((r : Refusal) → IsBroken j t s e r.rule r.token → P r) →
+  pub condition_only : {P : Refusal → Type 0} (s : Scope) (e : Expression) (site : ℕ) → IsComplete e → ((r : Refusal) → IsBroken j t s e r.rule r.token → P r) →
       ((m : Meaning) → IsFound j t s e m → (type_of m ≡ boolean_type → ⊥) → P (refused BadOperand site)) → Only P (condition j t e site s)
   unfolding condition
   condition_only s e site h f k =
@@ -43,7 +43,7 @@ module _ (j : Judgement) (t : Table) (g : Settles t j) where
 
   -- ---- expressions that are statements
 
-  evaluated_only : (s : Scope) (e : Expression) → IsWritten e → Only (At j t s e) (evaluated j t s e)
+  evaluated_only : (s : Scope) (e : Expression) → IsComplete e → Only (At j t s e) (evaluated j t s e)
   evaluated_only s e h =
       only_bind {m = elaborated j t s e} {f = λ m. formed m >>= λ form. give (kernel.Eval form)} (explained j t s g e (whole t s e h))
       (λ m u v is. only_bind {m = formed m} {f = λ form. give (kernel.Eval form)} (only_formed m) (λ x y z it. only_give))
@@ -53,7 +53,7 @@ module _ (j : Judgement) (t : Table) (g : Settles t j) where
   output_is (Some Input) e = absurd (cc)
   output_is Absent e = absurd (cc)
 
-  printing_only : (s : Scope) (e : Expression) → IsWritten e → is_output_call t s e ≡ true → Only (At j t s e) (printing j t s e)
+  printing_only : (s : Scope) (e : Expression) → IsComplete e → is_output_call t s e ≡ true → Only (At j t s e) (printing j t s e)
   unfolding is_output_call printing
   printing_only s (InvokeOn object name args token) h e =
       let call : Expression = InvokeOn object name args token in
@@ -63,7 +63,7 @@ module _ (j : Judgement) (t : Table) (g : Settles t j) where
       (of_form j t s call (operand_only j t s g object name token (output_is (stream_in t s object) e) ms args (are_found j t s args ms u v are))) (λ p x y it. only_give))
   printing_only s _ h e = absurd (cc)
 
-  pub performed_only : (s : Scope) (e : Expression) → IsWritten e → Only (At j t s e) (performed j t e s)
+  pub performed_only : (s : Scope) (e : Expression) → IsComplete e → Only (At j t s e) (performed j t e s)
   unfolding performed
   performed_only s e h = only_if {b = is_output_call t s e} {m = printing j t s e} {n = evaluated j t s e} (λ p. printing_only s e h p) (λ p. evaluated_only s e h)
 
@@ -80,7 +80,7 @@ module _ (j : Judgement) (t : Table) (g : Settles t j) where
       (λ valued. only_if {b = is_assignable j ty m} {m = brought ty m} {n = refuse BadReturn token} (λ h. only_brought ty m)
       (λ h. only_refuse (unfit ty refl (not_void (type_of m) valued) (λ may. let f : is_assignable j ty m ≡ true = assign_true j t g (not_void (type_of m) valued) may in cc))))
 
-  pub returned_only : {P : Refusal → Type 0} (s : Scope) (e : Expression) (token : ℕ) (o : Outcome) → IsWritten e → ((r : Refusal) → IsBroken j t s e r.rule r.token → P r) → (o ≡ NoValue → P (refused BadReturn token)) → (o ≡ NoReturn → P (refused BadReturn token)) →
+  pub returned_only : {P : Refusal → Type 0} (s : Scope) (e : Expression) (token : ℕ) (o : Outcome) → IsComplete e → ((r : Refusal) → IsBroken j t s e r.rule r.token → P r) → (o ≡ NoValue → P (refused BadReturn token)) → (o ≡ NoReturn → P (refused BadReturn token)) →
       ((ty : Ty) (m : Meaning) → o ≡ ValueOf ty → IsFound j t s e m → type_of m ≡ Void → P (refused BadOperand token)) →
       ((ty : Ty) (m : Meaning) → o ≡ ValueOf ty → IsFound j t s e m → (type_of m ≡ Void → ⊥) → (MayAssign t ty m → ⊥) → P (refused BadReturn token)) → Only P (returned j t o e token s)
   unfolding returned
@@ -88,7 +88,7 @@ module _ (j : Judgement) (t : Table) (g : Settles t j) where
       only_bind {m = elaborated j t s e} {f = λ m. returned_as j o m token} (expression_only s e h f)
       (λ m u v is. returned_by s e token m o none never (λ ty k. void ty m k (is_found u v is)) (λ ty k. unfit ty m k (is_found u v is)))
 
-  pub thrown_only : {P : Refusal → Type 0} (s : Scope) (e : Expression) (token : ℕ) → IsWritten e → ((r : Refusal) → IsBroken j t s e r.rule r.token → P r) →
+  pub thrown_only : {P : Refusal → Type 0} (s : Scope) (e : Expression) (token : ℕ) → IsComplete e → ((r : Refusal) → IsBroken j t s e r.rule r.token → P r) →
       ((m : Meaning) → IsFound j t s e m → (Below t.classes (type_of m) (class_type throwable_class) → ⊥) → P (refused BadOperand token)) → Only P (thrown j t e token s)
   unfolding thrown
   thrown_only s e token h f k =

@@ -24,7 +24,7 @@ use Rattle.wy_elab_expr.specs.Members.{Spot, spot, this_form, is_outside, own_fi
 use Rattle.wy_elab_expr.specs.Elaboration.{ClassName, class_in, names_class, above, super_field_named, super_spot, field_target, class_target, is_an_array, is_limit}
 use Rattle.wy_refusals.specs.Found.{IsFound}
 use Rattle.wy_refusals.specs.Calls.{IsNoLocal, IsField, HasNoField, IsHidden}
-use Rattle.wy_refusals.specs.Ways.{Breaks, IsFieldOf, IsFieldOfClass, Selects, NamesField}
+use Rattle.wy_refusals.specs.Ways.{ExpressionBreaks, IsFieldOf, IsFieldOfClass, Selects, NamesField}
 use Rattle.wy_refusals.specs.Ways as way
 use Rattle.wy_refusals.proofs.Walk.{Only, only_give, only_refuse, only_if, only_bind, only_formed}
 use Rattle.wy_refusals.proofs.Tests.{false_not_true, first_true, second_true, not_false, one_true}
@@ -129,7 +129,7 @@ module _ (j : Judgement) (t : Table) (s : Scope) where
   not_below c e = let n : ¬ (c < first_source_class) = λ lt. (let f : nat_lt c first_source_class ≡ true = (Decides-ltb c first_source_class).1 lt in cc) in omega arith
 
   no_field_by : (e : Expression) (c : ℕ) (name : List ℕ) (token : ℕ) → Selects j t s e c name token → HasNoField t c name → (b : Bool) → nat_lt c first_source_class ≡ b →
-      Breaks j t s e (if b then NotOffered else UnknownName) token
+      ExpressionBreaks j t s e (if b then NotOffered else UnknownName) token
   no_field_by e c name token sel none true lt = way.IsNotOffered.no_field sel (below_first c lt) none
   no_field_by e c name token sel none false lt = way.IsUnknownName.no_field sel (not_below c lt) none
 

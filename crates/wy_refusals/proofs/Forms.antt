@@ -25,7 +25,7 @@ use Rattle.wy_constant.specs.Constant.{combined, choice_constant}
 use Rattle.wy_typing.specs.Types.{IsNullable}
 use Rattle.wy_refusals.specs.Operands.{IsIndex, CastsTo, MayAssign, Takes, TakesInto}
 use Rattle.wy_refusals.specs.Found.{IsFound, AreFound, Denotes, IsType}
-use Rattle.wy_refusals.specs.Ways.{Breaks, Needs, Decides, Assigns, Changes}
+use Rattle.wy_refusals.specs.Ways.{ExpressionBreaks, Needs, Decides, Assigns, Changes}
 use Rattle.wy_refusals.specs.Ways as way
 use Rattle.wy_refusals.proofs.Walk.{Only, only_give, only_refuse, only_if, only_bind, only_brought, only_formed, only_known_or, walk}
 use Rattle.wy_refusals.proofs.Tests.{false_not_true, one_false, both_true, first_true, no_number, void_is, not_void, not_boolean, is_index_type, nullable_true}
@@ -35,7 +35,7 @@ use Rattle.wy_refusals.specs.ExpressionLaws.{Given}
 use Rattle.wy_refusals.proofs.Taken.{assign_true, one_taken, taken, taken_into, chosen}
 
 abbrev pub Blamed : Judgement → Table → Scope → Expression → Refusal → Type 0
-Blamed j t s e x = Breaks j t s e x.rule x.token
+Blamed j t s e x = ExpressionBreaks j t s e x.rule x.token
 
 none_given : {X : Type 0} {o : Option X} → o ≡ Absent → Given o → ⊥
 none_given e g = let k : _ ≡ Some g.0 = g.1 in cc
@@ -98,7 +98,7 @@ module _ (j : Judgement) (t : Table) (s : Scope) (g : Settles t j) where
       (λ none. only_if {b = joins op (type_of a) (type_of b)} {m = joined a b token} {n = binary_formed op (operand_types j t op (type_of a) (type_of b)) a b token} (λ e. joined_never a b token) formed_by)
 
   lazy_blamed : {e left right : Expression} {token : ℕ} {a b : Meaning} → Decides e left token → Decides e right token → IsFound j t s left a → IsFound j t s right b →
-      (is_boolean (type_of a) && is_boolean (type_of b)) ≡ false → Breaks j t s e BadOperand token
+      (is_boolean (type_of a) && is_boolean (type_of b)) ≡ false → ExpressionBreaks j t s e BadOperand token
   lazy_blamed {a = a} {b = b} d k f h none = elim (one_false (is_boolean (type_of a)) (is_boolean (type_of b)) none) [ inl e ↦ way.condition d f (not_boolean (type_of a) e) | inr e ↦ way.condition k h (not_boolean (type_of b) e) ]
 
   pub lazy_only : (e left right : Expression) (token : ℕ) (a b : Meaning) (form : CondForm) (f : Bool → Bool → Bool) → Decides e left token → Decides e right token → IsFound j t s left a → IsFound j t s right b →

@@ -26,7 +26,7 @@ use Rattle.wy_elab_expr.specs.Elaboration.{ClassName, class_in, class_methods, i
 use Rattle.wy_refusals.specs.Found.{IsFound, AreFound}
 use Rattle.wy_refusals.specs.Calls.{IsHidden, NamesClass, IsObject, is_of_library, Way, Plainly, OfObject, OfClass, OfSuper, ByNew, IsCall, HaveValues, Asks, Means, IsLibraryCall, Offers}
 use Rattle.wy_refusals.specs.Calls as calls
-use Rattle.wy_refusals.specs.Ways.{Breaks, Passes}
+use Rattle.wy_refusals.specs.Ways.{ExpressionBreaks, Passes}
 use Rattle.wy_refusals.specs.Ways as way
 use Rattle.wy_refusals.proofs.Walk.{Only, only_give, only_refuse, only_if, only_bind, only_brought, only_formed}
 use Rattle.wy_refusals.proofs.Contained.{contains_here, contains_later, contains_none, contains_cases}
@@ -103,7 +103,7 @@ module _ (j : Judgement) (t : Table) (s : Scope) (g : Settles t j) where
 
   -- ---- the choice of a method
 
-  refused_by : (e : Expression) (w : Way) (ty : Ty) (name : List ℕ) (ms : List Meaning) (token : ℕ) (r : Rule) → Asks j t s e w ty name ms token → Refused t ty name (types_of ms) r → Breaks j t s e r token
+  refused_by : (e : Expression) (w : Way) (ty : Ty) (name : List ℕ) (ms : List Meaning) (token : ℕ) (r : Rule) → Asks j t s e w ty name ms token → Refused t ty name (types_of ms) r → ExpressionBreaks j t s e r token
   refused_by e w ty name ms token rule.NoMethod asks h = way.none_applies asks h
   refused_by e w ty name ms token rule.Ambiguous asks h = way.several asks h
   refused_by e w ty name ms token rule.NotOffered asks h = way.no_method asks h

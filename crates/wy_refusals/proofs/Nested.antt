@@ -16,7 +16,7 @@ use Rattle.wy_statement.specs.Parts.{Outcome, NoValue, ValueOf, NoReturn, condit
 use Rattle.wy_statement.specs.Jumps.{Around, Label, inside, in_loop, under_label, label_named, break_target, continue_target}
 use Rattle.wy_statement.specs.Statements.{Setting, number, plain, testing, targets_in, other_targets_in, site_of, body_of_loop, number_of_body, effects, for_init, jumping, row_of, joined, tested, looping, is_label, in_first_block, clause, is_declaration, declared, several, statement, other_statement, block, statements, last_block, clauses}
 use Rattle.wy_refusals.proofs.Walk.{Only}
-use Rattle.wy_well_formed.specs.Complete.{IsWritten, IsWrittenOption, IsWrittenInit, IsWrittenStatement, IsWrittenBlock, AreWrittenStatements, IsWrittenOther, IsWrittenLast, AreWrittenCatches}
+use Rattle.wy_well_formed.specs.Complete.{IsComplete, IsCompleteOption, IsCompleteInit, IsCompleteStatement, IsCompleteBlock, AreCompleteStatements, IsCompleteOther, IsCompleteLast, AreCompleteCatches}
 use Rattle.wy_refusals.specs.Standing.{Leads, InRow, InBlock, within, InClause, HasPart, InClauses, HasClause, Lists, Evaluates, Tests}
 use Rattle.wy_refusals.specs.Standing as standing
 use Rattle.wy_refusals.specs.Missteps.{Missteps, IsBrokenIn}
@@ -62,26 +62,26 @@ module _ (w : Setting) where
 
 module _ (w : Setting) (g : Settles w.table w.judgement) where
   abbrev pub Explains : Statement → Type 0
-  Explains x = (a : Around) (b : Making) → IsWrittenStatement false x → OnlyFrom (Blames w a b.scope x) (statement w a x) b
+  Explains x = (a : Around) (b : Making) → IsCompleteStatement false x → OnlyFrom (Blames w a b.scope x) (statement w a x) b
 
   -- the same where a declaration may stand
   abbrev pub ExplainsLocal : Statement → Type 0
-  ExplainsLocal x = (a : Around) (b : Making) → IsWrittenStatement true x → OnlyFrom (Blames w a b.scope x) (several w x (statement w a x)) b
+  ExplainsLocal x = (a : Around) (b : Making) → IsCompleteStatement true x → OnlyFrom (Blames w a b.scope x) (several w x (statement w a x)) b
 
   abbrev pub ExplainsBlock : Braced → Type 0
-  ExplainsBlock x = (a : Around) (b : Making) → IsWrittenBlock x → OnlyFrom (BlockBroken w a b.scope x) (block w a x) b
+  ExplainsBlock x = (a : Around) (b : Making) → IsCompleteBlock x → OnlyFrom (BlockBroken w a b.scope x) (block w a x) b
 
   abbrev pub ExplainsRow : Statements → Type 0
-  ExplainsRow x = (a : Around) (b : Making) → AreWrittenStatements x → OnlyFrom (RowBroken w a b.scope x) (statements w a x) b
+  ExplainsRow x = (a : Around) (b : Making) → AreCompleteStatements x → OnlyFrom (RowBroken w a b.scope x) (statements w a x) b
 
   abbrev pub ExplainsOther : Other → Type 0
-  ExplainsOther x = (a : Around) (b : Making) → IsWrittenOther x → OnlyFrom (OtherBroken w a b.scope x) (other_statement w a x) b
+  ExplainsOther x = (a : Around) (b : Making) → IsCompleteOther x → OnlyFrom (OtherBroken w a b.scope x) (other_statement w a x) b
 
   abbrev pub ExplainsLast : Last → Type 0
-  ExplainsLast x = (a : Around) (b : Making) → IsWrittenLast x → OnlyFrom (LastBroken w a b.scope x) (last_block w a x) b
+  ExplainsLast x = (a : Around) (b : Making) → IsCompleteLast x → OnlyFrom (LastBroken w a b.scope x) (last_block w a x) b
 
   abbrev pub ExplainsCatches : Catches → Type 0
-  ExplainsCatches x = (a : Around) (b : Making) → AreWrittenCatches x → OnlyFrom (ClausesBroken w a b.scope x) (clauses w a x) b
+  ExplainsCatches x = (a : Around) (b : Making) → AreCompleteCatches x → OnlyFrom (ClausesBroken w a b.scope x) (clauses w a x) b
 
   -- ---- blocks
 
@@ -106,13 +106,13 @@ module _ (w : Setting) (g : Settles w.table w.judgement) where
       (from_weaker (λ r z. record { there = z.there; part = z.part; stands = standing.InRow.later (leading (several w x (statement w a x)) b xs c is) z.stands; broken = z.broken }) (k a c h.1))
       (λ ys d it. from_give))
 
-  no_declaration : (x : Statement) → IsWrittenStatement false x → is_declaration x ≡ false
+  no_declaration : (x : Statement) → IsCompleteStatement false x → is_declaration x ≡ false
   unfolding is_declaration
   no_declaration (Declare is_final ty all) h = absurd (let n : false ≡ true = h.0 in cc)
   no_declaration _ h = refl
 
   -- a statement that is no declaration
-  local_by : (x : Statement) → (IsWrittenStatement true x → IsWrittenStatement false x) → Explains x → ExplainsLocal x
+  local_by : (x : Statement) → (IsCompleteStatement true x → IsCompleteStatement false x) → Explains x → ExplainsLocal x
   local_by x same f a b h =
       from_if {c = is_declaration x} {f = declared w x} {g = statement w a x >>= λ y. give (y ∷ [])} (λ declares. absurd (let n : is_declaration x ≡ false = no_declaration x (same h) in cc))
       (λ z. from_bind {f = statement w a x} {g = λ y. give (y ∷ [])} (f a b (same h)) (λ y c is. from_give))
@@ -136,7 +136,7 @@ module _ (w : Setting) (g : Settles w.table w.judgement) where
   perform_case e a b h = effect_only w g e b h (λ r k. misstep.expression standing.effect k)
 
   -- a test of a statement
-  test_only : (a : Around) (s : Scope) (x : Statement) (there : Scope) (e : Expression) (token : ℕ) → IsWritten e → Evaluates w a s x there e → Tests w a s x there e token → Only (Blames w a s x) (condition w.judgement w.table e token there)
+  test_only : (a : Around) (s : Scope) (x : Statement) (there : Scope) (e : Expression) (token : ℕ) → IsComplete e → Evaluates w a s x there e → Tests w a s x there e token → Only (Blames w a s x) (condition w.judgement w.table e token there)
   test_only a s x there e token h evaluates tests =
       condition_only w.judgement w.table g there e token h (λ r k. misstep.expression evaluates k) (λ m f n. misstep.itself (misstep.IsBadOperand.condition tests f n))
 
@@ -180,7 +180,7 @@ module _ (w : Setting) (g : Settles w.table w.judgement) where
 
   -- ---- `for`
 
-  init_only : (init : ForInit) (test : Option Expression) (updates : List Effect) (body : Statement) (token : ℕ) (a : Around) (s : Scope) (b : Making) → b.scope ≡ opened s → IsWrittenInit init →
+  init_only : (init : ForInit) (test : Option Expression) (updates : List Effect) (body : Statement) (token : ℕ) (a : Around) (s : Scope) (b : Making) → b.scope ≡ opened s → IsCompleteInit init →
       OnlyFrom (Blames w a s (For init test updates body token)) (for_init w init) b
   unfolding for_init
   init_only source.ForInit.Nothing test updates body token a s b same h = from_give
@@ -188,7 +188,7 @@ module _ (w : Setting) (g : Settles w.table w.judgement) where
       declarations_only w a g s (For (source.ForInit.Declared is_final ty all) test updates body token) is_final ty all b standing.Lists.of_for same h
   init_only (Effects all) test updates body token a s b same h = effects_only w g all (opened s) b same h (λ e c r k. misstep.expression (standing.begin_for c) k)
 
-  for_test : (init : ForInit) (test : Option Expression) (updates : List Effect) (body : Statement) (token : ℕ) (a : Around) (s : Scope) (b : Making) → Leads (for_init w init) (opened s) b.scope → IsWrittenOption test →
+  for_test : (init : ForInit) (test : Option Expression) (updates : List Effect) (body : Statement) (token : ℕ) (a : Around) (s : Scope) (b : Making) → Leads (for_init w init) (opened s) b.scope → IsCompleteOption test →
       OnlyFrom (Blames w a s (For init test updates body token)) (tested w test token) b
   for_test init Absent updates body token a s b leads h = from_give
   for_test init (Some e) updates body token a s b leads h =

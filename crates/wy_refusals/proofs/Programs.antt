@@ -11,7 +11,7 @@ use Rattle.wy_constant.specs.declared.rule.Rule.TheVariants.{NoMain}
 use Rattle.wy_constant.specs.Refusal.{Refusal, refused}
 use Rattle.wy_constant.specs.Scope.{FixedText}
 use Rattle.wy_members.specs.Declarations.{CompilationUnit, classes_of, table}
-use Rattle.wy_members.specs.Broken.{IsWritten}
+use Rattle.wy_members.specs.Broken.{IsSourceClass}
 use Rattle.wy_members.specs.Refusal.{KeepsRules}
 use Rattle.wy_members.specs.Constants.{IsTableOf}
 use Rattle.wy_members.proofs.Contained.{in_numbered}
@@ -22,7 +22,7 @@ use Rattle.wy_elab_stmt.specs.Classes.{class_bodies}
 use Rattle.wy_elab_stmt.specs.Program.{Bodies, and_more, bodies_from, bodies_of, library_text, in_order, main_of, setting, with_main, again, from_texts, program}
 use Rattle.wy_elab_stmt.specs.Elaborates.{Elaborates, by_declarations, by_bodies}
 use Rattle.wy_refusals.proofs.Walk.{Only, only_give, only_bind, only_weaker}
-use Rattle.wy_well_formed.specs.Complete.{IsWrittenClass, IsWrittenUnit}
+use Rattle.wy_well_formed.specs.Complete.{IsCompleteClass, IsCompleteUnit}
 use Rattle.wy_refusals.specs.Units.{IsBrokenClass, HasNoMain, IsBrokenUnit}
 use Rattle.wy_refusals.specs.Units as units
 use Rattle.wy_refusals.specs.ProgramLaws.{ProgramRefusalsAreDue, UnbrokenProgramsAreAccepted}
@@ -44,13 +44,13 @@ here_in w c k rest r h = record { place = 0; class = k; number = c; sum = omega 
 later_in : (w : Setting) (c : ℕ) (k : ClassSyntax) (rest : List ClassSyntax) (r : Refusal) → ClassesBroken w (suc c) rest r → ClassesBroken w c (k ∷ rest) r
 later_in w c k rest r h = let s : h.number ≡ suc c + h.place = h.sum in record { place = suc h.place; class = h.class; number = h.number; sum = omega arith; stands = h.stands; broken = h.broken }
 
-classes_only : (w : Setting) → Settles w.table w.judgement → (c : ℕ) (ks : List ClassSyntax) → All IsWrittenClass ks → Only (ClassesBroken w c ks) (bodies_from w c ks)
+classes_only : (w : Setting) → Settles w.table w.judgement → (c : ℕ) (ks : List ClassSyntax) → All IsCompleteClass ks → Only (ClassesBroken w c ks) (bodies_from w c ks)
 unfolding bodies_from
 classes_only w g c [] h = only_give
 classes_only w g c (k ∷ rest) h =
-    only_bind {m = class_bodies w c k} {f = λ x. bodies_from w (suc c) rest >>= λ xs. give (and_more x xs)} (only_weaker (λ r q. here_in w c k rest r q) (class_only w g c k (All-head IsWrittenClass k rest h)))
+    only_bind {m = class_bodies w c k} {f = λ x. bodies_from w (suc c) rest >>= λ xs. give (and_more x xs)} (only_weaker (λ r q. here_in w c k rest r q) (class_only w g c k (All-head IsCompleteClass k rest h)))
     (λ x u v is. only_bind {m = bodies_from w (suc c) rest} {f = λ xs. give (and_more x xs)}
-    (only_weaker (λ r q. later_in w c k rest r q) (classes_only w g (suc c) rest (All-tail IsWrittenClass k rest h))) (λ xs y z it. only_give))
+    (only_weaker (λ r q. later_in w c k rest r q) (classes_only w g (suc c) rest (All-tail IsCompleteClass k rest h))) (λ xs y z it. only_give))
 
 -- what is known of a program whose declarations keep the rules
 record Kept (unit : CompilationUnit) (t : Table) (j : Judgement) : Type 0 where
@@ -58,14 +58,14 @@ record Kept (unit : CompilationUnit) (t : Table) (j : Judgement) : Type 0 where
   is_table : IsTableOf unit t
   settles : Settles t j
 
-module _ (unit : CompilationUnit) (tokens : ℕ) (t : Table) (j : Judgement) (kept : Kept unit t j) (written : IsWrittenUnit unit) where
+module _ (unit : CompilationUnit) (tokens : ℕ) (t : Table) (j : Judgement) (kept : Kept unit t j) (written : IsCompleteUnit unit) where
   abbrev UnitBroken : Refusal → Type 0
   UnitBroken r = IsBrokenUnit unit tokens r.rule r.token
 
   of_classes : (r : Refusal) → ClassesBroken (setting j t unit) first_source_class (classes_of unit) r → UnitBroken r
   of_classes r h =
       let same : first_source_class + h.place ≡ h.number = sym h.sum in
-      let is : IsWritten unit h.number h.class =
+      let is : IsSourceClass unit h.number h.class =
       let Q : ℕ → Type 0 = λ n. Contains (enumerate_from first_source_class (classes_of unit)) (n, h.class) in
       subst Q same (in_numbered first_source_class (classes_of unit) h.place h.class h.stands) in
       units.of_body kept.keeps kept.is_table kept.settles is h.broken
@@ -92,7 +92,7 @@ module _ (unit : CompilationUnit) (tokens : ℕ) (t : Table) (j : Judgement) (ke
   unfolding program
   program_broken x h = texts_by x (bodies_of (setting j t unit) unit (library_text ∷ [])) refl h
 
-due_by : (unit : CompilationUnit) (tokens : ℕ) (r : Result Program Refusal) (x : Refusal) → IsWrittenUnit unit → Elaborates unit tokens r → r ≡ Err x → IsBrokenUnit unit tokens x.rule x.token
+due_by : (unit : CompilationUnit) (tokens : ℕ) (r : Result Program Refusal) (x : Refusal) → IsCompleteUnit unit → Elaborates unit tokens r → r ≡ Err x → IsBrokenUnit unit tokens x.rule x.token
 due_by unit tokens _ x written (by_declarations rule token is) e =
     let same : refused rule token ≡ x = cc in
     let Q : Refusal → Type 0 = λ z. IsBrokenUnit unit tokens z.rule z.token in

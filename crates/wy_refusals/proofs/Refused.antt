@@ -28,7 +28,7 @@ use Rattle.wy_refusals.specs.Found.{IsFound, AreFound, Denotes, IsType, IsNoType
 use Rattle.wy_refusals.specs.Found as found
 use Rattle.wy_refusals.specs.Ways.{Writes}
 use Rattle.wy_refusals.specs.Ways as way
-use Rattle.wy_refusals.specs.ExpressionLaws.{IsBroken, IsWhole, RefusalsAreDue, KeepsRules, RulesAreEnough}
+use Rattle.wy_refusals.specs.ExpressionLaws.{IsBroken, IsWhole, RefusalsAreDue, ExpressionKeepsRules, RulesAreEnough}
 use Rattle.wy_refusals.proofs.Walk.{Only, only_give, only_refuse, only_if, only_bind, only_weaker}
 use Rattle.wy_refusals.proofs.Contained.{contains_here, contains_later, only_one, first_of_two, second_of_two, first_of_three, second_of_three, third_of_three}
 use Rattle.wy_refusals.proofs.Forms as form
@@ -455,7 +455,7 @@ module _ (j : Judgement) (t : Table) (s : Scope) (g : Settles t j) where
 pub due : RefusalsAreDue
 due t j g s e texts rule token whole h = (explained j t s g e whole).at texts (refused rule token) h
 
-kept_by : (j : Judgement) (t : Table) (s : Scope) (e : Expression) → KeepsRules j t s e → (r : Result (Meaning × List FixedText) Refusal) → ((x : Refusal) → r ≡ Err x → IsBroken j t s e x.rule x.token) → (m : Meaning) × (after : List FixedText) × (r ≡ Ok (m, after))
+kept_by : (j : Judgement) (t : Table) (s : Scope) (e : Expression) → ExpressionKeepsRules j t s e → (r : Result (Meaning × List FixedText) Refusal) → ((x : Refusal) → r ≡ Err x → IsBroken j t s e x.rule x.token) → (m : Meaning) × (after : List FixedText) × (r ≡ Ok (m, after))
 kept_by j t s e keeps (Ok p) f = (p.0, p.1, refl)
 kept_by j t s e keeps (Err x) f = absurd (keeps x.rule x.token (f x refl))
 

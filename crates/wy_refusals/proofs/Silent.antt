@@ -10,7 +10,7 @@ use Rattle.wy_elab_expr.specs.Meaning.{Meaning}
 use Rattle.wy_elab_expr.specs.Members.{LibraryMethod}
 use Rattle.wy_elab_expr.specs.Operators.{Judgement}
 use Rattle.wy_refusals.specs.Calls.{Way, IsCall, Asks, Means, IsLibraryCall}
-use Rattle.wy_refusals.specs.Ways.{Writes, Passes, Needs, Decides, Assigns, Changes, IsElement, IsFieldOf, IsFieldOfClass, Selects, NamesField, IsUnknownName, IsNotImplemented, IsNoMethod, IsAmbiguous, IsBadOperand, IsBadAssign, IsBadCast, IsPrivate, IsNotInStatic, IsNotOffered, Breaks}
+use Rattle.wy_refusals.specs.Ways.{Writes, Passes, Needs, Decides, Assigns, Changes, IsElement, IsFieldOf, IsFieldOfClass, Selects, NamesField, IsUnknownName, IsNotImplemented, IsNoMethod, IsAmbiguous, IsBadOperand, IsBadAssign, IsBadCast, IsPrivate, IsNotInStatic, IsNotOffered, ExpressionBreaks}
 use Rattle.wy_refusals.specs.Ways as way
 use Rattle.wy_refusals.specs.Quiet.{IsQuiet, literal, group, wrong, QuietFormsBreakNothing}
 

@@ -19,7 +19,7 @@ use Rattle.wy_refusals.specs.ExpressionLaws.{IsWhole}
 use Rattle.wy_refusals.proofs.Walk.{only_weaker}
 use Rattle.wy_refusals.proofs.ExpressionParts.{type_only, type_found}
 use Rattle.wy_refusals.proofs.Refused.{Bad, void, unfit, braces, InInitial, initial_explained}
-use Rattle.wy_well_formed.specs.Complete.{IsWritten, HasWrittenInitial, IsWrittenDeclarator}
+use Rattle.wy_well_formed.specs.Complete.{IsComplete, HasCompleteInitial, IsCompleteDeclarator}
 use Rattle.wy_refusals.specs.Standing.{Leads, InDeclarators, Lists, declaring_scope, Declares, Begins, Evaluates}
 use Rattle.wy_refusals.specs.Standing as standing
 use Rattle.wy_refusals.specs.Missteps.{IsGiven, Missteps, IsBrokenIn}
@@ -45,19 +45,19 @@ module _ (w : Setting) (a : Around) (g : Settles w.table w.judgement) where
   first_refused s x is_final ty there d i r begins (InInitial.a_value b) = misstep.expression (standing.Evaluates.initial begins b.stands) b.broken
   first_refused s x is_final ty there d i r begins (InInitial.a_fill it inner at fills b) = misstep.itself (bad s x there it inner at r (misstep.first begins fills) b)
 
-  first_only : (s : Scope) (x : Statement) (is_final : Bool) (ty : Ty) (d : Declarator) (b : Making) (k : ℕ) → (o : Option Initial) → d.initial ≡ o → HasWrittenInitial o →
+  first_only : (s : Scope) (x : Statement) (is_final : Bool) (ty : Ty) (d : Declarator) (b : Making) (k : ℕ) → (o : Option Initial) → d.initial ≡ o → HasCompleteInitial o →
       ((i : Initial) → d.initial ≡ Some i → Begins w s x is_final ty b.scope d i) → OnlyFrom (Blames w a s x) (given_first w is_final ty k d.name o) b
   first_only s x is_final ty d b k Absent e h f = from_give
   first_only s x is_final ty d b k (Some i) e h f =
       let begins : Begins w s x is_final ty b.scope d i = f i e in
-      let are_whole : (part : Expression) → Contains (values_of i) part → IsWhole w.table b.scope part = λ part c. whole w.table b.scope part (All-contains IsWritten (values_of i) part (written_values i h) c) in
+      let are_whole : (part : Expression) → Contains (values_of i) part → IsWhole w.table b.scope part = λ part c. whole w.table b.scope part (All-contains IsComplete (values_of i) part (written_values i h) c) in
       bind_expressed (λ s1. initialized w.judgement w.table s1 ty i d.name.token)
       (λ e1. changed (constant_if is_final w.table ty i) >>= λ fixed. give (plain w d.name.token true (kernel.Eval (kernel.Set (kernel.Local k) e1 d.name.token)))) b
       (only_weaker (λ r. first_refused s x is_final ty b.scope d i r begins) (initial_explained w.judgement w.table b.scope g i ty d.name.token are_whole))
       (λ e1 c ex. from_bind {f = changed (constant_if is_final w.table ty i)} {g = λ fixed. give (plain w d.name.token true (kernel.Eval (kernel.Set (kernel.Local k) e1 d.name.token)))}
       (from_changed (constant_if is_final w.table ty i)) (λ z c2 k2. from_give))
 
-  pub declarator_only : (s : Scope) (x : Statement) (is_final : Bool) (base : Ty) (d : Declarator) (b : Making) → IsWrittenDeclarator d → Declares w s x is_final (with_brackets base d.brackets) b.scope d →
+  pub declarator_only : (s : Scope) (x : Statement) (is_final : Bool) (base : Ty) (d : Declarator) (b : Making) → IsCompleteDeclarator d → Declares w s x is_final (with_brackets base d.brackets) b.scope d →
       OnlyFrom (Blames w a s x) (declarator w is_final base d) b
   unfolding declarator
   declarator_only s x is_final base d b h declares =
@@ -67,19 +67,19 @@ module _ (w : Setting) (a : Around) (g : Settles w.table w.judgement) where
       (from_declaring d.name ty fixed b (λ v e. misstep.itself (misstep.again_local declares e)))
       (λ k c is. first_only s x is_final ty d c k d.initial refl h (λ i e. record { declared_in = b.scope; declares = declares; leads = leading (declaring d.name ty fixed) b k c is; given = e }))
 
-  declarators_only : (s : Scope) (x : Statement) (is_final : Bool) (base : Ty) (rest : List Declarator) (b : Making) → All IsWrittenDeclarator rest →
+  declarators_only : (s : Scope) (x : Statement) (is_final : Bool) (base : Ty) (rest : List Declarator) (b : Making) → All IsCompleteDeclarator rest →
       ((there : Scope) (d : Declarator) → InDeclarators w is_final base b.scope rest there d → Declares w s x is_final (with_brackets base d.brackets) there d) →
       OnlyFrom (Blames w a s x) (each (declarator w is_final base) rest) b
   unfolding each
   declarators_only s x is_final base [] b h f = from_give
   declarators_only s x is_final base (d ∷ rest) b h f =
       from_bind {f = declarator w is_final base d} {g = λ y. each (declarator w is_final base) rest >>= λ ys. give (y ∷ ys)}
-      (declarator_only s x is_final base d b (All-head IsWrittenDeclarator d rest h) (f b.scope d standing.InDeclarators.here))
+      (declarator_only s x is_final base d b (All-head IsCompleteDeclarator d rest h) (f b.scope d standing.InDeclarators.here))
       (λ y c is. from_bind {f = each (declarator w is_final base) rest} {g = λ ys. give (y ∷ ys)}
-      (declarators_only s x is_final base rest c (All-tail IsWrittenDeclarator d rest h) (λ there e k. f there e (standing.InDeclarators.later (leading (declarator w is_final base d) b y c is) k)))
+      (declarators_only s x is_final base rest c (All-tail IsCompleteDeclarator d rest h) (λ there e k. f there e (standing.InDeclarators.later (leading (declarator w is_final base d) b y c is) k)))
       (λ ys c2 is2. from_give))
 
-  pub declarations_only : (s : Scope) (x : Statement) (is_final : Bool) (ty : WrittenType) (all : List Declarator) (b : Making) → Lists x is_final ty all → b.scope ≡ declaring_scope x s → All IsWrittenDeclarator all →
+  pub declarations_only : (s : Scope) (x : Statement) (is_final : Bool) (ty : WrittenType) (all : List Declarator) (b : Making) → Lists x is_final ty all → b.scope ≡ declaring_scope x s → All IsCompleteDeclarator all →
       OnlyFrom (Blames w a s x) (declarations w is_final ty all) b
   unfolding declarations type_written
   declarations_only s x is_final ty all b lists begins h =

@@ -15,13 +15,13 @@ use Rattle.wy_elab_expr.specs.Operators.{Judgement, Settles, can_cast, is_assign
 use Rattle.wy_elab_expr.specs.Elaboration.{elaborated, adds_text, left_primitive}
 use Rattle.wy_refusals.specs.Operands.{CastsTo, MayAssign, TakesOne, Takes, TakesInto, Chooses}
 use Rattle.wy_refusals.specs.Found.{Within}
-use Rattle.wy_refusals.specs.Ways.{Breaks}
+use Rattle.wy_refusals.specs.Ways.{ExpressionBreaks}
 
 -- a part of the expression breaks the rule at the token
 pub record IsBroken (j : Judgement) (t : Table) (s : Scope) (e : Expression) (rule : Rule) (token : ℕ) : Type 0 where
   pub part : Expression
   pub within : Within t s part e
-  pub breaks : Breaks j t s part rule token
+  pub breaks : ExpressionBreaks j t s part rule token
 
 -- each part is an expression, as it is where the expression is read from a tree of the grammar
 abbrev pub IsWhole : Table → Scope → Expression → Type 0
@@ -32,12 +32,12 @@ RefusalsAreDue = (t : Table) (j : Judgement) → Settles t j → (s : Scope) (e 
     IsWhole t s e → elaborated j t s e texts ≡ Err (refused rule token) → IsBroken j t s e rule token
 
 -- no part breaks a rule
-abbrev pub KeepsRules : Judgement → Table → Scope → Expression → Type 0
-KeepsRules j t s e = (rule : Rule) (token : ℕ) → IsBroken j t s e rule token → ⊥
+abbrev pub ExpressionKeepsRules : Judgement → Table → Scope → Expression → Type 0
+ExpressionKeepsRules j t s e = (rule : Rule) (token : ℕ) → IsBroken j t s e rule token → ⊥
 
 abbrev pub RulesAreEnough : Type 0
 RulesAreEnough = (t : Table) (j : Judgement) → Settles t j → (s : Scope) (e : Expression) (texts : List FixedText) →
-    IsWhole t s e → KeepsRules j t s e → (m : Meaning) × (after : List FixedText) × (elaborated j t s e texts ≡ Ok (m, after))
+    IsWhole t s e → ExpressionKeepsRules j t s e → (m : Meaning) × (after : List FixedText) × (elaborated j t s e texts ≡ Ok (m, after))
 
 -- ---- what operators take is what they are given a form for
 

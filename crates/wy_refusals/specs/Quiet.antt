@@ -6,7 +6,7 @@ use Rattle.wy_syntax.specs.Syntax.{Expression, Literal, Group, Wrong}
 use Rattle.wy_constant.specs.declared.rule.Rule.{Rule}
 use Rattle.wy_constant.specs.Scope.{Scope}
 use Rattle.wy_elab_expr.specs.Operators.{Judgement}
-use Rattle.wy_refusals.specs.Ways.{Breaks}
+use Rattle.wy_refusals.specs.Ways.{ExpressionBreaks}
 
 pub data IsQuiet : Expression → Type 0 where
   literal : {value : Tok} {token : ℕ} → IsQuiet (Literal value token)
@@ -14,4 +14,4 @@ pub data IsQuiet : Expression → Type 0 where
   wrong : IsQuiet Wrong
 
 abbrev pub QuietFormsBreakNothing : Type 0
-QuietFormsBreakNothing = (j : Judgement) (t : Table) (s : Scope) (e : Expression) (rule : Rule) (token : ℕ) → IsQuiet e → Breaks j t s e rule token → ⊥
+QuietFormsBreakNothing = (j : Judgement) (t : Table) (s : Scope) (e : Expression) (rule : Rule) (token : ℕ) → IsQuiet e → ExpressionBreaks j t s e rule token → ⊥

@@ -8,7 +8,7 @@ use Rattle.wy_constant.specs.declared.rule.Rule.{Rule}
 use Rattle.wy_constant.specs.declared.rule.Rule.TheVariants as rule
 use Rattle.wy_constant.specs.Scope.{FixedText, body_of}
 use Rattle.wy_members.specs.Declarations.{CompilationUnit, classes_of}
-use Rattle.wy_members.specs.Broken.{IsWritten, Breaks}
+use Rattle.wy_members.specs.Broken.{IsSourceClass, Breaks}
 use Rattle.wy_members.specs.Refusal.{KeepsRules}
 use Rattle.wy_members.specs.Constants.{IsTableOf}
 use Rattle.wy_elab_expr.specs.Operators.{Judgement, Settles}
@@ -66,7 +66,7 @@ pub data IsBrokenUnit (unit : CompilationUnit) (tokens : ℕ) : Rule → ℕ →
   -- a declaration (JLS 8, 9)
   of_declaration : {r : Rule} {token : ℕ} → Breaks unit r token → IsBrokenUnit unit tokens r token
   -- a body of a class, where the declarations keep the rules and the table of the program settles the rest
-  of_body : {t : Table} {j : Judgement} {c : ℕ} {k : ClassSyntax} {r : Rule} {token : ℕ} → KeepsRules unit → IsTableOf unit t → Settles t j → IsWritten unit c k → IsBrokenClass (setting j t unit) c k r token →
+  of_body : {t : Table} {j : Judgement} {c : ℕ} {k : ClassSyntax} {r : Rule} {token : ℕ} → KeepsRules unit → IsTableOf unit t → Settles t j → IsSourceClass unit c k → IsBrokenClass (setting j t unit) c k r token →
       IsBrokenUnit unit tokens r token
   -- no class has a main (JLS 12.1.4)
   no_main : HasNoMain unit → IsBrokenUnit unit tokens rule.NoMain tokens

@@ -232,15 +232,15 @@ pub data IsNotOffered (j : Judgement) (t : Table) (s : Scope) : Expression → �
 -- ---- all rules on expressions
 
 -- the expression itself breaks the rule at the token
-abbrev pub Breaks : Judgement → Table → Scope → Expression → Rule → ℕ → Type 0
-Breaks j t s e rule.UnknownName token = IsUnknownName j t s e token
-Breaks j t s e rule.NotImplemented token = IsNotImplemented j t s e token
-Breaks j t s e rule.NoMethod token = IsNoMethod j t s e token
-Breaks j t s e rule.Ambiguous token = IsAmbiguous j t s e token
-Breaks j t s e rule.BadOperand token = IsBadOperand j t s e token
-Breaks j t s e rule.BadAssign token = IsBadAssign j t s e token
-Breaks j t s e rule.BadCast token = IsBadCast j t s e token
-Breaks j t s e rule.Private token = IsPrivate j t s e token
-Breaks j t s e rule.NotInStatic token = IsNotInStatic j t s e token
-Breaks j t s e rule.NotOffered token = IsNotOffered j t s e token
-Breaks j t s e _ token = ⊥
+abbrev pub ExpressionBreaks : Judgement → Table → Scope → Expression → Rule → ℕ → Type 0
+ExpressionBreaks j t s e rule.UnknownName token = IsUnknownName j t s e token
+ExpressionBreaks j t s e rule.NotImplemented token = IsNotImplemented j t s e token
+ExpressionBreaks j t s e rule.NoMethod token = IsNoMethod j t s e token
+ExpressionBreaks j t s e rule.Ambiguous token = IsAmbiguous j t s e token
+ExpressionBreaks j t s e rule.BadOperand token = IsBadOperand j t s e token
+ExpressionBreaks j t s e rule.BadAssign token = IsBadAssign j t s e token
+ExpressionBreaks j t s e rule.BadCast token = IsBadCast j t s e token
+ExpressionBreaks j t s e rule.Private token = IsPrivate j t s e token
+ExpressionBreaks j t s e rule.NotInStatic token = IsNotInStatic j t s e token
+ExpressionBreaks j t s e rule.NotOffered token = IsNotOffered j t s e token
+ExpressionBreaks j t s e _ token = ⊥

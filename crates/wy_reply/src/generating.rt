@@ -5,9 +5,9 @@ ghost use Rattle.wy_reply.specs.declared.status.Status.TheVariants.{Done};
 ghost use Rattle.wy_reply.specs.Generated.{generated_report, sizes_line};
 
 use crate::answer::Answer;
+use crate::sizes::sizes;
 use std::alloc::{AllocError, Global};
 use wy_kernel::program::Program;
-use crate::sizes::sizes;
 
 /// The steps that a generated program is run for at most.
 const GENERATED_STEPS: u32 = 50_000_000;

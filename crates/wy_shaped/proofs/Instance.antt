@@ -14,7 +14,7 @@ use Rattle.wy_steps.specs.State.{Carried, Held, State, Stop, InitFailed, Reason,
 use Rattle.wy_steps.specs.Steps.{Made, Draft, constant, with_value, joined, value_of, chosen, code_of, next_event, made, with_event, held_by, with_stored, with_created, with_active, without, covering, begun, ended, left_by, event_of, stop_cause, no_value, depth_limit}
 use Rattle.wy_meaning.specs.World.{plain, about, into, spelling}
 use Rattle.wy_meaning.specs.Run.{world, main_run, end}
-use Rattle.wy_induction.specs.Law.{Moments, nothing, both, Region, Outside, In, Ends, IsPlain, IsNoted, a_throw, a_print, a_return, a_test, a_read, a_jump, a_text, a_call, IsWritten, a_set, a_bind, a_catch, IsCreated, an_object, an_array, an_init}
+use Rattle.wy_induction.specs.Law.{Moments, nothing, both, Region, Outside, In, Ends, IsPlain, IsNoted, a_throw, a_print, a_return, a_test, a_read, a_jump, a_text, a_call, IsWrite, a_set, a_bind, a_catch, IsCreated, an_object, an_array, an_init}
 use Rattle.wy_induction.specs.Law as laws
 use Rattle.wy_induction.specs.Uniform.{IsNoReference, Uniform}
 use Rattle.wy_induction.specs.Uniform as uniform
@@ -145,7 +145,7 @@ module _ (A : Sets) (records : List Recorded) where
   created_shaped d c (an_array site code n b) = record { what = tt; slot = tt; value = tt; units = tt; uses = tt }
   created_shaped d c (an_init site class) = record { what = tt; slot = tt; value = tt; units = tt; uses = tt }
 
-  written_shaped : (d : Draft) (c : Carried A) → IsWritten d c → IsPlace d.slot → DraftShaped A records d c.uses
+  written_shaped : (d : Draft) (c : Carried A) → IsWrite d c → IsPlace d.slot → DraftShaped A records d c.uses
   unfolding into
   written_shaped d c (a_set site x v b) h = record { what = tt; slot = h; value = tt; units = tt; uses = tt }
   written_shaped d c (a_bind site f i v b) h = record { what = tt; slot = tt; value = tt; units = tt; uses = tt }

@@ -11,9 +11,14 @@ ghost use Rattle.wy_shaped.specs.Shaped.{CountsAreShaped, RecordsAreShaped, Cove
 /// Return or a Throw, no statement ended more often than it began, and what ended the run is a Throw. The tail's counts
 /// are those of the records and of the output, and are within their limits.
 pub fn references_point_below()
-    ensures records { (p : Program) (input : List ℕ) (budget : ℕ) → RecordsAreShaped nothing p input budget }
-    ensures records_carrying { (p : Program) (input : List ℕ) (budget : ℕ) → RecordsAreShaped numbers p input budget }
-    ensures coverage { (p : Program) (input : List ℕ) (budget : ℕ) → CoverageIsShaped nothing p input budget }
-    ensures counts { (p : Program) (input : List ℕ) (budget : ℕ) → CountsAreShaped nothing p input budget }
-    ensures last { (p : Program) (input : List ℕ) (budget : ℕ) → LastIsShaped nothing p input budget }
+    ensures records { (p : Program) (input : List ℕ) (budget : ℕ)
+        → RecordsAreShaped nothing p input budget }
+    ensures records_carrying { (p : Program) (input : List ℕ) (budget : ℕ)
+        → RecordsAreShaped numbers p input budget }
+    ensures coverage { (p : Program) (input : List ℕ) (budget : ℕ)
+        → CoverageIsShaped nothing p input budget }
+    ensures counts { (p : Program) (input : List ℕ) (budget : ℕ)
+        → CountsAreShaped nothing p input budget }
+    ensures last { (p : Program) (input : List ℕ) (budget : ℕ)
+        → LastIsShaped nothing p input budget }
 {}

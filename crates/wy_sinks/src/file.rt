@@ -13,7 +13,7 @@ use std::fs;
 use std::fs::OpenFile;
 use std::io::Write;
 use std::rt::Files;
-use wy_outside::count::raised;
+use wy_outside::count::one_more;
 use wy_outside::real::write_whole;
 use wy_outside::sink::SinkError;
 
@@ -94,7 +94,7 @@ fn counted(faults: u64, answer: &Result<(), SinkError>) -> u64
     ensures kept { faults ≤ result }
 {
     match answer {
-        Err(SinkError::Failed) => raised(faults),
+        Err(SinkError::Failed) => one_more(faults),
         Ok(()) | Err(SinkError::NoMemory) => faults,
     }
 }

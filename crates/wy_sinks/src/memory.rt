@@ -7,7 +7,7 @@ ghost use Rattle.wy_sinks.specs.Told.{emptied};
 
 use crate::sink::TraceSink;
 use std::alloc::{AllocError, Global};
-use wy_outside::count::raised;
+use wy_outside::count::one_more;
 use wy_outside::failing::FailingCalls;
 use wy_outside::sink::SinkError;
 
@@ -43,7 +43,7 @@ impl MemoryTraceSink {
         ensures faults_kept { self.old.faults ≤ self.new.faults }
     {
         if self.script.count_call() {
-            self.faults = raised(self.faults);
+            self.faults = one_more(self.faults);
             return Err(SinkError::Failed);
         }
         Ok(())

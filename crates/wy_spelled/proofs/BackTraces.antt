@@ -28,11 +28,11 @@ use Rattle.wy_payload.specs.Reading.{all_of}
 use Rattle.wy_payload.specs.Events.{event_at}
 use Rattle.wy_payload.specs.Closing.{coverage_at, steps_limit, tail_at}
 use Rattle.wy_frames.specs.declared.error.TraceError.{TraceError}
-use Rattle.wy_frames.specs.declared.stage.Placed.{Placed}
+use Rattle.wy_frames.specs.declared.stage.ReadEvent.{ReadEvent}
 use Rattle.wy_frames.specs.declared.stage.Stage.{Stage}
 use Rattle.wy_frames.specs.declared.stage.Stage.TheVariants as stages
 use Rattle.wy_frames.specs.Frames.{Frame, frame_of}
-use Rattle.wy_frames.specs.Standing.{Standing, start, event_in, knowns, Breaks, Unsealed, Next, read_as, with_event, with_stage, event_next, coverage_next, end_next, seal_length, seal_next, open_next, covered_next, ended_next, next_at, next_of}
+use Rattle.wy_frames.specs.Standing.{Standing, start, event_in, knowns, Violates, Unsealed, Next, read_as, with_event, with_stage, event_next, coverage_next, end_next, seal_length, seal_next, open_next, covered_next, ended_next, next_at, next_of}
 use Rattle.wy_frames.specs.Scan.{Goes, turn_next, is_passed, turn_frame, turn, Leaves, nothing, frame as one_frame}
 use Rattle.wy_frames.specs.Heads.{head_of}
 use Rattle.wy_frames.specs.Traces.{IsReadBehind, IsReadAs}
@@ -86,7 +86,7 @@ found l p a rest f shown parts short =
 
 -- ---- what stands and what is left of the frames
 
-abbrev got : List Placed → List Recorded
+abbrev got : List ReadEvent → List Recorded
 got placed = map recorded (map event_in placed)
 
 -- the events that stand, and those of frames that are left, are all
@@ -104,7 +104,7 @@ Arrives rs behind rest next = IfOk next (λ u. OnWay rs behind u.stage (got u.pl
 
 -- ---- one frame more
 
-one_more : (placed : List Placed) (w : Written) (end : ℕ) (e : Recorded) (left rs : List Recorded) → recorded w.event ≡ told e → got placed ++ map told (e ∷ left) ≡ map told rs
+one_more : (placed : List ReadEvent) (w : Written) (end : ℕ) (e : Recorded) (left rs : List Recorded) → recorded w.event ≡ told e → got placed ++ map told (e ∷ left) ≡ map told rs
     → got (placed ++ record { event = w.event; end = end } ∷ []) ++ map told left ≡ map told rs
 one_more placed w end e left rs is all =
     ap (λ (l : List Event). map recorded l ++ map told left) (map-append event_in placed (record { event = w.event; end = end } ∷ []))
@@ -138,7 +138,7 @@ end_arrives steps s c rs behind f all = any_read (λ t. with_stage s f.whole (st
 seal_arrives : (s : Standing) (t : Tail) (rs : List Recorded) (behind : List ℕ) (f : Frame) → got s.placed ≡ map told rs → Arrives rs behind f.rest (seal_next s t f.whole f.payload)
 unfolding seal_next with_stage
 seal_arrives s t rs behind f all =
-    tested (eqb (length f.payload) seal_length) _ (Err (Breaks rule.Length)) _ (λ _.
+    tested (eqb (length f.payload) seal_length) _ (Err (Violates rule.Length)) _ (λ _.
     tested (bytes_eq f.payload (sha256 s.before)) (Ok (with_stage s f.whole (stages.Sealed t (sha256 s.before)))) (Err Unsealed) _ (λ _. all) (λ _. tt)) (λ _. tt)
 
 -- what stands behind the events begins with the letter of a coverage
@@ -152,7 +152,7 @@ open_arrives r s rs behind rest f [] closes shown short here =
     let same = found 67 closes.0 closes.1 rest f shown (here.parts ∙ closes.2) short in
     let all : got s.placed ≡ map told rs = sym (append-nil (got s.placed)) ∙ here.all in
     tested (eqb f.letter 69) _ _ _ (λ e. absurd (omega (arith, eqb-true f.letter 69 e, same.letters))) (λ _.
-    tested (eqb f.letter 67) _ (Err (Breaks rule.FrameKind)) _ (λ _. coverage_arrives r s rs behind f all) (λ _. tt))
+    tested (eqb f.letter 67) _ (Err (Violates rule.FrameKind)) _ (λ _. coverage_arrives r s rs behind f all) (λ _. tt))
 open_arrives r s rs behind rest f (e ∷ left) closes shown short here =
     let others = concat (map event_frame left) in
     let parts : rest ≡ frame 69 (event_payload e) ++ (others ++ behind) = here.parts ∙ append_assoc (frame 69 (event_payload e)) others behind in
@@ -166,8 +166,8 @@ stage_arrives : (r : Ranges) (steps : ℕ) (s : Standing) (stage : Stage) (rs : 
     → Arrives rs behind f.rest (next_at r steps s stage f)
 unfolding next_at covered_next ended_next
 stage_arrives r steps s stages.Open rs behind rest f closes shown short way = open_arrives r s rs behind rest f way.0 closes shown short way.1
-stage_arrives r steps s (stages.Covered c) rs behind rest f closes shown short way = tested (eqb f.letter 84) _ (Err (Breaks rule.FrameKind)) _ (λ _. end_arrives steps s c rs behind f way) (λ _. tt)
-stage_arrives r steps s (stages.Ended t) rs behind rest f closes shown short way = tested (eqb f.letter 83) _ (Err (Breaks rule.FrameKind)) _ (λ _. seal_arrives s t rs behind f way) (λ _. tt)
+stage_arrives r steps s (stages.Covered c) rs behind rest f closes shown short way = tested (eqb f.letter 84) _ (Err (Violates rule.FrameKind)) _ (λ _. end_arrives steps s c rs behind f way) (λ _. tt)
+stage_arrives r steps s (stages.Ended t) rs behind rest f closes shown short way = tested (eqb f.letter 83) _ (Err (Violates rule.FrameKind)) _ (λ _. seal_arrives s t rs behind f way) (λ _. tt)
 stage_arrives r steps s (stages.Sealed t seal) rs behind rest f closes shown short way = tt
 
 -- ---- all frames
@@ -185,7 +185,7 @@ next_wends rs behind s t rest others f (Ok u) shown wends arrives e =
     let all : length (f.whole ++ f.rest) < 2 ^ 32 = subst (λ (w : List ℕ). length w < 2 ^ 32) (sym shown.parts) wends.short in
     let made : Wends rs behind u f.rest = record { way = arrives; rest_bytes = bytes; short = omega (arith, all, length-append f.whole f.rest) } in
     subst (λ (l : List ℕ). Wends rs behind t l) left (subst (λ (v : Standing). Wends rs behind v f.rest) same made)
-next_wends rs behind s t rest others f (Err (Breaks r)) shown wends arrives e = absurd cc
+next_wends rs behind s t rest others f (Err (Violates r)) shown wends arrives e = absurd cc
 next_wends rs behind s t rest others f (Err Unsealed) shown wends arrives e = absurd cc
 
 turn_wends : (r : Ranges) (steps : ℕ) (rs : List Recorded) (behind : List ℕ) (s t : Standing) (rest others : List ℕ) → IsClosing behind → Wends rs behind s rest → turn r steps s rest ≡ Goes t others → Wends rs behind t others

@@ -22,7 +22,7 @@ use Rattle.wy_frames.specs.declared.stage.Stage.TheVariants as stages
 use Rattle.wy_frames.specs.Frames.{Frame, opening_length, said_length, frame_of_length, frame_of}
 use Rattle.wy_frames.specs.Heads.{agreeing, magic_length, read_head_as, head_in, head_of}
 use Rattle.wy_frames.specs.Ends.{IsUnsealed}
-use Rattle.wy_frames.specs.Standing.{Standing, start, Breaks, Unsealed, Next, open_next, covered_next, ended_next, next_at, next_of}
+use Rattle.wy_frames.specs.Standing.{Standing, start, Violates, Unsealed, Next, open_next, covered_next, ended_next, next_at, next_of}
 use Rattle.wy_frames.specs.Scan.{Turn, Waits, Goes, turn_next, is_passed, without_frame, turn_frame, turn, Leaves, nothing, frame}
 use Rattle.wy_frames.specs.Traces.{IsCut, IsReadBehind, IsReadAs}
 use Rattle.wy_frames.proofs.Scans.{inner_is, some_is, turn_with, turn_without}
@@ -116,7 +116,7 @@ rest_length bytes f t = omega (arith, length-drop (opening_length + t.size) byte
 
 goes_is : (s t : Standing) (rest others : List ℕ) (next : Next) → turn_next s rest next ≡ Goes t others → (next ≡ Ok t) × (rest ≡ others)
 goes_is s t rest others (Ok u) e = (cc, cc)
-goes_is s t rest others (Err (Breaks r)) e = absurd cc
+goes_is s t rest others (Err (Violates r)) e = absurd cc
 goes_is s t rest others (Err Unsealed) e = absurd cc
 
 -- what a frame adds doesn't depend on the bytes behind it

@@ -22,11 +22,11 @@ use Rattle.wy_payload.specs.declared.event.Written.{Written}
 use Rattle.wy_payload.specs.Reading.{all_of}
 use Rattle.wy_payload.specs.Events.{event_at}
 use Rattle.wy_payload.specs.Closing.{coverage_at, tail_at}
-use Rattle.wy_frames.specs.declared.stage.Placed.{Placed}
+use Rattle.wy_frames.specs.declared.stage.ReadEvent.{ReadEvent}
 use Rattle.wy_frames.specs.declared.stage.Stage.{Stage}
 use Rattle.wy_frames.specs.declared.stage.Stage.TheVariants as stages
 use Rattle.wy_frames.specs.Frames.{Frame}
-use Rattle.wy_frames.specs.Standing.{Standing, event_in, knowns, Breaks, Unsealed, Next, read_as, with_event, with_stage, event_next, coverage_next, end_next, seal_length, seal_next, open_next, covered_next, ended_next, next_at}
+use Rattle.wy_frames.specs.Standing.{Standing, event_in, knowns, Violates, Unsealed, Next, read_as, with_event, with_stage, event_next, coverage_next, end_next, seal_length, seal_next, open_next, covered_next, ended_next, next_at}
 use Rattle.wy_spelled.specs.Laws.{AreBytes}
 use Rattle.wy_spelled.proofs.Numbers.{read_then}
 use Rattle.wy_spelled.proofs.Heads.{IsFrame}
@@ -35,7 +35,7 @@ use Rattle.wy_spelled.proofs.Steps.{if_read}
 use Rattle.wy_spelled.proofs.Events.{whole_event}
 
 -- the head, and the events one behind another
-abbrev pub front : Head → List Placed → List ℕ
+abbrev pub front : Head → List ReadEvent → List ℕ
 front head placed = opening head ++ events_bytes (map event_in placed)
 
 -- behind these bytes, the frames that the stage has
@@ -62,7 +62,7 @@ framed bytes f letter payload shown e is = shown.whole_is ∙ ap (λ n. (n ∷ n
 
 -- ---- an event
 
-event_behind : (head : Head) (placed : List Placed) (w : Written) (end : ℕ) (before whole : List ℕ) → before ≡ front head placed → whole ≡ event_frame (recorded w.event) → before ++ whole ≡ front head (placed ++ record { event = w.event; end = end } ∷ [])
+event_behind : (head : Head) (placed : List ReadEvent) (w : Written) (end : ℕ) (before whole : List ℕ) → before ≡ front head placed → whole ≡ event_frame (recorded w.event) → before ++ whole ≡ front head (placed ++ record { event = w.event; end = end } ∷ [])
 unfolding events_bytes
 event_behind head placed w end before whole told is =
     ap (λ l. l ++ whole) told
@@ -117,7 +117,7 @@ seal_grows : (head : Head) (s : Standing) (t : Tail) (bytes : List ℕ) (f : Fra
 unfolding seal_next with_stage seal_frame sealed
 seal_grows head s t bytes f shown letter told =
     let before = front head s.placed ++ tail_frames t in
-    tested (eqb (length f.payload) seal_length) _ (Err (Breaks rule.Length)) _ (λ _.
+    tested (eqb (length f.payload) seal_length) _ (Err (Violates rule.Length)) _ (λ _.
     tested (bytes_eq f.payload (sha256 s.before)) (Ok (with_stage s f.whole (stages.Sealed t (sha256 s.before)))) (Err Unsealed) _ (λ same.
     let payload : f.payload ≡ sha256 s.before = (bytes_eq-Decides f.payload (sha256 s.before)).0 same in
     record {
@@ -131,7 +131,7 @@ pub stage_grows : (r : Ranges) (steps : ℕ) (head : Head) (s : Standing) (stage
 unfolding next_at open_next covered_next ended_next
 stage_grows r steps head s stages.Open bytes f shown told =
     tested (eqb f.letter 69) _ _ _ (λ e. event_grows r head s bytes f shown (eqb-true f.letter 69 e) told) (λ _.
-    tested (eqb f.letter 67) _ (Err (Breaks rule.FrameKind)) _ (λ e. coverage_grows r head s bytes f shown (eqb-true f.letter 67 e) told) (λ _. tt))
-stage_grows r steps head s (stages.Covered c) bytes f shown told = tested (eqb f.letter 84) _ (Err (Breaks rule.FrameKind)) _ (λ e. end_grows steps head s c bytes f shown (eqb-true f.letter 84 e) told) (λ _. tt)
-stage_grows r steps head s (stages.Ended t) bytes f shown told = tested (eqb f.letter 83) _ (Err (Breaks rule.FrameKind)) _ (λ e. seal_grows head s t bytes f shown (eqb-true f.letter 83 e) told) (λ _. tt)
+    tested (eqb f.letter 67) _ (Err (Violates rule.FrameKind)) _ (λ e. coverage_grows r head s bytes f shown (eqb-true f.letter 67 e) told) (λ _. tt))
+stage_grows r steps head s (stages.Covered c) bytes f shown told = tested (eqb f.letter 84) _ (Err (Violates rule.FrameKind)) _ (λ e. end_grows steps head s c bytes f shown (eqb-true f.letter 84 e) told) (λ _. tt)
+stage_grows r steps head s (stages.Ended t) bytes f shown told = tested (eqb f.letter 83) _ (Err (Violates rule.FrameKind)) _ (λ e. seal_grows head s t bytes f shown (eqb-true f.letter 83 e) told) (λ _. tt)
 stage_grows r steps head s (stages.Sealed t seal) bytes f shown told = tt

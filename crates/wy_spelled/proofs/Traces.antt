@@ -15,7 +15,7 @@ use Rattle.wy_frames.specs.declared.error.TraceError.{TraceError}
 use Rattle.wy_frames.specs.declared.stage.Stage.{Stage}
 use Rattle.wy_frames.specs.declared.stage.Stage.TheVariants as stages
 use Rattle.wy_frames.specs.Frames.{Frame, frame_of}
-use Rattle.wy_frames.specs.Standing.{Standing, start, event_in, Breaks, Unsealed, Next, next_at, next_of}
+use Rattle.wy_frames.specs.Standing.{Standing, start, event_in, Violates, Unsealed, Next, next_at, next_of}
 use Rattle.wy_frames.specs.Scan.{Waits, Goes, turn_next, is_passed, without_frame, turn_frame, turn, Leaves, nothing, frame}
 use Rattle.wy_frames.specs.Heads.{head_of}
 use Rattle.wy_frames.specs.Traces.{IsReadBehind, IsReadAs}
@@ -47,7 +47,7 @@ next_goes all head s t rest others f (Ok u) shown stands grows e =
     let same : u ≡ t = cc in
     let left : f.rest ≡ others = cc in
     subst (λ (l : List ℕ). Stands all head t l) left (subst (λ (v : Standing). Stands all head v f.rest) same (grown_stands all head s u rest f shown stands grows))
-next_goes all head s t rest others f (Err (Breaks r)) shown stands grows e = absurd cc
+next_goes all head s t rest others f (Err (Violates r)) shown stands grows e = absurd cc
 next_goes all head s t rest others f (Err Unsealed) shown stands grows e = absurd cc
 
 pub never_goes : (at : ℕ) (b : Bool) (t : Standing) (others : List ℕ) → without_frame at b ≡ Goes t others → ⊥

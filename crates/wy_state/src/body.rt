@@ -22,7 +22,8 @@ use wy_record::Recorder;
 impl<'a, R: Recorder> State<'a, R> {
     fn cover(&self, statement: u32) -> Option<Cover>
         ensures inside { IfSome result (λ c. statement < length self.now.covers.items) }
-        ensures found { IfSome result (λ c. slice_index_or self.now.covers.items statement blank ≡ c) }
+        ensures found { IfSome result (λ c.
+            slice_index_or self.now.covers.items statement blank ≡ c) }
     {
         self.covers.get(statement as usize).copied()
     }
@@ -83,7 +84,8 @@ impl<'a, R: Recorder> State<'a, R> {
 
     /// An event leaves a statement, or a stop finds it going on.
     pub fn cause(&mut self, statement: u32, event: u32) -> Result<(), AllocError>
-        ensures covers { OnOk result (IsCaused statement event self.old.covers.items self.new.covers.items) }
+        ensures covers { OnOk result
+            (IsCaused statement event self.old.covers.items self.new.covers.items) }
         ensures calls { self.new.calls ≡ self.old.calls }
         ensures left { self.new.left ≡ self.old.left }
         ensures events { self.new.events ≡ self.old.events }

@@ -57,7 +57,8 @@ impl<'a, R: Recorder> State<'a, R> {
 
     /// The next event.
     fn event(&mut self, draft: Draft, units: Vec<u16>, uses: &[Use]) -> Result<Event, AllocError>
-        ensures event { IfOk result (λ e. recorded e ≡ event_of (draft_of draft units.items) uses.now
+        ensures event { IfOk result (λ e.
+            recorded e ≡ event_of (draft_of draft units.items) uses.now
             (shape R.keeps R.kept self.old)) }
         ensures units { IfOk result (λ e. e.units ≡ units.items) }
         ensures same { shape R.keeps R.kept self.new ≡ shape R.keeps R.kept self.old }
@@ -81,7 +82,8 @@ impl<'a, R: Recorder> State<'a, R> {
     /// Records an event that makes nothing, and gives its number.
     pub fn note(&mut self, draft: Draft, uses: &[Use]) -> Result<u32, Halt>
         ensures step { (p : Program) → Answers p made_of result (shape R.keeps R.kept self.old)
-            (note (draft_of draft []) (given draft.value uses.now)) (shape R.keeps R.kept self.new) }
+            (note (draft_of draft []) (given draft.value uses.now))
+            (shape R.keeps R.kept self.new) }
         ensures number { IfOk result (λ n. n ≡ self.old.events) }
         ensures calls { self.new.calls ≡ self.old.calls }
         ensures left { self.new.left ≡ self.old.left }

@@ -6,12 +6,10 @@ ghost use Rattle.wy_kernel.specs.Program.{class, full_name};
 ghost use Rattle.wy_meaning.specs.Library.{base_name, hexadecimal, primitive_name, type_name};
 
 use std::alloc::{AllocError, Global};
+use wy_kernel::builtin::FIRST_SOURCE_CLASS;
 use wy_kernel::operator::Primitive;
 use wy_kernel::program::Program;
 use wy_kernel::types::{Base, Ty};
-
-/// Source classes have their numbers from here on; those below are of `java.lang`.
-const FIRST_SOURCE_CLASS: u32 = 18;
 
 /// The name of a type, with its brackets.
 pub fn type_text(alloc: Global, program: &Program, ty: Ty) -> Result<Vec<u16>, AllocError>

@@ -30,7 +30,8 @@ const STRING: Ty = Ty::Of {
 impl<'a, R: Recorder> State<'a, R> {
     /// The slot of a local of the running body.
     pub fn local(&self, index: u32) -> Slot
-        ensures step { (p : kernel.Program) → Onward p (shape R.keeps R.kept self.now) (local_slot index)
+        ensures step { (p : kernel.Program)
+            → Onward p (shape R.keeps R.kept self.now) (local_slot index)
             (shape R.keeps R.kept self.now) (return result) }
         ensures local { (f : ℕ) × (result ≡ Slot.Local f index) }
     {
@@ -139,7 +140,8 @@ impl<'a, R: Recorder> State<'a, R> {
         value: Value,
     ) -> Result<&'b [u16], AllocError>
         ensures { (w : World nothing) → w.program ≡ program_of program.now
-            → Meets (program_of program.now) (λ units. units.now) result (shape R.keeps R.kept self.now)
+            → Meets (program_of program.now) (λ units.
+            units.now) result (shape R.keeps R.kept self.now)
             (units_of w value) (shape R.keeps R.kept self.now) }
     {
         match value {
@@ -170,7 +172,8 @@ impl<'a, R: Recorder> State<'a, R> {
 
     /// The initialization of a class is going on or done.
     pub fn is_begun(&self, class: u32) -> bool
-        ensures step { (p : kernel.Program) → Onward p (shape R.keeps R.kept self.now) (is_begun class)
+        ensures step { (p : kernel.Program)
+            → Onward p (shape R.keeps R.kept self.now) (is_begun class)
             (shape R.keeps R.kept self.now) (return result) }
         ensures made { result ≡ is_made self.now.heap class }
     {

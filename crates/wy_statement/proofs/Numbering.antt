@@ -10,7 +10,8 @@ use Rattle.std.proofs.lemmas.List.Sorted.{sum_by-IsPermutation}
 use Rattle.wy_statement.specs.declared.place.Role.{Role}
 use Rattle.wy_statement.specs.declared.place.Role.TheVariants.{InitializerBody, FieldsBody, ConstructorBody, SuperCall, FieldsCall, Written}
 use Rattle.wy_statement.specs.declared.place.Place.{Place}
-use Rattle.wy_statement.specs.Places.{at, key_of, number_at, order_of, stands_before, library_statements}
+use Rattle.wy_statement.specs.Places.{at, key_of, number_at, order_of, stands_before}
+use Rattle.wy_kernel.specs.Program.{library_statements}
 
 few_orders : (r : Role) → order_of r < 8
 unfolding order_of

@@ -1,7 +1,7 @@
 -- Where the statements of a program stand, and the numbers that follow from it: those of the library first, and then by site.
 use Rattle.std.specs.Prelude.{ℕ, ◌+◌, ◌*◌, Bool, true, not, ◌||◌, ◌&&◌, ◌==◌, nat_lt, if◌then◌else◌, List, [], ◌∷◌, ◌++◌, map, filter, flat_map, count_by, Option, Some, None, is_some, slice_get}
 use Rattle.std.specs.List.{list_any}
-use Rattle.wy_kernel.specs.Program.{object_class}
+use Rattle.wy_kernel.specs.Program.{object_class, library_statements}
 use Rattle.wy_kernel.specs.Table.{Table}
 use Rattle.wy_syntax.specs.Syntax.{Declarator, Effect, ForInit, Statement, Block, Empty, Declare, Perform, If, While, Do, For, Labelled, Break, Continue, Return, Throw, Try, Unknown, Braced, braced, Statements, done, first, Other, absent, present, Last, nowhere, finally, Catches, uncaught, catch, Placed, OwnCall, Header, Member, Initializer, Fields, Method, Constructor, ClassSyntax}
 use Rattle.wy_syntax.specs.Syntax as source
@@ -138,10 +138,6 @@ abbrev pub places_of : Table → CompilationUnit → List Place
 places_of t unit = class_by_class (class_places t) unit
 
 -- ---- numbers
-
--- the statements of the library's bodies
-abbrev pub library_statements : ℕ
-library_statements = 74
 
 -- the number of the statement at a place: as many as the library has and as stand before it
 unfoldable pub number_at : List Place → Place → ℕ

@@ -105,7 +105,8 @@ impl Around {
         number: u32,
         loop_body: Option<u32>,
     ) -> Result<Around, AllocError>
-        ensures { IfOk result (λ a. around_of a ≡ under_label (around_of self.now) name.now number loop_body) }
+        ensures { IfOk result (λ a.
+            around_of a ≡ under_label (around_of self.now) name.now number loop_body) }
     {
         let mut around = self.inside(number)?;
         around.labels.push(Label {
@@ -119,7 +120,8 @@ impl Around {
     /// The label of this name.
     #[tactic(auto, unfolding(crate::specs::Jumps::label_named))]
     pub fn label(&self, name: &str) -> Option<&Label>
-        ensures { option_map (λ l. label_of l.now) result ≡ label_named (around_of self.now) name.now }
+        ensures { option_map (λ l.
+            label_of l.now) result ≡ label_named (around_of self.now) name.now }
     {
         find_label(self.labels.as_slice(), name)
     }
@@ -160,7 +162,8 @@ impl Around {
 }
 
 fn find_label<'a>(labels: &'a [Label], name: &str) -> Option<&'a Label>
-    ensures { option_map (λ l. label_of l.now) result ≡ find (is_labelled name.now) (map label_of labels.now) }
+    ensures { option_map (λ l.
+        label_of l.now) result ≡ find (is_labelled name.now) (map label_of labels.now) }
 {
     for label in labels {
         if label.name.as_str() == name {

@@ -37,7 +37,8 @@ use wy_syntax::statement::{Block, Statement};
 /// A statement that stands for no words of its own.
 #[tactic(auto, using(wy_kernel::proofs::Views::view_statement))]
 pub fn implied(setting: &Setting, site: u32, role: Role, form: StmtForm) -> Stmt
-    ensures { (w : PlainSetting) → IsSetting setting.now w → statement result ≡ implied w site role (act form) }
+    ensures { (w : PlainSetting) → IsSetting setting.now w
+        → statement result ≡ implied w site role (act form) }
 {
     Stmt {
         number: setting.number_of(site, role),
@@ -56,7 +57,9 @@ pub fn declared_type(
     ty: &WrittenType,
     brackets: u32,
 ) -> Result<Ty, TypeError>
-    ensures { (w : PlainSetting) → IsSetting setting.now w → MakesTo (λ t. t) result (making_of making.now texts.new) (declared_type w (type_seen ty.now) brackets (making_of making.now texts.old)) }
+    ensures { (w : PlainSetting)
+        → IsSetting setting.now w → MakesTo (λ t. t) result (making_of making.now texts.new)
+        (declared_type w (type_seen ty.now) brackets (making_of making.now texts.old)) }
 {
     let base = type_written(setting, making, texts, ty)?;
     Ok(with_brackets(base, brackets)?)
@@ -68,7 +71,8 @@ fn parameter(
     texts: &mut Texts,
     p: &Parameter,
 ) -> Result<u32, TypeError>
-    ensures { (w : PlainSetting) → IsSetting setting.now w → MakesTo (λ k. k) result (making_of making.new texts.new) (parameter w (parameter_of p.now) (making_of making.old texts.old)) }
+    ensures { (w : PlainSetting) → IsSetting setting.now w → MakesTo (λ k. k) result (making_of
+        making.new texts.new) (parameter w (parameter_of p.now) (making_of making.old texts.old)) }
 {
     let ty = declared_type(setting, making, texts, &p.ty, p.brackets)?;
     making.declare(setting.alloc, &p.name, ty, false)
@@ -82,7 +86,9 @@ fn parameters(
     texts: &mut Texts,
     all: &[Parameter],
 ) -> Result<(), TypeError>
-    ensures { (w : PlainSetting) → IsSetting setting.now w → MakesTo (λ u. u) result (making_of making.new texts.new) (parameters w (map parameter_of all.now) (making_of making.old texts.old)) }
+    ensures { (w : PlainSetting)
+        → IsSetting setting.now w → MakesTo (λ u. u) result (making_of making.new texts.new)
+        (parameters w (map parameter_of all.now) (making_of making.old texts.old)) }
 {
     for p in all {
         parameter(setting, making, texts, p)?;
@@ -96,7 +102,9 @@ fn outcome_of(
     texts: &mut Texts,
     written: &Written,
 ) -> Result<Outcome, TypeError>
-    ensures { (w : PlainSetting) → IsSetting setting.now w → MakesTo seen.outcome_of result (making_of making.now texts.new) (outcome_of w (source.outcome_of written.now) (making_of making.now texts.old)) }
+    ensures { (w : PlainSetting)
+        → IsSetting setting.now w → MakesTo seen.outcome_of result (making_of making.now texts.new)
+        (outcome_of w (source.outcome_of written.now) (making_of making.now texts.old)) }
 {
     match written {
         Written::Nothing => Ok(Outcome::NoValue),
@@ -114,7 +122,9 @@ pub fn method_block(
     written: &Written,
     b: &Block,
 ) -> Result<Stmt, TypeError>
-    ensures { (w : PlainSetting) → IsSetting setting.now w → MakesTo statement result (making_of making.new texts.new) (method_block w (header_of header.now) (source.outcome_of written.now) (block_of b.now) (making_of making.old texts.old)) }
+    ensures { (w : PlainSetting) → IsSetting setting.now w → MakesTo statement result
+        (making_of making.new texts.new) (method_block w (header_of header.now)
+        (source.outcome_of written.now) (block_of b.now) (making_of making.old texts.old)) }
 {
     let outcome = outcome_of(setting, making, texts, written)?;
     parameters(setting, making, texts, header.params.as_slice())?;
@@ -124,7 +134,8 @@ pub fn method_block(
 
 // Whether the constructors of a class call one of its superclass.
 fn has_super_call(setting: &Setting, class: u32) -> bool
-    ensures { (w : PlainSetting) → IsSetting setting.now w → result ≡ calls_superclass w.table class }
+    ensures { (w : PlainSetting) → IsSetting setting.now w
+        → result ≡ calls_superclass w.table class }
 {
     calls_superclass(setting.table, class)
 }
@@ -153,7 +164,9 @@ fn implied_super_call(
     class: u32,
     site: u32,
 ) -> Result<Vec<Stmt>, TypeError>
-    ensures { (w : PlainSetting) → IsSetting setting.now w → MakesTo statements_seen result (making_of making.now texts.new) (implied_super_call w class site (making_of making.now texts.old)) }
+    ensures { (w : PlainSetting)
+        → IsSetting setting.now w → MakesTo statements_seen result (making_of making.now texts.new)
+        (implied_super_call w class site (making_of making.now texts.old)) }
 {
     if !has_super_call(setting, class) {
         return Ok(Vec::new(setting.alloc));
@@ -219,7 +232,8 @@ fn implied_fields_call(
     class: &ClassSyntax,
     site: u32,
 ) -> Result<Vec<Stmt>, AllocError>
-    ensures { (w : PlainSetting) → IsSetting setting.now w → IfOk result (λ all. statements_seen all ≡ implied_fields_call w number (class_of class.now) site) }
+    ensures { (w : PlainSetting) → IsSetting setting.now w → IfOk result (λ all.
+        statements_seen all ≡ implied_fields_call w number (class_of class.now) site) }
 {
     if !has_fields_unit(class) {
         return Ok(Vec::new(setting.alloc));
@@ -238,7 +252,9 @@ fn own_call(
     class: u32,
     call: &OwnCall,
 ) -> Result<Vec<Stmt>, TypeError>
-    ensures { (w : PlainSetting) (c : ℕ) → IsSetting setting.now w → MakesTo statements_seen result (making_of making.now texts.new) (own_call w c class (own_call_of call.now) (making_of making.now texts.old)) }
+    ensures { (w : PlainSetting) (c : ℕ)
+        → IsSetting setting.now w → MakesTo statements_seen result (making_of making.now texts.new)
+        (own_call w c class (own_call_of call.now) (making_of making.now texts.old)) }
 {
     let value = constructor_call(
         setting,
@@ -259,7 +275,9 @@ fn no_call(
     texts: &mut Texts,
     call: &OwnCall,
 ) -> Result<Vec<Stmt>, TypeError>
-    ensures { (w : PlainSetting) → IsSetting setting.now w → MakesTo statements_seen result (making_of making.now texts.new) (no_call w (own_call_of call.now) (making_of making.now texts.old)) }
+    ensures { (w : PlainSetting)
+        → IsSetting setting.now w → MakesTo statements_seen result (making_of making.now texts.new)
+        (no_call w (own_call_of call.now) (making_of making.now texts.old)) }
 {
     object_called(setting, making, texts, call.args.as_slice(), call.paren)?;
     Ok(Vec::new(setting.alloc))
@@ -273,7 +291,9 @@ fn written_super_call(
     class: u32,
     call: &OwnCall,
 ) -> Result<Vec<Stmt>, TypeError>
-    ensures { (w : PlainSetting) → IsSetting setting.now w → MakesTo statements_seen result (making_of making.now texts.new) (written_super_call w class (own_call_of call.now) (making_of making.now texts.old)) }
+    ensures { (w : PlainSetting)
+        → IsSetting setting.now w → MakesTo statements_seen result (making_of making.now texts.new)
+        (written_super_call w class (own_call_of call.now) (making_of making.now texts.old)) }
 {
     if has_super_call(setting, class) {
         let above = superclass_of(setting, class);
@@ -285,7 +305,8 @@ fn written_super_call(
 
 // Statements, and others behind them.
 fn both(mut front: Vec<Stmt>, mut rest: Vec<Stmt>) -> Result<Vec<Stmt>, AllocError>
-    ensures { IfOk result (λ all. statements_seen all ≡ statements_seen front ++ statements_seen rest) }
+    ensures { IfOk result (λ all.
+        statements_seen all ≡ statements_seen front ++ statements_seen rest) }
 {
     front.append(&mut rest)?;
     Ok(front)
@@ -302,7 +323,9 @@ fn first_calls(
     site: u32,
     own: &Option<OwnCall>,
 ) -> Result<Vec<Stmt>, TypeError>
-    ensures { (w : PlainSetting) → IsSetting setting.now w → MakesTo statements_seen result (making_of making.now texts.new) (first_calls w number (class_of class.now) site (option_map own_call_of own.now) (making_of making.now texts.old)) }
+    ensures { (w : PlainSetting) → IsSetting setting.now w → MakesTo statements_seen result
+        (making_of making.now texts.new) (first_calls w number (class_of class.now) site
+        (option_map own_call_of own.now) (making_of making.now texts.old)) }
 {
     let front = match own {
         None => implied_super_call(setting, making, texts, number, site)?,
@@ -336,7 +359,10 @@ pub fn constructor_block(
     brace: u32,
     parts: &[Statement],
 ) -> Result<Stmt, TypeError>
-    ensures { (w : PlainSetting) → IsSetting setting.now w → MakesTo statement result (making_of making.new texts.new) (constructor_block w number (class_of class.now) (header_of header.now) (option_map own_call_of own.now) brace (statements_of (map statement_of parts.now)) (making_of making.old texts.old)) }
+    ensures { (w : PlainSetting) → IsSetting setting.now w
+        → MakesTo statement result (making_of making.new texts.new) (constructor_block w number
+        (class_of class.now) (header_of header.now) (option_map own_call_of own.now) brace
+        (statements_of (map statement_of parts.now)) (making_of making.old texts.old)) }
 {
     parameters(setting, making, texts, header.params.as_slice())?;
     let site = header.name.token;
@@ -357,7 +383,9 @@ pub fn implied_constructor_block(
     number: u32,
     class: &ClassSyntax,
 ) -> Result<Stmt, TypeError>
-    ensures { (w : PlainSetting) → IsSetting setting.now w → MakesTo statement result (making_of making.now texts.new) (implied_constructor_block w number (class_of class.now) (making_of making.now texts.old)) }
+    ensures { (w : PlainSetting)
+        → IsSetting setting.now w → MakesTo statement result (making_of making.now texts.new)
+        (implied_constructor_block w number (class_of class.now) (making_of making.now texts.old)) }
 {
     let site = class.name.token;
     let calls = first_calls(setting, making, texts, number, class, site, &None)?;

@@ -23,7 +23,8 @@ use wy_kernel::types::Method;
 use wy_syntax::expression::Expression;
 
 fn method_at(table: &ClassTable, k: u32) -> Option<&Method>
-    ensures value { option_map (λ m. method_seen m.now) result ≡ slice_get (table_of table.now).methods k }
+    ensures value { option_map (λ m.
+        method_seen m.now) result ≡ slice_get (table_of table.now).methods k }
     ensures number { OnSome result (k < 4294967295) }
 {
     if k < table.methods() {
@@ -40,7 +41,8 @@ fn constructor_form(
     args: Vec<Expr>,
     site: u32,
 ) -> Result<Expr, AllocError>
-    ensures { IfOk result (λ e. kernel_expression e ≡ constructor_form class_number k (kernel_row (map kernel_expression args.items)) site) }
+    ensures { IfOk result (λ e. kernel_expression e ≡ constructor_form class_number k
+        (kernel_row (map kernel_expression args.items)) site) }
 {
     call_on_this(alloc, CallForm::Direct, k, class_number, args, site)
 }
@@ -55,7 +57,8 @@ fn constructed_by(
     args: Vec<Meaning>,
     token: u32,
 ) -> Result<Expr, TypeError>
-    ensures { GetsTo kernel_expression result texts.new (constructed_by scope.now class_number k (slice_get (table_of table.now).methods k) (map meaning_of args.items) token texts.old) }
+    ensures { GetsTo kernel_expression result texts.new (constructed_by scope.now class_number k
+        (slice_get (table_of table.now).methods k) (map meaning_of args.items) token texts.old) }
 {
     let Some(m) = method_at(table, k) else {
         return Err(refused(Rule::NoMethod, token));
@@ -78,7 +81,9 @@ fn called_with(
     args: Vec<Meaning>,
     token: u32,
 ) -> Result<Expr, TypeError>
-    ensures { Judged (table_of table.now) (λ j. GetsTo kernel_expression result texts.new (constructor_called j (table_of table.now) class_number (map meaning_of args.items) token scope.now texts.old)) }
+    ensures { Judged (table_of table.now) (λ j.
+        GetsTo kernel_expression result texts.new (constructor_called j
+        (table_of table.now) class_number (map meaning_of args.items) token scope.now texts.old)) }
 {
     let k = method_for(
         alloc,
@@ -99,7 +104,8 @@ fn called_plainly(
     class_number: u32,
     token: u32,
 ) -> Result<Expr, TypeError>
-    ensures { Judged (table_of table.now) (λ j. GetsTo kernel_expression result texts.new (constructor_called j (table_of table.now) class_number [] token scope.now texts.old)) }
+    ensures { Judged (table_of table.now) (λ j. GetsTo kernel_expression result texts.new
+        (constructor_called j (table_of table.now) class_number [] token scope.now texts.old)) }
 {
     let none = Vec::new(alloc);
     called_with(alloc, table, scope, texts, class_number, none, token)
@@ -115,7 +121,9 @@ fn called_as_written(
     args: &[Expression],
     token: u32,
 ) -> Result<Expr, TypeError>
-    ensures { Judged (table_of table.now) (λ j. GetsTo kernel_expression result texts.new (constructor_call j (table_of table.now) class_number (row_of (map expression_of args.now)) token scope.now texts.old)) }
+    ensures { Judged (table_of table.now) (λ j.
+        GetsTo kernel_expression result texts.new (constructor_call j (table_of table.now)
+        class_number (row_of (map expression_of args.now)) token scope.now texts.old)) }
 {
     let ms = elaborated_all(alloc, table, scope, texts, args)?;
     called_with(alloc, table, scope, texts, class_number, ms, token)
@@ -143,7 +151,8 @@ fn no_call_as_written(
     args: &[Expression],
     token: u32,
 ) -> Result<(), TypeError>
-    ensures { Judged (table_of table.now) (λ j. GetsTo (λ u. u) result texts.new (object_called j (table_of table.now) (row_of (map expression_of args.now)) token scope.now texts.old)) }
+    ensures { Judged (table_of table.now) (λ j. GetsTo (λ u. u) result texts.new (object_called j
+        (table_of table.now) (row_of (map expression_of args.now)) token scope.now texts.old)) }
 {
     let ms = elaborated_all(alloc, table, scope, texts, args)?;
     none_for_object(ms.as_slice(), token)
@@ -157,7 +166,9 @@ pub fn constructor_called(
     class: u32,
     token: u32,
 ) -> Result<Expr, TypeError>
-    ensures { (w : PlainSetting) → IsSetting setting.now w → MakesTo kernel_expression result (making_of making.now texts.new) (expressed (constructor_called w.judgement w.table class [] token) (making_of making.now texts.old)) }
+    ensures { (w : PlainSetting) → IsSetting setting.now w
+        → MakesTo kernel_expression result (making_of making.now texts.new) (expressed
+        (constructor_called w.judgement w.table class [] token) (making_of making.now texts.old)) }
 {
     called_plainly(
         setting.alloc,
@@ -178,7 +189,9 @@ pub fn constructor_call(
     args: &[Expression],
     token: u32,
 ) -> Result<Expr, TypeError>
-    ensures { (w : PlainSetting) → IsSetting setting.now w → MakesTo kernel_expression result (making_of making.now texts.new) (expressed (constructor_call w.judgement w.table class (row_of (map expression_of args.now)) token) (making_of making.now texts.old)) }
+    ensures { (w : PlainSetting) → IsSetting setting.now w → MakesTo kernel_expression result
+        (making_of making.now texts.new) (expressed (constructor_call w.judgement w.table class
+        (row_of (map expression_of args.now)) token) (making_of making.now texts.old)) }
 {
     called_as_written(
         setting.alloc,
@@ -199,7 +212,9 @@ pub fn object_called(
     args: &[Expression],
     token: u32,
 ) -> Result<(), TypeError>
-    ensures { (w : PlainSetting) → IsSetting setting.now w → MakesTo (λ u. u) result (making_of making.now texts.new) (expressed (object_called w.judgement w.table (row_of (map expression_of args.now)) token) (making_of making.now texts.old)) }
+    ensures { (w : PlainSetting) → IsSetting setting.now w → MakesTo (λ u.
+        u) result (making_of making.now texts.new) (expressed (object_called w.judgement w.table
+        (row_of (map expression_of args.now)) token) (making_of making.now texts.old)) }
 {
     no_call_as_written(
         setting.alloc,

@@ -70,7 +70,8 @@ fn put_implied_calls(
     class: &ClassSyntax,
     site: u32,
 ) -> Result<(), AllocError>
-    ensures { OnOk result (all.new.items ≡ all.old.items ++ implied_calls (table_of table.now) number (class_of class.now) site) }
+    ensures { OnOk result (all.new.items ≡ all.old.items
+        ++ implied_calls (table_of table.now) number (class_of class.now) site) }
 {
     put_if(all, calls_superclass(table, number), site, Role::SuperCall)?;
     put_if(all, has_fields_unit(class), site, Role::FieldsCall)
@@ -85,7 +86,8 @@ fn put_own_call(
     site: u32,
     call: &OwnCall,
 ) -> Result<(), AllocError>
-    ensures { OnOk result (all.new.items ≡ all.old.items ++ first_calls (table_of table.now) number (class_of class.now) site (Some (own_call_of call.now))) }
+    ensures { OnOk result (all.new.items ≡ all.old.items ++ first_calls (table_of table.now) number
+        (class_of class.now) site (Some (own_call_of call.now))) }
 {
     if call.is_super {
         put_if(
@@ -108,7 +110,8 @@ fn put_first_calls(
     site: u32,
     own_call: &Option<OwnCall>,
 ) -> Result<(), AllocError>
-    ensures { OnOk result (all.new.items ≡ all.old.items ++ first_calls (table_of table.now) number (class_of class.now) site (option_map own_call_of own_call.now)) }
+    ensures { OnOk result (all.new.items ≡ all.old.items ++ first_calls (table_of table.now) number
+        (class_of class.now) site (option_map own_call_of own_call.now)) }
 {
     match own_call {
         Some(call) => put_own_call(all, table, number, class, site, call),
@@ -117,7 +120,8 @@ fn put_first_calls(
 }
 
 fn put_initialized(all: &mut Vec<Place>, declarators: &[Declarator]) -> Result<(), AllocError>
-    ensures { OnOk result (all.new.items ≡ all.old.items ++ initialized_places (map declarator_of declarators.now)) }
+    ensures { OnOk result
+        (all.new.items ≡ all.old.items ++ initialized_places (map declarator_of declarators.now)) }
 {
     let mut left = declarators;
     while let [first, behind @ ..] = left {
@@ -137,7 +141,8 @@ fn put_member(
     class: &ClassSyntax,
     member: &Member,
 ) -> Result<(), AllocError>
-    ensures { OnOk result (all.new.items ≡ all.old.items ++ member_places (table_of table.now) number (class_of class.now) (member_of member.now)) }
+    ensures { OnOk result (all.new.items ≡ all.old.items
+        ++ member_places (table_of table.now) number (class_of class.now) (member_of member.now)) }
 {
     match member {
         Member::Initializer {
@@ -179,7 +184,8 @@ fn put_members(
     number: u32,
     class: &ClassSyntax,
 ) -> Result<(), AllocError>
-    ensures { OnOk result (all.new.items ≡ all.old.items ++ flat_map (member_places (table_of table.now) number (class_of class.now)) (map member_of class.now.members.items)) }
+    ensures { OnOk result (all.new.items ≡ all.old.items ++ flat_map (member_places
+        (table_of table.now) number (class_of class.now)) (map member_of class.now.members.items)) }
 {
     let mut left = class.members.as_slice();
     while let [first, behind @ ..] = left {
@@ -196,7 +202,8 @@ fn put_implied_constructor(
     number: u32,
     class: &ClassSyntax,
 ) -> Result<(), AllocError>
-    ensures { OnOk result (all.new.items ≡ all.old.items ++ implied_constructor_places (table_of table.now) number (class_of class.now)) }
+    ensures { OnOk result (all.new.items ≡ all.old.items
+        ++ implied_constructor_places (table_of table.now) number (class_of class.now)) }
 {
     if declares_constructor(class) {
         return Ok(());
@@ -212,7 +219,8 @@ fn put_class(
     number: u32,
     class: &ClassSyntax,
 ) -> Result<(), AllocError>
-    ensures { OnOk result (all.new.items ≡ all.old.items ++ class_places (table_of table.now) number (class_of class.now)) }
+    ensures { OnOk result (all.new.items ≡ all.old.items
+        ++ class_places (table_of table.now) number (class_of class.now)) }
 {
     if class.is_interface {
         return Ok(());
@@ -230,7 +238,8 @@ pub fn places_of(
     table: &ClassTable,
     unit: &[Declaration],
 ) -> Result<Vec<Place>, AllocError>
-    ensures { IfOk result (λ all. all.items ≡ places_of (table_of table.now) (map declaration_of unit.now)) }
+    ensures { IfOk result (λ all.
+        all.items ≡ places_of (table_of table.now) (map declaration_of unit.now)) }
 {
     let mut all = Vec::new(alloc);
     let mut number = 18;

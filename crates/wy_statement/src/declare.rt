@@ -30,7 +30,9 @@ fn given_first(
     name: &Named,
     initial: &Initial,
 ) -> Result<Stmt, TypeError>
-    ensures { (w : PlainSetting) → IsSetting setting.now w → MakesTo statement result (making_of making.new texts.new) (given_first w is_final ty number (named_of name.now) (Some (initial_of initial.now)) (making_of making.old texts.old)) }
+    ensures { (w : PlainSetting) → IsSetting setting.now w → MakesTo statement result
+        (making_of making.new texts.new) (given_first w is_final ty number (named_of name.now)
+        (Some (initial_of initial.now)) (making_of making.old texts.old)) }
 {
     let value = initialized(setting, making, texts, ty, initial, name.token)?;
     let value = Box::new(setting.alloc, value)?;
@@ -49,7 +51,9 @@ fn declarator(
     ty: Ty,
     d: &Declarator,
 ) -> Result<Stmt, TypeError>
-    ensures { (w : PlainSetting) → IsSetting setting.now w → MakesTo statement result (making_of making.new texts.new) (declarator w is_final ty (declarator_of d.now) (making_of making.old texts.old)) }
+    ensures { (w : PlainSetting)
+        → IsSetting setting.now w → MakesTo statement result (making_of making.new texts.new)
+        (declarator w is_final ty (declarator_of d.now) (making_of making.old texts.old)) }
 {
     let ty = with_brackets(ty, d.brackets)?;
     let is_fixed = is_final && d.initial.is_some();
@@ -77,7 +81,8 @@ pub fn effect(
     texts: &mut Texts,
     e: &Effect,
 ) -> Result<Stmt, TypeError>
-    ensures { (w : PlainSetting) → IsSetting setting.now w → MakesTo statement result (making_of making.new texts.new) (effect w (effect_of e.now) (making_of making.old texts.old)) }
+    ensures { (w : PlainSetting) → IsSetting setting.now w → MakesTo statement result (making_of
+        making.new texts.new) (effect w (effect_of e.now) (making_of making.old texts.old)) }
 {
     let form = performed(setting, making, texts, &e.value)?;
     Ok(plain(setting, e.token, true, form))
@@ -92,7 +97,9 @@ fn declarators(
     ty: Ty,
     all: &[Declarator],
 ) -> Result<Vec<Stmt>, TypeError>
-    ensures { (w : PlainSetting) → IsSetting setting.now w → MakesTo statements_seen result (making_of making.new texts.new) (each (declarator w is_final ty) (map declarator_of all.now) (making_of making.old texts.old)) }
+    ensures { (w : PlainSetting) → IsSetting setting.now w
+        → MakesTo statements_seen result (making_of making.new texts.new) (each
+        (declarator w is_final ty) (map declarator_of all.now) (making_of making.old texts.old)) }
 {
     let mut made = Vec::new(setting.alloc);
     for d in all {
@@ -112,7 +119,9 @@ pub fn declarations(
     ty: &WrittenType,
     all: &[Declarator],
 ) -> Result<Vec<Stmt>, TypeError>
-    ensures { (w : PlainSetting) → IsSetting setting.now w → MakesTo statements_seen result (making_of making.new texts.new) (declarations w is_final (type_seen ty.now) (map declarator_of all.now) (making_of making.old texts.old)) }
+    ensures { (w : PlainSetting) → IsSetting setting.now w
+        → MakesTo statements_seen result (making_of making.new texts.new) (declarations w is_final
+        (type_seen ty.now) (map declarator_of all.now) (making_of making.old texts.old)) }
 {
     let ty = type_written(setting, making, texts, ty)?;
     declarators(setting, making, texts, is_final, ty, all)
@@ -126,7 +135,9 @@ pub fn effects(
     texts: &mut Texts,
     all: &[Effect],
 ) -> Result<Vec<Stmt>, TypeError>
-    ensures { (w : PlainSetting) → IsSetting setting.now w → MakesTo statements_seen result (making_of making.new texts.new) (effects w (map effect_of all.now) (making_of making.old texts.old)) }
+    ensures { (w : PlainSetting)
+        → IsSetting setting.now w → MakesTo statements_seen result (making_of making.new texts.new)
+        (effects w (map effect_of all.now) (making_of making.old texts.old)) }
 {
     let mut made = Vec::new(setting.alloc);
     for e in all {
@@ -144,7 +155,9 @@ pub fn for_init(
     texts: &mut Texts,
     init: &ForInit,
 ) -> Result<Vec<Stmt>, TypeError>
-    ensures { (w : PlainSetting) → IsSetting setting.now w → MakesTo statements_seen result (making_of making.new texts.new) (for_init w (for_init_of init.now) (making_of making.old texts.old)) }
+    ensures { (w : PlainSetting)
+        → IsSetting setting.now w → MakesTo statements_seen result (making_of making.new texts.new)
+        (for_init w (for_init_of init.now) (making_of making.old texts.old)) }
 {
     match init {
         ForInit::Nothing => Ok(Vec::new(setting.alloc)),
@@ -172,7 +185,9 @@ pub fn declared(
     texts: &mut Texts,
     s: &Statement,
 ) -> Result<Vec<Stmt>, TypeError>
-    ensures { (w : PlainSetting) → IsSetting setting.now w → MakesTo statements_seen result (making_of making.new texts.new) (declared w (statement_of s.now) (making_of making.old texts.old)) }
+    ensures { (w : PlainSetting)
+        → IsSetting setting.now w → MakesTo statements_seen result (making_of making.new texts.new)
+        (declared w (statement_of s.now) (making_of making.old texts.old)) }
 {
     match s {
         Statement::Declare {

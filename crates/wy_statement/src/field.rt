@@ -71,7 +71,8 @@ fn number_in(table: &ClassTable, class: u32, name: &str) -> u32
 }
 
 fn field_number(setting: &Setting, class: u32, name: &str) -> u32
-    ensures { (w : PlainSetting) → IsSetting setting.now w → result ≡ field_number w class name.now }
+    ensures { (w : PlainSetting) → IsSetting setting.now w
+        → result ≡ field_number w class name.now }
 {
     number_in(setting.table, class, name)
 }
@@ -86,7 +87,9 @@ fn assigned_first(
     name: &Named,
     initial: &Initial,
 ) -> Result<Stmt, TypeError>
-    ensures { (w : PlainSetting) → IsSetting setting.now w → MakesTo statement result (making_of making.now texts.new) (assigned_first w class is_static ty (named_of name.now) (initial_of initial.now) (making_of making.now texts.old)) }
+    ensures { (w : PlainSetting) → IsSetting setting.now w → MakesTo statement result
+        (making_of making.now texts.new) (assigned_first w class is_static ty (named_of name.now)
+        (initial_of initial.now) (making_of making.now texts.old)) }
 {
     let field = field_number(setting, class, name.name.as_str());
     let place = own_place(setting.alloc, is_static, field, name.token)?;
@@ -105,7 +108,10 @@ pub fn field_initial(
     ty: &WrittenType,
     d: &Declarator,
 ) -> Result<Vec<Stmt>, TypeError>
-    ensures { (w : PlainSetting) → IsSetting setting.now w → MakesTo statements_seen result (making_of making.now texts.new) (field_initial w class is_static (type_seen ty.now) (declarator_of d.now) (option_map initial_of d.now.initial) (making_of making.now texts.old)) }
+    ensures { (w : PlainSetting)
+        → IsSetting setting.now w → MakesTo statements_seen result (making_of making.now texts.new)
+        (field_initial w class is_static (type_seen ty.now) (declarator_of d.now)
+        (option_map initial_of d.now.initial) (making_of making.now texts.old)) }
 {
     let Some(initial) = &d.initial else {
         return Ok(Vec::new(setting.alloc));
@@ -122,7 +128,8 @@ fn around_initializer(
     class: &ClassSyntax,
     role: Role,
 ) -> Result<Around, AllocError>
-    ensures { (w : PlainSetting) → IsSetting setting.now w → IfOk result (λ a. around_of a ≡ around_initializer w (class_of class.now) role) }
+    ensures { (w : PlainSetting) → IsSetting setting.now w
+        → IfOk result (λ a. around_of a ≡ around_initializer w (class_of class.now) role) }
 {
     let number = setting.number_of(class.name.token, role);
     Around::alone(setting.alloc, number, Outcome::NoReturn).inside(number)
@@ -137,7 +144,9 @@ pub fn initializer_block(
     role: Role,
     b: &Block,
 ) -> Result<Vec<Stmt>, TypeError>
-    ensures { (w : PlainSetting) → IsSetting setting.now w → MakesTo statements_seen result (making_of making.new texts.new) (initializer_block w (class_of class.now) role (block_of b.now) (making_of making.old texts.old)) }
+    ensures { (w : PlainSetting) → IsSetting setting.now w
+        → MakesTo statements_seen result (making_of making.new texts.new) (initializer_block w
+        (class_of class.now) role (block_of b.now) (making_of making.old texts.old)) }
 {
     let around = around_initializer(setting, class, role)?;
     let made = block(setting, &around, making, texts, b)?;

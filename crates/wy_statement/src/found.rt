@@ -36,7 +36,9 @@ pub fn condition(
     test: &Expression,
     site: u32,
 ) -> Result<Box<Expr>, TypeError>
-    ensures { (w : PlainSetting) → IsSetting setting.now w → MakesTo inner_of result (making_of making.now texts.new) (expressed (condition w.judgement w.table (expression_of test.now) site) (making_of making.now texts.old)) }
+    ensures { (w : PlainSetting) → IsSetting setting.now w
+        → MakesTo inner_of result (making_of making.now texts.new) (expressed (condition w.judgement
+        w.table (expression_of test.now) site) (making_of making.now texts.old)) }
 {
     parts::condition(
         setting.alloc,
@@ -55,7 +57,9 @@ pub fn performed(
     texts: &mut Texts,
     value: &Expression,
 ) -> Result<StmtForm, TypeError>
-    ensures { (w : PlainSetting) → IsSetting setting.now w → MakesTo act result (making_of making.now texts.new) (expressed (performed w.judgement w.table (expression_of value.now)) (making_of making.now texts.old)) }
+    ensures { (w : PlainSetting) → IsSetting setting.now w
+        → MakesTo act result (making_of making.now texts.new) (expressed (performed w.judgement
+        w.table (expression_of value.now)) (making_of making.now texts.old)) }
 {
     parts::performed(setting.alloc, setting.table, &making.scope, texts, value)
 }
@@ -69,7 +73,9 @@ pub fn returned(
     value: &Expression,
     token: u32,
 ) -> Result<Expr, TypeError>
-    ensures { (w : PlainSetting) → IsSetting setting.now w → MakesTo kernel_expression result (making_of making.now texts.new) (expressed (returned w.judgement w.table (outcome_of outcome) (expression_of value.now) token) (making_of making.now texts.old)) }
+    ensures { (w : PlainSetting) → IsSetting setting.now w → MakesTo kernel_expression result
+        (making_of making.now texts.new) (expressed (returned w.judgement w.table
+        (outcome_of outcome) (expression_of value.now) token) (making_of making.now texts.old)) }
 {
     parts::returned(
         setting.alloc,
@@ -90,7 +96,9 @@ pub fn thrown(
     value: &Expression,
     token: u32,
 ) -> Result<Expr, TypeError>
-    ensures { (w : PlainSetting) → IsSetting setting.now w → MakesTo kernel_expression result (making_of making.now texts.new) (expressed (thrown w.judgement w.table (expression_of value.now) token) (making_of making.now texts.old)) }
+    ensures { (w : PlainSetting) → IsSetting setting.now w
+        → MakesTo kernel_expression result (making_of making.now texts.new) (expressed (thrown
+        w.judgement w.table (expression_of value.now) token) (making_of making.now texts.old)) }
 {
     parts::thrown(
         setting.alloc,
@@ -103,7 +111,8 @@ pub fn thrown(
 }
 
 fn class_taken(table: &ClassTable, class: &Named) -> Result<u32, TypeError>
-    ensures { GivesAlways (λ c. c) result (class_for_new (class_named (table_of table.now).classes (named_of class.now).name) (named_of class.now).token) }
+    ensures { GivesAlways (λ c. c) result (class_for_new (class_named (table_of table.now).classes
+        (named_of class.now).name) (named_of class.now).token) }
 {
     class_for_new(table, class.name.as_str(), class.token)
 }
@@ -116,7 +125,9 @@ pub fn caught_class(
     class: &Named,
     site: u32,
 ) -> Result<u32, TypeError>
-    ensures { (w : PlainSetting) → IsSetting setting.now w → MakesTo (λ c. c) result (making_of making.now texts.now) (expressed (caught_class w.judgement w.table (named_of class.now) site) (making_of making.now texts.now)) }
+    ensures { (w : PlainSetting) → IsSetting setting.now w → MakesTo (λ c.
+        c) result (making_of making.now texts.now) (expressed (caught_class w.judgement w.table
+        (named_of class.now) site) (making_of making.now texts.now)) }
 {
     class_taken(setting.table, class)
 }
@@ -130,7 +141,9 @@ pub fn initialized(
     initial: &Initial,
     token: u32,
 ) -> Result<Expr, TypeError>
-    ensures { (w : PlainSetting) → IsSetting setting.now w → MakesTo kernel_expression result (making_of making.now texts.new) (expressed (λ s. initialized w.judgement w.table s ty (initial_of initial.now) token) (making_of making.now texts.old)) }
+    ensures { (w : PlainSetting) → IsSetting setting.now w → MakesTo kernel_expression result
+        (making_of making.now texts.new) (expressed (λ s. initialized w.judgement w.table s ty
+        (initial_of initial.now) token) (making_of making.now texts.old)) }
 {
     wy_elab_expr::initialized(
         setting.alloc,
@@ -150,14 +163,17 @@ pub fn type_written(
     texts: &Texts,
     ty: &WrittenType,
 ) -> Result<Ty, TypeError>
-    ensures { (w : PlainSetting) → IsSetting setting.now w → MakesTo (λ t. t) result (making_of making.now texts.now) (expressed (λ s. type_written w.table (type_seen ty.now)) (making_of making.now texts.now)) }
+    ensures { (w : PlainSetting) → IsSetting setting.now w
+        → MakesTo (λ t. t) result (making_of making.now texts.now) (expressed (λ s.
+        type_written w.table (type_seen ty.now)) (making_of making.now texts.now)) }
 {
     wy_elab_expr::type_written(setting.table, ty)
 }
 
 // This value as that of a variable of a type, where it may be.
 fn fixed_as(ty: Ty, value: Option<Const>) -> Option<Const>
-    ensures { option_map constant_value result ≡ option_and_then (constant_variable ty) (option_map constant_value value) }
+    ensures { option_map constant_value result ≡ option_and_then (constant_variable ty)
+        (option_map constant_value value) }
 {
     match value {
         Some(value) => constant_variable(&ty, value),
@@ -174,7 +190,8 @@ fn value_of_initial(
     ty: Ty,
     initial: &Initial,
 ) -> Result<Option<Const>, AllocError>
-    ensures { IfOk result (λ c. option_map constant_value c ≡ value_of_initial (table_of table.now) ty (initial_of initial.now) scope.now) }
+    ensures { IfOk result (λ c. option_map constant_value c
+        ≡ value_of_initial (table_of table.now) ty (initial_of initial.now) scope.now) }
 {
     match initial {
         Initial::Value { value } => Ok(fixed_as(ty, constant_of(alloc, table, scope, value)?)),
@@ -194,7 +211,9 @@ pub fn give_constant(
     ty: Ty,
     initial: &Initial,
 ) -> Result<(), TypeError>
-    ensures { (w : PlainSetting) → IsSetting setting.now w → MakesTo (λ u. u) result (making_of making.new texts.now) (changed (constant_if is_final w.table ty (initial_of initial.now)) (making_of making.old texts.now)) }
+    ensures { (w : PlainSetting) → IsSetting setting.now w → MakesTo (λ u.
+        u) result (making_of making.new texts.now) (changed (constant_if is_final w.table ty
+        (initial_of initial.now)) (making_of making.old texts.now)) }
 {
     let value = if is_final {
         value_of_initial(setting.alloc, setting.table, &making.scope, ty, initial)?
@@ -213,7 +232,8 @@ pub fn must_be_throwable(
     class: u32,
     site: u32,
 ) -> Result<(), TypeError>
-    ensures { (w : PlainSetting) → IsSetting setting.now w → MakesTo (λ u. u) result (making_of making.now texts.now) (must_be_throwable w class site (making_of making.now texts.now)) }
+    ensures { (w : PlainSetting) → IsSetting setting.now w → MakesTo (λ u. u) result (making_of
+        making.now texts.now) (must_be_throwable w class site (making_of making.now texts.now)) }
 {
     if parts::is_throwable(setting.table, class) {
         Ok(())

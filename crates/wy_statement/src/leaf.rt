@@ -27,7 +27,8 @@ pub fn refused(rule: Rule, token: u32) -> TypeError
 
 /// `;`
 pub fn empty(setting: &Setting, token: u32) -> Stmt
-    ensures { (w : PlainSetting) → IsSetting setting.now w → statement result ≡ plain w token true (kernel.Block kernel.done) }
+    ensures { (w : PlainSetting) → IsSetting setting.now w
+        → statement result ≡ plain w token true (kernel.Block kernel.done) }
 {
     make::plain(setting, token, true, make::block(Vec::new(setting.alloc)))
 }
@@ -40,7 +41,8 @@ pub fn jumping(
     target: Option<u32>,
     token: u32,
 ) -> Result<Stmt, TypeError>
-    ensures { (w : PlainSetting) → IsSetting setting.now w → MakesTo statement result (making_of making.now texts.now) (jumping w target token (making_of making.now texts.now)) }
+    ensures { (w : PlainSetting) → IsSetting setting.now w → MakesTo statement result
+        (making_of making.now texts.now) (jumping w target token (making_of making.now texts.now)) }
 {
     match target {
         Some(target) => Ok(make::plain(setting, token, true, make::jump(target))),
@@ -55,7 +57,9 @@ fn returning_nothing(
     texts: &Texts,
     token: u32,
 ) -> Result<Stmt, TypeError>
-    ensures { (w : PlainSetting) → IsSetting setting.now w → MakesTo statement result (making_of making.now texts.now) (returning w (around_of around.now) None token (making_of making.now texts.now)) }
+    ensures { (w : PlainSetting)
+        → IsSetting setting.now w → MakesTo statement result (making_of making.now texts.now)
+        (returning w (around_of around.now) None token (making_of making.now texts.now)) }
 {
     match around.outcome {
         Outcome::NoValue => Ok(make::plain(setting, token, true, make::return_form(None))),
@@ -73,7 +77,9 @@ pub fn returning(
     value: &Option<Expression>,
     token: u32,
 ) -> Result<Stmt, TypeError>
-    ensures { (w : PlainSetting) → IsSetting setting.now w → MakesTo statement result (making_of making.now texts.new) (returning w (around_of around.now) (option_map expression_of value.now) token (making_of making.now texts.old)) }
+    ensures { (w : PlainSetting) → IsSetting setting.now w → MakesTo statement result
+        (making_of making.now texts.new) (returning w (around_of around.now)
+        (option_map expression_of value.now) token (making_of making.now texts.old)) }
 {
     match value {
         Some(value) => {
@@ -94,7 +100,9 @@ pub fn throwing(
     value: &Expression,
     token: u32,
 ) -> Result<Stmt, TypeError>
-    ensures { (w : PlainSetting) → IsSetting setting.now w → MakesTo statement result (making_of making.now texts.new) (plain_statement w (around_of around.now) (source.Throw (expression_of value.now) token) (making_of making.now texts.old)) }
+    ensures { (w : PlainSetting) → IsSetting setting.now w → MakesTo statement result
+        (making_of making.now texts.new) (plain_statement w (around_of around.now)
+        (source.Throw (expression_of value.now) token) (making_of making.now texts.old)) }
 {
     let v = thrown(setting, making, texts, value, token)?;
     Ok(make::plain(setting, token, true, make::throw(v)))

@@ -16,7 +16,8 @@ use wy_kernel::types::NONE;
 /// A statement that records no Test.
 #[tactic(auto, using(wy_kernel::proofs::Views::view_statement))]
 pub fn plain(setting: &Setting, site: u32, is_askable: bool, form: StmtForm) -> Stmt
-    ensures { (w : PlainSetting) → IsSetting setting.now w → statement result ≡ plain w site is_askable (act form) }
+    ensures { (w : PlainSetting) → IsSetting setting.now w
+        → statement result ≡ plain w site is_askable (act form) }
 {
     Stmt {
         number: setting.number(site),
@@ -36,7 +37,8 @@ pub fn testing(
     guarded: &[u32],
     form: StmtForm,
 ) -> Stmt
-    ensures { (w : PlainSetting) → IsSetting setting.now w → statement result ≡ testing w (around_of around.now) site guarded.now (act form) }
+    ensures { (w : PlainSetting) → IsSetting setting.now w
+        → statement result ≡ testing w (around_of around.now) site guarded.now (act form) }
 {
     let number = setting.number(site);
     Stmt {
@@ -64,7 +66,8 @@ pub fn targets_in_arms(
     yes: &Stmt,
     no: &Option<Box<Stmt>>,
 ) -> Result<Vec<u32>, AllocError>
-    ensures { IfOk result (λ all. all.items ≡ targets_in (around_of around.now) (statement yes.now) ++ other_targets_in (around_of around.now) (other no.now)) }
+    ensures { IfOk result (λ all. all.items ≡ targets_in (around_of around.now) (statement yes.now)
+        ++ other_targets_in (around_of around.now) (other no.now)) }
 {
     let mut all = targets_in(alloc, around, yes)?;
     put_other(&mut all, around.body, around.catcher, no)?;
@@ -79,7 +82,8 @@ pub fn evaluated_set(
     value: Expr,
     site: u32,
 ) -> Result<StmtForm, AllocError>
-    ensures { IfOk result (λ form. act form ≡ kernel.Eval (kernel.Set (place_seen place) (expression value) site)) }
+    ensures { IfOk result (λ form.
+        act form ≡ kernel.Eval (kernel.Set (place_seen place) (expression value) site)) }
 {
     let set = Expr::Set {
         place,
@@ -103,7 +107,8 @@ pub fn if_form(
     yes: Stmt,
     no: Option<Box<Stmt>>,
 ) -> Result<StmtForm, AllocError>
-    ensures { IfOk result (λ form. act form ≡ kernel.If (expression test) (statement yes) (other no)) }
+    ensures { IfOk result (λ form.
+        act form ≡ kernel.If (expression test) (statement yes) (other no)) }
 {
     Ok(StmtForm::If {
         test,
@@ -140,7 +145,8 @@ pub fn for_form(
     updates: Vec<Stmt>,
     body: Stmt,
 ) -> Result<StmtForm, AllocError>
-    ensures { IfOk result (λ form. act form ≡ kernel.For (statements_of (map statement inits.items)) (test_of test) (statements_of (map statement updates.items)) (statement body)) }
+    ensures { IfOk result (λ form. act form ≡ kernel.For (statements_of (map statement inits.items))
+        (test_of test) (statements_of (map statement updates.items)) (statement body)) }
 {
     Ok(StmtForm::For {
         inits,
@@ -187,7 +193,8 @@ pub fn try_form(
     catches: Vec<Catch>,
     last: Option<Box<Stmt>>,
 ) -> Result<StmtForm, AllocError>
-    ensures { IfOk result (λ form. act form ≡ kernel.Try (statement first) (clauses_of (map clause catches.items)) (other last)) }
+    ensures { IfOk result (λ form. act form ≡ kernel.Try (statement first)
+        (clauses_of (map clause catches.items)) (other last)) }
 {
     Ok(StmtForm::Try {
         first: Box::new(alloc, first)?,
@@ -207,7 +214,10 @@ pub fn looping(
     updates: Vec<Stmt>,
     body: Stmt,
 ) -> Result<Stmt, AllocError>
-    ensures { IfOk result (λ s. (w : PlainSetting) → IsSetting setting.now w → statement s ≡ looping w (around_of around.now) site (test_of test) (targets_in (around_of around.now) (statement body)) (kernel.For (row_of (map statement inits.items)) (test_of test) (row_of (map statement updates.items)) (statement body))) }
+    ensures { IfOk result (λ s. (w : PlainSetting) → IsSetting setting.now w
+        → statement s ≡ looping w (around_of around.now) site (test_of test) (targets_in
+        (around_of around.now) (statement body)) (kernel.For (row_of (map statement inits.items))
+        (test_of test) (row_of (map statement updates.items)) (statement body))) }
 {
     match test {
         Some(test) => {
@@ -232,7 +242,10 @@ fn tested_loop(
     updates: Vec<Stmt>,
     body: Box<Stmt>,
 ) -> Result<Stmt, AllocError>
-    ensures { IfOk result (λ s. (w : PlainSetting) → IsSetting setting.now w → statement s ≡ testing w (around_of around.now) site (targets_in (around_of around.now) (statement body.value)) (kernel.For (row_of (map statement inits.items)) (kernel.the (expression test)) (row_of (map statement updates.items)) (statement body.value))) }
+    ensures { IfOk result (λ s. (w : PlainSetting) → IsSetting setting.now w → statement s ≡ testing
+        w (around_of around.now) site (targets_in (around_of around.now) (statement body.value))
+        (kernel.For (row_of (map statement inits.items)) (kernel.the (expression test))
+        (row_of (map statement updates.items)) (statement body.value))) }
 {
     let guarded = targets_in(setting.alloc, around, &body)?;
     let body = Box::into_inner(body);

@@ -47,21 +47,24 @@ pub fn begun(alloc: Global, class: u32, has_this: bool, site: u32) -> Result<Mak
 impl Making {
     /// Opens a block.
     pub fn open_block(&mut self, texts: &Texts) -> Result<(), TypeError>
-        ensures { MakesTo (λ u. u) result (making_of self.new texts.now) (changed opened (making_of self.old texts.now)) }
+        ensures { MakesTo (λ u. u) result (making_of self.new texts.now)
+            (changed opened (making_of self.old texts.now)) }
     {
         Ok(self.scope.open()?)
     }
 
     /// Closes the innermost block.
     pub fn close_block(&mut self, texts: &Texts)
-        ensures { changed closed (making_of self.old texts.now) ≡ Ok (tt, making_of self.new texts.now) }
+        ensures { changed closed (making_of self.old texts.now)
+            ≡ Ok (tt, making_of self.new texts.now) }
     {
         self.scope.close()
     }
 
     /// Says which value the variable has that was declared last.
     pub fn give_value(&mut self, texts: &Texts, constant: Option<Const>)
-        ensures { changed (with_last_value (option_map constant_value constant)) (making_of self.old texts.now) ≡ Ok (tt, making_of self.new texts.now) }
+        ensures { changed (with_last_value (option_map constant_value constant))
+            (making_of self.old texts.now) ≡ Ok (tt, making_of self.new texts.now) }
     {
         self.scope.give_value(constant)
     }
@@ -75,7 +78,8 @@ impl Making {
         ty: Ty,
         is_fixed: bool,
     ) -> Result<u32, TypeError>
-        ensures { (texts : List FixedText) → MakesTo (λ n. n) result (making_of self.new texts) (declaring (named_of name.now) ty is_fixed (making_of self.old texts)) }
+        ensures { (texts : List FixedText) → MakesTo (λ n. n) result (making_of self.new texts)
+            (declaring (named_of name.now) ty is_fixed (making_of self.old texts)) }
     {
         if self.scope.locals() > 1048576 {
             return Err(TypeError::NoMemory);

@@ -42,7 +42,8 @@ fn key_of(place: &Place) -> u64
 
 /// The numbers of the statements at these places.
 pub fn numbers_of(mut places: Vec<Place>) -> Result<Numbers, AllocError>
-    ensures { IfOk result (λ n. (site : ℕ) (role : Role) → number_at n.places.items (at site role) ≡ number_at places.items (at site role)) }
+    ensures { IfOk result (λ n. (site : ℕ) (role : Role)
+        → number_at n.places.items (at site role) ≡ number_at places.items (at site role)) }
 {
     if places.len() >= 2147483648 {
         return Err(AllocError);

@@ -29,7 +29,8 @@ pub fn call_on_this(
     args: Vec<Expr>,
     site: u32,
 ) -> Result<Expr, AllocError>
-    ensures { IfOk result (λ e. expression e ≡ kernel.Call form method (kernel.the this_form) (subtyping.class_type class) (row_of (map expression args.items)) site) }
+    ensures { IfOk result (λ e. expression e ≡ kernel.Call form method (kernel.the this_form)
+        (subtyping.class_type class) (row_of (map expression args.items)) site) }
 {
     Ok(Expr::Call {
         form,

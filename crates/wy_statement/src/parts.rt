@@ -34,7 +34,8 @@ pub fn condition(
     test: &Expression,
     site: u32,
 ) -> Result<Box<Expr>, TypeError>
-    ensures { Judged (table_of table.now) (λ j. GetsTo inner_of result texts.new (condition j (table_of table.now) (expression_of test.now) site scope.now texts.old)) }
+    ensures { Judged (table_of table.now) (λ j. GetsTo inner_of result texts.new
+        (condition j (table_of table.now) (expression_of test.now) site scope.now texts.old)) }
 {
     let m = elaborated(alloc, table, scope, texts, test)?;
     if is_boolean(type_of(&m)) {
@@ -52,7 +53,8 @@ fn evaluated(
     texts: &mut Texts,
     e: &Expression,
 ) -> Result<StmtForm, TypeError>
-    ensures { Judged (table_of table.now) (λ j. GetsTo act result texts.new (evaluated j (table_of table.now) scope.now (expression_of e.now) texts.old)) }
+    ensures { Judged (table_of table.now) (λ j. GetsTo act result texts.new
+        (evaluated j (table_of table.now) scope.now (expression_of e.now) texts.old)) }
 {
     let m = elaborated(alloc, table, scope, texts, e)?;
     let value = formed(alloc, texts, m)?;
@@ -120,7 +122,9 @@ fn printed_with(
     args: &[Expression],
     token: u32,
 ) -> Result<StmtForm, TypeError>
-    ensures { (object : source.Expression) → Judged (table_of table.now) (λ j. GetsTo act result texts.new (printing j (table_of table.now) scope.now (source.InvokeOn object name.now (row_of (map expression_of args.now)) token) texts.old)) }
+    ensures { (object : source.Expression) → Judged (table_of table.now) (λ j.
+        GetsTo act result texts.new (printing j (table_of table.now) scope.now
+        (source.InvokeOn object name.now (row_of (map expression_of args.now)) token) texts.old)) }
 {
     let ms = elaborated_all(alloc, table, scope, texts, args)?;
     let p = print_operand(alloc, texts, name, ms, token)?;
@@ -135,7 +139,8 @@ fn printing(
     texts: &mut Texts,
     e: &Expression,
 ) -> Result<StmtForm, TypeError>
-    ensures { Judged (table_of table.now) (λ j. GetsTo act result texts.new (printing j (table_of table.now) scope.now (expression_of e.now) texts.old)) }
+    ensures { Judged (table_of table.now) (λ j. GetsTo act result texts.new
+        (printing j (table_of table.now) scope.now (expression_of e.now) texts.old)) }
 {
     match e {
         Expression::InvokeOn {
@@ -165,7 +170,8 @@ pub fn performed(
     texts: &mut Texts,
     e: &Expression,
 ) -> Result<StmtForm, TypeError>
-    ensures { Judged (table_of table.now) (λ j. GetsTo act result texts.new (performed j (table_of table.now) (expression_of e.now) scope.now texts.old)) }
+    ensures { Judged (table_of table.now) (λ j. GetsTo act result texts.new
+        (performed j (table_of table.now) (expression_of e.now) scope.now texts.old)) }
 {
     if is_output_call(table, scope, e) {
         printing(alloc, table, scope, texts, e)
@@ -182,7 +188,8 @@ fn returned_as(
     m: Meaning,
     token: u32,
 ) -> Result<Expr, TypeError>
-    ensures { Judged (table_of table.now) (λ j. GetsTo kernel_expression result texts.new (returned_as j (outcome_of outcome) (meaning_of m) token texts.old)) }
+    ensures { Judged (table_of table.now) (λ j. GetsTo kernel_expression result texts.new
+        (returned_as j (outcome_of outcome) (meaning_of m) token texts.old)) }
 {
     match outcome {
         Outcome::ValueOf(ty) => {
@@ -210,7 +217,9 @@ pub fn returned(
     value: &Expression,
     token: u32,
 ) -> Result<Expr, TypeError>
-    ensures { Judged (table_of table.now) (λ j. GetsTo kernel_expression result texts.new (returned j (table_of table.now) (outcome_of outcome) (expression_of value.now) token scope.now texts.old)) }
+    ensures { Judged (table_of table.now) (λ j.
+        GetsTo kernel_expression result texts.new (returned j (table_of table.now)
+        (outcome_of outcome) (expression_of value.now) token scope.now texts.old)) }
 {
     let m = elaborated(alloc, table, scope, texts, value)?;
     returned_as(alloc, table, texts, outcome, m, token)
@@ -235,7 +244,8 @@ pub fn thrown(
     value: &Expression,
     token: u32,
 ) -> Result<Expr, TypeError>
-    ensures { Judged (table_of table.now) (λ j. GetsTo kernel_expression result texts.new (thrown j (table_of table.now) (expression_of value.now) token scope.now texts.old)) }
+    ensures { Judged (table_of table.now) (λ j. GetsTo kernel_expression result texts.new
+        (thrown j (table_of table.now) (expression_of value.now) token scope.now texts.old)) }
 {
     let m = elaborated(alloc, table, scope, texts, value)?;
     if is_below(table, type_of(&m), class(THROWABLE)) {

@@ -23,7 +23,8 @@ pub fn put_written(all: &mut Vec<Place>, site: u32) -> Result<(), AllocError>
 }
 
 pub fn put_declarators(all: &mut Vec<Place>, declarators: &[Declarator]) -> Result<(), AllocError>
-    ensures { OnOk result (all.new.items ≡ all.old.items ++ declarator_places (map declarator_of declarators.now)) }
+    ensures { OnOk result
+        (all.new.items ≡ all.old.items ++ declarator_places (map declarator_of declarators.now)) }
 {
     for declarator in declarators {
         put_written(all, declarator.name.token)?;
@@ -32,7 +33,8 @@ pub fn put_declarators(all: &mut Vec<Place>, declarators: &[Declarator]) -> Resu
 }
 
 fn put_effects(all: &mut Vec<Place>, effects: &[Effect]) -> Result<(), AllocError>
-    ensures { OnOk result (all.new.items ≡ all.old.items ++ effect_places (map effect_of effects.now)) }
+    ensures { OnOk result
+        (all.new.items ≡ all.old.items ++ effect_places (map effect_of effects.now)) }
 {
     for effect in effects {
         put_written(all, effect.token)?;
@@ -166,7 +168,8 @@ pub fn put_block(all: &mut Vec<Place>, block: &Block) -> Result<(), AllocError>
 #[cycle(places)]
 #[tactic(auto, using(crate::proofs::PlaceArms::all_taken, crate::proofs::PlaceArms::all_begun, crate::proofs::PlaceArms::all_done, std::proofs::Common::append_assoc, crate::proofs::PlaceArms::behind_nothing))]
 pub fn put_statements(all: &mut Vec<Place>, parts: &[Statement]) -> Result<(), AllocError>
-    ensures { OnOk result (all.new.items ≡ all.old.items ++ all_places (statements_of (map statement_of parts.now))) }
+    ensures { OnOk result
+        (all.new.items ≡ all.old.items ++ all_places (statements_of (map statement_of parts.now))) }
 {
     for part in parts {
         put_statement(all, part)?;
@@ -177,7 +180,8 @@ pub fn put_statements(all: &mut Vec<Place>, parts: &[Statement]) -> Result<(), A
 #[cycle(places)]
 #[tactic(auto, using(crate::proofs::PlaceArms::catches_taken, crate::proofs::PlaceArms::catches_begun, crate::proofs::PlaceArms::no_catches, std::proofs::Common::append_assoc, crate::proofs::PlaceArms::behind_nothing))]
 fn put_catches(all: &mut Vec<Place>, catches: &[Catch]) -> Result<(), AllocError>
-    ensures { OnOk result (all.new.items ≡ all.old.items ++ catch_places (clauses_of (map clause_of catches.now))) }
+    ensures { OnOk result
+        (all.new.items ≡ all.old.items ++ catch_places (clauses_of (map clause_of catches.now))) }
 {
     for catch in catches {
         put_block(all, &catch.block)?;

@@ -166,7 +166,8 @@ pub fn is_declaration(s: &Statement) -> bool
 
 /// The number of the body of a loop.
 pub fn number_of_body(setting: &Setting, body: Option<&Statement>) -> Option<u32>
-    ensures { (w : PlainSetting) → IsSetting setting.now w → result ≡ number_of_body w (option_map (λ b. statement_of b.now) body.entry) }
+    ensures { (w : PlainSetting) → IsSetting setting.now w
+        → result ≡ number_of_body w (option_map (λ b. statement_of b.now) body.entry) }
 {
     match body {
         Some(body) => Some(setting.number(site_of(body))),

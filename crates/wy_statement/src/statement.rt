@@ -36,7 +36,9 @@ pub fn statement(
     texts: &mut Texts,
     s: &Statement,
 ) -> Result<Stmt, TypeError>
-    ensures { (w : PlainSetting) → IsSetting setting.now w → MakesTo statement result (making_of making.new texts.new) (plain_statement w (around_of around.now) (statement_of s.now) (making_of making.old texts.old)) }
+    ensures { (w : PlainSetting) → IsSetting setting.now w
+        → MakesTo statement result (making_of making.new texts.new) (plain_statement w
+        (around_of around.now) (statement_of s.now) (making_of making.old texts.old)) }
 {
     match s {
         Statement::Block { block: b } => block(setting, around, making, texts, b),
@@ -128,7 +130,10 @@ fn if_statement(
     other: &Option<Box<Statement>>,
     token: u32,
 ) -> Result<Stmt, TypeError>
-    ensures { (w : PlainSetting) → IsSetting setting.now w → MakesTo statement result (making_of making.new texts.new) (plain_statement w (around_of around.now) (source.If (expression_of test.now) (statement_of main.now) (other_seen other.now) token) (making_of making.old texts.old)) }
+    ensures { (w : PlainSetting)
+        → IsSetting setting.now w → MakesTo statement result (making_of making.new texts.new)
+        (plain_statement w (around_of around.now) (source.If (expression_of test.now)
+        (statement_of main.now) (other_seen other.now) token) (making_of making.old texts.old)) }
 {
     let inner = around.inside(setting.number(token))?;
     let c = condition(setting, making, texts, test, token)?;
@@ -151,7 +156,9 @@ fn while_statement(
     body: &Statement,
     token: u32,
 ) -> Result<Stmt, TypeError>
-    ensures { (w : PlainSetting) → IsSetting setting.now w → MakesTo statement result (making_of making.new texts.new) (plain_statement w (around_of around.now) (source.While (expression_of test.now) (statement_of body.now) token) (making_of making.old texts.old)) }
+    ensures { (w : PlainSetting) → IsSetting setting.now w → MakesTo statement result
+        (making_of making.new texts.new) (plain_statement w (around_of around.now) (source.While
+        (expression_of test.now) (statement_of body.now) token) (making_of making.old texts.old)) }
 {
     let inner = around.in_loop(setting.number(token), setting.number(site_of(body)))?;
     let c = condition(setting, making, texts, test, token)?;
@@ -173,7 +180,9 @@ fn do_statement(
     test: &Expression,
     token: u32,
 ) -> Result<Stmt, TypeError>
-    ensures { (w : PlainSetting) → IsSetting setting.now w → MakesTo statement result (making_of making.new texts.new) (plain_statement w (around_of around.now) (source.Do (statement_of body.now) (expression_of test.now) token) (making_of making.old texts.old)) }
+    ensures { (w : PlainSetting) → IsSetting setting.now w → MakesTo statement result
+        (making_of making.new texts.new) (plain_statement w (around_of around.now) (source.Do
+        (statement_of body.now) (expression_of test.now) token) (making_of making.old texts.old)) }
 {
     let inner = around.in_loop(setting.number(token), setting.number(site_of(body)))?;
     let x = statement(setting, &inner, making, texts, body)?;
@@ -193,7 +202,9 @@ fn other_statement(
     texts: &mut Texts,
     s: &Option<Box<Statement>>,
 ) -> Result<Option<Box<Stmt>>, TypeError>
-    ensures { (w : PlainSetting) → IsSetting setting.now w → MakesTo other result (making_of making.new texts.new) (other_statement w (around_of around.now) (other_seen s.now) (making_of making.old texts.old)) }
+    ensures { (w : PlainSetting) → IsSetting setting.now w
+        → MakesTo other result (making_of making.new texts.new) (other_statement w
+        (around_of around.now) (other_seen s.now) (making_of making.old texts.old)) }
 {
     match s {
         Some(s) => {
@@ -214,7 +225,9 @@ pub fn block(
     texts: &mut Texts,
     b: &Block,
 ) -> Result<Stmt, TypeError>
-    ensures { (w : PlainSetting) → IsSetting setting.now w → MakesTo statement result (making_of making.new texts.new) (block w (around_of around.now) (block_of b.now) (making_of making.old texts.old)) }
+    ensures { (w : PlainSetting)
+        → IsSetting setting.now w → MakesTo statement result (making_of making.new texts.new)
+        (block w (around_of around.now) (block_of b.now) (making_of making.old texts.old)) }
 {
     let inner = around.inside(setting.number(b.brace))?;
     making.open_block(texts)?;
@@ -231,7 +244,9 @@ fn several(
     texts: &mut Texts,
     s: &Statement,
 ) -> Result<Vec<Stmt>, TypeError>
-    ensures { (w : PlainSetting) → IsSetting setting.now w → MakesTo statements_seen result (making_of making.new texts.new) (several w (statement_of s.now) (plain_statement w (around_of around.now) (statement_of s.now)) (making_of making.old texts.old)) }
+    ensures { (w : PlainSetting) → IsSetting setting.now w → MakesTo statements_seen result
+        (making_of making.new texts.new) (several w (statement_of s.now) (plain_statement w
+        (around_of around.now) (statement_of s.now)) (making_of making.old texts.old)) }
 {
     if is_declaration(s) {
         return declared(setting, making, texts, s);
@@ -250,7 +265,9 @@ pub fn statements(
     texts: &mut Texts,
     parts: &[Statement],
 ) -> Result<Vec<Stmt>, TypeError>
-    ensures { (w : PlainSetting) → IsSetting setting.now w → MakesTo row_seen result (making_of making.new texts.new) (statements w (around_of around.now) (statements_of (map statement_of parts.now)) (making_of making.old texts.old)) }
+    ensures { (w : PlainSetting) → IsSetting setting.now w → MakesTo row_seen result
+        (making_of making.new texts.new) (statements w (around_of around.now)
+        (statements_of (map statement_of parts.now)) (making_of making.old texts.old)) }
 {
     let mut made = Vec::new(setting.alloc);
     for part in parts {
@@ -270,7 +287,9 @@ fn labelled(
     name: &Named,
     body: &Statement,
 ) -> Result<Stmt, TypeError>
-    ensures { (w : PlainSetting) → IsSetting setting.now w → MakesTo statement result (making_of making.new texts.new) (plain_statement w (around_of around.now) (source.Labelled (named_of name.now) (statement_of body.now)) (making_of making.old texts.old)) }
+    ensures { (w : PlainSetting) → IsSetting setting.now w → MakesTo statement result
+        (making_of making.new texts.new) (plain_statement w (around_of around.now) (source.Labelled
+        (named_of name.now) (statement_of body.now)) (making_of making.old texts.old)) }
 {
     if around.label(name.name.as_str()).is_some() {
         return Err(refused(Rule::Duplicate, name.token));
@@ -296,7 +315,10 @@ fn for_statement(
     body: &Statement,
     token: u32,
 ) -> Result<Stmt, TypeError>
-    ensures { (w : PlainSetting) → IsSetting setting.now w → MakesTo statement result (making_of making.new texts.new) (plain_statement w (around_of around.now) (source.For (for_init_of init.now) (option_map expression_of test.now) (map effect_of updates.now) (statement_of body.now) token) (making_of making.old texts.old)) }
+    ensures { (w : PlainSetting) → IsSetting setting.now w → MakesTo statement result
+        (making_of making.new texts.new) (plain_statement w (around_of around.now) (source.For
+        (for_init_of init.now) (option_map expression_of test.now) (map effect_of updates.now)
+        (statement_of body.now) token) (making_of making.old texts.old)) }
 {
     let inner = around.in_loop(setting.number(token), setting.number(site_of(body)))?;
     making.open_block(texts)?;
@@ -320,7 +342,10 @@ fn tried(
     last: &Option<Block>,
     token: u32,
 ) -> Result<Stmt, TypeError>
-    ensures { (w : PlainSetting) → IsSetting setting.now w → MakesTo statement result (making_of making.new texts.new) (plain_statement w (around_of around.now) (source.Try (block_of main.now) (clauses_of (map clause_of catches.now)) (last_seen last.now) token) (making_of making.old texts.old)) }
+    ensures { (w : PlainSetting)
+        → IsSetting setting.now w → MakesTo statement result (making_of making.new texts.new)
+        (plain_statement w (around_of around.now) (source.Try (block_of main.now) (clauses_of
+        (map clause_of catches.now)) (last_seen last.now) token) (making_of making.old texts.old)) }
 {
     let number = setting.number(token);
     let guarded = in_first_block(around, number, catches)?;
@@ -342,7 +367,9 @@ fn last_block(
     texts: &mut Texts,
     b: &Option<Block>,
 ) -> Result<Option<Box<Stmt>>, TypeError>
-    ensures { (w : PlainSetting) → IsSetting setting.now w → MakesTo other result (making_of making.new texts.new) (last_block w (around_of around.now) (last_seen b.now) (making_of making.old texts.old)) }
+    ensures { (w : PlainSetting)
+        → IsSetting setting.now w → MakesTo other result (making_of making.new texts.new)
+        (last_block w (around_of around.now) (last_seen b.now) (making_of making.old texts.old)) }
 {
     match b {
         Some(b) => {
@@ -362,7 +389,10 @@ fn caught(
     texts: &mut Texts,
     c: &Catch,
 ) -> Result<KernelCatch, TypeError>
-    ensures form { (w : PlainSetting) → IsSetting setting.now w → MakesTo clause_seen result (making_of making.new texts.new) (plain_clause w (named_of c.now.class) (named_of c.now.name) (block w (around_of around.now) (block_of c.now.block)) (making_of making.old texts.old)) }
+    ensures form { (w : PlainSetting)
+        → IsSetting setting.now w → MakesTo clause_seen result (making_of making.new texts.new)
+        (plain_clause w (named_of c.now.class) (named_of c.now.name)
+        (block w (around_of around.now) (block_of c.now.block)) (making_of making.old texts.old)) }
     ensures site { IfOk result (λ k. k.site ≡ c.now.name.token) }
 {
     let site = c.name.token;
@@ -389,7 +419,9 @@ fn clauses(
     texts: &mut Texts,
     catches: &[Catch],
 ) -> Result<Vec<KernelCatch>, TypeError>
-    ensures { (w : PlainSetting) → IsSetting setting.now w → MakesTo clauses_seen result (making_of making.new texts.new) (clauses w (around_of around.now) (clauses_of (map clause_of catches.now)) (making_of making.old texts.old)) }
+    ensures { (w : PlainSetting) → IsSetting setting.now w → MakesTo clauses_seen result
+        (making_of making.new texts.new) (clauses w (around_of around.now)
+        (clauses_of (map clause_of catches.now)) (making_of making.old texts.old)) }
 {
     let mut all = Vec::new(setting.alloc);
     for catch in catches {
@@ -402,7 +434,8 @@ fn clauses(
 // What stands around the first block of a `try`.
 #[tactic(auto, using(crate::proofs::Clauses::with_clauses, crate::proofs::Clauses::without_clauses))]
 fn in_first_block(around: &Around, number: u32, catches: &[Catch]) -> Result<Around, AllocError>
-    ensures { IfOk result (λ a. around_of a ≡ in_first_block (around_of around.now) number (clauses_of (map clause_of catches.now))) }
+    ensures { IfOk result (λ a. around_of a ≡ in_first_block (around_of around.now) number
+        (clauses_of (map clause_of catches.now))) }
 {
     if catches.len() > 0 {
         around.in_try(number)
@@ -428,7 +461,9 @@ fn tested(
     test: &Option<Expression>,
     site: u32,
 ) -> Result<Option<Box<Expr>>, TypeError>
-    ensures { (w : PlainSetting) → IsSetting setting.now w → MakesTo inner_test result (making_of making.now texts.new) (tested w (option_map expression_of test.now) site (making_of making.now texts.old)) }
+    ensures { (w : PlainSetting)
+        → IsSetting setting.now w → MakesTo inner_test result (making_of making.now texts.new)
+        (tested w (option_map expression_of test.now) site (making_of making.now texts.old)) }
 {
     match test {
         Some(test) => Ok(Some(condition(setting, making, texts, test, site)?)),

@@ -13,7 +13,8 @@ use wy_kernel::form::{Catch, Stmt, StmtForm};
 #[cycle(targets)]
 #[tactic(auto, using(crate::proofs::TargetArms::of_statement))]
 pub fn put_targets(all: &mut Vec<u32>, body: u32, catcher: u32, s: &Stmt) -> Result<(), AllocError>
-    ensures { OnOk result (all.new.items ≡ all.old.items ++ targets body catcher (statement s.now)) }
+    ensures { OnOk result
+        (all.new.items ≡ all.old.items ++ targets body catcher (statement s.now)) }
 {
     put_within(all, body, catcher, s.number, &s.form)
 }
@@ -27,7 +28,8 @@ fn put_within(
     number: u32,
     form: &StmtForm,
 ) -> Result<(), AllocError>
-    ensures { OnOk result (all.new.items ≡ all.old.items ++ targets_within body catcher number (act form.now)) }
+    ensures { OnOk result
+        (all.new.items ≡ all.old.items ++ targets_within body catcher number (act form.now)) }
 {
     match form {
         StmtForm::Block { parts } => put_all(all, body, catcher, parts.as_slice()),
@@ -77,7 +79,8 @@ fn put_within(
 // The `try` that a throw in its first block goes to: itself, if it has a catch.
 #[tactic(auto, using(crate::proofs::TargetArms::has_some, crate::proofs::TargetArms::has_none))]
 fn catcher_in(catcher: u32, number: u32, catches: &[Catch]) -> u32
-    ensures { result ≡ (if has_clause (clauses_of (map clause catches.now)) then number else catcher) }
+    ensures { result
+        ≡ (if has_clause (clauses_of (map clause catches.now)) then number else catcher) }
 {
     if catches.len() > 0 { number } else { catcher }
 }
@@ -90,7 +93,8 @@ pub fn put_other(
     catcher: u32,
     s: &Option<Box<Stmt>>,
 ) -> Result<(), AllocError>
-    ensures { OnOk result (all.new.items ≡ all.old.items ++ targets_of_other body catcher (other s.now)) }
+    ensures { OnOk result
+        (all.new.items ≡ all.old.items ++ targets_of_other body catcher (other s.now)) }
 {
     match s {
         Some(s) => put_targets(all, body, catcher, s),
@@ -101,7 +105,8 @@ pub fn put_other(
 #[cycle(targets)]
 #[tactic(auto, using(crate::proofs::TargetArms::all_taken, crate::proofs::TargetArms::all_done, std::proofs::Common::append_assoc, crate::proofs::TargetArms::behind_nothing))]
 fn put_all(all: &mut Vec<u32>, body: u32, catcher: u32, parts: &[Stmt]) -> Result<(), AllocError>
-    ensures { OnOk result (all.new.items ≡ all.old.items ++ targets_of_all body catcher (statements_of (map statement parts.now))) }
+    ensures { OnOk result (all.new.items ≡ all.old.items
+        ++ targets_of_all body catcher (statements_of (map statement parts.now))) }
 {
     for part in parts {
         put_targets(all, body, catcher, part)?;
@@ -117,7 +122,8 @@ fn put_catches(
     catcher: u32,
     catches: &[Catch],
 ) -> Result<(), AllocError>
-    ensures { OnOk result (all.new.items ≡ all.old.items ++ targets_of_catches body catcher (clauses_of (map clause catches.now))) }
+    ensures { OnOk result (all.new.items ≡ all.old.items
+        ++ targets_of_catches body catcher (clauses_of (map clause catches.now))) }
 {
     for catch in catches {
         put_targets(all, body, catcher, &catch.block)?;

@@ -8,11 +8,11 @@ ghost use Rattle.wy_static.specs.Answers.{AreLinksOf, AreTargetsAt, around_of, m
 ghost use Rattle.wy_static.specs.Links.{AreLinks, AreLinksInto};
 
 use crate::order::{compare_points, point_key};
-use crate::rows::kept;
+use crate::point::{Link, Point};
+use crate::rows::numbers_under;
+use crate::standing::{Standing, initializer_number};
 use std::collections::BTreeMap;
 use wy_kernel::types::NONE;
-use crate::point::{Link, Point};
-use crate::standing::{Standing, initializer_number};
 
 /// The links of a program.
 #[derive(Drop)]
@@ -49,7 +49,7 @@ impl Links {
     pub fn targets(&self, site: u32) -> &[u32]
         ensures { (p : kernel.Program) → AreLinksOf self.now p → AreTargetsAt p site result.now }
     {
-        kept(&self.targets, site)
+        numbers_under(&self.targets, site)
     }
 
     /// The method in whose body a point stands, for an entry its own, and for an initialization its number behind the methods.

@@ -13,7 +13,7 @@ ghost use Rattle.wy_static.specs.Receivers.{AreReceivers, AreTargets, AreTargets
 ghost use Rattle.wy_static.specs.Rows.{kept_under, one_if};
 ghost use Rattle.wy_static.specs.Seen.{seen_by};
 
-use crate::rows::{keep, kept};
+use crate::rows::{keep, numbers_under};
 use std::alloc::{AllocError, Global};
 use std::collections::BTreeMap;
 use wy_calls::Dispatcher;
@@ -100,7 +100,7 @@ impl Receivers {
         if class == OBJECT {
             &self.all
         } else {
-            kept(&self.below, class)
+            numbers_under(&self.below, class)
         }
     }
 }

@@ -15,15 +15,15 @@ ghost use Rattle.wy_static.specs.Rows.{kept_under, last_of};
 use crate::answer::Links;
 use crate::class::Targets;
 use crate::order::{compare, point_key};
-use crate::rows::{keep, kept};
+use crate::point::{Link, LinkKind, Point};
+use crate::rows::{keep, numbers_under};
+use crate::rule::ways_of;
+use crate::standing::{Standing, standings_of};
+use crate::way::{Goal, Way};
 use std::alloc::{AllocError, Global};
 use std::collections::BTreeMap;
 use wy_calls::Dispatcher;
 use wy_kernel::program::Program;
-use crate::point::{Link, LinkKind, Point};
-use crate::rule::ways_of;
-use crate::standing::{Standing, standings_of};
-use crate::way::{Goal, Way};
 
 fn put_along(out: &mut Vec<Link>, way: Way, to: Point) -> Result<(), AllocError>
     ensures { OnOk result (out.new.items ≡ out.old.items ++ link_along way to ∷ []) }
@@ -93,7 +93,7 @@ fn settle(links: &mut Vec<Link>)
 fn is_last(rows: &BTreeMap<u32, Vec<u32>>, key: u32, number: u32) -> bool
     ensures { IsTrue result ↔ (last_of (kept_under rows.now key) ≡ Some number) }
 {
-    match kept(rows, key).last() {
+    match numbers_under(rows, key).last() {
         Some(last) => *last == number,
         None => false,
     }

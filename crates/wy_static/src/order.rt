@@ -3,8 +3,8 @@
 ghost use Rattle.std.specs.Prelude.{◌≡◌};
 ghost use Rattle.wy_static.specs.Order.{kind_cmp, kind_key, link_cmp, point_cmp, point_key};
 
-use std::cmp::Ordering;
 use crate::point::{Link, LinkKind, Point};
+use std::cmp::Ordering;
 
 /// What orders points: their kind, and their numbers.
 pub fn point_key(point: Point) -> (u8, u32, u32)

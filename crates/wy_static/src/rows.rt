@@ -27,7 +27,7 @@ pub fn keep(
 }
 
 /// The numbers that are kept under a key.
-pub fn kept(rows: &BTreeMap<u32, Vec<u32>>, key: u32) -> &[u32]
+pub fn numbers_under(rows: &BTreeMap<u32, Vec<u32>>, key: u32) -> &[u32]
     ensures { result.now ≡ kept_under rows.now key }
 {
     match rows.get(&key) {

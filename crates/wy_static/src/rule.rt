@@ -14,13 +14,11 @@ use crate::statement::put_bodies;
 use crate::way::{Decides, Goal, Owner, Way};
 use std::alloc::{AllocError, Global};
 use wy_calls::Dispatcher;
+use wy_kernel::builtin::FIRST_SOURCE_CLASS;
 use wy_kernel::form::{Body, CallForm, Catch, Expr, Place, Stmt, StmtForm};
 use wy_kernel::operator::Primitive;
 use wy_kernel::program::Program;
 use wy_kernel::types::{Base, NONE, Ty};
-
-/// The first class of a source: those of the library need no initialization.
-const FIRST_SOURCE_CLASS: u32 = 18;
 
 const OBJECT: u32 = 0;
 

@@ -6,9 +6,9 @@ use Rattle.std.proofs.lemmas.List.Elements.{Contains-append_cases}
 use Rattle.wy_kernel.specs.View.{NONE}
 use Rattle.wy_kernel.specs.Form.{Part, absent, the, Statement, Stmt, Act, Block, Eval, Declare, If, While, Do, For, Labelled, Jump, Return, Throw, Try, Print, Other, nothing, this, Statements, done, first, Catches, uncaught, catch}
 use Rattle.wy_kernel.specs.Statements.{number_of, statements, statements_within, statements_of_other, statements_of_all, statements_of_catches}
-use Rattle.wy_structure.specs.Within.{IsIn, Around}
+use Rattle.wy_structure.specs.Within.{IsIn, HasEnclosing}
 use Rattle.wy_structure.specs.Jumps.{target_of_act, target_of, inner_of, IsLoop, is_labelled, GoesOut, JumpsGoOut}
-use Rattle.wy_structure.specs.Reaches.{is_there, is_testing_act, is_testing, reach_of, Reaches}
+use Rattle.wy_structure.specs.Reaches.{is_there, is_testing_act, is_testing, statement_reach, Reaches}
 use Rattle.wy_structure.proofs.Members.{none_in, behind_head, head_or_behind, Among, itself, among_left, among_right}
 
 -- a set of numbers, with one more
@@ -73,10 +73,10 @@ pub record Leads (all : List Statement) (s : Statement) (n : ℕ) : Type 0 where
   pub around : Wraps all s n
   pub is_target : IsTargetAmong all around.outer
 
-pub record Placed (J R : Numbers) (all : List Statement) (s : Statement) : Type 0 where
+pub record HasSoundJumps (J R : Numbers) (all : List Statement) (s : Statement) : Type 0 where
   pub jump : (n : ℕ) → target_of s ≡ Some n → J n ⊎ Leads all s n
-  pub testing : is_testing s ≡ true → R (reach_of s) ⊎ Wraps all s (reach_of s)
-  pub others : is_testing s ≡ false → reach_of s ≡ NONE
+  pub testing : is_testing s ≡ true → R (statement_reach s) ⊎ Wraps all s (statement_reach s)
+  pub others : is_testing s ≡ false → statement_reach s ≡ NONE
 
 abbrev more_wraps : (xs ys : List Statement) (s : Statement) (n : ℕ) → Among xs ys → Wraps xs s n → Wraps ys s n
 more_wraps xs ys s n i w = record { outer = w.outer; numbered = w.numbered; stands = i w.outer w.stands; contains = w.contains }
@@ -89,15 +89,15 @@ more_targets xs ys s i (inr (inr h)) = inr (inr (h.0, i h.0 h.1, h.2))
 more_leads : (xs ys : List Statement) (s : Statement) (n : ℕ) → Among xs ys → Leads xs s n → Leads ys s n
 more_leads xs ys s n i l = record { around = more_wraps xs ys s n i l.around; is_target = more_targets xs ys l.around.outer i l.is_target }
 
-lifted : (J R : Numbers) (xs ys : List Statement) (s : Statement) → Among xs ys → Placed J R xs s → Placed J R ys s
+lifted : (J R : Numbers) (xs ys : List Statement) (s : Statement) → Among xs ys → HasSoundJumps J R xs s → HasSoundJumps J R ys s
 lifted J R xs ys s i p = record {
   jump = λ n e. elim (p.jump n e) [ inl h ↦ inl h | inr h ↦ inr (more_leads xs ys s n i h) ];
-  testing = λ e. elim (p.testing e) [ inl h ↦ inl h | inr h ↦ inr (more_wraps xs ys s (reach_of s) i h) ];
+  testing = λ e. elim (p.testing e) [ inl h ↦ inl h | inr h ↦ inr (more_wraps xs ys s (statement_reach s) i h) ];
   others = p.others;
 }
 
 -- the statement itself is the one of its number that is around
-of_own_number : (J R : Numbers) (k s : Statement) → IsIn s k → Placed J (and_one R (number_of k)) (statements k) s → Placed J R (statements k) s
+of_own_number : (J R : Numbers) (k s : Statement) → IsIn s k → HasSoundJumps J (and_one R (number_of k)) (statements k) s → HasSoundJumps J R (statements k) s
 of_own_number J R k s i p = record {
   jump = p.jump;
   testing = λ e. elim (p.testing e) [
@@ -107,7 +107,7 @@ of_own_number J R k s i p = record {
   others = p.others;
 }
 
-of_own_target : (J R : Numbers) (k s : Statement) → IsTargetAmong (statements k) k → IsIn s k → Placed (and_one J (number_of k)) R (statements k) s → Placed J R (statements k) s
+of_own_target : (J R : Numbers) (k s : Statement) → IsTargetAmong (statements k) k → IsIn s k → HasSoundJumps (and_one J (number_of k)) R (statements k) s → HasSoundJumps J R (statements k) s
 of_own_target J R k s t i p = record {
   jump = λ n e. elim (p.jump n e) [
     | inl h ↦ elim h [ inl r ↦ inl r | inr is ↦ inr (record { around = record { outer = k; numbered = sym is; stands = itself k; contains = i }; is_target = t }) ]
@@ -117,7 +117,7 @@ of_own_target J R k s t i p = record {
   others = p.others;
 }
 
-of_own_body : (J R : Numbers) (k body s : Statement) → inner_of k ≡ Some body → Among (statements body) (statements k) → IsIn s body → Placed (and_one J (number_of body)) R (statements k) s → Placed J R (statements k) s
+of_own_body : (J R : Numbers) (k body s : Statement) → inner_of k ≡ Some body → Among (statements body) (statements k) → IsIn s body → HasSoundJumps (and_one J (number_of body)) R (statements k) s → HasSoundJumps J R (statements k) s
 of_own_body J R k body s b among i p = record {
   jump = λ n e. elim (p.jump n e) [
     | inl h ↦ elim h [
@@ -132,7 +132,7 @@ of_own_body J R k body s b among i p = record {
 
 -- in the body of a loop
 of_loop : (J R : Numbers) (k body s : Statement) → inner_of k ≡ Some body → Among (statements body) (statements k) → IsIn s body →
-    Placed (and_one (and_one J (number_of k)) (number_of body)) (and_one R (number_of k)) (statements body) s → Placed J R (statements k) s
+    HasSoundJumps (and_one (and_one J (number_of k)) (number_of body)) (and_one R (number_of k)) (statements body) s → HasSoundJumps J R (statements k) s
 of_loop J R k body s b among i p =
     of_own_number J R k s (among s i) (of_own_target J (and_one R (number_of k)) k s (inl (body, b)) (among s i)
     (of_own_body (and_one J (number_of k)) (and_one R (number_of k)) k body s b among i
@@ -197,7 +197,7 @@ own_reach J R n reach (Throw value) h e = h
 own_reach J R n reach (Try x catches y) h e = h.0
 own_reach J R n reach (Print operand ty ends_line site) h e = h
 
-own_placed : (J R : Numbers) (k : Statement) → Sound J R k → Placed J R (statements k) k
+own_placed : (J R : Numbers) (k : Statement) → Sound J R k → HasSoundJumps J R (statements k) k
 own_placed J R (Stmt n site askable reach act) h = record {
   jump = λ t e. inl (own_jump J (and_one R n) n reach t act h e);
   testing = λ e. reach_around R (Stmt n site askable reach act) reach (own_test J (and_one R n) n reach act h e);
@@ -206,27 +206,27 @@ own_placed J R (Stmt n site askable reach act) h = record {
 
 -- ---- all statements within
 
-abbrev AllPlaced : Numbers → Numbers → List Statement → Type 0
-AllPlaced J R xs = (s : Statement) → Contains xs s → Placed J R xs s
+abbrev AllHaveSoundJumps : Numbers → Numbers → List Statement → Type 0
+AllHaveSoundJumps J R xs = (s : Statement) → Contains xs s → HasSoundJumps J R xs s
 
-both_placed : (J R : Numbers) (xs ys : List Statement) → AllPlaced J R xs → AllPlaced J R ys → AllPlaced J R (xs ++ ys)
+both_placed : (J R : Numbers) (xs ys : List Statement) → AllHaveSoundJumps J R xs → AllHaveSoundJumps J R ys → AllHaveSoundJumps J R (xs ++ ys)
 both_placed J R xs ys h i s c = elim (Contains-append_cases xs ys s c) [
   | inl l ↦ lifted J R xs (xs ++ ys) s (among_left xs ys) (h s l)
   | inr r ↦ lifted J R ys (xs ++ ys) s (among_right xs ys) (i s r)
 ]
 
-none_placed : (J R : Numbers) → AllPlaced J R []
+none_placed : (J R : Numbers) → AllHaveSoundJumps J R []
 none_placed J R s c = absurd (none_in s c)
 
-within_placed : (J R : Numbers) (k : Statement) (xs : List Statement) → Among xs (statements k) → AllPlaced J (and_one R (number_of k)) xs → (s : Statement) → Contains xs s → Placed J R (statements k) s
+within_placed : (J R : Numbers) (k : Statement) (xs : List Statement) → Among xs (statements k) → AllHaveSoundJumps J (and_one R (number_of k)) xs → (s : Statement) → Contains xs s → HasSoundJumps J R (statements k) s
 within_placed J R k xs among h s c = of_own_number J R k s (among s c) (lifted J (and_one R (number_of k)) xs (statements k) s among (h s c))
 
 loop_placed : (J R : Numbers) (k body : Statement) → inner_of k ≡ Some body → Among (statements body) (statements k) →
-    AllPlaced (and_one (and_one J (number_of k)) (number_of body)) (and_one R (number_of k)) (statements body) → (s : Statement) → IsIn s body → Placed J R (statements k) s
+    AllHaveSoundJumps (and_one (and_one J (number_of k)) (number_of body)) (and_one R (number_of k)) (statements body) → (s : Statement) → IsIn s body → HasSoundJumps J R (statements k) s
 loop_placed J R k body b among h s c = of_loop J R k body s b among c (h s c)
 
 labelled_placed : (J R : Numbers) (k body : Statement) → is_labelled k ≡ true → Among (statements body) (statements k) →
-    AllPlaced (and_one J (number_of k)) (and_one R (number_of k)) (statements body) → (s : Statement) → IsIn s body → Placed J R (statements k) s
+    AllHaveSoundJumps (and_one J (number_of k)) (and_one R (number_of k)) (statements body) → (s : Statement) → IsIn s body → HasSoundJumps J R (statements k) s
 labelled_placed J R k body l among h s c =
     of_own_number J R k s (among s c) (of_own_target J (and_one R (number_of k)) k s (inr (inl l)) (among s c)
     (lifted (and_one J (number_of k)) (and_one R (number_of k)) (statements body) (statements k) s among (h s c)))
@@ -235,9 +235,9 @@ under : (k : Statement) (n site : ℕ) (askable : Bool) (reach : ℕ) (act : Act
 under k n site askable reach act s c = behind_head (Stmt n site askable reach act) (statements_within act) s c
 
 for_placed : (J R : Numbers) (n site : ℕ) (askable : Bool) (reach : ℕ) (test : Part) (inits updates : Statements) (body : Statement) →
-    AllPlaced J (and_one R n) (statements_of_all inits) → AllPlaced J (and_one R n) (statements_of_all updates) →
-    AllPlaced (and_one (and_one J n) (number_of body)) (and_one R n) (statements body) →
-    (s : Statement) → Contains (statements_of_all inits ++ (statements_of_all updates ++ statements body)) s → Placed J R (statements (Stmt n site askable reach (For inits test updates body))) s
+    AllHaveSoundJumps J (and_one R n) (statements_of_all inits) → AllHaveSoundJumps J (and_one R n) (statements_of_all updates) →
+    AllHaveSoundJumps (and_one (and_one J n) (number_of body)) (and_one R n) (statements body) →
+    (s : Statement) → Contains (statements_of_all inits ++ (statements_of_all updates ++ statements body)) s → HasSoundJumps J R (statements (Stmt n site askable reach (For inits test updates body))) s
 for_placed J R n site askable reach test inits updates body h i b s c =
     let k = Stmt n site askable reach (For inits test updates body) in
     let xs = statements_of_all inits in
@@ -252,14 +252,14 @@ for_placed J R n site askable reach test inits updates body h i b s c =
     ]
 
 mutual
-  pub placed : (J R : Numbers) (k : Statement) → Sound J R k → (s : Statement) → IsIn s k → Placed J R (statements k) s
+  pub placed : (J R : Numbers) (k : Statement) → Sound J R k → (s : Statement) → IsIn s k → HasSoundJumps J R (statements k) s
   placed J R (Stmt n site askable reach act) h s c = elim (head_or_behind (Stmt n site askable reach act) (statements_within act) s c) [
-    | inl e ↦ subst (Placed J R (statements (Stmt n site askable reach act))) e (own_placed J R (Stmt n site askable reach act) h)
+    | inl e ↦ subst (HasSoundJumps J R (statements (Stmt n site askable reach act))) e (own_placed J R (Stmt n site askable reach act) h)
     | inr d ↦ act_placed J R n site askable reach act h s d
   ]
 
   act_placed : (J R : Numbers) (n site : ℕ) (askable : Bool) (reach : ℕ) (act : Act) → SoundAct J (and_one R n) n reach act →
-      (s : Statement) → Contains (statements_within act) s → Placed J R (statements (Stmt n site askable reach act)) s
+      (s : Statement) → Contains (statements_within act) s → HasSoundJumps J R (statements (Stmt n site askable reach act)) s
   act_placed J R n site askable reach (Block parts) h s c =
       within_placed J R (Stmt n site askable reach (Block parts)) (statements_of_all parts) (under (Stmt n site askable reach (Block parts)) n site askable reach (Block parts)) (all_placed J (and_one R n) parts h.1) s c
   act_placed J R n site askable reach (Eval value) h s c = absurd (none_in s c)
@@ -285,15 +285,15 @@ mutual
       (both_placed J (and_one R n) (statements_of_catches catches) (statements_of_other y) (catches_placed J (and_one R n) catches h.2) (other_placed J (and_one R n) y h.3))) s c
   act_placed J R n site askable reach (Print operand ty ends_line at) h s c = absurd (none_in s c)
 
-  other_placed : (J R : Numbers) (x : Other) → SoundOther J R x → AllPlaced J R (statements_of_other x)
+  other_placed : (J R : Numbers) (x : Other) → SoundOther J R x → AllHaveSoundJumps J R (statements_of_other x)
   other_placed J R nothing h = none_placed J R
   other_placed J R (this s) h = placed J R s h
 
-  all_placed : (J R : Numbers) (x : Statements) → SoundAll J R x → AllPlaced J R (statements_of_all x)
+  all_placed : (J R : Numbers) (x : Statements) → SoundAll J R x → AllHaveSoundJumps J R (statements_of_all x)
   all_placed J R done h = none_placed J R
   all_placed J R (first s rest) h = both_placed J R (statements s) (statements_of_all rest) (placed J R s h.0) (all_placed J R rest h.1)
 
-  catches_placed : (J R : Numbers) (x : Catches) → SoundCatches J R x → AllPlaced J R (statements_of_catches x)
+  catches_placed : (J R : Numbers) (x : Catches) → SoundCatches J R x → AllHaveSoundJumps J R (statements_of_catches x)
   catches_placed J R uncaught h = none_placed J R
   catches_placed J R (catch class local site block rest) h = both_placed J R (statements block) (statements_of_catches rest) (placed J R block h.0) (catches_placed J R rest h.1)
 
@@ -312,11 +312,11 @@ same_target block s n l = record {
 pub jumps_of_sound : (block : Statement) → Sound nowhere nowhere block → JumpsGoOut block
 jumps_of_sound block h s n c e = elim ((placed nowhere nowhere block h s c).jump n e) [ inl f ↦ absurd f | inr l ↦ same_target block s n l ]
 
-same_around : (block : Statement) (s : Statement) (n : ℕ) → Wraps (statements block) s n → Around block s n
+same_around : (block : Statement) (s : Statement) (n : ℕ) → Wraps (statements block) s n → HasEnclosing block s n
 same_around block s n w = record { outer = w.outer; numbered = w.numbered; stands = w.stands; contains = w.contains }
 
 pub reaches_of_sound : (block : Statement) → Sound nowhere nowhere block → Reaches block
 reaches_of_sound block h = record {
-  testing = λ s c e. elim ((placed nowhere nowhere block h s c).testing e) [ inl f ↦ absurd f | inr w ↦ same_around block s (reach_of s) w ];
+  testing = λ s c e. elim ((placed nowhere nowhere block h s c).testing e) [ inl f ↦ absurd f | inr w ↦ same_around block s (statement_reach s) w ];
   others = λ s c e. (placed nowhere nowhere block h s c).others e;
 }

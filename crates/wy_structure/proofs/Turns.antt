@@ -93,13 +93,13 @@ within_spread low high qs h = within_of low high qs qs (λ n. omega arith) h
 
 -- ---- places that are written
 
-abbrev IsWritten : Place → Type 0
-IsWritten q = q.role ≡ Written
+abbrev HasWrittenRole : Place → Type 0
+HasWrittenRole q = q.role ≡ Written
 
-abbrev pub AllWritten : List Place → Type 0
-AllWritten qs = EachIn IsWritten qs
+abbrev pub AllHaveWrittenRole : List Place → Type 0
+AllHaveWrittenRole qs = EachIn HasWrittenRole qs
 
-same_place : (q r : Place) → IsWritten q → IsWritten r → q.site ≡ r.site → key_of q ≡ key_of r
+same_place : (q r : Place) → HasWrittenRole q → HasWrittenRole r → q.site ≡ r.site → key_of q ≡ key_of r
 same_place q r h i e = λ x. e x * 8 + order_of ((h ∙ sym i) x)
 
 abbrev one_if : Bool → ℕ
@@ -123,43 +123,43 @@ twice n q qs e h i =
     let sum : tally (has_key n) (q ∷ qs) ≡ 1 + tally (has_key n) qs = ap (λ b. one_if b + tally (has_key n) qs) itself in
     omega arith
 
-pub written_neat : (low high : ℕ) (qs : List Place) → AllWritten qs → Once low high qs → Neat qs
+pub written_neat : (low high : ℕ) (qs : List Place) → AllHaveWrittenRole qs → Once low high qs → Neat qs
 written_neat low high qs w h = by qs w h.most
   where
-    by : (qs : List Place) → AllWritten qs → ((n : ℕ) → times n qs ≤ 1) → Neat qs
+    by : (qs : List Place) → AllHaveWrittenRole qs → ((n : ℕ) → times n qs ≤ 1) → Neat qs
     by [] w h = tt
     by (q ∷ qs) w h = (
       λ r m e. absurd (twice (key_of r) q qs (same_place q r (w q (inl refl)) (w r (inr m)) e) (one_time qs r m) (h (key_of r))),
       by qs (λ r m. w r (inr m)) (λ n. fewer_behind n q qs (h n)),
     )
 
-declarators_written : (all : List Declarator) → AllWritten (declarator_places all)
-declarators_written [] = none_in_it IsWritten
-declarators_written (d ∷ rest) = head_in IsWritten (written d.name.token) (declarator_places rest) refl (declarators_written rest)
+declarators_written : (all : List Declarator) → AllHaveWrittenRole (declarator_places all)
+declarators_written [] = none_in_it HasWrittenRole
+declarators_written (d ∷ rest) = head_in HasWrittenRole (written d.name.token) (declarator_places rest) refl (declarators_written rest)
 
-effects_written : (all : List Effect) → AllWritten (effect_places all)
-effects_written [] = none_in_it IsWritten
-effects_written (e ∷ rest) = head_in IsWritten (written e.token) (effect_places rest) refl (effects_written rest)
+effects_written : (all : List Effect) → AllHaveWrittenRole (effect_places all)
+effects_written [] = none_in_it HasWrittenRole
+effects_written (e ∷ rest) = head_in HasWrittenRole (written e.token) (effect_places rest) refl (effects_written rest)
 
-init_written : (i : ForInit) → AllWritten (init_places i)
-init_written source.ForInit.Nothing = none_in_it IsWritten
+init_written : (i : ForInit) → AllHaveWrittenRole (init_places i)
+init_written source.ForInit.Nothing = none_in_it HasWrittenRole
 init_written (source.ForInit.Declared is_final ty all) = declarators_written all
 init_written (source.ForInit.Effects all) = effects_written all
 
-behind_word : (token : ℕ) (qs : List Place) → AllWritten qs → AllWritten (written token ∷ qs)
-behind_word token qs h = head_in IsWritten (written token) qs refl h
+behind_word : (token : ℕ) (qs : List Place) → AllHaveWrittenRole qs → AllHaveWrittenRole (written token ∷ qs)
+behind_word token qs h = head_in HasWrittenRole (written token) qs refl h
 
-two_written : (xs ys : List Place) → AllWritten xs → AllWritten ys → AllWritten (xs ++ ys)
-two_written xs ys h i = both_in IsWritten xs ys h i
+two_written : (xs ys : List Place) → AllHaveWrittenRole xs → AllHaveWrittenRole ys → AllHaveWrittenRole (xs ++ ys)
+two_written xs ys h i = both_in HasWrittenRole xs ys h i
 
 mutual
   unfolding places block_places all_places other_places last_places catch_places
 
-  places_written : (s : Statement) → AllWritten (places s)
+  places_written : (s : Statement) → AllHaveWrittenRole (places s)
   places_written (Block b) = block_written b
-  places_written (Empty token) = behind_word token [] (none_in_it IsWritten)
+  places_written (Empty token) = behind_word token [] (none_in_it HasWrittenRole)
   places_written (Declare is_final ty all) = declarators_written all
-  places_written (Perform e) = behind_word e.token [] (none_in_it IsWritten)
+  places_written (Perform e) = behind_word e.token [] (none_in_it HasWrittenRole)
   places_written (If test main other token) = behind_word token (places main ++ other_places other) (two_written (places main) (other_places other) (places_written main) (other_written other))
   places_written (While test body token) = behind_word token (places body) (places_written body)
   places_written (Do body test token) = behind_word token (places body) (places_written body)
@@ -167,42 +167,42 @@ mutual
       behind_word token (init_places init ++ effect_places updates ++ places body)
       (two_written (init_places init ++ effect_places updates) (places body) (two_written (init_places init) (effect_places updates) (init_written init) (effects_written updates)) (places_written body))
   places_written (Labelled name body) = behind_word name.token (places body) (places_written body)
-  places_written (Break label token) = behind_word token [] (none_in_it IsWritten)
-  places_written (Continue label token) = behind_word token [] (none_in_it IsWritten)
-  places_written (Return value token) = behind_word token [] (none_in_it IsWritten)
-  places_written (Throw value token) = behind_word token [] (none_in_it IsWritten)
+  places_written (Break label token) = behind_word token [] (none_in_it HasWrittenRole)
+  places_written (Continue label token) = behind_word token [] (none_in_it HasWrittenRole)
+  places_written (Return value token) = behind_word token [] (none_in_it HasWrittenRole)
+  places_written (Throw value token) = behind_word token [] (none_in_it HasWrittenRole)
   places_written (Try main catches last token) =
       behind_word token (block_places main ++ catch_places catches ++ last_places last)
       (two_written (block_places main ++ catch_places catches) (last_places last) (two_written (block_places main) (catch_places catches) (block_written main) (catches_written catches)) (last_written last))
-  places_written Unknown = none_in_it IsWritten
+  places_written Unknown = none_in_it HasWrittenRole
 
-  pub block_written : (b : Braced) → AllWritten (block_places b)
+  pub block_written : (b : Braced) → AllHaveWrittenRole (block_places b)
   block_written (braced brace parts end) = behind_word brace (all_places parts) (all_written parts)
 
-  pub all_written : (s : Statements) → AllWritten (all_places s)
-  all_written done = none_in_it IsWritten
+  pub all_written : (s : Statements) → AllHaveWrittenRole (all_places s)
+  all_written done = none_in_it HasWrittenRole
   all_written (first s rest) = two_written (places s) (all_places rest) (places_written s) (all_written rest)
 
-  other_written : (s : Other) → AllWritten (other_places s)
-  other_written absent = none_in_it IsWritten
+  other_written : (s : Other) → AllHaveWrittenRole (other_places s)
+  other_written absent = none_in_it HasWrittenRole
   other_written (present s) = places_written s
 
-  last_written : (s : Last) → AllWritten (last_places s)
-  last_written nowhere = none_in_it IsWritten
+  last_written : (s : Last) → AllHaveWrittenRole (last_places s)
+  last_written nowhere = none_in_it HasWrittenRole
   last_written (finally b) = block_written b
 
-  catches_written : (s : Catches) → AllWritten (catch_places s)
-  catches_written uncaught = none_in_it IsWritten
+  catches_written : (s : Catches) → AllHaveWrittenRole (catch_places s)
+  catches_written uncaught = none_in_it HasWrittenRole
   catches_written (catch is_final class name b rest) = two_written (block_places b) (catch_places rest) (block_written b) (catches_written rest)
 
-pub initialized_written : (all : List Declarator) → AllWritten (initialized_places all)
-initialized_written [] = none_in_it IsWritten
+pub initialized_written : (all : List Declarator) → AllHaveWrittenRole (initialized_places all)
+initialized_written [] = none_in_it HasWrittenRole
 initialized_written (d ∷ rest) =
-    subst AllWritten (sym (initialized_first d rest)) (two_written (place_if (is_some d.initial) d.name.token Written) (initialized_places rest) (by (is_some d.initial)) (initialized_written rest))
+    subst AllHaveWrittenRole (sym (initialized_first d rest)) (two_written (place_if (is_some d.initial) d.name.token Written) (initialized_places rest) (by (is_some d.initial)) (initialized_written rest))
   where
-    by : (b : Bool) → AllWritten (place_if b d.name.token Written)
-    by true = behind_word d.name.token [] (none_in_it IsWritten)
-    by false = none_in_it IsWritten
+    by : (b : Bool) → AllHaveWrittenRole (place_if b d.name.token Written)
+    by true = behind_word d.name.token [] (none_in_it HasWrittenRole)
+    by false = none_in_it HasWrittenRole
 
 pub in_right : {X : Type 0} (xs ys : List X) (x : X) → In x ys → In x (xs ++ ys)
 in_right [] ys x m = m
@@ -248,7 +248,7 @@ place_within low high true n role h i q (inr f) = absurd f
 place_within low high false n role h i q m = absurd m
 
 -- the calls at the name, and what is written behind it
-around_calls : (n high brace : ℕ) (calls call parts : List Place) → Neat calls → Within n (n + 1) calls → AllWritten call → AllWritten parts → Spread (n + 1) high (written brace ∷ (call ++ parts)) → Neat (written brace ∷ ((call ++ calls) ++ parts))
+around_calls : (n high brace : ℕ) (calls call parts : List Place) → Neat calls → Within n (n + 1) calls → AllHaveWrittenRole call → AllHaveWrittenRole parts → Spread (n + 1) high (written brace ∷ (call ++ parts)) → Neat (written brace ∷ ((call ++ calls) ++ parts))
 around_calls n high brace calls call parts c w u v h =
     let all = within_spread (n + 1) high (written brace ∷ (call ++ parts)) h in
     let all_neat = written_neat (8 * (n + 1)) (8 * high) (written brace ∷ (call ++ parts)) (behind_word brace (call ++ parts) (two_written call parts u v)) h in
@@ -277,15 +277,15 @@ pub constructor_neat : (t : Table) (c : ℕ) (k : ClassSyntax) (n high brace : �
 constructor_neat t c k n high brace None parts h =
     around_calls n high brace (implied_calls t c k n) [] (all_places parts) (calls_neat (calls_superclass t c) (has_fields_unit k) n)
     (within_both n (n + 1) (place_if (calls_superclass t c) n SuperCall) (place_if (has_fields_unit k) n FieldsCall) (place_within n (n + 1) (calls_superclass t c) n SuperCall (omega arith) (omega arith)) (place_within n (n + 1) (has_fields_unit k) n FieldsCall (omega arith) (omega arith)))
-    (none_in_it IsWritten) (all_written parts) h
+    (none_in_it HasWrittenRole) (all_written parts) h
 constructor_neat t c k n high brace (Some call) parts h = by call.is_super (calls_superclass t c)
   where
     by : (s b : Bool) → Neat (written brace ∷ ((if s then place_if b call.token Written ++ place_if (has_fields_unit k) n FieldsCall else written call.token ∷ []) ++ all_places parts))
     by true true =
         around_calls n high brace (place_if (has_fields_unit k) n FieldsCall) (written call.token ∷ []) (all_places parts) (lone_neat (has_fields_unit k) n FieldsCall) (place_within n (n + 1) (has_fields_unit k) n FieldsCall (omega arith) (omega arith))
-        (behind_word call.token [] (none_in_it IsWritten)) (all_written parts) h
+        (behind_word call.token [] (none_in_it HasWrittenRole)) (all_written parts) h
     by true false =
         around_calls n high brace (place_if (has_fields_unit k) n FieldsCall) [] (all_places parts) (lone_neat (has_fields_unit k) n FieldsCall) (place_within n (n + 1) (has_fields_unit k) n FieldsCall (omega arith) (omega arith))
-        (none_in_it IsWritten) (all_written parts)
+        (none_in_it HasWrittenRole) (all_written parts)
         (fewer_once (8 * (n + 1)) (8 * high) (written brace ∷ all_places parts) (written brace ∷ (written call.token ∷ all_places parts)) (λ m. without m (written brace ∷ []) (written call.token ∷ []) (all_places parts)) h)
     by false b = written_neat (8 * (n + 1)) (8 * high) (written brace ∷ (written call.token ∷ all_places parts)) (behind_word brace (written call.token ∷ all_places parts) (behind_word call.token (all_places parts) (all_written parts))) h

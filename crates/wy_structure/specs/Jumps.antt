@@ -2,7 +2,7 @@
 use Rattle.std.specs.Prelude.{◌≡◌, ◌⊎◌, ℕ, Bool, true, false, Option, Some, None}
 use Rattle.wy_kernel.specs.Form.{Statement, Stmt, Act, While, Do, For, Labelled, Jump}
 use Rattle.wy_kernel.specs.Program.{Program, Body}
-use Rattle.wy_structure.specs.Within.{IsIn, IsBodyOf, Around}
+use Rattle.wy_structure.specs.Within.{IsIn, IsBodyOf, HasEnclosing}
 
 -- the number of the statement that a `break` or a `continue` goes to the end of
 abbrev pub target_of_act : Act → Option ℕ
@@ -42,7 +42,7 @@ IsTarget block s = IsLoop s ⊎ (is_labelled s ≡ true) ⊎ IsBodyOfLoop block 
 
 -- the statement that a jump goes to the end of is around it
 pub record GoesOut (block jump : Statement) (target : ℕ) : Type 0 where
-  pub around : Around block jump target
+  pub around : HasEnclosing block jump target
   pub is_target : IsTarget block around.outer
 
 abbrev pub JumpsGoOut : Statement → Type 0

@@ -3,7 +3,7 @@
 use Rattle.std.specs.Prelude.{◌≡◌, ℕ, zero, suc, ◌+◌, ◌<◌, ◌≤◌, List, [], ◌∷◌, ◌++◌, map, count_by, Option}
 use Rattle.std.specs.List.{Contains, AllPairs}
 use Rattle.wy_kernel.specs.Form.{Statement, Stmt}
-use Rattle.wy_kernel.specs.Program.{Program, Body}
+use Rattle.wy_kernel.specs.Program.{Program, Body, library_statements}
 use Rattle.wy_kernel.specs.Statements.{number_of, has_number, statements_of, statements_of_bodies}
 use Rattle.wy_library.specs.Library.{library_bodies, library_init_bodies}
 
@@ -31,8 +31,8 @@ pub record AreInOrder (p : Program) : Type 0 where
   pub initializers : List (Option Body)
   pub has_bodies : p.bodies ≡ library_bodies ++ bodies
   pub has_initializers : p.init_bodies ≡ library_init_bodies ++ initializers
-  pub library : map number_of (statements_of_bodies library_bodies) ≡ numbers_from 0 74
-  pub behind : (s : Statement) → Contains (statements_of_bodies bodies ++ statements_of_bodies initializers) s → 74 ≤ number_of s
+  pub library : map number_of (statements_of_bodies library_bodies) ≡ numbers_from 0 library_statements
+  pub behind : (s : Statement) → Contains (statements_of_bodies bodies ++ statements_of_bodies initializers) s → library_statements ≤ number_of s
   pub by_site : (s t : Statement) → Contains (statements_of_bodies bodies ++ statements_of_bodies initializers) s →
       Contains (statements_of_bodies bodies ++ statements_of_bodies initializers) t → site_of s < site_of t → number_of s < number_of t
   pub at_one_site : AllPairs ComesFirst (statements_of_bodies initializers ++ statements_of_bodies bodies)

@@ -3,7 +3,7 @@ use Rattle.std.specs.Prelude.{◌≡◌, ℕ, Bool, true, false}
 use Rattle.wy_kernel.specs.View.{NONE}
 use Rattle.wy_kernel.specs.Form.{Part, absent, the, Statement, Stmt, Act, If, While, Do, For}
 use Rattle.wy_kernel.specs.Program.{Program, Body}
-use Rattle.wy_structure.specs.Within.{IsIn, IsBodyOf, Around}
+use Rattle.wy_structure.specs.Within.{IsIn, IsBodyOf, HasEnclosing}
 
 abbrev pub is_there : Part → Bool
 is_there absent = false
@@ -20,13 +20,13 @@ is_testing_act _ = false
 abbrev pub is_testing : Statement → Bool
 is_testing (Stmt number site askable reach act) = is_testing_act act
 
-abbrev pub reach_of : Statement → ℕ
-reach_of (Stmt number site askable reach act) = reach
+abbrev pub statement_reach : Statement → ℕ
+statement_reach (Stmt number site askable reach act) = reach
 
 -- a test reaches to the end of a statement around it, or of its own, and what has no test reaches nowhere
 pub record Reaches (block : Statement) : Type 0 where
-  pub testing : (s : Statement) → IsIn s block → is_testing s ≡ true → Around block s (reach_of s)
-  pub others : (s : Statement) → IsIn s block → is_testing s ≡ false → reach_of s ≡ NONE
+  pub testing : (s : Statement) → IsIn s block → is_testing s ≡ true → HasEnclosing block s (statement_reach s)
+  pub others : (s : Statement) → IsIn s block → is_testing s ≡ false → statement_reach s ≡ NONE
 
 -- those of each body
 abbrev pub AllReach : Program → Type 0

@@ -14,7 +14,7 @@ abbrev pub IsBodyOf : Program → Body → Type 0
 IsBodyOf p b = Contains (p.bodies ++ p.init_bodies) (Some b)
 
 -- a statement of the block that has this number and is s or contains it
-pub record Around (block s : Statement) (number : ℕ) : Type 0 where
+pub record HasEnclosing (block s : Statement) (number : ℕ) : Type 0 where
   pub outer : Statement
   pub numbered : number_of outer ≡ number
   pub stands : IsIn outer block

@@ -13,39 +13,46 @@ ghost use Rattle.wy_structure.specs.Jumps.{AllJumpsGoOut};
 ghost use Rattle.wy_structure.specs.Reaches.{AllReach};
 ghost use Rattle.wy_structure.specs.Outermost.{AllTestsReachAsFar};
 ghost use Rattle.wy_structure.specs.Sites.{TestsStandApart};
+ghost use Rattle.wy_tree.specs.Tokens.{token_limit};
 
 /// In the program of a well-formed tree the numbers of the statements are those below their count, and each is the number of one
 /// statement.
 pub fn each_number_is_one_statement()
-    ensures { (tree : Ast) → WellFormed tree → (count : ℕ) (p : Program) → Elaborates (unit 0 tree) count (Ok p) → AreDense p }
+    ensures { (tree : Ast) → WellFormed tree → (count : ℕ) (p : Program)
+        → Elaborates (unit 0 tree) count (Ok p) → AreDense p }
 {}
 
 /// In the program of a well-formed tree the library's statements have the first numbers, and those of the text follow in the order
 /// of their sites.
 pub fn numbers_follow_the_text()
-    ensures { (tree : Ast) → WellFormed tree → (count : ℕ) (p : Program) → Elaborates (unit 0 tree) count (Ok p) → AreInOrder p }
+    ensures { (tree : Ast) → WellFormed tree → (count : ℕ) (p : Program)
+        → Elaborates (unit 0 tree) count (Ok p) → AreInOrder p }
 {}
 
 /// A `break` or a `continue` goes to the end of a statement of its body that it stands in, or that it is: of a loop, of a labelled
 /// statement, or of the body of a loop.
 pub fn jumps_go_out()
-    ensures { (unit : CompilationUnit) (count : ℕ) (p : Program) → Elaborates unit count (Ok p) → AllJumpsGoOut p }
+    ensures { (unit : CompilationUnit) (count : ℕ) (p : Program) → Elaborates unit count (Ok p)
+        → AllJumpsGoOut p }
 {}
 
 /// The test of a statement reaches to the end of a statement of its body that it stands in, or of its own; a statement without a
 /// test has no reach.
 pub fn tests_reach_out()
-    ensures { (unit : CompilationUnit) (count : ℕ) (p : Program) → Elaborates unit count (Ok p) → AllReach p }
+    ensures { (unit : CompilationUnit) (count : ℕ) (p : Program) → Elaborates unit count (Ok p)
+        → AllReach p }
 {}
 
 /// The test of a statement reaches to the end of the outermost statement around it that a jump (`break`, `continue`, `return` or
 /// `throw`) in its guarded part goes to, and to its own end where none does.
 pub fn tests_reach_as_far_as_jumps_lead()
-    ensures { (unit : CompilationUnit) (count : ℕ) (p : Program) → Elaborates unit count (Ok p) → AllTestsReachAsFar p }
+    ensures { (unit : CompilationUnit) (count : ℕ) (p : Program) → Elaborates unit count (Ok p)
+        → AllTestsReachAsFar p }
 {}
 
 /// In the program of a well-formed tree of at most 1,048,576 tokens no `&&`, `||` or `?:` has the site of a statement with a test:
 /// the one has that of its sign, the other that of its word.
 pub fn tests_stand_apart()
-    ensures { (tree : Ast) → WellFormed tree → length (tokens tree) ≤ 1048576 → (count : ℕ) (p : Program) → Elaborates (unit 0 tree) count (Ok p) → TestsStandApart p }
+    ensures { (tree : Ast) → WellFormed tree → length (tokens tree) ≤ token_limit
+        → (count : ℕ) (p : Program) → Elaborates (unit 0 tree) count (Ok p) → TestsStandApart p }
 {}

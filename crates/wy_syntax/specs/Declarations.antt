@@ -15,6 +15,7 @@ use Rattle.wy_syntax.specs.Syntax as syntax
 use Rattle.wy_syntax.specs.Names.{width, is_leaf, named, written}
 use Rattle.wy_syntax.specs.Expressions.{arguments_of}
 use Rattle.wy_syntax.specs.Statements.{block, declarators, statement}
+use Rattle.wy_tree.specs.Tokens.{token_limit}
 
 -- a part and the number of its first token
 pub record Part : Type 0 where
@@ -30,7 +31,7 @@ placed n (tree.more t rest) = record { at = n; what = t } ∷ placed (n + width 
 
 -- a part ends within the numbers that tokens may have
 abbrev pub IsInReach : Part → Type 0
-IsInReach p = p.at + width p.what ≤ 1048576
+IsInReach p = p.at + width p.what ≤ token_limit
 
 abbrev pub name_at : Part → Named
 name_at p = named p.at p.what

@@ -172,7 +172,8 @@ fn written_by(
 
 fn bracketed(alloc: Global, parts: &[Tree], token: u32) -> Result<WrittenType, AllocError>
     requires { widths (views parts.now) < 2 ^ 32 }
-    ensures { IfOk result (λ t. type_seen t ≡ written token (Node Form.TypeNode (views parts.now))) }
+    ensures { IfOk result (λ t.
+        type_seen t ≡ written token (Node Form.TypeNode (views parts.now))) }
 {
     let Some((first, behind)) = parts.split_first() else {
         return Ok(WrittenType {
@@ -192,7 +193,8 @@ fn bracketed(alloc: Global, parts: &[Tree], token: u32) -> Result<WrittenType, A
 /// The parts of a tree of this form.
 #[tactic(auto, using(wy_tree::proofs::Views::view_leaf, wy_tree::proofs::Views::view_node))]
 pub fn parts_of(tree: &Tree, wanted: Form) -> Option<&[Tree]>
-    ensures { MatchOption result ((ts : Asts) → view tree.now ≡ Node wanted ts → ⊥) (λ parts. view tree.now ≡ Node wanted (views parts.now)) }
+    ensures { MatchOption result ((ts : Asts) → view tree.now ≡ Node wanted ts → ⊥) (λ parts.
+        view tree.now ≡ Node wanted (views parts.now)) }
 {
     match tree {
         Tree::Node { form, parts } if *form == wanted => Some(parts),

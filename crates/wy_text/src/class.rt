@@ -6,11 +6,9 @@ ghost use Rattle.wy_kernel.specs.Program.{class, full_name};
 ghost use Rattle.wy_text.specs.Lines.{name_of};
 
 use std::alloc::AllocError;
+use wy_kernel::builtin::FIRST_SOURCE_CLASS;
 use wy_kernel::program::Program;
 use wy_kernel::types::NONE;
-
-/// The classes below this number are the built-in ones.
-const FIRST_SOURCE_CLASS: u32 = 18;
 
 /// Puts a class's full name behind a text, and nothing where there is no class.
 #[tactic(auto, unfolding(crate::specs::Lines::name_of, wy_kernel::specs::View::present))]

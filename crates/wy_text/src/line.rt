@@ -21,7 +21,8 @@ pub fn stop_line(
     stop: u8,
     thrown: &Thrown,
 ) -> Result<Vec<u8>, AllocError>
-    ensures { IfOk result (λ line. line.items ≡ line_of_stop (program_of program.now) program.now.lines.items
+    ensures { IfOk result (λ line.
+        line.items ≡ line_of_stop (program_of program.now) program.now.lines.items
         stop (present thrown.now.class) (present thrown.now.site)) }
 {
     if stop == UNCAUGHT {
@@ -32,7 +33,8 @@ pub fn stop_line(
 
 #[tactic(auto, unfolding(crate::specs::Lines::uncaught_line))]
 fn uncaught_line(alloc: Global, program: &Program, thrown: &Thrown) -> Result<Vec<u8>, AllocError>
-    ensures { IfOk result (λ line. line.items ≡ line_of_uncaught (program_of program.now) program.now.lines.items
+    ensures { IfOk result (λ line.
+        line.items ≡ line_of_uncaught (program_of program.now) program.now.lines.items
         (present thrown.now.class) (present thrown.now.site)) }
 {
     let mut line = Vec::from_slice(alloc, "-- uncaught ".as_bytes())?;

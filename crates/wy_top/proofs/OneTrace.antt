@@ -26,7 +26,7 @@ use Rattle.wy_one_reading.specs.Laws.{ReadsInOneWay, SaysOfBytes}
 use Rattle.wy_machine.specs.Audits.{OneAuditIsDue}
 use Rattle.wy_telling.specs.Output.{output_text}
 use Rattle.wy_telling.specs.Why.{OneAnswerToWhy, WhyIs}
-use Rattle.wy_tree.specs.Tokens.{Placed, Tokens}
+use Rattle.wy_tree.specs.Tokens.{SpannedToken, Tokens}
 use Rattle.wy_reply.specs.Lines.{of_trace}
 use Rattle.wy_telling.specs.Questions.{questions_text}
 use Rattle.wy_absence.specs.Whynot.{OneAnswerToWhynot, WhynotIs}
@@ -177,7 +177,7 @@ one_under known p q bytes w _ _ _ _ parts lines (told t s x reads tells) (told v
 -- the two texts are one, or both say a line of Syntax for the tokens of the trace's source
 pub data SameOfTrace (bytes : List ℕ) : List ℕ → List ℕ → Type 0 where
   one_text : (x : List ℕ) → SameOfTrace bytes x x
-  syntax_lines : (head : Head) (end : ℕ) (spans : List Placed) (x y : List ℕ) → head_of bytes ≡ Ok (head, end) → Tokens head.source spans → IsSyntaxLine spans x → IsSyntaxLine spans y → SameOfTrace bytes (of_trace x) (of_trace y)
+  syntax_lines : (head : Head) (end : ℕ) (spans : List SpannedToken) (x y : List ℕ) → head_of bytes ≡ Ok (head, end) → Tokens head.source spans → IsSyntaxLine spans x → IsSyntaxLine spans y → SameOfTrace bytes (of_trace x) (of_trace y)
 
 as_one : (bytes x y : List ℕ) → x ≡ y → SameOfTrace bytes x y
 as_one bytes x y e = subst (SameOfTrace bytes x) e (one_text x)

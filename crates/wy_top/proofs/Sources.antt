@@ -7,7 +7,7 @@ use Rattle.wy_constant.specs.declared.rule.Rule.{Rule}
 use Rattle.wy_constant.specs.Refusal.{refused}
 use Rattle.wy_tree.specs.Ast.{Ast, view}
 use Rattle.wy_tree.specs.Lines.{line_of}
-use Rattle.wy_tree.specs.Tokens.{Placed, placed, Tokens}
+use Rattle.wy_tree.specs.Tokens.{SpannedToken, spanned_token, Tokens}
 use Rattle.wy_tree.specs.TokenLaws.{InOrder, TokensInOrder}
 use Rattle.wy_tree.specs.declared.token.Spanned.{Spanned}
 use Rattle.wy_tree.specs.declared.tree.Tree.{Tree}
@@ -24,7 +24,7 @@ use Rattle.wy_top.specs.Held.{source_limit}
 use Rattle.wy_top.specs.Fronts.{IsCauseOf, IsTypedAs, LacksTree, LacksTypes}
 
 -- tokens in order are at most as many as the bytes
-few : (place line size : ℕ) (spans : List Placed) → place ≤ size → InOrder place line size spans → place + length spans ≤ size
+few : (place line size : ℕ) (spans : List SpannedToken) → place ≤ size → InOrder place line size spans → place + length spans ≤ size
 few place line size [] le o = omega arith
 few place line size (t ∷ spans) le o =
     let i : t.end + length spans ≤ size = few t.end t.line size spans o.2 o.4 in
@@ -32,88 +32,88 @@ few place line size (t ∷ spans) le o =
     let some = o.1 in
     omega arith
 
-pub few_tokens : TokensInOrder → (source : List ℕ) (spans : List Placed) → Tokens source spans → length spans ≤ length source
+pub few_tokens : TokensInOrder → (source : List ℕ) (spans : List SpannedToken) → Tokens source spans → length spans ≤ length source
 few_tokens ordered source spans ts = let i = few 0 1 (length source) spans (omega arith) (ordered source spans ts) in omega arith
 
-pub unplaced_placed : (ts : List Spanned) → unplaced (map placed ts) ≡ map spanned_seen ts
+pub unplaced_placed : (ts : List Spanned) → unplaced (map spanned_token ts) ≡ map spanned_seen ts
 unplaced_placed [] = refl
 unplaced_placed (t ∷ ts) = ap (λ z. spanned_seen t ∷ z) (unplaced_placed ts)
 
-pub length_placed : (ts : List Spanned) → length (map placed ts) ≡ length ts
+pub length_placed : (ts : List Spanned) → length (map spanned_token ts) ≡ length ts
 length_placed [] = refl
 length_placed (t ∷ ts) = ap suc (length_placed ts)
 
-pub few_items : TokensInOrder → (source : List ℕ) (ts : List Spanned) → length source ≤ source_limit → Tokens source (map placed ts) → length ts ≤ source_limit
-few_items ordered source ts short read = let i = few_tokens ordered source (map placed ts) read in let e = length_placed ts in omega arith
+pub few_items : TokensInOrder → (source : List ℕ) (ts : List Spanned) → length source ≤ source_limit → Tokens source (map spanned_token ts) → length ts ≤ source_limit
+few_items ordered source ts short read = let i = few_tokens ordered source (map spanned_token ts) read in let e = length_placed ts in omega arith
 
-no_tree : (ts : List Spanned) → HasNoTree (map spanned_seen ts) → ¬ HasTree (unplaced (map placed ts))
+no_tree : (ts : List Spanned) → HasNoTree (map spanned_seen ts) → ¬ HasTree (unplaced (map spanned_token ts))
 no_tree ts none (t, w, is) = none t (w, is ∙ unplaced_placed ts)
 
 -- the tokens of a tree that was found
-pub has_tree : (t : Tree) (ts : List Spanned) → IsTreeOf (map spanned_seen ts) (view t) → IsTreeOf (unplaced (map placed ts)) (view t)
+pub has_tree : (t : Tree) (ts : List Spanned) → IsTreeOf (map spanned_seen ts) (view t) → IsTreeOf (unplaced (map spanned_token ts)) (view t)
 has_tree t ts (w, is) = (w, is ∙ sym (unplaced_placed ts))
 
-pub lacks_tree : (ts : List Spanned) (line token : ℕ) → HasNoTree (map spanned_seen ts) → token ≤ length ts → line ≡ line_of (map placed ts) token → LacksTree (map placed ts) (Parse line token)
+pub lacks_tree : (ts : List Spanned) (line token : ℕ) → HasNoTree (map spanned_seen ts) → token ≤ length ts → line ≡ line_of (map spanned_token ts) token → LacksTree (map spanned_token ts) (Parse line token)
 lacks_tree ts line token none within is = (no_tree ts none, subst (λ n. token ≤ n) (sym (length_placed ts)) within, is)
 
-lines_placed : (ts : List Spanned) → map (λ (t : Placed). t.line) (map placed ts) ≡ map (λ (t : Spanned). t.line) ts
+lines_placed : (ts : List Spanned) → map (λ (t : SpannedToken). t.line) (map spanned_token ts) ≡ map (λ (t : Spanned). t.line) ts
 lines_placed [] = refl
 lines_placed (t ∷ ts) = ap (λ z. t.line ∷ z) (lines_placed ts)
 
 -- what a tree becomes, by the number of its tokens
-pub typed_as : (ts : List Spanned) (t : Ast) (p : memory.Program) → Elaborates (unit 0 t) (length ts) (Ok (program_of p)) → p.lines.items ≡ map (λ (s : Spanned). s.line) ts → IsTypedAs (map placed ts) t p
+pub typed_as : (ts : List Spanned) (t : Ast) (p : memory.Program) → Elaborates (unit 0 t) (length ts) (Ok (program_of p)) → p.lines.items ≡ map (λ (s : Spanned). s.line) ts → IsTypedAs (map spanned_token ts) t p
 typed_as ts t p made lines =
     (subst (λ n. Elaborates (unit 0 t) n (Ok (program_of p))) (sym (length_placed ts)) made, lines ∙ sym (lines_placed ts))
 
-pub lacks_types : (ts : List Spanned) (t : Ast) (rule : Rule) (line token : ℕ) → Elaborates (unit 0 t) (length ts) (Err (refused rule token)) → line ≡ line_of (map placed ts) token →
-    LacksTypes (map placed ts) t (Typing rule line token)
+pub lacks_types : (ts : List Spanned) (t : Ast) (rule : Rule) (line token : ℕ) → Elaborates (unit 0 t) (length ts) (Err (refused rule token)) → line ≡ line_of (map spanned_token ts) token →
+    LacksTypes (map spanned_token ts) t (Typing rule line token)
 lacks_types ts t rule line token made is = (subst (λ n. Elaborates (unit 0 t) n (Err (refused rule token))) (sym (length_placed ts)) made, is)
 
 -- ---- the whole way
 
-syntax_cause : (source : List ℕ) (ts : List Spanned) (e : FrontError) → Tokens source (map placed ts) → LacksTree (map placed ts) e → IsCauseOf source e
+syntax_cause : (source : List ℕ) (ts : List Spanned) (e : FrontError) → Tokens source (map spanned_token ts) → LacksTree (map spanned_token ts) e → IsCauseOf source e
 syntax_cause source ts (Lex fault) read lacks = absurd lacks
-syntax_cause source ts (Parse line token) read (none, within, is) = record { spans = map placed ts; read = read; none = none; within = within; at = is }
+syntax_cause source ts (Parse line token) read (none, within, is) = record { spans = map spanned_token ts; read = read; none = none; within = within; at = is }
 syntax_cause source ts (Typing rule line token) read lacks = absurd lacks
 syntax_cause source ts NoMemory read lacks = tt
 
-pub syntax_passes : (source : List ℕ) (ts slice : List Spanned) (e f : FrontError) → f ≡ e → slice ≡ ts → Tokens source (map placed ts) → LacksTree (map placed slice) e → IsCauseOf source f
+pub syntax_passes : (source : List ℕ) (ts slice : List Spanned) (e f : FrontError) → f ≡ e → slice ≡ ts → Tokens source (map spanned_token ts) → LacksTree (map spanned_token slice) e → IsCauseOf source f
 syntax_passes source ts slice e f same is read lacks =
-    subst (IsCauseOf source) (sym same) (syntax_cause source ts e read (subst (λ (z : List Spanned). LacksTree (map placed z) e) is lacks))
+    subst (IsCauseOf source) (sym same) (syntax_cause source ts e read (subst (λ (z : List Spanned). LacksTree (map spanned_token z) e) is lacks))
 
-types_cause : (source : List ℕ) (ts : List Spanned) (t : Ast) (e : FrontError) → Tokens source (map placed ts) → IsTreeOf (unplaced (map placed ts)) t → LacksTypes (map placed ts) t e → IsCauseOf source e
+types_cause : (source : List ℕ) (ts : List Spanned) (t : Ast) (e : FrontError) → Tokens source (map spanned_token ts) → IsTreeOf (unplaced (map spanned_token ts)) t → LacksTypes (map spanned_token ts) t e → IsCauseOf source e
 types_cause source ts t (Lex fault) read reads lacks = absurd lacks
 types_cause source ts t (Parse line token) read reads lacks = absurd lacks
-types_cause source ts t (Typing rule line token) read reads (made, is) = (map placed ts, read, record { tree = t; reads = reads; elaborated = made }, is)
+types_cause source ts t (Typing rule line token) read reads (made, is) = (map spanned_token ts, read, record { tree = t; reads = reads; elaborated = made }, is)
 types_cause source ts t NoMemory read reads lacks = tt
 
-pub types_pass : (source : List ℕ) (ts first second : List Spanned) (t : Ast) (e : FrontError) → first ≡ ts → second ≡ ts → Tokens source (map placed ts) → IsTreeOf (unplaced (map placed first)) t →
-    LacksTypes (map placed second) t e → IsCauseOf source e
+pub types_pass : (source : List ℕ) (ts first second : List Spanned) (t : Ast) (e : FrontError) → first ≡ ts → second ≡ ts → Tokens source (map spanned_token ts) → IsTreeOf (unplaced (map spanned_token first)) t →
+    LacksTypes (map spanned_token second) t e → IsCauseOf source e
 types_pass source ts first second t e is same read reads lacks =
-    types_cause source ts t e read (subst (λ (z : List Spanned). IsTreeOf (unplaced (map placed z)) t) is reads) (subst (λ (z : List Spanned). LacksTypes (map placed z) t e) same lacks)
+    types_cause source ts t e read (subst (λ (z : List Spanned). IsTreeOf (unplaced (map spanned_token z)) t) is reads) (subst (λ (z : List Spanned). LacksTypes (map spanned_token z) t e) same lacks)
 
-pub program_read : (source : List ℕ) (ts first second : List Spanned) (t : Ast) (p : memory.Program) → first ≡ ts → second ≡ ts → Tokens source (map placed ts) → IsTreeOf (unplaced (map placed first)) t →
-    IsTypedAs (map placed second) t p → IsProgramOf source p
+pub program_read : (source : List ℕ) (ts first second : List Spanned) (t : Ast) (p : memory.Program) → first ≡ ts → second ≡ ts → Tokens source (map spanned_token ts) → IsTreeOf (unplaced (map spanned_token first)) t →
+    IsTypedAs (map spanned_token second) t p → IsProgramOf source p
 program_read source ts first second t p is same read reads typed =
-    let there : IsTypedAs (map placed ts) t p = subst (λ (z : List Spanned). IsTypedAs (map placed z) t p) same typed in
+    let there : IsTypedAs (map spanned_token ts) t p = subst (λ (z : List Spanned). IsTypedAs (map spanned_token z) t p) same typed in
     record {
-      spans = map placed ts;
+      spans = map spanned_token ts;
       read = read;
-      becomes = record { tree = t; reads = subst (λ (z : List Spanned). IsTreeOf (unplaced (map placed z)) t) is reads; elaborated = there.0 };
+      becomes = record { tree = t; reads = subst (λ (z : List Spanned). IsTreeOf (unplaced (map spanned_token z)) t) is reads; elaborated = there.0 };
       lines = there.1;
     }
 
 -- the tree of a text's tokens
-pub is_read : (source : List ℕ) (ts first second : List Spanned) (t : Ast) → first ≡ ts → second ≡ ts → Tokens source (map placed ts) → IsTreeOf (unplaced (map placed first)) t → Reads (map placed second) t
+pub is_read : (source : List ℕ) (ts first second : List Spanned) (t : Ast) → first ≡ ts → second ≡ ts → Tokens source (map spanned_token ts) → IsTreeOf (unplaced (map spanned_token first)) t → Reads (map spanned_token second) t
 is_read source ts first second t is same read reads =
-    subst (λ (z : List Spanned). Reads (map placed z) t) (sym same) (record { text = source; tokens = read; reads = subst (λ (z : List Spanned). IsTreeOf (unplaced (map placed z)) t) is reads })
+    subst (λ (z : List Spanned). Reads (map spanned_token z) t) (sym same) (record { text = source; tokens = read; reads = subst (λ (z : List Spanned). IsTreeOf (unplaced (map spanned_token z)) t) is reads })
 
-pub program_goes_on : (source : List ℕ) (ts first second : List Spanned) (t : Ast) (r : Result TypedProgram FrontError) → first ≡ ts → second ≡ ts → Tokens source (map placed ts) →
-    IsTreeOf (unplaced (map placed first)) t → IfOk r (λ p. IsTypedAs (map placed second) t p.program) → IfOk r (λ p. IsProgramOf source p.program)
+pub program_goes_on : (source : List ℕ) (ts first second : List Spanned) (t : Ast) (r : Result TypedProgram FrontError) → first ≡ ts → second ≡ ts → Tokens source (map spanned_token ts) →
+    IsTreeOf (unplaced (map spanned_token first)) t → IfOk r (λ p. IsTypedAs (map spanned_token second) t p.program) → IfOk r (λ p. IsProgramOf source p.program)
 program_goes_on source ts first second t (Ok p) is same read reads typed = program_read source ts first second t p.program is same read reads typed
 program_goes_on source ts first second t (Err e) is same read reads typed = tt
 
-pub types_go_on : (source : List ℕ) (ts first second : List Spanned) (t : Ast) (r : Result TypedProgram FrontError) → first ≡ ts → second ≡ ts → Tokens source (map placed ts) →
-    IsTreeOf (unplaced (map placed first)) t → IfErr r (λ e. LacksTypes (map placed second) t e) → IfErr r (λ e. IsCauseOf source e)
+pub types_go_on : (source : List ℕ) (ts first second : List Spanned) (t : Ast) (r : Result TypedProgram FrontError) → first ≡ ts → second ≡ ts → Tokens source (map spanned_token ts) →
+    IsTreeOf (unplaced (map spanned_token first)) t → IfErr r (λ e. LacksTypes (map spanned_token second) t e) → IfErr r (λ e. IsCauseOf source e)
 types_go_on source ts first second t (Ok p) is same read reads lacks = tt
 types_go_on source ts first second t (Err e) is same read reads lacks = types_pass source ts first second t e is same read reads lacks

@@ -4,7 +4,7 @@ use Rattle.wy_constant.specs.declared.rule.Rule.{Rule}
 use Rattle.wy_constant.specs.declared.rule.Rule.TheVariants as rule
 use Rattle.wy_constant.specs.Refusal as typing
 use Rattle.wy_tree.specs.Lines.{line_of}
-use Rattle.wy_tree.specs.Tokens.{Placed, Refusal, Tokens, Refuses, IsNotUtf8, BadToken, BadLiteral}
+use Rattle.wy_tree.specs.Tokens.{SpannedToken, Refusal, Tokens, Refuses, IsNotUtf8, BadToken, BadLiteral}
 use Rattle.wy_reply.specs.Lines.{at_byte, at_token}
 use Rattle.wy_top.specs.declared.causes.Cause.{Cause}
 use Rattle.wy_top.specs.declared.causes.Cause.TheVariants.{Byte, Token}
@@ -46,15 +46,15 @@ abbrev pub rule_line : Rule → ℕ → ℕ → List ℕ
 rule_line r line token = at_token (name_of r) line token
 
 -- the line of Syntax at one of these tokens, or behind them
-abbrev pub IsSyntaxLine : List Placed → List ℕ → Type 0
+abbrev pub IsSyntaxLine : List SpannedToken → List ℕ → Type 0
 IsSyntaxLine spans line = (token : ℕ) × (token ≤ length spans) × (line ≡ syntax_line (line_of spans token) token)
 
 -- this line says why a text is no program: it has no tokens, its tokens have no tree, or what the tree declares breaks a rule
 pub data IsNoProgram (source : List ℕ) : List ℕ → Type 0 where
   not_utf8 : (byte : ℕ) → IsNotUtf8 source byte → IsNoProgram source (not_utf8_line byte)
   refused : (fault : Refusal) → Refuses source fault → IsNoProgram source (fault_line fault)
-  syntax : (spans : List Placed) (line : List ℕ) → Tokens source spans → ¬ HasTree (unplaced spans) → IsSyntaxLine spans line → IsNoProgram source line
-  broken : (spans : List Placed) (e : typing.Refusal) → Tokens source spans → Becomes spans (Err e) → IsNoProgram source (rule_line e.rule (line_of spans e.token) e.token)
+  syntax : (spans : List SpannedToken) (line : List ℕ) → Tokens source spans → ¬ HasTree (unplaced spans) → IsSyntaxLine spans line → IsNoProgram source line
+  broken : (spans : List SpannedToken) (e : typing.Refusal) → Tokens source spans → Becomes spans (Err e) → IsNoProgram source (rule_line e.rule (line_of spans e.token) e.token)
 
 -- ---- the same of what is in memory
 

@@ -4,7 +4,7 @@ use Rattle.wy_kernel.specs.Program.{Program}
 use Rattle.wy_kernel.specs.declared.program.Program as memory
 use Rattle.wy_event.specs.declared.record.Head.{Head}
 use Rattle.wy_outside.specs.Shelf.{Files}
-use Rattle.wy_tree.specs.Tokens.{Placed, Tokens}
+use Rattle.wy_tree.specs.Tokens.{SpannedToken, Tokens}
 use Rattle.wy_frames.specs.Heads.{head_of}
 use Rattle.wy_frames.specs.declared.error.TraceError.{TraceError}
 use Rattle.wy_words.specs.Words.{Asked, Asks, Command, Run, Record, Output, Questions, Why, WhyNot, Audit, Explore, Gen, IsNoCommand}
@@ -21,7 +21,7 @@ use Rattle.wy_top.specs.Held.{Holds, Lacks, IsInput, source_limit, input_limit, 
 -- the status and the text that are due for a source: why it is no program, or this text of its program, whose tokens are on these lines
 pub data DueFor (source : List ℕ) (told : Program → List ℕ → List ℕ) : ℕ → List ℕ → Type 0 where
   no_program : (line : List ℕ) → IsNoProgram source line → DueFor source told 4 line
-  program : (spans : List Placed) (p : Program) → Tokens source spans → Becomes spans (Ok p) → DueFor source told 0 (told p (map (λ t. t.line) spans))
+  program : (spans : List SpannedToken) (p : Program) → Tokens source spans → Becomes spans (Ok p) → DueFor source told 0 (told p (map (λ t. t.line) spans))
 
 -- the same for a run of the source that a shelf holds
 pub data DueForRun (files : Files) (a : Asked) (told : List ℕ → Program → List ℕ → List ℕ) : ℕ → List ℕ → Type 0 where
@@ -80,8 +80,8 @@ trace_of _ = None
 
 -- both texts are lines of Syntax for the tokens of one source: that of the file which a run names, that in the head of the trace which is read, or a generated one
 pub data AreSyntaxLines (words : List (List ℕ)) (held : Option Files) : List ℕ → List ℕ → Type 0 where
-  of_source : (c : Command) (files : Files) (a : Asked) (source : List ℕ) (spans : List Placed) (x y : List ℕ) → Asks words c → held ≡ Some files → run_of c ≡ Some a → Holds files a.source source_limit source →
+  of_source : (c : Command) (files : Files) (a : Asked) (source : List ℕ) (spans : List SpannedToken) (x y : List ℕ) → Asks words c → held ≡ Some files → run_of c ≡ Some a → Holds files a.source source_limit source →
       Tokens source spans → IsSyntaxLine spans x → IsSyntaxLine spans y → AreSyntaxLines words held x y
-  of_head : (c : Command) (files : Files) (name bytes : List ℕ) (head : Head) (end : ℕ) (spans : List Placed) (x y : List ℕ) → Asks words c → held ≡ Some files → trace_of c ≡ Some name → Holds files name trace_limit bytes →
+  of_head : (c : Command) (files : Files) (name bytes : List ℕ) (head : Head) (end : ℕ) (spans : List SpannedToken) (x y : List ℕ) → Asks words c → held ≡ Some files → trace_of c ≡ Some name → Holds files name trace_limit bytes →
       head_of bytes ≡ Ok (head, end) → Tokens head.source spans → IsSyntaxLine spans x → IsSyntaxLine spans y → AreSyntaxLines words held (of_trace x) (of_trace y)
-  of_generated : (n : ℕ) (spans : List Placed) (x y : List ℕ) → Asks words (Gen n) → Tokens (source n) spans → IsSyntaxLine spans x → IsSyntaxLine spans y → AreSyntaxLines words held x y
+  of_generated : (n : ℕ) (spans : List SpannedToken) (x y : List ℕ) → Asks words (Gen n) → Tokens (source n) spans → IsSyntaxLine spans x → IsSyntaxLine spans y → AreSyntaxLines words held x y

@@ -5,7 +5,7 @@ use Rattle.wy_kernel.specs.declared.program.Program as memory
 use Rattle.wy_kernel.specs.Parts.{program_of}
 use Rattle.wy_constant.specs.Refusal as typing
 use Rattle.wy_tree.specs.Seen.{Tok}
-use Rattle.wy_tree.specs.Tokens.{Placed, Tokens}
+use Rattle.wy_tree.specs.Tokens.{SpannedToken, Tokens}
 use Rattle.wy_tree.specs.Ast.{Ast, tokens}
 use Rattle.wy_tree.specs.Grammar.{WellFormed}
 use Rattle.wy_tree.specs.Trees.{IsTreeOf}
@@ -13,7 +13,7 @@ use Rattle.wy_syntax.specs.Declarations.{unit}
 use Rattle.wy_elab_stmt.specs.Elaborates.{Elaborates}
 
 -- the tokens without their places
-abbrev pub unplaced : List Placed → List Tok
+abbrev pub unplaced : List SpannedToken → List Tok
 unplaced spans = map (λ t. t.token) spans
 
 -- some well-formed tree has exactly these tokens
@@ -21,14 +21,14 @@ abbrev pub HasTree : List Tok → Type 0
 HasTree said = (tree : Ast) × WellFormed tree × (tokens tree ≡ said)
 
 -- a well-formed tree has these tokens, and what it declares becomes this program, or breaks this rule
-pub record Becomes (spans : List Placed) (outcome : Result Program typing.Refusal) : Type 0 where
+pub record Becomes (spans : List SpannedToken) (outcome : Result Program typing.Refusal) : Type 0 where
   pub tree : Ast
   pub reads : IsTreeOf (unplaced spans) tree
   pub elaborated : Elaborates (unit 0 tree) (length spans) outcome
 
 -- a text's program in memory, with the line of each of its tokens
 pub record IsProgramOf (source : List ℕ) (p : memory.Program) : Type 0 where
-  pub spans : List Placed
+  pub spans : List SpannedToken
   pub read : Tokens source spans
   pub becomes : Becomes spans (Ok (program_of p))
   pub lines : p.lines.items ≡ map (λ t. t.line) spans

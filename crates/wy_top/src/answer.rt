@@ -47,7 +47,8 @@ fn answer_to_run<S: Shelf>(
     shelf: &mut S,
     asked: Asked<'_>,
 ) -> Result<Answer, AllocError>
-    ensures due { (n : ℕ) → IfOk result (λ answer. AnswersBy (λ files. DueForRun files (asked_of asked.entry)
+    ensures due { (n : ℕ)
+        → IfOk result (λ answer. AnswersBy (λ files. DueForRun files (asked_of asked.entry)
         (λ input p lines. report p lines input asked.entry.steps)) (S.held shelf.old)
         (counts (S.faults shelf.old) n) (counts (S.faults shelf.new) n) answer) }
     ensures causes { IfOk result (λ answer. HasCause

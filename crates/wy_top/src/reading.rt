@@ -6,7 +6,7 @@ ghost use Rattle.wy_top.specs.Programs.{IsProgramOf, unplaced};
 ghost use Rattle.wy_top.specs.Fronts.{IsCauseOf, IsTypedAs, LacksTree, LacksTypes};
 ghost use Rattle.wy_top.specs.Held.{source_limit};
 ghost use Rattle.wy_tree.specs.Ast.{view};
-ghost use Rattle.wy_tree.specs.Tokens.{placed, Tokens};
+ghost use Rattle.wy_tree.specs.Tokens.{spanned_token, Tokens};
 ghost use Rattle.wy_tree.specs.Trees.{IsTreeOf};
 
 use std::alloc::Global;
@@ -41,7 +41,7 @@ pub enum FrontError {
 
 fn lexed(alloc: Global, source: &[u8]) -> Result<Vec<Spanned>, FrontError>
     requires { length source.now ≤ source_limit }
-    ensures found { IfOk result (λ v. Tokens source.now (map placed v.items)) }
+    ensures found { IfOk result (λ v. Tokens source.now (map spanned_token v.items)) }
     ensures few { IfOk result (λ v. length v.items ≤ source_limit) }
     ensures refused { IfErr result (λ e. IsCauseOf source.now e) }
 {
@@ -63,8 +63,8 @@ fn lexed(alloc: Global, source: &[u8]) -> Result<Vec<Spanned>, FrontError>
 
 fn parsed(alloc: Global, tokens: &[Spanned]) -> Result<Tree, FrontError>
     requires { length tokens.now ≤ source_limit }
-    ensures found { IfOk result (λ t. IsTreeOf (unplaced (map placed tokens.now)) (view t)) }
-    ensures refused { IfErr result (λ e. LacksTree (map placed tokens.now) e) }
+    ensures found { IfOk result (λ t. IsTreeOf (unplaced (map spanned_token tokens.now)) (view t)) }
+    ensures refused { IfErr result (λ e. LacksTree (map spanned_token tokens.now) e) }
 {
     match parse(alloc, tokens) {
         Ok(tree) => Ok(tree),
@@ -78,9 +78,9 @@ fn parsed(alloc: Global, tokens: &[Spanned]) -> Result<Tree, FrontError>
 
 fn typed(alloc: Global, tree: &Tree, tokens: &[Spanned]) -> Result<TypedProgram, FrontError>
     requires few { length tokens.now ≤ source_limit }
-    requires read { Reads (map placed tokens.now) (view tree.now) }
-    ensures found { IfOk result (λ p. IsTypedAs (map placed tokens.now) (view tree.now) p.program) }
-    ensures refused { IfErr result (λ e. LacksTypes (map placed tokens.now) (view tree.now) e) }
+    requires read { Reads (map spanned_token tokens.now) (view tree.now) }
+    ensures found { IfOk result (λ p. IsTypedAs (map spanned_token tokens.now) (view tree.now) p.program) }
+    ensures refused { IfErr result (λ e. LacksTypes (map spanned_token tokens.now) (view tree.now) e) }
 {
     match typed_program(alloc, tree, tokens) {
         Ok(program) => Ok(program),

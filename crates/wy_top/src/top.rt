@@ -64,7 +64,8 @@ pub fn whyline<S: Shelf, K: Source, O: Sink, T: TraceSink + Drop>(
     requires { recorder.old.phase ≡ Phase.Ready }
     ensures status { IsStatus result }
     ensures due { ¬ Rose (S.faults shelf.old) (S.faults shelf.new)
-        → ¬ Rose (faults_of T.faults recorder.old.sinks.items) (faults_of T.faults recorder.new.sinks.items)
+        → ¬ Rose (faults_of T.faults recorder.old.sinks.items)
+        (faults_of T.faults recorder.new.sinks.items)
         → ¬ Rose (K.faults keys.old) (K.faults keys.new)
         → ¬ Rose (O.faults out.old) (O.faults out.new)
         → Knows (map string_bytes words.now) (S.held shelf.old) (K.left keys.old)
@@ -72,11 +73,14 @@ pub fn whyline<S: Shelf, K: Source, O: Sink, T: TraceSink + Drop>(
         → WritesDue (map string_bytes words.now) (S.held shelf.old) (K.left keys.old) result
         (O.written out.old) (O.written out.new) }
     ensures front { WritesFront (map string_bytes words.now) (S.held shelf.old) (K.left keys.old)
-        (failures (S.faults shelf.old) (faults_of T.faults recorder.old.sinks.items) (K.faults keys.old))
-        (failures (S.faults shelf.new) (faults_of T.faults recorder.new.sinks.items) (K.faults keys.new))
+        (failures (S.faults shelf.old) (faults_of T.faults recorder.old.sinks.items)
+        (K.faults keys.old))
+        (failures (S.faults shelf.new) (faults_of T.faults recorder.new.sinks.items)
+        (K.faults keys.new))
         (O.written out.old) (O.written out.new) }
     ensures traces { result ≡ 0 → Traces trace_spelling (map string_bytes words.now)
-        (S.held shelf.old) (mirrors_of T.bytes recorder.old.sinks.items) (mirrors_of T.bytes recorder.new.sinks.items) }
+        (S.held shelf.old) (mirrors_of T.bytes recorder.old.sinks.items)
+        (mirrors_of T.bytes recorder.new.sinks.items) }
     ensures carried { result ≡ 0 → WritesCarried (map string_bytes words.now)
         (S.held shelf.old) (O.written out.old) (O.written out.new) }
     ensures cut { result ≡ 0 → WritesCut (map string_bytes words.now)
@@ -90,18 +94,22 @@ pub fn whyline<S: Shelf, K: Source, O: Sink, T: TraceSink + Drop>(
         × TookMany (K.taken keys.old) (K.taken keys.new)) }
     ensures fault { result ≡ 7
         → Rose (S.faults shelf.old) (S.faults shelf.new)
-        ⊎ Rose (faults_of T.faults recorder.old.sinks.items) (faults_of T.faults recorder.new.sinks.items)
+        ⊎ Rose (faults_of T.faults recorder.old.sinks.items)
+        (faults_of T.faults recorder.new.sinks.items)
         ⊎ Rose (O.faults out.old) (O.faults out.new)
         ⊎ (AsksToExplore (map string_bytes words.now)
         × Rose (K.faults keys.old) (K.faults keys.new)) }
     ensures fault_line { result ≡ 7
         → ¬ Rose (O.faults out.old) (O.faults out.new)
         → WritesFaultLine (map string_bytes words.now) (S.held shelf.old) (K.left keys.old)
-        (failures (S.faults shelf.old) (faults_of T.faults recorder.old.sinks.items) (K.faults keys.old))
-        (failures (S.faults shelf.new) (faults_of T.faults recorder.new.sinks.items) (K.faults keys.new))
+        (failures (S.faults shelf.old) (faults_of T.faults recorder.old.sinks.items)
+        (K.faults keys.old))
+        (failures (S.faults shelf.new) (faults_of T.faults recorder.new.sinks.items)
+        (K.faults keys.new))
         (O.written out.old) (O.written out.new) }
     ensures shelf_fault { S.faults shelf.old < S.faults shelf.new → (result ≡ 7) ⊎ (result ≡ 9) }
-    ensures recorder_fault { faults_of T.faults recorder.old.sinks.items < faults_of T.faults recorder.new.sinks.items
+    ensures recorder_fault { faults_of T.faults recorder.old.sinks.items
+        < faults_of T.faults recorder.new.sinks.items
         → (result ≡ 7) ⊎ (result ≡ 9) }
     ensures keys_fault { K.faults keys.old < K.faults keys.new → (result ≡ 7) ⊎ (result ≡ 9) }
     ensures out_fault { O.faults out.old < O.faults out.new → (result ≡ 7) ⊎ (result ≡ 9) }

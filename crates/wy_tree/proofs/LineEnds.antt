@@ -6,7 +6,7 @@ use Rattle.std.proofs.lemmas.List.{take-append-drop, length-append, length-take-
 use Rattle.std.proofs.Math.Seq.{take-append_seam}
 use Rattle.wy_tree.specs.Bytes.{begins_with, line_ends, line_ends_after}
 use Rattle.wy_tree.specs.Pieces.{Piece, Between, Lexeme, Fault, class_of, piece_here, IsLongest}
-use Rattle.wy_tree.specs.Tokens.{Placed, Refusal, Adds, Reads}
+use Rattle.wy_tree.specs.Tokens.{SpannedToken, Refusal, Adds, Reads}
 use Rattle.wy_tree.specs.TokenLaws.{LinesAreCounted}
 use Rattle.wy_tree.proofs.Order.{none_of_none}
 use Rattle.wy_tree.proofs.Ends.{last_byte, last_byte-append, ends_in_cr}
@@ -66,7 +66,7 @@ apart_behind (b ∷ text) (suc n) p l fits x e = go n text (ends_in_cr (class_of
 
 -- ---- tokens
 
-abbrev OnLines : List ℕ → List Placed → Type 0
+abbrev OnLines : List ℕ → List SpannedToken → Type 0
 OnLines text [] = Unit {0}
 OnLines text (t ∷ spans) = (t.line ≡ 1 + line_ends (take t.start text)) × OnLines text spans
 
@@ -74,15 +74,15 @@ lines_on : (text front : List ℕ) (n : ℕ) → Apart (last_byte 0 front) text 
 unfolding line_ends
 lines_on text front n a = ends-append 0 front (take n text) ∙ ap (λ k. line_ends_after 0 front + k) (ends_apart (last_byte 0 front) (take n text) (λ e. taken_apart n text (a e)))
 
-added : (p : Piece) (place n line : ℕ) (whole : List ℕ) (spans more : List Placed) → line ≡ 1 + line_ends (take place whole) → Adds p place n line spans more → OnLines whole more → OnLines whole spans
+added : (p : Piece) (place n line : ℕ) (whole : List ℕ) (spans more : List SpannedToken) → line ≡ 1 + line_ends (take place whole) → Adds p place n line spans more → OnLines whole more → OnLines whole spans
 added Between place n line whole spans more is a rest = subst (OnLines whole) (sym a) rest
 added (Lexeme t) place n line whole spans more is a rest = subst (OnLines whole) (sym a) (is, rest)
 added Fault place n line whole spans more is a rest = absurd a
 
-fault_adds_nothing : (p : Piece) (place n line : ℕ) (spans more : List Placed) → Adds p place n line spans more → p ≡ Fault → ⊥
+fault_adds_nothing : (p : Piece) (place n line : ℕ) (spans more : List SpannedToken) → Adds p place n line spans more → p ≡ Fault → ⊥
 fault_adds_nothing p place n line spans more a e = subst (λ z. Adds z place n line spans more) e a
 
-on_lines : (k place line : ℕ) (front text whole : List ℕ) (spans : List Placed) (end : Option Refusal) → whole ≡ front ++ text → place ≡ length front → line ≡ 1 + line_ends front → Apart (last_byte 0 front) text → Reads k place line text spans end → OnLines whole spans
+on_lines : (k place line : ℕ) (front text whole : List ℕ) (spans : List SpannedToken) (end : Option Refusal) → whole ≡ front ++ text → place ≡ length front → line ≡ 1 + line_ends front → Apart (last_byte 0 front) text → Reads k place line text spans end → OnLines whole spans
 on_lines zero place line front text whole spans end e at is apart r = subst (OnLines whole) (sym r.0) tt
 on_lines (suc k) place line front text whole spans end e at is apart r =
     let n = r.0 in
@@ -96,7 +96,7 @@ on_lines (suc k) place line front text whole spans end e at is apart r =
     let apart_next : Apart (last_byte 0 next) (drop n text) = λ c. apart_behind text n b.piece b.fits fits (last_byte 0 front) (sym (last_byte-append 0 front (take n text)) ∙ c) in
     added b.piece place n line whole spans r.1 (is ∙ ap (λ l. 1 + line_ends l) (sym here)) b.adds (on_lines k (place + n) (line + line_ends (take n text)) next (drop n text) whole r.1 end whole_is place_is line_is apart_next r.3)
 
-each_line : (text : List ℕ) (spans : List Placed) → OnLines text spans → All (λ t. t.line ≡ 1 + line_ends (take t.start text)) spans
+each_line : (text : List ℕ) (spans : List SpannedToken) → OnLines text spans → All (λ t. t.line ≡ 1 + line_ends (take t.start text)) spans
 each_line text [] o k d within = absurd (omega (arith, within))
 each_line text (t ∷ spans) o zero d within = o.0
 each_line text (t ∷ spans) o (suc k) d within = each_line text spans o.1 k d (omega (arith, within))

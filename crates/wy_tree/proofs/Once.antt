@@ -4,7 +4,7 @@ use Rattle.std.proofs.lemmas.Bool.{cases_order}
 use Rattle.std.proofs.lemmas.Str.{utf8_valid_len-IsValidUpTo}
 use Rattle.wy_tree.specs.Bytes.{line_ends}
 use Rattle.wy_tree.specs.Pieces.{Piece, Between, Lexeme, Fault, piece_here, IsLongest}
-use Rattle.wy_tree.specs.Tokens.{Placed, Refusal, Stops, Adds, Begins, Reads, ReadsWhole}
+use Rattle.wy_tree.specs.Tokens.{SpannedToken, Refusal, Stops, Adds, Begins, Reads, ReadsWhole}
 use Rattle.wy_tree.specs.TokenLaws.{OneTokenList, TokensOrRefusal, OneRefusal, NotUtf8Alone}
 
 no_longer : (text : List ℕ) (n m : ℕ) (p q : Piece) → IsLongest text n p → IsLongest text m q → n < m → ⊥
@@ -29,13 +29,13 @@ unfolding piece_here
 no_bytes zero = refl
 no_bytes (suc n) = refl
 
-nothing_begins : (place line n : ℕ) (spans more : List Placed) → Begins [] place line n spans more → ⊥
+nothing_begins : (place line n : ℕ) (spans more : List SpannedToken) → Begins [] place line n spans more → ⊥
 nothing_begins place line n spans more b = let e = no_bytes n in let f = b.fits.here in absurd (cc)
 
-adds_fault : (p : Piece) (place n line : ℕ) (spans more : List Placed) → p ≡ Fault → Adds p place n line spans more → ⊥
+adds_fault : (p : Piece) (place n line : ℕ) (spans more : List SpannedToken) → p ≡ Fault → Adds p place n line spans more → ⊥
 adds_fault p place n line spans more e a = subst (λ z. Adds z place n line spans more) e a
 
-stopped : (place line n : ℕ) (text : List ℕ) (spans more : List Placed) (end : Option Refusal) → Stops place text end → Begins text place line n spans more → ⊥
+stopped : (place line n : ℕ) (text : List ℕ) (spans more : List SpannedToken) (end : Option Refusal) → Stops place text end → Begins text place line n spans more → ⊥
 stopped place line n [] spans more end s b = nothing_begins place line n spans more b
 stopped place line n (c ∷ text) spans more end s b = adds_fault b.piece place n line spans more (s.0 n b.piece b.fits) b.adds
 
@@ -43,10 +43,10 @@ one_stop : (place : ℕ) (text : List ℕ) (x y : Option Refusal) → Stops plac
 one_stop place [] x y s t = s ∙ sym t
 one_stop place (c ∷ text) x y s t = s.1 ∙ sym t.1
 
-abbrev pub Same : List Placed → List Placed → Option Refusal → Option Refusal → Type 0
+abbrev pub Same : List SpannedToken → List SpannedToken → Option Refusal → Option Refusal → Type 0
 Same a b x y = (a ≡ b) × (x ≡ y)
 
-same_adds : (p q : Piece) (place line n m : ℕ) (a b c d : List Placed) → p ≡ q → n ≡ m → c ≡ d → Adds p place n line a c → Adds q place m line b d → a ≡ b
+same_adds : (p q : Piece) (place line n m : ℕ) (a b c d : List SpannedToken) → p ≡ q → n ≡ m → c ≡ d → Adds p place n line a c → Adds q place m line b d → a ≡ b
 same_adds p q place line n m a b c d e f g s t = by p (subst (λ z. Adds z place m line b d) (sym e) t) s
   where
     by : (p : Piece) → Adds p place m line b d → Adds p place n line a c → a ≡ b
@@ -54,7 +54,7 @@ same_adds p q place line n m a b c d e f g s t = by p (subst (λ z. Adds z place
     by (Lexeme k) t s = s ∙ ap (λ z. record { token = k; start = place; end = place + z; line = line } ∷ c) f ∙ ap (λ z. record { token = k; start = place; end = place + m; line = line } ∷ z) g ∙ sym t
     by Fault t s = absurd s
 
-pub reads_once : (k j place line : ℕ) (text : List ℕ) (a b : List Placed) (x y : Option Refusal) → Reads k place line text a x → Reads j place line text b y → Same a b x y
+pub reads_once : (k j place line : ℕ) (text : List ℕ) (a b : List SpannedToken) (x y : Option Refusal) → Reads k place line text a x → Reads j place line text b y → Same a b x y
 reads_once zero zero place line text a b x y r s = (r.0 ∙ sym s.0, one_stop place text x y r.1 s.1)
 reads_once zero (suc j) place line text a b x y r s = absurd (stopped place line s.0 text b s.1 x r.1 s.2)
 reads_once (suc k) zero place line text a b x y r s = absurd (stopped place line r.0 text a r.1 y s.1 r.2)
@@ -67,7 +67,7 @@ reads_once (suc k) (suc j) place line text a b x y r s =
     let more = reads_once k j (place + r.0) (line + line_ends (take r.0 text)) (drop r.0 text) r.1 s.1 x y r.3 here in
     (same_adds f.piece g.piece place line r.0 s.0 a b r.1 s.1 (one_piece text r.0 s.0 f.piece g.piece f.fits g.fits) e more.0 f.adds g.adds, more.1)
 
-pub whole_once : (text : List ℕ) (a b : List Placed) (x y : Option Refusal) → ReadsWhole text a x → ReadsWhole text b y → Same a b x y
+pub whole_once : (text : List ℕ) (a b : List SpannedToken) (x y : Option Refusal) → ReadsWhole text a x → ReadsWhole text b y → Same a b x y
 whole_once text a b x y r s = reads_once r.1.0 s.1.0 0 1 text a b x y r.1.1 s.1.1
 
 pub one_token_list : OneTokenList

@@ -5,10 +5,10 @@ use Rattle.std.specs.Str.{chars, chars_after, continuation_len, lead_bits}
 use Rattle.wy_tree.specs.Bytes.{line_ends}
 use Rattle.wy_tree.specs.Literals.{continued, first_char}
 use Rattle.wy_tree.specs.Pieces.{Piece, Between, Lexeme, Fault, piece_here, IsLongest}
-use Rattle.wy_tree.specs.Tokens.{Placed, Refusal, Adds, Reads}
+use Rattle.wy_tree.specs.Tokens.{SpannedToken, Refusal, Adds, Reads}
 use Rattle.wy_tree.specs.TokenLaws.{InOrder, TokensInOrder, FirstCharacter}
 
-earlier : (place first line low size : ℕ) (spans : List Placed) → first ≤ place → low ≤ line → InOrder place line size spans → InOrder first low size spans
+earlier : (place first line low size : ℕ) (spans : List SpannedToken) → first ≤ place → low ≤ line → InOrder place line size spans → InOrder first low size spans
 earlier place first line low size [] le lo o = tt
 earlier place first line low size (t ∷ spans) le lo o = let a = o.0 in let b = o.3 in (omega arith, o.1, o.2, omega arith, o.4)
 
@@ -20,13 +20,13 @@ pub some_bytes : (text : List ℕ) (n : ℕ) (p : Piece) → IsLongest text n p 
 some_bytes text zero p l = let e = none_of_none text in let f = l.here in absurd (cc)
 some_bytes text (suc n) p l = omega arith
 
-added : (p : Piece) (place n line next size : ℕ) (spans more : List Placed) → 0 < n → place + n ≤ size → line ≤ next → Adds p place n line spans more → InOrder (place + n) next size more → InOrder place line size spans
+added : (p : Piece) (place n line next size : ℕ) (spans more : List SpannedToken) → 0 < n → place + n ≤ size → line ≤ next → Adds p place n line spans more → InOrder (place + n) next size more → InOrder place line size spans
 added Between place n line next size spans more lt le lo a o = subst (InOrder place line size) (sym a) (earlier (place + n) place next line size more (omega arith) lo o)
 added (Lexeme t) place n line next size spans more lt le lo a o =
     subst (InOrder place line size) (sym a) (omega arith, omega arith, le, omega arith, earlier (place + n) (place + n) next line size more (omega arith) lo o)
 added Fault place n line next size spans more lt le lo a o = absurd a
 
-reads_in_order : (k place line size : ℕ) (text : List ℕ) (spans : List Placed) (end : Option Refusal) → place + length text ≡ size → Reads k place line text spans end → InOrder place line size spans
+reads_in_order : (k place line size : ℕ) (text : List ℕ) (spans : List SpannedToken) (end : Option Refusal) → place + length text ≡ size → Reads k place line text spans end → InOrder place line size spans
 reads_in_order zero place line size text spans end e r = subst (InOrder place line size) (sym r.0) tt
 reads_in_order (suc k) place line size text spans end e r =
     let n = r.0 in

@@ -26,7 +26,8 @@ pub fn tokens_of(alloc: Global, tree: &Tree) -> Result<Vec<Token>, AllocError>
 
 // Puts parts before what is pending, whose first is the last of the `Vec`.
 fn put_parts<'a>(pending: &mut Vec<&'a Tree>, parts: &'a [Tree]) -> Result<(), AllocError>
-    ensures { OnOk result (views_of (reverse pending.new.items) ≡ joined (views parts.now) (views_of (reverse pending.old.items))) }
+    ensures { OnOk result (views_of (reverse pending.new.items) ≡ joined (views parts.now)
+        (views_of (reverse pending.old.items))) }
 {
     let mut left = parts;
     while let Some((last, before)) = left.split_last() {

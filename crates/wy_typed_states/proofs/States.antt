@@ -20,7 +20,7 @@ use Rattle.wy_meaning.specs.World.{plain, about, into, spelling}
 use Rattle.wy_typing.specs.Types.{IsVariableType}
 use Rattle.wy_typing.specs.Expressions.{IsField}
 use Rattle.wy_typing.specs.Programs.{IsProgram}
-use Rattle.wy_induction.specs.Law.{Fact, IsNoted, a_throw, a_print, a_return, a_test, a_read, a_jump, a_text, a_call, IsWritten, a_set, a_bind, a_catch}
+use Rattle.wy_induction.specs.Law.{Fact, IsNoted, a_throw, a_print, a_return, a_test, a_read, a_jump, a_text, a_call, IsWrite, a_set, a_bind, a_catch}
 use Rattle.wy_typed_states.specs.Typed.{Is, FitsSlot, StoreIsTyped, IsThere, AreTyped, IsTypedState}
 use Rattle.wy_typed_states.proofs.Values.{default_is}
 use Rattle.wy_typed_states.proofs.Moments.{by_events, Later, later_one, newest_there, one_of_longer, fits_up, slot_is}
@@ -44,7 +44,7 @@ noted_creates_nothing d c (a_jump site) owner n x e = absurd (cc e)
 noted_creates_nothing d c (a_text site units k) owner n x e = absurd (cc e)
 noted_creates_nothing d c (a_call site m k) owner n x e = absurd (cc e)
 
-written_creates_nothing : {A : Sets} (d : Draft) (c : Carried A) → IsWritten d c → (owner : ℕ → ℕ) (n : ℕ) (x : Slot) → creates_as owner d.kind n d.what x ≡ true → ⊥
+written_creates_nothing : {A : Sets} (d : Draft) (c : Carried A) → IsWrite d c → (owner : ℕ → ℕ) (n : ℕ) (x : Slot) → creates_as owner d.kind n d.what x ≡ true → ⊥
 unfolding creates_as into
 written_creates_nothing d c (a_set site y v k) owner n x e = absurd (cc e)
 written_creates_nothing d c (a_bind site f i v k) owner n x e = absurd (cc e)
@@ -93,7 +93,7 @@ module _ (A : Sets) (p : Program) (fits : IsProgram p) where
   stored_fits n x y new store true h is f i e = subst (λ z. FitsSlot p n z h.value) (sym (slot_is y x is)) (subst (λ (z : Held A). FitsSlot p n x z.value) (some_same e) f)
   stored_fits n x y new store false h is f i e = i y h e
 
-  pub written_typed : (s : State A) (d : Draft) (c : Carried A) → IsWritten d c → IsTypedState p s → FitsSlot p s.noted d.slot d.value → IsTypedState p (with_stored d.slot (held_by d.value (next_event d c s)) (with_event (next_event d c s) s))
+  pub written_typed : (s : State A) (d : Draft) (c : Carried A) → IsWrite d c → IsTypedState p s → FitsSlot p s.noted d.slot d.value → IsTypedState p (with_stored d.slot (held_by d.value (next_event d c s)) (with_event (next_event d c s) s))
   unfolding with_stored slot_with with_event held_by next_event creates
   written_typed s d c g i f =
       let more = later_one (next_event d c s) s.noted in

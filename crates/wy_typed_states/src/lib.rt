@@ -19,7 +19,8 @@ ghost use Rattle.wy_typing.specs.Programs.{IsDeclared, IsProgram};
 /// That a number is in the range of its type is not said here; `wy_value` says it of the operations.
 pub fn states_are_typed()
     ensures states { (p : Program) → IsProgram p → KeepsLibrary p → StatesAreTyped nothing p }
-    ensures states_carrying { (p : Program) → IsProgram p → KeepsLibrary p → StatesAreTyped numbers p }
+    ensures states_carrying { (p : Program) → IsProgram p → KeepsLibrary p
+        → StatesAreTyped numbers p }
 {}
 
 /// In a program whose declarations name its own classes, begin with the library's, and have no class above itself, the two subtypings

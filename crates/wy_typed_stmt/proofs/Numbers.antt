@@ -5,8 +5,9 @@ use Rattle.std.specs.List.{Contains, AllByRecursion}
 use Rattle.std.proofs.lemmas.List.Recursion.{is_count_by}
 use Rattle.std.proofs.lemmas.Bool.Decides.{Decides-ltb}
 use Rattle.wy_statement.specs.declared.place.Place.{Place}
-use Rattle.wy_statement.specs.Places.{stands_before, order_of, number_at, library_statements}
+use Rattle.wy_statement.specs.Places.{stands_before, order_of, number_at}
 use Rattle.wy_statement.specs.Jumps.{Around, is_among, reach_of}
+use Rattle.wy_kernel.specs.Program.{library_statements}
 
 -- how many pass
 tally : (Place → Bool) → List Place → ℕ

@@ -4,12 +4,12 @@ use Rattle.std.specs.List.{All, AllByRecursion, Contains}
 use Rattle.wy_kernel.specs.declared.types.Ty.{Ty}
 use Rattle.wy_kernel.specs.declared.types.Ty.TheVariants.{Void}
 use Rattle.wy_kernel.specs.Form as kernel
-use Rattle.wy_kernel.specs.Program.{Program, Local}
+use Rattle.wy_kernel.specs.Program.{Program, Local, library_statements}
 use Rattle.wy_kernel.specs.Table.{IsTable, ConstantValue}
 use Rattle.wy_syntax.specs.Syntax.{Braced}
 use Rattle.wy_elab_expr.specs.Operators.{Judgement, Settles}
 use Rattle.wy_statement.specs.declared.place.Place.{Place}
-use Rattle.wy_statement.specs.Places.{block_places, library_statements}
+use Rattle.wy_statement.specs.Places.{block_places}
 use Rattle.wy_statement.specs.Making.{Making, begun}
 use Rattle.wy_statement.specs.Parts.{Outcome, NoValue, ValueOf, NoReturn}
 use Rattle.wy_statement.specs.Jumps.{alone}

@@ -28,7 +28,8 @@ pub fn wrapped_is_in_range_and_congruent()
 /// Operations on values whose numbers are in the range of their types give such values (JLS 4.2.2).
 pub fn results_are_in_range()
     ensures unary { (op : UnOp) (v : Value) → IsInRange v → IsInRange (unary_of op v) }
-    ensures binary { (op : BinOp) (a b : Value) → IsInRange a → IsInRange b → IfSome (binary_of op a b) IsInRange }
+    ensures binary { (op : BinOp) (a b : Value) → IsInRange a → IsInRange b
+        → IfSome (binary_of op a b) IsInRange }
     ensures converted { (to : Primitive) (v : Value) → IsInRange v → IsInRange (converted to v) }
 {}
 
@@ -43,13 +44,15 @@ pub fn quotient_and_remainder_make_the_dividend()
 /// A distance is what the mask 0x1f, or 0x3f for long, leaves of its operand (JLS 15.19).
 pub fn distance_is_masked()
     ensures int { (z : ℤ) → FitsSigned w64 z → int_bit_and w64 z (pos 0x1f) ≡ pos (distance w32 z) }
-    ensures long { (z : ℤ) → FitsSigned w64 z → int_bit_and w64 z (pos 0x3f) ≡ pos (distance w64 z) }
+    ensures long { (z : ℤ) → FitsSigned w64 z
+        → int_bit_and w64 z (pos 0x3f) ≡ pos (distance w64 z) }
 {}
 
 /// `>>` is the quotient by 2 ^ d rounded down (JLS 15.19).
 pub fn shift_right_rounds_down()
     ensures below { (x : ℤ) (d : ℕ) → (int_div_euclid x (pos (2 ^ d)) *ℤ pos (2 ^ d)) ≤ℤ x }
-    ensures above { (x : ℤ) (d : ℕ) → x <ℤ ((int_div_euclid x (pos (2 ^ d)) +ℤ pos 1) *ℤ pos (2 ^ d)) }
+    ensures above { (x : ℤ) (d : ℕ)
+        → x <ℤ ((int_div_euclid x (pos (2 ^ d)) +ℤ pos 1) *ℤ pos (2 ^ d)) }
 {}
 
 /// Comparisons are those of whole numbers (JLS 15.20.1, 15.21.1).
@@ -65,11 +68,14 @@ pub fn comparison_is_that_of_whole_numbers()
 /// `&`, `|` and `^` go bit by bit (JLS 15.22.1): bit k of the result is the lesser, the greater or the sum without carry of the operands' bits.
 pub fn bitwise_operators_go_bit_by_bit()
     ensures and { (w : Width) (x y : ℤ) (k : ℕ) → FitsSigned w x → FitsSigned w y
-        → bit_at (cast_unsigned w (int_bit_and w x y)) k ≡ min (bit_at (cast_unsigned w x) k) (bit_at (cast_unsigned w y) k) }
+        → bit_at (cast_unsigned w (int_bit_and w x y)) k ≡ min (bit_at (cast_unsigned w x) k)
+        (bit_at (cast_unsigned w y) k) }
     ensures or { (w : Width) (x y : ℤ) (k : ℕ) → FitsSigned w x → FitsSigned w y
-        → bit_at (cast_unsigned w (int_bit_or w x y)) k ≡ max (bit_at (cast_unsigned w x) k) (bit_at (cast_unsigned w y) k) }
+        → bit_at (cast_unsigned w (int_bit_or w x y)) k ≡ max (bit_at (cast_unsigned w x) k)
+        (bit_at (cast_unsigned w y) k) }
     ensures xor { (w : Width) (x y : ℤ) (k : ℕ) → FitsSigned w x → FitsSigned w y
-        → bit_at (cast_unsigned w (int_bit_xor w x y)) k ≡ (bit_at (cast_unsigned w x) k + bit_at (cast_unsigned w y) k) % 2 }
+        → bit_at (cast_unsigned w (int_bit_xor w x y)) k
+        ≡ (bit_at (cast_unsigned w x) k + bit_at (cast_unsigned w y) k) % 2 }
 {}
 
 /// Texts differ by 0 exactly where they have the same units, and the order of two texts is the reverse of that of the two the other way round.

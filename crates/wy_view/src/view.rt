@@ -60,5 +60,6 @@ pub trait EventView {
         ensures refers { IfOk result (λ event. RefersBelow n (recorded event.now)) }
         ensures record { IfOk result (λ event. IsRecordOf (tells self.old) n (recorded event.now)) }
         ensures* after { sem 𝓛 (Rests Self.row self.entry (λ now. Keeps (tells self.old) (tells now)
-            × ReadsOnce (tells self.old) (tells now) × Answers result (tells self.old) (tells now))) };
+            × ReadsOnce (tells self.old) (tells now)
+            × Answers result (tells self.old) (tells now))) };
 }

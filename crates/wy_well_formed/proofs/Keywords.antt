@@ -7,7 +7,7 @@ use Rattle.wy_tree.specs.Words.{is_key, is_sign}
 use Rattle.wy_tree.specs.Numbers.{number_of, literal_of}
 use Rattle.wy_tree.specs.Literals.{Element, text_literal, char_literal}
 use Rattle.wy_tree.specs.Pieces.{Piece, Between, Lexeme, Fault, Class, Blank, Name, Number, LineComment, BlockComment, Character, Quoted, Other, class_of, name_of, judged, close_at, closed_comment, alone, char_piece, text_piece, piece_of_class, piece_of, piece_here}
-use Rattle.wy_tree.specs.Tokens.{Placed, Refusal, Adds, Reads, Tokens}
+use Rattle.wy_tree.specs.Tokens.{SpannedToken, Refusal, Adds, Reads, Tokens}
 use Rattle.wy_well_formed.specs.Written.{IsNoKeyword, HasNoKeyword}
 
 -- a token that is read is no keyword's name
@@ -79,22 +79,22 @@ here_fine : (text : List ℕ) (n : ℕ) (p : Piece) → piece_here text n ≡ So
 unfolding piece_here
 here_fine text n p e = subst Fine e (piece_fine (take n text))
 
-abbrev tokens_of : List Placed → List Tok
-tokens_of spans = map (λ (s : Placed). s.token) spans
+abbrev tokens_of : List SpannedToken → List Tok
+tokens_of spans = map (λ (s : SpannedToken). s.token) spans
 
-along_spans : (spans others : List Placed) → spans ≡ others → HasNoKeyword (tokens_of others) → HasNoKeyword (tokens_of spans)
-along_spans spans others e h = let Q : List Placed → Type 0 = λ xs. HasNoKeyword (tokens_of xs) in subst Q (sym e) h
+along_spans : (spans others : List SpannedToken) → spans ≡ others → HasNoKeyword (tokens_of others) → HasNoKeyword (tokens_of spans)
+along_spans spans others e h = let Q : List SpannedToken → Type 0 = λ xs. HasNoKeyword (tokens_of xs) in subst Q (sym e) h
 
-adds_fine : (p : Piece) (place n line : ℕ) (spans others : List Placed) → Fine (Some p) → Adds p place n line spans others → HasNoKeyword (tokens_of others) → HasNoKeyword (tokens_of spans)
+adds_fine : (p : Piece) (place n line : ℕ) (spans others : List SpannedToken) → Fine (Some p) → Adds p place n line spans others → HasNoKeyword (tokens_of others) → HasNoKeyword (tokens_of spans)
 adds_fine Between place n line spans others f e h = along_spans spans others e h
 adds_fine (Lexeme t) place n line spans others f e h = along_spans spans _ e (All-cons IsNoKeyword t (tokens_of others) f h)
 adds_fine Fault place n line spans others f e h = absurd e
 
-reads_fine : (k place line : ℕ) (text : List ℕ) (spans : List Placed) (end : Option Refusal) → Reads k place line text spans end → HasNoKeyword (tokens_of spans)
+reads_fine : (k place line : ℕ) (text : List ℕ) (spans : List SpannedToken) (end : Option Refusal) → Reads k place line text spans end → HasNoKeyword (tokens_of spans)
 reads_fine zero place line text spans end h = along_spans spans [] h.0 (All-nil IsNoKeyword)
 reads_fine (suc k) place line text spans end h =
     let start = h.2 in
     adds_fine start.piece place h.0 line spans h.1 (here_fine text h.0 start.piece start.fits.here) start.adds (reads_fine k _ _ _ h.1 end h.3)
 
-pub no_keywords : (text : List ℕ) (spans : List Placed) → Tokens text spans → HasNoKeyword (tokens_of spans)
+pub no_keywords : (text : List ℕ) (spans : List SpannedToken) → Tokens text spans → HasNoKeyword (tokens_of spans)
 no_keywords text spans h = reads_fine h.1.0 0 1 text spans None h.1.1

@@ -15,91 +15,91 @@ IsOne Wrong = ⊥
 IsOne _ = Unit {0}
 
 -- and so is each that stands in it
-abbrev pub IsWritten : Expression → Type 0
-IsWritten e = Throughout IsOne e
+abbrev pub IsComplete : Expression → Type 0
+IsComplete e = Throughout IsOne e
 
-abbrev pub AreWritten : Row → Type 0
-AreWritten args = ThroughoutRow IsOne args
+abbrev pub AreComplete : Row → Type 0
+AreComplete args = ThroughoutRow IsOne args
 
-abbrev pub IsWrittenInitial : Initial → Type 0
-IsWrittenInitial i = ThroughoutInitial IsOne i
+abbrev pub IsCompleteInitial : Initial → Type 0
+IsCompleteInitial i = ThroughoutInitial IsOne i
 
-abbrev pub HasWrittenElements : Elements → Type 0
-HasWrittenElements all = ThroughoutElements IsOne all
+abbrev pub HasCompleteElements : Elements → Type 0
+HasCompleteElements all = ThroughoutElements IsOne all
 
-abbrev pub IsWrittenOption : Option Expression → Type 0
-IsWrittenOption None = Unit {0}
-IsWrittenOption (Some e) = IsWritten e
+abbrev pub IsCompleteOption : Option Expression → Type 0
+IsCompleteOption None = Unit {0}
+IsCompleteOption (Some e) = IsComplete e
 
-abbrev pub HasWrittenInitial : Option Initial → Type 0
-HasWrittenInitial None = Unit {0}
-HasWrittenInitial (Some i) = IsWrittenInitial i
+abbrev pub HasCompleteInitial : Option Initial → Type 0
+HasCompleteInitial None = Unit {0}
+HasCompleteInitial (Some i) = IsCompleteInitial i
 
-abbrev pub IsWrittenDeclarator : Declarator → Type 0
-IsWrittenDeclarator d = HasWrittenInitial d.initial
+abbrev pub IsCompleteDeclarator : Declarator → Type 0
+IsCompleteDeclarator d = HasCompleteInitial d.initial
 
-abbrev pub IsWrittenEffect : Effect → Type 0
-IsWrittenEffect e = IsWritten e.value
+abbrev pub IsCompleteEffect : Effect → Type 0
+IsCompleteEffect e = IsComplete e.value
 
-abbrev pub IsWrittenInit : ForInit → Type 0
-IsWrittenInit source.ForInit.Nothing = Unit {0}
-IsWrittenInit (source.ForInit.Declared is_final ty declarators) = All IsWrittenDeclarator declarators
-IsWrittenInit (Effects all) = All IsWrittenEffect all
+abbrev pub IsCompleteInit : ForInit → Type 0
+IsCompleteInit source.ForInit.Nothing = Unit {0}
+IsCompleteInit (source.ForInit.Declared is_final ty declarators) = All IsCompleteDeclarator declarators
+IsCompleteInit (Effects all) = All IsCompleteEffect all
 
 abbrev mutual
   -- a declaration may be one only where it stands in a block
-  pub IsWrittenStatement : Bool → Statement → Type 0
-  IsWrittenStatement in_block (Block b) = IsWrittenBlock b
-  IsWrittenStatement in_block (Empty token) = Unit {0}
-  IsWrittenStatement in_block (Declare is_final ty declarators) = (in_block ≡ true) × All IsWrittenDeclarator declarators
-  IsWrittenStatement in_block (Perform e) = IsWrittenEffect e
-  IsWrittenStatement in_block (If test main other token) = IsWritten test × IsWrittenStatement false main × IsWrittenOther other
-  IsWrittenStatement in_block (While test body token) = IsWritten test × IsWrittenStatement false body
-  IsWrittenStatement in_block (Do body test token) = IsWrittenStatement false body × IsWritten test
-  IsWrittenStatement in_block (For init test updates body token) = IsWrittenInit init × IsWrittenOption test × All IsWrittenEffect updates × IsWrittenStatement false body
-  IsWrittenStatement in_block (Labelled name body) = IsWrittenStatement false body
-  IsWrittenStatement in_block (Break label token) = Unit {0}
-  IsWrittenStatement in_block (Continue label token) = Unit {0}
-  IsWrittenStatement in_block (Return value token) = IsWrittenOption value
-  IsWrittenStatement in_block (Throw value token) = IsWritten value
-  IsWrittenStatement in_block (Try main catches last token) = IsWrittenBlock main × AreWrittenCatches catches × IsWrittenLast last
-  IsWrittenStatement in_block Unknown = ⊥
+  pub IsCompleteStatement : Bool → Statement → Type 0
+  IsCompleteStatement in_block (Block b) = IsCompleteBlock b
+  IsCompleteStatement in_block (Empty token) = Unit {0}
+  IsCompleteStatement in_block (Declare is_final ty declarators) = (in_block ≡ true) × All IsCompleteDeclarator declarators
+  IsCompleteStatement in_block (Perform e) = IsCompleteEffect e
+  IsCompleteStatement in_block (If test main other token) = IsComplete test × IsCompleteStatement false main × IsCompleteOther other
+  IsCompleteStatement in_block (While test body token) = IsComplete test × IsCompleteStatement false body
+  IsCompleteStatement in_block (Do body test token) = IsCompleteStatement false body × IsComplete test
+  IsCompleteStatement in_block (For init test updates body token) = IsCompleteInit init × IsCompleteOption test × All IsCompleteEffect updates × IsCompleteStatement false body
+  IsCompleteStatement in_block (Labelled name body) = IsCompleteStatement false body
+  IsCompleteStatement in_block (Break label token) = Unit {0}
+  IsCompleteStatement in_block (Continue label token) = Unit {0}
+  IsCompleteStatement in_block (Return value token) = IsCompleteOption value
+  IsCompleteStatement in_block (Throw value token) = IsComplete value
+  IsCompleteStatement in_block (Try main catches last token) = IsCompleteBlock main × AreCompleteCatches catches × IsCompleteLast last
+  IsCompleteStatement in_block Unknown = ⊥
 
-  pub IsWrittenBlock : Braced → Type 0
-  IsWrittenBlock (braced brace parts end) = AreWrittenStatements parts
+  pub IsCompleteBlock : Braced → Type 0
+  IsCompleteBlock (braced brace parts end) = AreCompleteStatements parts
 
-  pub AreWrittenStatements : Statements → Type 0
-  AreWrittenStatements done = Unit {0}
-  AreWrittenStatements (first s rest) = IsWrittenStatement true s × AreWrittenStatements rest
+  pub AreCompleteStatements : Statements → Type 0
+  AreCompleteStatements done = Unit {0}
+  AreCompleteStatements (first s rest) = IsCompleteStatement true s × AreCompleteStatements rest
 
-  pub IsWrittenOther : Other → Type 0
-  IsWrittenOther absent = Unit {0}
-  IsWrittenOther (present s) = IsWrittenStatement false s
+  pub IsCompleteOther : Other → Type 0
+  IsCompleteOther absent = Unit {0}
+  IsCompleteOther (present s) = IsCompleteStatement false s
 
-  pub IsWrittenLast : Last → Type 0
-  IsWrittenLast nowhere = Unit {0}
-  IsWrittenLast (finally b) = IsWrittenBlock b
+  pub IsCompleteLast : Last → Type 0
+  IsCompleteLast nowhere = Unit {0}
+  IsCompleteLast (finally b) = IsCompleteBlock b
 
-  pub AreWrittenCatches : Catches → Type 0
-  AreWrittenCatches uncaught = Unit {0}
-  AreWrittenCatches (catch is_final class name block rest) = IsWrittenBlock block × AreWrittenCatches rest
+  pub AreCompleteCatches : Catches → Type 0
+  AreCompleteCatches uncaught = Unit {0}
+  AreCompleteCatches (catch is_final class name block rest) = IsCompleteBlock block × AreCompleteCatches rest
 
 -- the arguments of a call at the head of a constructor are written
-abbrev pub HasWrittenCall : Option OwnCall → Type 0
-HasWrittenCall None = Unit {0}
-HasWrittenCall (Some call) = AreWritten call.args
+abbrev pub HasCompleteCall : Option OwnCall → Type 0
+HasCompleteCall None = Unit {0}
+HasCompleteCall (Some call) = AreComplete call.args
 
-abbrev pub IsWrittenMember : Member → Type 0
-IsWrittenMember (source.Initializer is_static block) = IsWrittenBlock block
-IsWrittenMember (source.Fields modifiers ty declarators) = All IsWrittenDeclarator declarators
-IsWrittenMember (source.Method h result None) = Unit {0}
-IsWrittenMember (source.Method h result (Some b)) = IsWrittenBlock b
-IsWrittenMember (source.Constructor h own brace parts end) = HasWrittenCall own × AreWrittenStatements parts
-IsWrittenMember source.Member.Nothing = Unit {0}
-IsWrittenMember source.Member.Unknown = Unit {0}
+abbrev pub IsCompleteMember : Member → Type 0
+IsCompleteMember (source.Initializer is_static block) = IsCompleteBlock block
+IsCompleteMember (source.Fields modifiers ty declarators) = All IsCompleteDeclarator declarators
+IsCompleteMember (source.Method h result None) = Unit {0}
+IsCompleteMember (source.Method h result (Some b)) = IsCompleteBlock b
+IsCompleteMember (source.Constructor h own brace parts end) = HasCompleteCall own × AreCompleteStatements parts
+IsCompleteMember source.Member.Nothing = Unit {0}
+IsCompleteMember source.Member.Unknown = Unit {0}
 
-abbrev pub IsWrittenClass : ClassSyntax → Type 0
-IsWrittenClass k = All IsWrittenMember k.members
+abbrev pub IsCompleteClass : ClassSyntax → Type 0
+IsCompleteClass k = All IsCompleteMember k.members
 
-abbrev pub IsWrittenUnit : CompilationUnit → Type 0
-IsWrittenUnit unit = All IsWrittenClass (classes_of unit)
+abbrev pub IsCompleteUnit : CompilationUnit → Type 0
+IsCompleteUnit unit = All IsCompleteClass (classes_of unit)

@@ -54,9 +54,11 @@ pub fn why<V: EventView, L: Ledger>(
 ) -> Result<Answer, ViewError>
     requires there { event < (V.tells view.old).count }
     requires index { IsIndexOfView index.now (V.tells view.old) }
-    ensures all { (rs : List Recorded) → (V.tells view.old).records ≡ Some rs → IfOk result (λ answer.
+    ensures all { (rs : List Recorded) → (V.tells view.old).records ≡ Some rs
+        → IfOk result (λ answer.
         answer.all.items ≡ up_to event (closure (owners_of index.now) rs event)) }
-    ensures flow { (rs : List Recorded) → (V.tells view.old).records ≡ Some rs → IfOk result (λ answer.
+    ensures flow { (rs : List Recorded) → (V.tells view.old).records ≡ Some rs
+        → IfOk result (λ answer.
         answer.flow.items ≡ up_to event (data_closure (owners_of index.now) rs event)) }
     ensures rises { IfOk result (λ answer. Rises 0 (event + 1) answer.all.items
         × Rises 0 (event + 1) answer.flow.items) }

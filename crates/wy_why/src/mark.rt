@@ -106,7 +106,8 @@ pub(crate) fn mark_sources<L: Ledger>(
     ensures recent { IsRecent index.now.postings recent.new }
     ensures marks { (rs : List Recorded) → IsIndexOf index.now rs → (all : Bool) (j : ℕ)
         → marked all marks.new j ≡ (marked all marks.old j
-        || union_of only (taken all flow (event_sources (owners_of index.now) rs (recorded event.now))) j) }
+        || union_of only
+        (taken all flow (event_sources (owners_of index.now) rs (recorded event.now))) j) }
     ensures forward { steps.old ≤ steps.new }
     ensures steps { (l : ℕ) → IsHalvings (length index.now.postings) l
         → steps.new ≤ steps.old + places event.now.uses * (l + 1) }

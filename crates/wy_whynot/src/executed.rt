@@ -10,8 +10,8 @@ use std::alloc::{AllocError, Global};
 use wy_event::record::{Cover, Kind};
 use wy_index::{Hit, Index};
 use wy_kernel::types::NONE;
-use wy_value::Value;
 use wy_static::point::Point;
+use wy_value::Value;
 
 /// What is known of a statement.
 pub(crate) fn cover_of(coverage: &[Cover], statement: u32) -> Cover

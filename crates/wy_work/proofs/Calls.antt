@@ -29,7 +29,7 @@ use Rattle.wy_work.specs.declared.frame.Step.TheVariants as step
 use Rattle.wy_work.specs.Calls.{IsSameStack, Enters, begun, used_by}
 use Rattle.wy_work.specs.Expressions.{put_on, leaving}
 use Rattle.wy_work.specs.Statements.{emptied}
-use Rattle.wy_work.specs.Frames.{Around, Standing, around, after, pushed, then_all, followed, Turned}
+use Rattle.wy_work.specs.Frames.{Context, Standing, around, after, pushed, then_all, followed, Turned}
 use Rattle.wy_work.proofs.Begins.{newest_is}
 
 -- what comes after a body that begins, where the values are known
@@ -58,10 +58,10 @@ unfolding note room_for noting next_event made with_event
 note_given d c v us is s = rw (← is) refl
 
 -- one scope more stands around
-abbrev pub in_scope : Standing → Around
+abbrev pub in_scope : Standing → Context
 in_scope m = record { depth = m.depth; bodies = map (λ (f : Body). f.event) m.state.calls.frames; scopes = m.state.calls.active ∷ m.state.calls.scopes; saved = m.saved }
 
-abbrev pub around_of : ℕ → List Values → Calls → Around
+abbrev pub around_of : ℕ → List Values → Calls → Context
 around_of depth saved c = record { depth = depth; bodies = map (λ (f : Body). f.event) c.frames; scopes = c.scopes; saved = saved }
 
 module _ {X : Type 0} (p : Program) (m : Standing) (l : Shape) (scope : Scope) (noting : Run nothing (Made nothing)) (next : ℕ → Run nothing X) (put : X → Values) (opens : Onward p m.state do_nothing l (return tt)) where
@@ -146,7 +146,7 @@ call_noted site method c us m o receiver used is same some s = rw (present_some 
 
 -- ---- a body of a call
 
-abbrev pub within_of : ℕ → ℕ → List Values → Standing → Around
+abbrev pub within_of : ℕ → ℕ → List Values → Standing → Context
 within_of depth event saved m = record { depth = depth; bodies = event ∷ map (λ (f : Body). f.event) m.state.calls.frames; scopes = m.state.calls.scopes; saved = saved }
 
 pub entered_around : {p : Program} {event : ℕ} {leaves : Step} {m n : Standing} → Enters p event leaves m n → around n ≡ within_of n.depth event (m.values ∷ m.saved) m

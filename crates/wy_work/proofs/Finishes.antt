@@ -16,7 +16,7 @@ use Rattle.wy_operation.specs.Around.{IsSameAround}
 use Rattle.wy_operands.specs.Values.{Values}
 use Rattle.wy_work.specs.declared.frame.Frame.TheVariants as frame
 use Rattle.wy_work.specs.declared.frame.Step.TheVariants as step
-use Rattle.wy_work.specs.Frames.{Around, Standing, after, around, newest, pushed, then_all, followed, Resumed}
+use Rattle.wy_work.specs.Frames.{Context, Standing, after, around, newest, pushed, then_all, followed, Resumed}
 use Rattle.wy_work.specs.Statements.{without_values}
 use Rattle.wy_work.proofs.Begins.{newest_is}
 use Rattle.wy_work.proofs.Runs.{kept_after, turned_after, went}
@@ -68,7 +68,7 @@ module _ (p : Program) (m : Standing) (n : ℕ) where
 -- ---- scopes
 
 module _ (p : Program) (m : Standing) (s : Shape) (scope : Scope) (same : s.calls ≡ closed m.state.calls) (a : Onward p m.state (active_be (first_of m.state.calls.scopes)) s (return tt)) where
-  abbrev outside_scope : Around
+  abbrev outside_scope : Context
   outside_scope = record { depth = m.depth; bodies = (around m).bodies; scopes = rest_of m.state.calls.scopes; saved = m.saved }
 
   closed_around : outside_scope ≡ around (record m { state = s })

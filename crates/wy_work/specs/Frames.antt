@@ -31,7 +31,7 @@ use Rattle.wy_work.specs.Statements.{emptied, forgotten, without_values, stmt_fr
 
 -- what stands around the frames of work, the innermost first: how many bodies may still begin, the events of those that run, what was
 -- active when each scope was opened, and the values of the bodies that wait
-pub record Around : Type 0 where
+pub record Context : Type 0 where
   pub depth : ℕ
   pub bodies : List ℕ
   pub scopes : List (List (Active nothing))
@@ -42,15 +42,15 @@ newest [] = Absent
 newest (n ∷ ns) = Some n
 
 -- around a frame that ends a body or a scope there is one fewer
-abbrev pub without_body : Around → Around
+abbrev pub without_body : Context → Context
 without_body a = record { depth = suc a.depth; bodies = rest_of a.bodies; scopes = a.scopes; saved = rest_of a.saved }
 
-abbrev pub outside_step : Step → Around → Around
+abbrev pub outside_step : Step → Context → Context
 outside_step (step.LeaveCall n) a = without_body a
 outside_step step.LeaveClass a = without_body a
 outside_step _ a = a
 
-abbrev pub outside : Frame → Around → Around
+abbrev pub outside : Frame → Context → Context
 outside (frame.Plain x) a = outside_step x a
 outside (frame.Close scope) a = record a { scopes = rest_of a.scopes }
 outside _ a = a
@@ -63,7 +63,7 @@ main_called w = do
 
 -- ---- frames, at every outcome
 
-module _ (w : World nothing) (a : Around) where
+module _ (w : World nothing) (a : Context) where
   abbrev pub returned : Bool → ℕ → Outcome nothing Values → Outcome nothing Values
   returned returns_none site o = go_on (go_on_left (go_on (forgotten o) (λ u. end_body returns_none site)) at_return) (λ v. return (v ∷ []))
 
@@ -89,7 +89,7 @@ module _ (w : World nothing) (a : Around) where
   frame_of (frame.Close scope) o = active_again (first_of a.scopes) o
 
 -- the frames, from the newest to the oldest
-abbrev pub after : Program → Around → List Frame → Outcome nothing Values → Outcome nothing Values
+abbrev pub after : Program → Context → List Frame → Outcome nothing Values → Outcome nothing Values
 after p a [] o = o
 after p a (f ∷ fs) o = after p (outside f a) fs (frame_of (world p a.depth) a f o)
 
@@ -101,7 +101,7 @@ pub record Standing : Type 0 where
   pub values : Values
   pub saved : List Values
 
-abbrev pub around : Standing → Around
+abbrev pub around : Standing → Context
 around m = record { depth = m.depth; bodies = map (λ (f : Body). f.event) m.state.calls.frames; scopes = m.state.calls.scopes; saved = m.saved }
 
 abbrev pub pushed : Frame → Standing → Standing

@@ -38,10 +38,10 @@ use wy_operation::array::make_array;
 use wy_operation::binding::bind_all;
 use wy_operation::exception::{NULL_POINTER, fail};
 use wy_operation::operand::{Part, is_null};
+use wy_operation::texts::text_equals;
 use wy_record::Recorder;
 use wy_state::parts::{Draft, Halt, Limit};
 use wy_state::subtype::class_of_type;
-use wy_operation::texts::text_equals;
 use wy_value::Value;
 
 /// On a text at run time `equals` and `toString` are operations of the library.

@@ -19,12 +19,10 @@ ghost use Rattle.wy_work.specs.Machines.{standing};
 use crate::frame::{Frame, Step, StmtStep};
 use crate::machine::Machine;
 use wy_calls::Dispatcher;
+use wy_kernel::builtin::FIRST_SOURCE_CLASS;
 use wy_kernel::types::NONE;
 use wy_record::Recorder;
 use wy_state::parts::{Halt, Limit};
-
-/// Source classes begin here.
-const FIRST_SOURCE_CLASS: u32 = 18;
 
 impl<'a, R: Recorder> Machine<'a, R> {
     /// Initializes a source class, unless that is going on or done.

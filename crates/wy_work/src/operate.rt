@@ -21,11 +21,11 @@ use wy_calls::Dispatcher;
 use wy_kernel::form::{Expr, LibOp};
 use wy_kernel::operator::{BinOp, Primitive, UnOp};
 use wy_kernel::types::Ty;
-use wy_operation::operator::{binary, converted, unary_of};
+use wy_operation::operator::{binary, convert_to, unary_of};
+use wy_operation::texts::{Found, library};
 use wy_operation::types::{cast, instance_of};
 use wy_record::Recorder;
 use wy_state::parts::Halt;
-use wy_operation::texts::{Found, library};
 use wy_value::Value;
 
 impl<'a, R: Recorder> Machine<'a, R> {
@@ -122,7 +122,7 @@ impl<'a, R: Recorder> Machine<'a, R> {
             (λ w vs. put_on (under vs) (convert to (return (top vs))))
             (standing R.keeps R.kept self.old) result (standing R.keeps R.kept self.new) }
     {
-        let Some(value) = converted(to, self.stack.top()) else {
+        let Some(value) = convert_to(to, self.stack.top()) else {
             return Err(Halt::Memory);
         };
         self.stack.join(1, value)?;

@@ -24,9 +24,9 @@ use wy_calls::Dispatcher;
 use wy_kernel::form::{Expr, Stmt, StmtForm};
 use wy_operation::ending::{jump, return_value, throw_value};
 use wy_operation::test_event::test;
+use wy_operation::texts::{print_nothing, print_text};
 use wy_record::Recorder;
 use wy_state::parts::Halt;
-use wy_operation::texts::{print_nothing, print_text};
 use wy_value::Value;
 
 impl<'a, R: Recorder> Machine<'a, R> {

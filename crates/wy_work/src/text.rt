@@ -12,9 +12,9 @@ ghost use Rattle.wy_work.specs.Machines.{standing};
 use crate::frame::Step;
 use crate::machine::Machine;
 use wy_calls::Dispatcher;
+use wy_operation::texts::join_texts;
 use wy_record::Recorder;
 use wy_state::parts::Halt;
-use wy_operation::texts::join_texts;
 use wy_value::Value;
 
 /// Object's `toString`.

@@ -77,7 +77,8 @@ impl Repeats for Field {
 
 /// A method has the name and the parameter types of an earlier one of its class (JLS 8.4.2, 8.8.2).
 impl Repeats for Method {
-    ghost same = { λ a b. (a.class ≡ b.class) × (string_bytes a.name ≡ string_bytes b.name) × (a.params.items ≡ b.params.items) };
+    ghost same = { λ a b. (a.class ≡ b.class) × (string_bytes a.name ≡ string_bytes b.name)
+        × (a.params.items ≡ b.params.items) };
 
     ghost place = { λ b. b.site };
 

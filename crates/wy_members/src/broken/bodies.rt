@@ -19,7 +19,8 @@ use wy_syntax::statement::Block;
 
 pub fn least_in_classes(judged: &Lineage, classes: &[&ClassSyntax]) -> Option<u32>
     requires { length classes.now + 18 < 2 ^ 32 }
-    ensures { IsLeast (Among (map (λ k. class_of k.now) classes.now) (WrongBodyAt (lineage_of judged.now).classes)) result }
+    ensures { IsLeast (Among (map (λ k. class_of k.now) classes.now)
+        (WrongBodyAt (lineage_of judged.now).classes)) result }
 {
     let mut least = None;
     for (i, class) in classes.iter().enumerate() {
@@ -30,7 +31,8 @@ pub fn least_in_classes(judged: &Lineage, classes: &[&ClassSyntax]) -> Option<u3
 }
 
 fn least_in_class(judged: &Lineage, number: u32, class: &ClassSyntax) -> Option<u32>
-    ensures { IsLeast (InClassNumbered (lineage_of judged.now).classes number (class_of class.now)) result }
+    ensures { IsLeast
+        (InClassNumbered (lineage_of judged.now).classes number (class_of class.now)) result }
 {
     if !is_judged(judged, number) {
         return None;
@@ -39,7 +41,8 @@ fn least_in_class(judged: &Lineage, number: u32, class: &ClassSyntax) -> Option<
 }
 
 fn least_in_members(in_interface: bool, members: &[Member]) -> Option<u32>
-    ensures { IsLeast (Among (map member_of members.now) (λ j m. WrongBodyIn in_interface m)) result }
+    ensures { IsLeast
+        (Among (map member_of members.now) (λ j m. WrongBodyIn in_interface m)) result }
 {
     let mut least = None;
     for member in members {
@@ -75,7 +78,8 @@ fn is_abstract(header: &Header) -> bool
 }
 
 fn has_wrong_body(in_interface: bool, header: &Header, body: &Option<Block>) -> bool
-    ensures { IsTrue result ↔ WrongBody in_interface (header_of header.now) (option_map block_of body.now) }
+    ensures { IsTrue result
+        ↔ WrongBody in_interface (header_of header.now) (option_map block_of body.now) }
 {
     match body {
         Some(_) => wants_no_body(in_interface, header),

@@ -16,7 +16,8 @@ use wy_overloads::lineage::Lineage;
 use wy_overloads::subtyping::is_supertype;
 
 pub fn least_cycle(lineage: &Lineage) -> Option<u32>
-    ensures { IsLeast (Among (lineage_of lineage.now).classes (CycleAt (lineage_of lineage.now).classes)) result }
+    ensures { IsLeast
+        (Among (lineage_of lineage.now).classes (CycleAt (lineage_of lineage.now).classes)) result }
 {
     let mut least = None;
     for c in 0..lineage.classes() {
@@ -53,13 +54,15 @@ fn is_above_itself(lineage: &Lineage, c: u32) -> bool
 
 #[tactic(auto, unfolding(wy_kernel::specs::View::present))]
 fn is_named_below(lineage: &Lineage, above: u32, c: u32) -> bool
-    ensures { IsTrue result ↔ ((d : ℕ) × Contains (option_to_list (present above)) d × Supertype (lineage_of lineage.now).classes d c) }
+    ensures { IsTrue result ↔ ((d : ℕ) × Contains (option_to_list (present above)) d
+        × Supertype (lineage_of lineage.now).classes d c) }
 {
     above != NONE && is_supertype(lineage, above, c)
 }
 
 fn is_any_below(lineage: &Lineage, numbers: &[u32], c: u32) -> bool
-    ensures { IsTrue result ↔ ((d : ℕ) × Contains numbers.now d × Supertype (lineage_of lineage.now).classes d c) }
+    ensures { IsTrue result
+        ↔ ((d : ℕ) × Contains numbers.now d × Supertype (lineage_of lineage.now).classes d c) }
 {
     for d in numbers {
         if is_supertype(lineage, *d, c) {

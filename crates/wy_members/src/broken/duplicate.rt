@@ -13,7 +13,8 @@ use crate::broken::least::{lesser, token_where};
 use wy_syntax::declaration::{ClassSyntax, Header, Member};
 
 pub fn least_in_classes(classes: &[&ClassSyntax]) -> Option<u32>
-    ensures { IsLeast (Among (map (λ k. class_of k.now) classes.now) (λ i k. RepeatsInClass k)) result }
+    ensures { IsLeast
+        (Among (map (λ k. class_of k.now) classes.now) (λ i k. RepeatsInClass k)) result }
 {
     let mut least = None;
     for class in classes {

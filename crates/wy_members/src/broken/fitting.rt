@@ -12,7 +12,8 @@ use wy_kernel::types::{Class, NONE};
 const OBJECT: u32 = 0;
 
 pub fn fitting_classes(alloc: Global, classes: &[Class]) -> Result<Vec<Class>, AllocError>
-    ensures { IfOk result (λ fitting. map class_of fitting.items ≡ map (with_fitting_supertypes (map class_of classes.now)) (map class_of classes.now)) }
+    ensures { IfOk result (λ fitting. map class_of fitting.items
+        ≡ map (with_fitting_supertypes (map class_of classes.now)) (map class_of classes.now)) }
 {
     let mut fitting = Vec::new(alloc);
     for class in classes {
@@ -23,7 +24,8 @@ pub fn fitting_classes(alloc: Global, classes: &[Class]) -> Result<Vec<Class>, A
 }
 
 fn fitting_class(alloc: Global, classes: &[Class], class: &Class) -> Result<Class, AllocError>
-    ensures { IfOk result (λ row. class_of row ≡ with_fitting_supertypes (map class_of classes.now) (class_of class.now)) }
+    ensures { IfOk result (λ row.
+        class_of row ≡ with_fitting_supertypes (map class_of classes.now) (class_of class.now)) }
 {
     let name = class.name.as_str().to_string(alloc)?;
     let interfaces = fitting_interfaces(alloc, classes, &class.interfaces)?;
@@ -40,7 +42,8 @@ fn fitting_class(alloc: Global, classes: &[Class], class: &Class) -> Result<Clas
 
 #[tactic(auto, unfolding(wy_kernel::specs::View::present))]
 fn fitting_above(classes: &[Class], above: u32) -> u32
-    ensures { present result ≡ option_map (λ d. if is_interface_in (map class_of classes.now) d then object_class else d) (present above) }
+    ensures { present result ≡ option_map (λ d.
+        if is_interface_in (map class_of classes.now) d then object_class else d) (present above) }
 {
     if above == NONE {
         NONE
@@ -56,7 +59,8 @@ fn fitting_interfaces(
     classes: &[Class],
     interfaces: &[u32],
 ) -> Result<Vec<u32>, AllocError>
-    ensures { IfOk result (λ fitting. fitting.items ≡ filter (is_interface_in (map class_of classes.now)) interfaces.now) }
+    ensures { IfOk result (λ fitting.
+        fitting.items ≡ filter (is_interface_in (map class_of classes.now)) interfaces.now) }
 {
     interfaces
         .iter()

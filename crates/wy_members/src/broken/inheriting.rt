@@ -9,7 +9,8 @@ use wy_kernel::types::Method;
 
 /// Copies of the methods that aren't private, in their order.
 pub fn inheriting_methods(alloc: Global, methods: &[Method]) -> Result<Vec<Method>, AllocError>
-    ensures value { IfOk result (λ found. map method_of found.items ≡ filter (λ (m : PlainMethod). not m.is_private) (map method_of methods.now)) }
+    ensures value { IfOk result (λ found. map method_of found.items ≡ filter (λ (m : PlainMethod).
+        not m.is_private) (map method_of methods.now)) }
     ensures few { IfOk result (λ found. length found.items ≤ length methods.now) }
 {
     let mut found = Vec::new(alloc);

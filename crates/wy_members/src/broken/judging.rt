@@ -35,9 +35,11 @@ pub fn breach_in(
     judged: &Lineage,
     compared: &Lineage,
 ) -> Option<Breach>
-    requires judged { AreJudged (unit_of names.now) rows.now known.now classes.now (lineage_of judged.now) (lineage_of compared.now) }
+    requires judged { AreJudged (unit_of names.now) rows.now known.now classes.now
+        (lineage_of judged.now) (lineage_of compared.now) }
     requires few { length classes.now + 18 < 2 ^ 32 }
-    ensures { MatchOption result (KeepsRules (unit_of names.now)) (λ b. IsRefusal (unit_of names.now) b.rule b.token) }
+    ensures { MatchOption result (KeepsRules (unit_of names.now)) (λ b.
+        IsRefusal (unit_of names.now) b.rule b.token) }
 {
     let duplicate = least_duplicate(rows, known, classes);
     let unknown = unknown::least_in_classes(names, classes);
@@ -52,7 +54,9 @@ pub fn breach_in(
 }
 
 fn least_duplicate(rows: &Rows, known: &[Method], classes: &[&ClassSyntax]) -> Option<u32>
-    ensures { IsLeast (RepeatsIn (map class_of rows.now.classes.items) (map field_of rows.now.fields.items) (map method_of known.now) (map (λ k. class_syntax k.now) classes.now)) result }
+    ensures { IsLeast
+        (RepeatsIn (map class_of rows.now.classes.items) (map field_of rows.now.fields.items)
+        (map method_of known.now) (map (λ k. class_syntax k.now) classes.now)) result }
 {
     let in_classes = least_again(&rows.classes);
     let in_fields = least_again(&rows.fields);
@@ -68,7 +72,8 @@ fn least_bad_override(
     compared: &Lineage,
 ) -> Option<u32>
     requires { length classes.now + 18 < 2 ^ 32 }
-    ensures { IsLeast (BadOverridesIn (unit_of names.now) (lineage_of judged.now).classes (lineage_of compared.now) (map (λ k. class_syntax k.now) classes.now)) result }
+    ensures { IsLeast (BadOverridesIn (unit_of names.now) (lineage_of judged.now).classes
+        (lineage_of compared.now) (map (λ k. class_syntax k.now) classes.now)) result }
 {
     let supertypes = supertypes::least_in_classes(names, judged, classes);
     let overriding = least_overriding(judged, compared);
@@ -82,7 +87,8 @@ fn least_not_implemented(
     compared: &Lineage,
 ) -> Option<u32>
     requires { length classes.now + 18 < 2 ^ 32 }
-    ensures { IsLeast (NotImplementedsIn (lineage_of judged.now) (lineage_of compared.now) (map (λ k. class_syntax k.now) classes.now)) result }
+    ensures { IsLeast (NotImplementedsIn (lineage_of judged.now) (lineage_of compared.now)
+        (map (λ k. class_syntax k.now) classes.now)) result }
 {
     let declared = least_declared_abstract(judged);
     let left_in = least_left_abstract(judged, compared);

@@ -23,7 +23,8 @@ use wy_syntax::name::{WrittenBase, WrittenType};
 
 /// The methods of a program without the members of unknown types, those of the library first.
 pub fn known_methods(alloc: Global, names: &Names) -> Result<Vec<Method>, AllocError>
-    ensures value { IfOk result (λ methods. map method_of methods.items ≡ (table (known_part (unit_of names.now))).methods) }
+    ensures value { IfOk result (λ methods.
+        map method_of methods.items ≡ (table (known_part (unit_of names.now))).methods) }
     ensures few { IfOk result (λ methods. length methods.items < no_site) }
 {
     let mut methods = builtin::methods(alloc)?;
@@ -36,7 +37,8 @@ pub fn known_methods(alloc: Global, names: &Names) -> Result<Vec<Method>, AllocE
 }
 
 fn add_known_methods(rows: &mut Vec<Method>, alloc: Global, names: &Names) -> Result<(), AllocError>
-    ensures { OnOk result (map method_of rows.new.items ≡ map method_of rows.old.items ++ class_by_class (methods_of (unit_of names.now)) (known_part (unit_of names.now))) }
+    ensures { OnOk result (map method_of rows.new.items ≡ map method_of rows.old.items
+        ++ class_by_class (methods_of (unit_of names.now)) (known_part (unit_of names.now))) }
 {
     let mut number = FIRST_SOURCE_CLASS;
     let mut left = names.unit;
@@ -56,7 +58,8 @@ fn known_members<'a>(
     names: &Names,
     class: &'a ClassSyntax,
 ) -> Result<Vec<&'a Member>, AllocError>
-    ensures { IfOk result (λ members. members_seen members.items ≡ filter (is_known (unit_of names.now)) (map member_of class.now.members.items)) }
+    ensures { IfOk result (λ members. members_seen members.items
+        ≡ filter (is_known (unit_of names.now)) (map member_of class.now.members.items)) }
 {
     let mut members = Vec::new(alloc);
     let mut left = class.members.as_slice();
@@ -94,7 +97,8 @@ fn is_known_result(names: &Names, outcome: &Outcome) -> bool
 }
 
 fn are_known(names: &Names, params: &[Parameter]) -> bool
-    ensures { result ≡ list_all (λ (p : PlainParameter). is_known_type (unit_of names.now) p.ty) (map parameter_of params.now) }
+    ensures { result ≡ list_all (λ (p : PlainParameter).
+        is_known_type (unit_of names.now) p.ty) (map parameter_of params.now) }
 {
     let mut left = params;
     while let [first, behind @ ..] = left {

@@ -14,7 +14,8 @@ use wy_kernel::types::{Class, Method};
 use wy_overloads::lineage::Lineage;
 
 pub fn least_overriding(judged: &Lineage, compared: &Lineage) -> Option<u32>
-    ensures { IsLeast (Among (lineage_of compared.now).methods (OverridesAt (lineage_of judged.now).classes (lineage_of compared.now))) result }
+    ensures { IsLeast (Among (lineage_of compared.now).methods
+        (OverridesAt (lineage_of judged.now).classes (lineage_of compared.now))) result }
 {
     let mut least = None;
     for k in 0..compared.methods() {
@@ -26,13 +27,15 @@ pub fn least_overriding(judged: &Lineage, compared: &Lineage) -> Option<u32>
 }
 
 fn is_overriding_wrong(judged: &Lineage, compared: &Lineage, m: &Method) -> bool
-    ensures { IsTrue result ↔ (IsJudgedIn (lineage_of judged.now).classes m.now.class × OverridesWrongly (lineage_of compared.now) (method_of m.now)) }
+    ensures { IsTrue result ↔ (IsJudgedIn (lineage_of judged.now).classes m.now.class
+        × OverridesWrongly (lineage_of compared.now) (method_of m.now)) }
 {
     is_judged(judged, m.class) && overrides_wrongly(compared, m)
 }
 
 pub fn least_inheriting(judged: &Lineage, compared: &Lineage) -> Option<u32>
-    ensures { IsLeast (Among (lineage_of compared.now).classes (InheritsAt (lineage_of judged.now).classes (lineage_of compared.now))) result }
+    ensures { IsLeast (Among (lineage_of compared.now).classes
+        (InheritsAt (lineage_of judged.now).classes (lineage_of compared.now))) result }
 {
     let mut least = None;
     for c in 0..compared.classes() {
@@ -44,13 +47,15 @@ pub fn least_inheriting(judged: &Lineage, compared: &Lineage) -> Option<u32>
 }
 
 fn is_inheriting_wrong(judged: &Lineage, compared: &Lineage, c: u32) -> bool
-    ensures { IsTrue result ↔ (IsJudgedIn (lineage_of judged.now).classes c × InheritsWrongly (lineage_of compared.now) c) }
+    ensures { IsTrue result ↔ (IsJudgedIn (lineage_of judged.now).classes c
+        × InheritsWrongly (lineage_of compared.now) c) }
 {
     is_judged(judged, c) && inherits_wrongly(compared, c)
 }
 
 pub fn least_left_abstract(judged: &Lineage, compared: &Lineage) -> Option<u32>
-    ensures { IsLeast (Among (lineage_of compared.now).classes (LeavesAt (lineage_of judged.now).classes (lineage_of compared.now))) result }
+    ensures { IsLeast (Among (lineage_of compared.now).classes
+        (LeavesAt (lineage_of judged.now).classes (lineage_of compared.now))) result }
 {
     let mut least = None;
     for c in 0..compared.classes() {
@@ -62,13 +67,15 @@ pub fn least_left_abstract(judged: &Lineage, compared: &Lineage) -> Option<u32>
 }
 
 fn is_left_incomplete(judged: &Lineage, compared: &Lineage, c: u32, class: &Class) -> bool
-    ensures { IsTrue result ↔ (IsJudgedIn (lineage_of judged.now).classes c × (class.now.is_abstract ≡ false) × LeavesAbstract (lineage_of compared.now) c) }
+    ensures { IsTrue result ↔ (IsJudgedIn (lineage_of judged.now).classes c
+        × (class.now.is_abstract ≡ false) × LeavesAbstract (lineage_of compared.now) c) }
 {
     is_judged(judged, c) && !class.is_abstract && leaves_abstract(compared, c)
 }
 
 pub fn least_declared_abstract(judged: &Lineage) -> Option<u32>
-    ensures { IsLeast (Among (lineage_of judged.now).methods (DeclaresAt (lineage_of judged.now).classes)) result }
+    ensures { IsLeast (Among (lineage_of judged.now).methods
+        (DeclaresAt (lineage_of judged.now).classes)) result }
 {
     let mut least = None;
     for k in 0..judged.methods() {
@@ -80,7 +87,8 @@ pub fn least_declared_abstract(judged: &Lineage) -> Option<u32>
 }
 
 fn is_declared_wrongly(judged: &Lineage, m: &Method) -> bool
-    ensures { IsTrue result ↔ (IsJudgedIn (lineage_of judged.now).classes m.now.class × (m.now.is_abstract ≡ true) × IsConcrete (lineage_of judged.now).classes m.now.class) }
+    ensures { IsTrue result ↔ (IsJudgedIn (lineage_of judged.now).classes m.now.class
+        × (m.now.is_abstract ≡ true) × IsConcrete (lineage_of judged.now).classes m.now.class) }
 {
     is_judged(judged, m.class) && m.is_abstract && is_concrete(judged, m.class)
 }

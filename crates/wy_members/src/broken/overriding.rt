@@ -31,7 +31,8 @@ pub fn overrides_wrongly(lineage: &Lineage, m: &Method) -> bool
 
 fn is_wrong_to_override(lineage: &Lineage, class: &Ty, m: &Method, other: &Method) -> bool
     requires { class.now ≡ class_type m.now.class }
-    ensures { IsTrue result ↔ WrongToOverride (lineage_of lineage.now).classes (method_of m.now) (method_of other.now) }
+    ensures { IsTrue result
+        ↔ WrongToOverride (lineage_of lineage.now).classes (method_of m.now) (method_of other.now) }
 {
     other.class != m.class
         && is_equivalent(lineage, class, m, other)
@@ -39,7 +40,8 @@ fn is_wrong_to_override(lineage: &Lineage, class: &Ty, m: &Method, other: &Metho
 }
 
 fn conflicts(lineage: &Lineage, m: &Method, other: &Method) -> bool
-    ensures { IsTrue result ↔ Conflicts (lineage_of lineage.now).classes (method_of m.now) (method_of other.now) }
+    ensures { IsTrue result
+        ↔ Conflicts (lineage_of lineage.now).classes (method_of m.now) (method_of other.now) }
 {
     other.is_final || m.form != other.form || !is_substitutable(lineage, &m.result, &other.result)
 }
@@ -54,7 +56,9 @@ pub fn is_inherited(lineage: &Lineage, c: u32, k: u32, m: &Method) -> bool
 }
 
 fn declares_equal(lineage: &Lineage, c: u32, m: &Method) -> bool
-    ensures { IsTrue result ↔ SomeMethod (lineage_of lineage.now) (λ j other. IsEquivalent (lineage_of lineage.now).classes (class_type c) (method_of m.now) other × (other.class ≡ c)) }
+    ensures { IsTrue result ↔ SomeMethod (lineage_of lineage.now) (λ j other.
+        IsEquivalent (lineage_of lineage.now).classes (class_type c) (method_of m.now) other
+        × (other.class ≡ c)) }
 {
     let class = type_of_class(c);
     for j in 0..lineage.methods() {
@@ -81,7 +85,8 @@ pub fn inherits_wrongly(lineage: &Lineage, c: u32) -> bool
 
 fn is_inherited_wrongly(lineage: &Lineage, c: u32, k: u32, m: &Method) -> bool
     requires { IsMethod (lineage_of lineage.now) k (method_of m.now) }
-    ensures { IsTrue result ↔ (Inherits (lineage_of lineage.now) c k (method_of m.now) × StandsWrongly (lineage_of lineage.now) (class_type c) (method_of m.now)) }
+    ensures { IsTrue result ↔ (Inherits (lineage_of lineage.now) c k (method_of m.now)
+        × StandsWrongly (lineage_of lineage.now) (class_type c) (method_of m.now)) }
 {
     is_inherited(lineage, c, k, m) && stands_wrongly(lineage, &type_of_class(c), m)
 }
@@ -118,7 +123,8 @@ fn has_no_common_result(lineage: &Lineage, ty: &Ty, m: &Method) -> bool
 
 fn is_common_result(lineage: &Lineage, ty: &Ty, m: &Method, j: u32, other: &Method) -> bool
     requires { IsMethod (lineage_of lineage.now) j (method_of other.now) }
-    ensures { IsTrue result ↔ IsCommonResult (lineage_of lineage.now) ty.now (method_of m.now) j (method_of other.now) }
+    ensures { IsTrue result
+        ↔ IsCommonResult (lineage_of lineage.now) ty.now (method_of m.now) j (method_of other.now) }
 {
     is_equivalent(lineage, ty, m, other)
         && is_counted(lineage, ty, j, other)
@@ -138,7 +144,9 @@ fn stands_for_each(lineage: &Lineage, ty: &Ty, m: &Method) -> bool
 }
 
 fn stands_for(lineage: &Lineage, ty: &Ty, m: &Method, other: &Method) -> bool
-    ensures { IsTrue result ↔ (IsEquivalent (lineage_of lineage.now).classes ty.now (method_of m.now) (method_of other.now) → Substitutable (lineage_of lineage.now).classes m.now.result other.now.result) }
+    ensures { IsTrue result ↔ (IsEquivalent (lineage_of lineage.now).classes ty.now
+        (method_of m.now) (method_of other.now)
+        → Substitutable (lineage_of lineage.now).classes m.now.result other.now.result) }
 {
     !is_equivalent(lineage, ty, m, other) || is_substitutable(lineage, &m.result, &other.result)
 }

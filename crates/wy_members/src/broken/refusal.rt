@@ -21,7 +21,8 @@ use wy_overloads::lineage::Lineage;
 /// The rule that the declarations of a program break at their least token, and there the first, if they break one.
 pub fn refusal(alloc: Global, names: &Names, rows: &Rows) -> Result<Option<Breach>, AllocError>
     requires { AreRows (unit_of names.now) rows.now }
-    ensures { IfOk result (λ found. MatchOption found (KeepsRules (unit_of names.now)) (λ b. IsRefusal (unit_of names.now) b.rule b.token)) }
+    ensures { IfOk result (λ found. MatchOption found (KeepsRules (unit_of names.now)) (λ b.
+        IsRefusal (unit_of names.now) b.rule b.token)) }
 {
     let texts = classes_in(alloc, names.unit)?;
     let known = known_methods(alloc, names)?;

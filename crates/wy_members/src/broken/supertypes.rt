@@ -26,7 +26,8 @@ const THROWABLE: u32 = 2;
 
 pub fn least_in_classes(names: &Names, judged: &Lineage, classes: &[&ClassSyntax]) -> Option<u32>
     requires { length classes.now + 18 < 2 ^ 32 }
-    ensures { IsLeast (Among (map (λ k. class_of k.now) classes.now) (WrongAboveAt (unit_of names.now) (lineage_of judged.now).classes)) result }
+    ensures { IsLeast (Among (map (λ k. class_of k.now) classes.now)
+        (WrongAboveAt (unit_of names.now) (lineage_of judged.now).classes)) result }
 {
     let mut least = None;
     for (i, class) in classes.iter().enumerate() {
@@ -38,19 +39,23 @@ pub fn least_in_classes(names: &Names, judged: &Lineage, classes: &[&ClassSyntax
 }
 
 fn is_wrong(names: &Names, judged: &Lineage, number: u32, class: &ClassSyntax) -> bool
-    ensures { IsTrue result ↔ (IsJudgedIn (lineage_of judged.now).classes number × HasWrongAbove (unit_of names.now) (lineage_of judged.now).classes (class_of class.now)) }
+    ensures { IsTrue result ↔ (IsJudgedIn (lineage_of judged.now).classes number
+        × HasWrongAbove (unit_of names.now) (lineage_of judged.now).classes (class_of class.now)) }
 {
     is_judged(judged, number) && has_wrong_above(names, judged, class)
 }
 
 fn has_wrong_above(names: &Names, lineage: &Lineage, class: &ClassSyntax) -> bool
-    ensures { IsTrue result ↔ HasWrongAbove (unit_of names.now) (lineage_of lineage.now).classes (class_of class.now) }
+    ensures { IsTrue result
+        ↔ HasWrongAbove (unit_of names.now) (lineage_of lineage.now).classes (class_of class.now) }
 {
     names_class(names, lineage, &class.interfaces) || extends_wrongly(names, lineage, &class.above)
 }
 
 fn names_class(names: &Names, lineage: &Lineage, written: &[Named]) -> bool
-    ensures { IsTrue result ↔ ((i : ℕ) × (name : NamedSyntax) × (slice_get (map named_of written.now) i ≡ Some name) × NamesClass (unit_of names.now) (lineage_of lineage.now).classes name) }
+    ensures { IsTrue result
+        ↔ ((i : ℕ) × (name : NamedSyntax) × (slice_get (map named_of written.now) i ≡ Some name)
+        × NamesClass (unit_of names.now) (lineage_of lineage.now).classes name) }
 {
     for name in written {
         if is_name_of_class(names, lineage, name) {
@@ -61,7 +66,8 @@ fn names_class(names: &Names, lineage: &Lineage, written: &[Named]) -> bool
 }
 
 fn is_name_of_class(names: &Names, lineage: &Lineage, name: &Named) -> bool
-    ensures { IsTrue result ↔ NamesClass (unit_of names.now) (lineage_of lineage.now).classes (named_of name.now) }
+    ensures { IsTrue result
+        ↔ NamesClass (unit_of names.now) (lineage_of lineage.now).classes (named_of name.now) }
 {
     match names.denoted(name.name.as_str()) {
         Some(d) => d < lineage.classes() && !lineage.class(d).is_interface,
@@ -70,7 +76,8 @@ fn is_name_of_class(names: &Names, lineage: &Lineage, name: &Named) -> bool
 }
 
 fn extends_wrongly(names: &Names, lineage: &Lineage, above: &Option<Named>) -> bool
-    ensures { IsTrue result ↔ ExtendsWrongly (unit_of names.now) (lineage_of lineage.now).classes (option_map named_of above.now) }
+    ensures { IsTrue result ↔ ExtendsWrongly (unit_of names.now) (lineage_of lineage.now).classes
+        (option_map named_of above.now) }
 {
     match above {
         Some(name) => is_wrong_to_extend(names, lineage, name),
@@ -79,7 +86,8 @@ fn extends_wrongly(names: &Names, lineage: &Lineage, above: &Option<Named>) -> b
 }
 
 fn is_wrong_to_extend(names: &Names, lineage: &Lineage, name: &Named) -> bool
-    ensures { IsTrue result ↔ ExtendsWrongly (unit_of names.now) (lineage_of lineage.now).classes (Some (named_of name.now)) }
+    ensures { IsTrue result ↔ ExtendsWrongly (unit_of names.now) (lineage_of lineage.now).classes
+        (Some (named_of name.now)) }
 {
     match names.denoted(name.name.as_str()) {
         Some(d) => d < lineage.classes() && is_not_extended(lineage, d, lineage.class(d)),
@@ -94,7 +102,8 @@ fn is_not_extended(lineage: &Lineage, d: u32, class: &Class) -> bool
 }
 
 fn is_hidden_in_library(lineage: &Lineage, d: u32) -> bool
-    ensures { IsTrue result ↔ ((d < 18) × (d ≡ 0 → ⊥) × (Supertype (lineage_of lineage.now).classes d 2 → ⊥)) }
+    ensures { IsTrue result
+        ↔ ((d < 18) × (d ≡ 0 → ⊥) × (Supertype (lineage_of lineage.now).classes d 2 → ⊥)) }
 {
     d < FIRST_SOURCE_CLASS && d != OBJECT && !is_supertype(lineage, d, THROWABLE)
 }

@@ -8,7 +8,8 @@ use std::alloc::{AllocError, Global};
 use wy_syntax::declaration::{ClassSyntax, Declaration};
 
 pub fn classes_in(alloc: Global, unit: &[Declaration]) -> Result<Vec<&ClassSyntax>, AllocError>
-    ensures { IfOk result (λ classes. map (λ k. class_of k.now) classes.items ≡ classes_of (map declaration_of unit.now)) }
+    ensures { IfOk result (λ classes.
+        map (λ k. class_of k.now) classes.items ≡ classes_of (map declaration_of unit.now)) }
 {
     let mut classes = Vec::new(alloc);
     for declaration in unit {
@@ -21,7 +22,8 @@ fn take_class<'a>(
     classes: &mut Vec<&'a ClassSyntax>,
     declaration: &'a Declaration,
 ) -> Result<(), AllocError>
-    ensures { OnOk result (map (λ k. class_of k.now) classes.new.items ≡ map (λ k. class_of k.now) classes.old.items ++ option_to_list (class_in (declaration_of declaration.now))) }
+    ensures { OnOk result (map (λ k. class_of k.now) classes.new.items ≡ map (λ k. class_of k.now)
+        classes.old.items ++ option_to_list (class_in (declaration_of declaration.now))) }
 {
     match declaration {
         Declaration::Class(class) => {

@@ -14,7 +14,8 @@ use wy_syntax::declaration::{ClassSyntax, Header, Member, Outcome, Parameter};
 use wy_syntax::name::{Named, WrittenBase, WrittenType};
 
 pub fn least_in_classes(names: &Names, classes: &[&ClassSyntax]) -> Option<u32>
-    ensures { IsLeast (Among (map (λ k. class_of k.now) classes.now) (λ i k. UnknownInClass (unit_of names.now) k)) result }
+    ensures { IsLeast (Among (map (λ k. class_of k.now) classes.now) (λ i k.
+        UnknownInClass (unit_of names.now) k)) result }
 {
     let mut least = None;
     for class in classes {
@@ -64,7 +65,8 @@ fn is_unknown(names: &Names, name: &str) -> bool
 }
 
 fn least_in_members(names: &Names, class: &str, members: &[Member]) -> Option<u32>
-    ensures { IsLeast (Among (map member_of members.now) (λ i m. UnknownInMember (unit_of names.now) class.now m)) result }
+    ensures { IsLeast (Among (map member_of members.now) (λ i m.
+        UnknownInMember (unit_of names.now) class.now m)) result }
 {
     let mut least = None;
     for member in members {
@@ -74,7 +76,8 @@ fn least_in_members(names: &Names, class: &str, members: &[Member]) -> Option<u3
 }
 
 fn least_in_member(names: &Names, class: &str, member: &Member) -> Option<u32>
-    ensures { IsLeast (UnknownInMember (unit_of names.now) class.now (member_of member.now)) result }
+    ensures { IsLeast
+        (UnknownInMember (unit_of names.now) class.now (member_of member.now)) result }
 {
     match member {
         Member::Fields { ty, .. } => least_in_type(names, ty),
@@ -118,7 +121,8 @@ fn least_in_header(names: &Names, header: &Header) -> Option<u32>
 }
 
 fn least_in_parameters(names: &Names, params: &[Parameter]) -> Option<u32>
-    ensures { IsLeast (Among (map parameter_of params.now) (λ i p. UnknownType (unit_of names.now) p.ty)) result }
+    ensures { IsLeast
+        (Among (map parameter_of params.now) (λ i p. UnknownType (unit_of names.now) p.ty)) result }
 {
     let mut least = None;
     for param in params {

@@ -14,13 +14,13 @@ ghost use Rattle.wy_state.specs.Seen.{given};
 ghost use Rattle.wy_steps.specs.Sets.{nothing};
 ghost use Rattle.wy_operation.specs.Found.{found_of};
 
+use crate::exception::{NULL_POINTER, NUMBER_FORMAT, fail};
 use crate::texts::found::Found;
 use crate::texts::number::absolute;
 use crate::texts::text::{is_text, made_text, plain_text};
 use wy_event::record::Use;
 use wy_kernel::form::LibOp;
 use wy_kernel::program::Program;
-use crate::exception::{NULL_POINTER, NUMBER_FORMAT, fail};
 use wy_record::Recorder;
 use wy_state::name::{object_text, type_text};
 use wy_state::parts::Halt;

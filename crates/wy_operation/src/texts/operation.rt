@@ -14,6 +14,7 @@ ghost use Rattle.wy_kernel.specs.Program as kernel;
 ghost use Rattle.wy_operation.specs.Operands.{carried};
 ghost use Rattle.wy_steps.specs.Steps.{joined_all};
 
+use crate::operand::Part;
 use crate::texts::found::Found;
 use crate::texts::one::library_one;
 use crate::texts::three::library_three;
@@ -21,7 +22,6 @@ use crate::texts::two::library_two;
 use wy_event::record::{Kind, Use};
 use wy_kernel::form::LibOp;
 use wy_kernel::program::Program;
-use crate::operand::Part;
 use wy_record::Recorder;
 use wy_state::parts::{Draft, Halt};
 use wy_state::state::State;

@@ -12,7 +12,7 @@ ghost use Rattle.wy_steps.specs.Sets.{nothing};
 ghost use Rattle.wy_value.specs.Encoding.{utf8_of};
 ghost use Rattle.wy_operation.specs.Words.{printed};
 
-use crate::texts::text::spelled;
+use crate::texts::text::spelling_units;
 use std::alloc::{AllocError, Global};
 use wy_event::record::Use;
 use wy_kernel::program::Program;
@@ -37,7 +37,7 @@ pub fn print_text<R: Recorder>(
         (printed w ends_line site (given value uses.now)) (shape R.keeps R.kept state.new) }
     ensures around { Keeps result state.old.calls state.new.calls }
 {
-    let units = spelled(state, program, value)?;
+    let units = spelling_units(state, program, value)?;
     let bytes = line(state.alloc, units.as_slice(), ends_line)?;
     state.print(site, value, bytes.as_slice(), uses)
 }

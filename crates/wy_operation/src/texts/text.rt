@@ -16,11 +16,11 @@ ghost use Rattle.wy_value.specs.Numeral.{text_of};
 ghost use Rattle.wy_operation.specs.Found.{found_of};
 ghost use Rattle.wy_operation.specs.Words.{equality, joined_texts, sameness, text_of_event};
 
+use crate::operand::Part;
 use crate::texts::found::Found;
 use std::alloc::{AllocError, Global};
 use wy_event::record::Use;
 use wy_kernel::program::Program;
-use crate::operand::Part;
 use wy_record::Recorder;
 use wy_state::parts::Halt;
 use wy_state::state::State;
@@ -47,7 +47,7 @@ pub fn plain_text(alloc: Global, value: Value) -> Result<Vec<u16>, AllocError>
 }
 
 /// The units that a value is spelled by; what is spelled is never an object.
-pub fn spelled<R: Recorder>(
+pub fn spelling_units<R: Recorder>(
     state: &State<'_, R>,
     program: &Program,
     value: Value,
@@ -109,8 +109,8 @@ pub fn join_texts<R: Recorder>(
         (shape R.keeps R.kept state.new) }
     ensures around { Keeps result state.old.calls state.new.calls }
 {
-    let mut units = spelled(state, program, left)?;
-    let behind = spelled(state, program, right)?;
+    let mut units = spelling_units(state, program, left)?;
+    let behind = spelling_units(state, program, right)?;
     units.extend_from_slice(behind.as_slice())?;
     make_text(state, site, units, uses)
 }

@@ -13,13 +13,13 @@ ghost use Rattle.wy_operation.specs.Found.{found_of};
 ghost use Rattle.wy_kernel.specs.Program as kernel;
 ghost use Rattle.wy_value.specs.Text.{part_of};
 
+use crate::exception::{NULL_POINTER, STRING_INDEX, fail};
 use crate::texts::found::Found;
 use crate::texts::text::{is_text, made_text};
 use std::alloc::{AllocError, Global};
 use wy_event::record::Use;
 use wy_kernel::form::LibOp;
 use wy_kernel::program::Program;
-use crate::exception::{NULL_POINTER, STRING_INDEX, fail};
 use wy_record::Recorder;
 use wy_state::parts::Halt;
 use wy_state::state::State;

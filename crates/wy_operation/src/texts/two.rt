@@ -11,6 +11,7 @@ ghost use Rattle.wy_state.specs.Seen.{given};
 ghost use Rattle.wy_steps.specs.Sets.{nothing};
 ghost use Rattle.wy_operation.specs.Found.{found_of};
 
+use crate::exception::{NULL_POINTER, STRING_INDEX, fail};
 use crate::texts::found::Found;
 use crate::texts::number::{greater, lesser};
 use crate::texts::text::{are_same, is_text};
@@ -18,7 +19,6 @@ use crate::texts::three::{find_part, part_or_fail};
 use wy_event::record::Use;
 use wy_kernel::form::LibOp;
 use wy_kernel::program::Program;
-use crate::exception::{NULL_POINTER, STRING_INDEX, fail};
 use wy_record::Recorder;
 use wy_state::parts::Halt;
 use wy_state::state::State;

@@ -4,7 +4,7 @@ ghost use Rattle.wy_outside.specs.Counts.{RoseAt};
 ghost use Rattle.wy_outside.specs.Failing.{uncalled, fails_next, after_call, FailsExactly};
 ghost use Rattle.wy_outside.specs.Sink.{is_failed, Appends};
 
-use crate::count::raised;
+use crate::count::one_more;
 use crate::failing::FailingCalls;
 use crate::sink::{Sink, SinkError};
 use std::alloc::Global;
@@ -55,7 +55,7 @@ impl Sink for MemorySink {
     {
         if self.script.count_call() {
             let _ = self.written.extend_from_slice(&bytes[..bytes.len() / 2]);
-            self.faults = raised(self.faults);
+            self.faults = one_more(self.faults);
             return Err(SinkError::Failed);
         }
         self.written

@@ -3,7 +3,7 @@ ghost use Rattle.std.specs.Prelude.{◌≡◌, ◌≤◌, ℕ, length, take, Non
 ghost use Rattle.std.specs.Bool.{OnTrue, OnFalse};
 ghost use Rattle.std.specs.Io.KnownBytes.{Appends};
 
-use crate::count::raised;
+use crate::count::one_more;
 use crate::sink::{Sink, SinkError};
 use std::io;
 use std::io::{ErrorKind, Print, Write};
@@ -33,7 +33,7 @@ impl<R: Print> Sink for StdoutSink<R> {
         if write_whole(&mut io::writer(&self.rt), bytes) {
             Ok(())
         } else {
-            self.faults = raised(self.faults);
+            self.faults = one_more(self.faults);
             Err(SinkError::Failed)
         }
     }

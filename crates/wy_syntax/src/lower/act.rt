@@ -7,6 +7,7 @@ ghost use Rattle.wy_syntax.specs.Names.{width, widths, named, written};
 ghost use Rattle.wy_syntax.specs.Statements.{statement, effect, label, value, thrown, declared, declarators};
 ghost use Rattle.wy_syntax.specs.Syntax as plain;
 ghost use Rattle.wy_syntax.specs.View.{body_of, effect_of, expression_of, for_init_of, other_body_of, statement_of};
+ghost use Rattle.wy_tree.specs.Tokens.{token_limit};
 
 use crate::expression::Expression;
 use crate::lower::expression::expression;
@@ -33,7 +34,7 @@ pub fn lone(token: &Token, at: u32) -> Statement
 /// An expression with `;` behind it.
 #[tactic(auto, using(crate::proofs::StatementViews::view_effect))]
 pub fn performed(alloc: Global, tree: &Tree, first: u32) -> Result<Statement, AllocError>
-    requires { first + width (view tree.now) ≤ 1048576 }
+    requires { first + width (view tree.now) ≤ token_limit }
     ensures { IfOk result (λ s. statement_of s ≡ plain.Perform (effect first (view tree.now))) }
 {
     let effect = effect(alloc, tree, first)?;
@@ -48,7 +49,7 @@ pub fn declared(
     parts: &[Tree],
     first: u32,
 ) -> Result<Statement, AllocError>
-    requires { first + widths (views parts.now) ≤ 1048576 }
+    requires { first + widths (views parts.now) ≤ token_limit }
     ensures { IfOk result (λ s. statement_of s ≡ declared is_final first (views parts.now)) }
 {
     let [ty, variables, ..] = parts else {
@@ -71,7 +72,7 @@ pub fn thrown(
     first: u32,
     token: u32,
 ) -> Result<Statement, AllocError>
-    requires { first + widths (views parts.now) ≤ 1048576 }
+    requires { first + widths (views parts.now) ≤ token_limit }
     ensures { IfOk result (λ s. statement_of s ≡ thrown token first (views parts.now)) }
 {
     let [value, ..] = parts else {
@@ -89,7 +90,8 @@ pub fn broken(
     first: u32,
     token: u32,
 ) -> Result<Statement, AllocError>
-    ensures { IfOk result (λ s. statement_of s ≡ plain.Break (label first (views parts.now)) token) }
+    ensures { IfOk result (λ s.
+        statement_of s ≡ plain.Break (label first (views parts.now)) token) }
 {
     let label = label(alloc, parts, first)?;
     Ok(Statement::Break { label, token })
@@ -103,7 +105,8 @@ pub fn continued(
     first: u32,
     token: u32,
 ) -> Result<Statement, AllocError>
-    ensures { IfOk result (λ s. statement_of s ≡ plain.Continue (label first (views parts.now)) token) }
+    ensures { IfOk result (λ s.
+        statement_of s ≡ plain.Continue (label first (views parts.now)) token) }
 {
     let label = label(alloc, parts, first)?;
     Ok(Statement::Continue { label, token })
@@ -117,8 +120,9 @@ pub fn returned(
     first: u32,
     token: u32,
 ) -> Result<Statement, AllocError>
-    requires { first + widths (views parts.now) ≤ 1048576 }
-    ensures { IfOk result (λ s. statement_of s ≡ plain.Return (value first (views parts.now)) token) }
+    requires { first + widths (views parts.now) ≤ token_limit }
+    ensures { IfOk result (λ s.
+        statement_of s ≡ plain.Return (value first (views parts.now)) token) }
 {
     let value = value(alloc, parts, first)?;
     Ok(Statement::Return { value, token })
@@ -132,7 +136,8 @@ pub fn conditional(
     other: Option<Box<Statement>>,
     token: u32,
 ) -> Statement
-    ensures { statement_of result ≡ plain.If (expression_of test) (body_of main) (other_body_of other) token }
+    ensures { statement_of result ≡ plain.If (expression_of test) (body_of main)
+        (other_body_of other) token }
 {
     Statement::If {
         test,
@@ -167,7 +172,8 @@ pub fn counted(
     body: Box<Statement>,
     token: u32,
 ) -> Statement
-    ensures { statement_of result ≡ plain.For (for_init_of init) (option_map expression_of test) (map effect_of updates.items) (body_of body) token }
+    ensures { statement_of result ≡ plain.For (for_init_of init) (option_map expression_of test)
+        (map effect_of updates.items) (body_of body) token }
 {
     Statement::For {
         init,
@@ -194,7 +200,8 @@ pub fn labelled(
     at: u32,
     body: Box<Statement>,
 ) -> Result<Statement, AllocError>
-    ensures { IfOk result (λ s. statement_of s ≡ plain.Labelled (named at (view name.now)) (body_of body)) }
+    ensures { IfOk result (λ s.
+        statement_of s ≡ plain.Labelled (named at (view name.now)) (body_of body)) }
 {
     let name = named(alloc, name, at)?;
     Ok(Statement::Labelled { name, body })
@@ -208,8 +215,9 @@ pub fn declaration(
     variables: &Tree,
     first: u32,
 ) -> Result<Statement, AllocError>
-    requires { first + width (view ty.now) + width (view variables.now) ≤ 1048576 }
-    ensures { IfOk result (λ s. statement_of s ≡ plain.Declare false (written first (view ty.now)) (declarators (first + width (view ty.now)) (view variables.now))) }
+    requires { first + width (view ty.now) + width (view variables.now) ≤ token_limit }
+    ensures { IfOk result (λ s. statement_of s ≡ plain.Declare false (written first (view ty.now))
+        (declarators (first + width (view ty.now)) (view variables.now))) }
 {
     let declarators = declarators(alloc, variables, first + width(ty))?;
     let ty = written(alloc, ty, first)?;

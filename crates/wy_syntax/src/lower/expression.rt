@@ -6,6 +6,7 @@ ghost use Rattle.wy_tree.specs.Ast.{view, views, Node};
 ghost use Rattle.wy_syntax.specs.Names.{width, widths};
 ghost use Rattle.wy_syntax.specs.Expressions.{expression, three, four, assignment, choice, binary, unary, cast, postfix, primary, creation, array, sizes, listed, elements, inside, arguments_of, arguments, initial};
 ghost use Rattle.wy_syntax.specs.View.{expression_of, inner_of, initial_of, element_of, elements_of, row_of, base_seen};
+ghost use Rattle.wy_tree.specs.Tokens.{token_limit};
 
 use crate::expression::{Element, Expression, Initial};
 use crate::lower::made::{
@@ -22,7 +23,7 @@ use wy_tree::tree::{Form, Tree};
 #[cycle(lowering)]
 #[tactic(auto, using(wy_tree::proofs::Views::view_leaf, wy_tree::proofs::Views::view_node))]
 pub fn expression(alloc: Global, tree: &Tree, first: u32) -> Result<Expression, AllocError>
-    requires { first + width (view tree.now) ≤ 1048576 }
+    requires { first + width (view tree.now) ≤ token_limit }
     ensures { IfOk result (λ e. expression_of e ≡ expression first (view tree.now)) }
 {
     match tree {
@@ -34,7 +35,7 @@ pub fn expression(alloc: Global, tree: &Tree, first: u32) -> Result<Expression, 
 // The expression of a tree, to stand in another.
 #[cycle(lowering)]
 fn boxed(alloc: Global, tree: &Tree, first: u32) -> Result<Box<Expression>, AllocError>
-    requires { first + width (view tree.now) ≤ 1048576 }
+    requires { first + width (view tree.now) ≤ token_limit }
     ensures { IfOk result (λ e. inner_of e ≡ expression first (view tree.now)) }
 {
     Ok(Box::new(alloc, expression(alloc, tree, first)?)?)
@@ -48,7 +49,7 @@ fn production(
     parts: &[Tree],
     first: u32,
 ) -> Result<Expression, AllocError>
-    requires { first + widths (views parts.now) ≤ 1048576 }
+    requires { first + widths (views parts.now) ≤ token_limit }
     ensures { IfOk result (λ e. expression_of e ≡ expression first (Node form (views parts.now))) }
 {
     match form {
@@ -67,7 +68,7 @@ fn production(
 #[cycle(lowering)]
 #[tactic(auto, using(crate::proofs::ExpressionViews::view_wrong))]
 fn assignment(alloc: Global, parts: &[Tree], first: u32) -> Result<Expression, AllocError>
-    requires { first + widths (views parts.now) ≤ 1048576 }
+    requires { first + widths (views parts.now) ≤ token_limit }
     ensures { IfOk result (λ e. expression_of e ≡ assignment first (views parts.now)) }
 {
     let [left, sign, value] = parts else {
@@ -85,7 +86,7 @@ fn assignment(alloc: Global, parts: &[Tree], first: u32) -> Result<Expression, A
 #[cycle(lowering)]
 #[tactic(auto, using(crate::proofs::ExpressionViews::view_wrong))]
 fn choice(alloc: Global, parts: &[Tree], first: u32) -> Result<Expression, AllocError>
-    requires { first + widths (views parts.now) ≤ 1048576 }
+    requires { first + widths (views parts.now) ≤ token_limit }
     ensures { IfOk result (λ e. expression_of e ≡ choice first (views parts.now)) }
 {
     let [test, question, main, colon, other] = parts else {
@@ -103,7 +104,7 @@ fn choice(alloc: Global, parts: &[Tree], first: u32) -> Result<Expression, Alloc
 #[cycle(lowering)]
 #[tactic(auto, using(crate::proofs::ExpressionViews::view_wrong))]
 fn binary(alloc: Global, parts: &[Tree], first: u32) -> Result<Expression, AllocError>
-    requires { first + widths (views parts.now) ≤ 1048576 }
+    requires { first + widths (views parts.now) ≤ token_limit }
     ensures { IfOk result (λ e. expression_of e ≡ binary first (views parts.now)) }
 {
     let [left, sign, right] = parts else {
@@ -124,7 +125,7 @@ fn binary(alloc: Global, parts: &[Tree], first: u32) -> Result<Expression, Alloc
 #[cycle(lowering)]
 #[tactic(auto, using(crate::proofs::ExpressionViews::view_wrong))]
 fn unary(alloc: Global, parts: &[Tree], first: u32) -> Result<Expression, AllocError>
-    requires { first + widths (views parts.now) ≤ 1048576 }
+    requires { first + widths (views parts.now) ≤ token_limit }
     ensures { IfOk result (λ e. expression_of e ≡ unary first (views parts.now)) }
 {
     let [sign, operand] = parts else {
@@ -140,7 +141,7 @@ fn unary(alloc: Global, parts: &[Tree], first: u32) -> Result<Expression, AllocE
 #[cycle(lowering)]
 #[tactic(auto, using(crate::proofs::ExpressionViews::view_wrong))]
 fn cast(alloc: Global, parts: &[Tree], first: u32) -> Result<Expression, AllocError>
-    requires { first + widths (views parts.now) ≤ 1048576 }
+    requires { first + widths (views parts.now) ≤ token_limit }
     ensures { IfOk result (λ e. expression_of e ≡ cast first (views parts.now)) }
 {
     let [paren, ty, close, operand] = parts else {
@@ -154,7 +155,7 @@ fn cast(alloc: Global, parts: &[Tree], first: u32) -> Result<Expression, AllocEr
 #[cycle(lowering)]
 #[tactic(auto, using(crate::proofs::ExpressionViews::view_wrong))]
 fn postfix(alloc: Global, parts: &[Tree], first: u32) -> Result<Expression, AllocError>
-    requires { first + widths (views parts.now) ≤ 1048576 }
+    requires { first + widths (views parts.now) ≤ token_limit }
     ensures { IfOk result (λ e. expression_of e ≡ postfix first (views parts.now)) }
 {
     match parts {
@@ -170,7 +171,7 @@ fn postfix(alloc: Global, parts: &[Tree], first: u32) -> Result<Expression, Allo
 #[cycle(lowering)]
 #[tactic(auto, using(crate::proofs::ExpressionViews::view_wrong))]
 fn primary(alloc: Global, parts: &[Tree], first: u32) -> Result<Expression, AllocError>
-    requires { first + widths (views parts.now) ≤ 1048576 }
+    requires { first + widths (views parts.now) ≤ token_limit }
     ensures { IfOk result (λ e. expression_of e ≡ primary first (views parts.now)) }
 {
     match parts {
@@ -194,8 +195,11 @@ fn three(
     last: &Tree,
     first: u32,
 ) -> Result<Expression, AllocError>
-    requires { first + width (view front.now) + width (view middle.now) + width (view last.now) ≤ 1048576 }
-    ensures { IfOk result (λ e. expression_of e ≡ three first (view front.now) (view middle.now) (view last.now) (expression first (view front.now)) (expression (first + width (view front.now)) (view middle.now))) }
+    requires { first + width (view front.now) + width (view middle.now) + width
+        (view last.now) ≤ token_limit }
+    ensures { IfOk result (λ e. expression_of e ≡ three first (view front.now) (view middle.now)
+        (view last.now) (expression first (view front.now))
+        (expression (first + width (view front.now)) (view middle.now))) }
 {
     let behind = first + width(front);
     if is_leaf(front, Kind::OpenParen) {
@@ -220,8 +224,12 @@ fn four(
     last: &Tree,
     first: u32,
 ) -> Result<Expression, AllocError>
-    requires { first + width (view front.now) + width (view middle.now) + width (view inner.now) + width (view last.now) ≤ 1048576 }
-    ensures { IfOk result (λ e. expression_of e ≡ four first (view front.now) (view middle.now) (view inner.now) (expression first (view front.now)) (expression (first + width (view front.now) + width (view middle.now)) (view inner.now)) (arguments_of (first + width (view front.now) + width (view middle.now) + width (view inner.now)) (view last.now))) }
+    requires { first + width (view front.now) + width (view middle.now) + width
+        (view inner.now) + width (view last.now) ≤ token_limit }
+    ensures { IfOk result (λ e. expression_of e ≡ four first (view front.now) (view middle.now)
+        (view inner.now) (expression first (view front.now)) (expression (first + width
+        (view front.now) + width (view middle.now)) (view inner.now)) (arguments_of (first + width
+        (view front.now) + width (view middle.now) + width (view inner.now)) (view last.now))) }
 {
     let behind = first + width(front);
     let at = behind + width(middle);
@@ -242,7 +250,7 @@ fn four(
 #[cycle(lowering)]
 #[tactic(auto, using(crate::proofs::ExpressionViews::view_wrong))]
 fn creation(alloc: Global, parts: &[Tree], first: u32) -> Result<Expression, AllocError>
-    requires { first + widths (views parts.now) ≤ 1048576 }
+    requires { first + widths (views parts.now) ≤ token_limit }
     ensures { IfOk result (λ e. expression_of e ≡ creation first (views parts.now)) }
 {
     let [word, ty, behind @ ..] = parts else {
@@ -268,8 +276,9 @@ fn array(
     first: u32,
     at: u32,
 ) -> Result<Expression, AllocError>
-    requires { at + width (view base.now) + widths (views brackets.now) ≤ 1048576 }
-    ensures { IfOk result (λ e. expression_of e ≡ array first at (view base.now) (views brackets.now)) }
+    requires { at + width (view base.now) + widths (views brackets.now) ≤ token_limit }
+    ensures { IfOk result (λ e.
+        expression_of e ≡ array first at (view base.now) (views brackets.now)) }
 {
     let [bracket, inner, behind @ ..] = brackets else {
         return Ok(Expression::Wrong);
@@ -294,8 +303,9 @@ fn array(
 // What stands in brackets, up to a pair with nothing between.
 #[cycle(lowering)]
 fn sizes(alloc: Global, parts: &[Tree], first: u32) -> Result<Vec<Expression>, AllocError>
-    requires { first + widths (views parts.now) ≤ 1048576 }
-    ensures { IfOk result (λ found. row_of (map expression_of found.items) ≡ sizes first (views parts.now)) }
+    requires { first + widths (views parts.now) ≤ token_limit }
+    ensures { IfOk result (λ found.
+        row_of (map expression_of found.items) ≡ sizes first (views parts.now)) }
 {
     let mut found = Vec::new(alloc);
     let mut at = first;
@@ -324,8 +334,9 @@ fn listed(
     first: u32,
     token: u32,
 ) -> Result<Expression, AllocError>
-    requires { first + widths (views parts.now) ≤ 1048576 }
-    ensures { IfOk result (λ e. expression_of e ≡ listed token (base_seen base) base_token brackets first (views parts.now)) }
+    requires { first + widths (views parts.now) ≤ token_limit }
+    ensures { IfOk result (λ e. expression_of e
+        ≡ listed token (base_seen base) base_token brackets first (views parts.now)) }
 {
     let mut brace = first;
     let mut left = parts;
@@ -351,7 +362,8 @@ fn listed(
 #[cycle(lowering)]
 fn elements(alloc: Global, parts: &[Tree], first: u32) -> Result<Vec<Element>, AllocError>
     requires { first + widths (views parts.now) < 1048576 }
-    ensures { IfOk result (λ found. elements_of (map element_of found.items) ≡ elements first (views parts.now)) }
+    ensures { IfOk result (λ found.
+        elements_of (map element_of found.items) ≡ elements first (views parts.now)) }
 {
     let mut found = Vec::new(alloc);
     let mut before = first;
@@ -372,7 +384,7 @@ fn elements(alloc: Global, parts: &[Tree], first: u32) -> Result<Vec<Element>, A
 #[cycle(lowering)]
 #[tactic(auto, using(crate::proofs::ExpressionViews::view_value, crate::proofs::ExpressionViews::view_listed))]
 pub fn initial(alloc: Global, tree: &Tree, first: u32) -> Result<Initial, AllocError>
-    requires { first + width (view tree.now) ≤ 1048576 }
+    requires { first + width (view tree.now) ≤ token_limit }
     ensures { IfOk result (λ given. initial_of given ≡ initial first (view tree.now)) }
 {
     match parts_of(tree, Form::Init) {
@@ -393,8 +405,9 @@ pub fn initial(alloc: Global, tree: &Tree, first: u32) -> Result<Initial, AllocE
 // The elements between braces, by all the parts.
 #[cycle(lowering)]
 fn inside(alloc: Global, parts: &[Tree], first: u32) -> Result<Vec<Element>, AllocError>
-    requires { first + widths (views parts.now) ≤ 1048576 }
-    ensures { IfOk result (λ found. elements_of (map element_of found.items) ≡ inside first (Node Form.Init (views parts.now))) }
+    requires { first + widths (views parts.now) ≤ token_limit }
+    ensures { IfOk result (λ found. elements_of (map element_of found.items)
+        ≡ inside first (Node Form.Init (views parts.now))) }
 {
     let [brace, behind @ ..] = parts else {
         return Ok(Vec::new(alloc));
@@ -408,8 +421,9 @@ fn inside(alloc: Global, parts: &[Tree], first: u32) -> Result<Vec<Element>, All
 /// The arguments of a call, by a tree whose first token has this number.
 #[cycle(lowering)]
 pub fn arguments_of(alloc: Global, tree: &Tree, first: u32) -> Result<Vec<Expression>, AllocError>
-    requires { first + width (view tree.now) ≤ 1048576 }
-    ensures { IfOk result (λ found. row_of (map expression_of found.items) ≡ arguments_of first (view tree.now)) }
+    requires { first + width (view tree.now) ≤ token_limit }
+    ensures { IfOk result (λ found.
+        row_of (map expression_of found.items) ≡ arguments_of first (view tree.now)) }
 {
     let Some(parts) = parts_of(tree, Form::Args) else {
         return Ok(Vec::new(alloc));
@@ -423,8 +437,9 @@ pub fn arguments_of(alloc: Global, tree: &Tree, first: u32) -> Result<Vec<Expres
 // Expressions with one part behind each, or `)` alone.
 #[cycle(lowering)]
 fn arguments(alloc: Global, parts: &[Tree], first: u32) -> Result<Vec<Expression>, AllocError>
-    requires { first + widths (views parts.now) ≤ 1048576 }
-    ensures { IfOk result (λ found. row_of (map expression_of found.items) ≡ arguments first (views parts.now)) }
+    requires { first + widths (views parts.now) ≤ token_limit }
+    ensures { IfOk result (λ found.
+        row_of (map expression_of found.items) ≡ arguments first (views parts.now)) }
 {
     let mut found = Vec::new(alloc);
     let mut at = first;

@@ -6,6 +6,7 @@ ghost use Rattle.wy_syntax.specs.Names.{width, widths, written};
 ghost use Rattle.wy_syntax.specs.Statements.{effect, effects, effects_behind, for_parts, for_init, label, value, declarators};
 ghost use Rattle.wy_syntax.specs.Syntax as plain;
 ghost use Rattle.wy_syntax.specs.View.{effect_of, expression_of, for_init_of, named_of};
+ghost use Rattle.wy_tree.specs.Tokens.{token_limit};
 
 use crate::expression::Expression;
 use crate::lower::expression::expression;
@@ -19,7 +20,7 @@ use wy_tree::tree::{Form, Tree};
 
 /// An expression that is a statement.
 pub fn effect(alloc: Global, tree: &Tree, first: u32) -> Result<Effect, AllocError>
-    requires { first + width (view tree.now) ≤ 1048576 }
+    requires { first + width (view tree.now) ≤ token_limit }
     ensures { IfOk result (λ e. effect_of e ≡ effect first (view tree.now)) }
 {
     let value = expression(alloc, tree, first)?;
@@ -36,8 +37,9 @@ fn effects_behind(
     parts: &[Tree],
     first: u32,
 ) -> Result<Vec<Effect>, AllocError>
-    requires { first + widths (views parts.now) ≤ 1048576 }
-    ensures { IfOk result (λ found. map effect_of found.items ≡ map effect_of before.items ++ effects_behind first (views parts.now)) }
+    requires { first + widths (views parts.now) ≤ token_limit }
+    ensures { IfOk result (λ found. map effect_of found.items ≡ map effect_of before.items
+        ++ effects_behind first (views parts.now)) }
 {
     let mut found = before;
     let mut at = first;
@@ -56,7 +58,7 @@ fn effects_behind(
 
 /// Expressions with commas between them, up to a `)`.
 pub fn effects(alloc: Global, parts: &[Tree], first: u32) -> Result<Vec<Effect>, AllocError>
-    requires { first + widths (views parts.now) ≤ 1048576 }
+    requires { first + widths (views parts.now) ≤ token_limit }
     ensures { IfOk result (λ found. map effect_of found.items ≡ effects first (views parts.now)) }
 {
     let mut found = Vec::new(alloc);
@@ -78,8 +80,9 @@ fn declared(
     variables: &Tree,
     first: u32,
 ) -> Result<ForInit, AllocError>
-    requires { first + width (view ty.now) + width (view variables.now) ≤ 1048576 }
-    ensures { IfOk result (λ i. for_init_of i ≡ plain.ForInit.Declared is_final (written first (view ty.now)) (declarators (first + width (view ty.now)) (view variables.now))) }
+    requires { first + width (view ty.now) + width (view variables.now) ≤ token_limit }
+    ensures { IfOk result (λ i. for_init_of i ≡ plain.ForInit.Declared is_final (written first
+        (view ty.now)) (declarators (first + width (view ty.now)) (view variables.now))) }
 {
     let declarators = declarators(alloc, variables, first + width(ty))?;
     let ty = written(alloc, ty, first)?;
@@ -92,15 +95,16 @@ fn declared(
 
 // Expressions, which are three parts or more.
 fn performed(alloc: Global, parts: &[Tree], first: u32) -> Result<ForInit, AllocError>
-    requires { first + widths (views parts.now) ≤ 1048576 }
-    ensures { IfOk result (λ i. for_init_of i ≡ plain.ForInit.Effects (effects first (views parts.now))) }
+    requires { first + widths (views parts.now) ≤ token_limit }
+    ensures { IfOk result (λ i.
+        for_init_of i ≡ plain.ForInit.Effects (effects first (views parts.now))) }
 {
     let effects = effects(alloc, parts, first)?;
     Ok(ForInit::Effects { effects })
 }
 
 fn for_parts(alloc: Global, parts: &[Tree], first: u32) -> Result<ForInit, AllocError>
-    requires { first + widths (views parts.now) ≤ 1048576 }
+    requires { first + widths (views parts.now) ≤ token_limit }
     ensures { IfOk result (λ i. for_init_of i ≡ for_parts first (views parts.now)) }
 {
     if let [ty, variables] = parts {
@@ -117,7 +121,7 @@ fn for_parts(alloc: Global, parts: &[Tree], first: u32) -> Result<ForInit, Alloc
 
 /// What stands first in the parentheses of a `for`, by a tree whose first token has this number.
 pub fn for_init(alloc: Global, tree: &Tree, first: u32) -> Result<ForInit, AllocError>
-    requires { first + width (view tree.now) ≤ 1048576 }
+    requires { first + width (view tree.now) ≤ token_limit }
     ensures { IfOk result (λ i. for_init_of i ≡ for_init first (view tree.now)) }
 {
     let Some(parts) = parts_of(tree, Form::ForInit) else {
@@ -140,7 +144,7 @@ pub fn label(alloc: Global, parts: &[Tree], first: u32) -> Result<Option<Named>,
 
 /// The value behind `return`.
 pub fn value(alloc: Global, parts: &[Tree], first: u32) -> Result<Option<Expression>, AllocError>
-    requires { first + widths (views parts.now) ≤ 1048576 }
+    requires { first + widths (views parts.now) ≤ token_limit }
     ensures { IfOk result (λ v. option_map expression_of v ≡ value first (views parts.now)) }
 {
     let [value, _semicolon] = parts else {

@@ -8,6 +8,7 @@ ghost use Rattle.wy_syntax.specs.Names.{width, widths, name_of, named, written};
 ghost use Rattle.wy_syntax.specs.Expressions.{leaf, joined, assigned, prefixed, empty_pairs, is_mark, stepped};
 ghost use Rattle.wy_syntax.specs.Syntax as plain;
 ghost use Rattle.wy_syntax.specs.View.{expression_of, inner_of, row_of};
+ghost use Rattle.wy_tree.specs.Tokens.{token_limit};
 
 use crate::expression::Expression;
 use crate::operator::{is_up, operator, prefix, updating};
@@ -64,7 +65,8 @@ pub fn assigned(
     value: Box<Expression>,
     token: u32,
 ) -> Expression
-    ensures { expression_of result ≡ assigned (seen sign.now) (inner_of left) (inner_of value) token }
+    ensures { expression_of result ≡ assigned (seen sign.now) (inner_of left)
+        (inner_of value) token }
 {
     if is_kind(kind_at(sign), Kind::Assign) {
         return Expression::Assign { left, value, token };
@@ -103,8 +105,9 @@ pub fn stepped(
     steps: &[Tree],
     first: u32,
 ) -> Result<Expression, AllocError>
-    requires { first + widths (views steps.now) ≤ 1048576 }
-    ensures { IfOk result (λ e. expression_of e ≡ stepped (expression_of operand) first (views steps.now)) }
+    requires { first + widths (views steps.now) ≤ token_limit }
+    ensures { IfOk result (λ e.
+        expression_of e ≡ stepped (expression_of operand) first (views steps.now)) }
 {
     let mut value = operand;
     let mut token = first;
@@ -134,7 +137,8 @@ pub fn chosen(
     other: Box<Expression>,
     token: u32,
 ) -> Expression
-    ensures { expression_of result ≡ plain.Choice (inner_of test) (inner_of main) (inner_of other) token }
+    ensures { expression_of result ≡ plain.Choice (inner_of test) (inner_of main)
+        (inner_of other) token }
 {
     Expression::Choice {
         test,
@@ -152,8 +156,9 @@ pub fn instance_of(
     ty: &Tree,
     token: u32,
 ) -> Result<Expression, AllocError>
-    requires { token + 1 + width (view ty.now) ≤ 1048576 }
-    ensures { IfOk result (λ e. expression_of e ≡ plain.InstanceOf (inner_of left) (written (token + 1) (view ty.now)) token) }
+    requires { token + 1 + width (view ty.now) ≤ token_limit }
+    ensures { IfOk result (λ e. expression_of e ≡ plain.InstanceOf (inner_of left)
+        (written (token + 1) (view ty.now)) token) }
 {
     let ty = written(alloc, ty, token + 1)?;
     Ok(Expression::InstanceOf { left, ty, token })
@@ -168,8 +173,9 @@ pub fn cast_to(
     operand: Box<Expression>,
     token: u32,
 ) -> Result<Expression, AllocError>
-    requires { at + width (view ty.now) ≤ 1048576 }
-    ensures { IfOk result (λ e. expression_of e ≡ plain.Cast (written at (view ty.now)) (inner_of operand) token) }
+    requires { at + width (view ty.now) ≤ token_limit }
+    ensures { IfOk result (λ e.
+        expression_of e ≡ plain.Cast (written at (view ty.now)) (inner_of operand) token) }
 {
     let ty = written(alloc, ty, at)?;
     Ok(Expression::Cast { ty, operand, token })
@@ -191,7 +197,8 @@ pub fn field(
     name: &Tree,
     token: u32,
 ) -> Result<Expression, AllocError>
-    ensures { IfOk result (λ e. expression_of e ≡ plain.Field (inner_of object) (name_of (view name.now)) token) }
+    ensures { IfOk result (λ e.
+        expression_of e ≡ plain.Field (inner_of object) (name_of (view name.now)) token) }
 {
     let name = name_of(alloc, name)?;
     Ok(Expression::Field {
@@ -204,7 +211,8 @@ pub fn field(
 /// A field of the superclass.
 #[tactic(auto, using(crate::proofs::ExpressionViews::view_super_field))]
 pub fn super_field(alloc: Global, name: &Tree, token: u32) -> Result<Expression, AllocError>
-    ensures { IfOk result (λ e. expression_of e ≡ plain.SuperField (name_of (view name.now)) token) }
+    ensures { IfOk result (λ e.
+        expression_of e ≡ plain.SuperField (name_of (view name.now)) token) }
 {
     let name = name_of(alloc, name)?;
     Ok(Expression::SuperField { name, token })
@@ -230,7 +238,8 @@ pub fn invoked(
     args: Vec<Expression>,
     token: u32,
 ) -> Result<Expression, AllocError>
-    ensures { IfOk result (λ e. expression_of e ≡ plain.Invoke (name_of (view name.now)) (row_of (map expression_of args.items)) token) }
+    ensures { IfOk result (λ e. expression_of e ≡ plain.Invoke (name_of (view name.now))
+        (row_of (map expression_of args.items)) token) }
 {
     let name = name_of(alloc, name)?;
     Ok(Expression::Invoke { name, args, token })
@@ -245,7 +254,8 @@ pub fn invoked_on(
     args: Vec<Expression>,
     token: u32,
 ) -> Result<Expression, AllocError>
-    ensures { IfOk result (λ e. expression_of e ≡ plain.InvokeOn (inner_of object) (name_of (view name.now)) (row_of (map expression_of args.items)) token) }
+    ensures { IfOk result (λ e. expression_of e ≡ plain.InvokeOn (inner_of object)
+        (name_of (view name.now)) (row_of (map expression_of args.items)) token) }
 {
     let name = name_of(alloc, name)?;
     Ok(Expression::InvokeOn {
@@ -264,7 +274,8 @@ pub fn super_invoked(
     args: Vec<Expression>,
     token: u32,
 ) -> Result<Expression, AllocError>
-    ensures { IfOk result (λ e. expression_of e ≡ plain.SuperInvoke (name_of (view name.now)) (row_of (map expression_of args.items)) token) }
+    ensures { IfOk result (λ e. expression_of e ≡ plain.SuperInvoke (name_of (view name.now))
+        (row_of (map expression_of args.items)) token) }
 {
     let name = name_of(alloc, name)?;
     Ok(Expression::SuperInvoke { name, args, token })
@@ -279,7 +290,8 @@ pub fn object(
     args: Vec<Expression>,
     token: u32,
 ) -> Result<Expression, AllocError>
-    ensures { IfOk result (λ e. expression_of e ≡ plain.NewObject (named at (view class.now)) (row_of (map expression_of args.items)) token) }
+    ensures { IfOk result (λ e. expression_of e ≡ plain.NewObject (named at (view class.now))
+        (row_of (map expression_of args.items)) token) }
 {
     let class = named(alloc, class, at)?;
     Ok(Expression::NewObject { class, args, token })
@@ -287,7 +299,7 @@ pub fn object(
 
 /// The pairs of brackets with nothing between them.
 pub fn empty_pairs(parts: &[Tree]) -> u32
-    requires { widths (views parts.now) ≤ 1048576 }
+    requires { widths (views parts.now) ≤ token_limit }
     ensures { result ≡ empty_pairs (views parts.now) }
 {
     let mut found: u32 = 0;

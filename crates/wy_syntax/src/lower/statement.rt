@@ -8,6 +8,7 @@ ghost use Rattle.wy_syntax.specs.Names.{width, widths};
 ghost use Rattle.wy_syntax.specs.Statements.{statement, braces, block, statements, by_word, branch, otherwise, loop_while, loop_do, loop_for, behind_init, for_test, body_behind, other, tried, catches, clause, caught, last_of};
 ghost use Rattle.wy_syntax.specs.Syntax as plain;
 ghost use Rattle.wy_syntax.specs.View.{body_of, statement_of, statements_of, block_of, clause_of, clauses_of, for_init_of, other_body_of, clauses_before, last_of as last_seen};
+ghost use Rattle.wy_tree.specs.Tokens.{token_limit};
 
 use crate::lower::act::{
     broken, conditional, continued, counted, declaration, declared, labelled, lone, performed,
@@ -25,7 +26,7 @@ use wy_tree::tree::{Form, Tree};
 #[cycle(statement)]
 #[tactic(auto, using(wy_tree::proofs::Views::view_leaf, wy_tree::proofs::Views::view_node))]
 pub fn statement(alloc: Global, tree: &Tree, first: u32) -> Result<Statement, AllocError>
-    requires { first + width (view tree.now) ≤ 1048576 }
+    requires { first + width (view tree.now) ≤ token_limit }
     ensures { IfOk result (λ s. statement_of s ≡ statement first (view tree.now)) }
 {
     match tree {
@@ -37,7 +38,7 @@ pub fn statement(alloc: Global, tree: &Tree, first: u32) -> Result<Statement, Al
 // The statement of a tree, to stand in another.
 #[cycle(statement)]
 fn boxed(alloc: Global, tree: &Tree, first: u32) -> Result<Box<Statement>, AllocError>
-    requires { first + width (view tree.now) ≤ 1048576 }
+    requires { first + width (view tree.now) ≤ token_limit }
     ensures { IfOk result (λ s. body_of s ≡ statement first (view tree.now)) }
 {
     Ok(Box::new(alloc, statement(alloc, tree, first)?)?)
@@ -50,7 +51,7 @@ fn production(
     parts: &[Tree],
     first: u32,
 ) -> Result<Statement, AllocError>
-    requires { first + widths (views parts.now) ≤ 1048576 }
+    requires { first + widths (views parts.now) ≤ token_limit }
     ensures { IfOk result (λ s. statement_of s ≡ statement first (Node form (views parts.now))) }
 {
     match form {
@@ -63,8 +64,9 @@ fn production(
 #[cycle(statement)]
 #[tactic(auto, using(crate::proofs::StatementViews::view_block))]
 fn braced(alloc: Global, parts: &[Tree], first: u32) -> Result<Statement, AllocError>
-    requires { first + widths (views parts.now) ≤ 1048576 }
-    ensures { IfOk result (λ s. statement_of s ≡ plain.Statement.Block (braces first (views parts.now))) }
+    requires { first + widths (views parts.now) ≤ token_limit }
+    ensures { IfOk result (λ s.
+        statement_of s ≡ plain.Statement.Block (braces first (views parts.now))) }
 {
     let block = braces(alloc, parts, first)?;
     Ok(Statement::Block { block })
@@ -73,7 +75,7 @@ fn braced(alloc: Global, parts: &[Tree], first: u32) -> Result<Statement, AllocE
 // `{`, statements and `}`
 #[cycle(statement)]
 fn braces(alloc: Global, parts: &[Tree], first: u32) -> Result<Block, AllocError>
-    requires { first + widths (views parts.now) ≤ 1048576 }
+    requires { first + widths (views parts.now) ≤ token_limit }
     ensures { IfOk result (λ b. block_of b ≡ braces first (views parts.now)) }
 {
     let [brace, behind @ ..] = parts else {
@@ -103,7 +105,7 @@ fn empty_block(alloc: Global, first: u32) -> Block
 #[cycle(statement)]
 #[tactic(auto, using(wy_tree::proofs::Views::view_leaf, wy_tree::proofs::Views::view_node))]
 pub fn block(alloc: Global, tree: &Tree, first: u32) -> Result<Block, AllocError>
-    requires { first + width (view tree.now) ≤ 1048576 }
+    requires { first + width (view tree.now) ≤ token_limit }
     ensures { IfOk result (λ b. block_of b ≡ block first (view tree.now)) }
 {
     match tree {
@@ -115,8 +117,9 @@ pub fn block(alloc: Global, tree: &Tree, first: u32) -> Result<Block, AllocError
 // Statements up to `}`.
 #[cycle(statement)]
 fn statements(alloc: Global, parts: &[Tree], first: u32) -> Result<Vec<Statement>, AllocError>
-    requires { first + widths (views parts.now) ≤ 1048576 }
-    ensures { IfOk result (λ found. statements_of (map statement_of found.items) ≡ statements first (views parts.now)) }
+    requires { first + widths (views parts.now) ≤ token_limit }
+    ensures { IfOk result (λ found.
+        statements_of (map statement_of found.items) ≡ statements first (views parts.now)) }
 {
     let mut found = Vec::new(alloc);
     let mut at = first;
@@ -134,8 +137,9 @@ fn statements(alloc: Global, parts: &[Tree], first: u32) -> Result<Vec<Statement
 
 #[cycle(statement)]
 fn by_word(alloc: Global, parts: &[Tree], first: u32) -> Result<Statement, AllocError>
-    requires { first + widths (views parts.now) ≤ 1048576 }
-    ensures { IfOk result (λ s. statement_of s ≡ by_word (first_kind (views parts.now)) first (views parts.now)) }
+    requires { first + widths (views parts.now) ≤ token_limit }
+    ensures { IfOk result (λ s.
+        statement_of s ≡ by_word (first_kind (views parts.now)) first (views parts.now)) }
 {
     let [word, behind @ ..] = parts else {
         return Ok(Statement::Wrong);
@@ -152,8 +156,9 @@ fn by_kind(
     behind: &[Tree],
     first: u32,
 ) -> Result<Statement, AllocError>
-    requires { first + width (view word.now) + widths (views behind.now) ≤ 1048576 }
-    ensures { IfOk result (λ s. statement_of s ≡ by_word kind first (more (view word.now) (views behind.now))) }
+    requires { first + width (view word.now) + widths (views behind.now) ≤ token_limit }
+    ensures { IfOk result (λ s.
+        statement_of s ≡ by_word kind first (more (view word.now) (views behind.now))) }
 {
     let at = first + width(word);
     match kind {
@@ -174,7 +179,7 @@ fn by_kind(
 // An `if`, from its `(` on.
 #[cycle(statement)]
 fn branch(alloc: Global, parts: &[Tree], first: u32, token: u32) -> Result<Statement, AllocError>
-    requires { first + widths (views parts.now) ≤ 1048576 }
+    requires { first + widths (views parts.now) ≤ token_limit }
     ensures { IfOk result (λ s. statement_of s ≡ branch token first (views parts.now)) }
 {
     let [paren, test, close, main, behind @ ..] = parts else {
@@ -196,7 +201,7 @@ fn otherwise(
     parts: &[Tree],
     first: u32,
 ) -> Result<Option<Box<Statement>>, AllocError>
-    requires { first + widths (views parts.now) ≤ 1048576 }
+    requires { first + widths (views parts.now) ≤ token_limit }
     ensures { IfOk result (λ s. other_body_of s ≡ otherwise first (views parts.now)) }
 {
     let [word, body] = parts else {
@@ -214,7 +219,7 @@ fn loop_while(
     first: u32,
     token: u32,
 ) -> Result<Statement, AllocError>
-    requires { first + widths (views parts.now) ≤ 1048576 }
+    requires { first + widths (views parts.now) ≤ token_limit }
     ensures { IfOk result (λ s. statement_of s ≡ loop_while token first (views parts.now)) }
 {
     let [paren, test, close, body] = parts else {
@@ -230,7 +235,7 @@ fn loop_while(
 // A `do`, from its body on.
 #[cycle(statement)]
 fn loop_do(alloc: Global, parts: &[Tree], first: u32, token: u32) -> Result<Statement, AllocError>
-    requires { first + widths (views parts.now) ≤ 1048576 }
+    requires { first + widths (views parts.now) ≤ token_limit }
     ensures { IfOk result (λ s. statement_of s ≡ loop_do token first (views parts.now)) }
 {
     let [body, word, paren, test, ..] = parts else {
@@ -245,7 +250,7 @@ fn loop_do(alloc: Global, parts: &[Tree], first: u32, token: u32) -> Result<Stat
 // A `for`, from its `(` on.
 #[cycle(statement)]
 fn loop_for(alloc: Global, parts: &[Tree], first: u32, token: u32) -> Result<Statement, AllocError>
-    requires { first + widths (views parts.now) ≤ 1048576 }
+    requires { first + widths (views parts.now) ≤ token_limit }
     ensures { IfOk result (λ s. statement_of s ≡ loop_for token first (views parts.now)) }
 {
     let [paren, init, behind @ ..] = parts else {
@@ -272,8 +277,9 @@ fn for_test(
     first: u32,
     token: u32,
 ) -> Result<Statement, AllocError>
-    requires { first + widths (views parts.now) ≤ 1048576 }
-    ensures { IfOk result (λ s. statement_of s ≡ for_test token (for_init_of init) first (views parts.now)) }
+    requires { first + widths (views parts.now) ≤ token_limit }
+    ensures { IfOk result (λ s.
+        statement_of s ≡ for_test token (for_init_of init) first (views parts.now)) }
 {
     let [test, behind @ ..] = parts else {
         return Ok(Statement::Wrong);
@@ -297,7 +303,7 @@ fn for_test(
 // The statement behind `)`.
 #[cycle(statement)]
 fn body_behind(alloc: Global, parts: &[Tree], first: u32) -> Result<Box<Statement>, AllocError>
-    requires { first + widths (views parts.now) ≤ 1048576 }
+    requires { first + widths (views parts.now) ≤ token_limit }
     ensures { IfOk result (λ s. body_of s ≡ body_behind first (views parts.now)) }
 {
     let mut at = first;
@@ -318,7 +324,7 @@ fn body_behind(alloc: Global, parts: &[Tree], first: u32) -> Result<Box<Statemen
 // An expression, a label or a declaration.
 #[cycle(statement)]
 fn other(alloc: Global, front: &Tree, behind: &[Tree], first: u32) -> Result<Statement, AllocError>
-    requires { first + width (view front.now) + widths (views behind.now) ≤ 1048576 }
+    requires { first + width (view front.now) + widths (views behind.now) ≤ token_limit }
     ensures { IfOk result (λ s. statement_of s ≡ other first (view front.now) (views behind.now)) }
 {
     match behind {
@@ -337,8 +343,10 @@ fn two_behind(
     last: &Tree,
     first: u32,
 ) -> Result<Statement, AllocError>
-    requires { first + width (view front.now) + width (view mark.now) + width (view last.now) ≤ 1048576 }
-    ensures { IfOk result (λ s. statement_of s ≡ other first (view front.now) (more (view mark.now) (more (view last.now) none))) }
+    requires { first + width (view front.now) + width (view mark.now) + width
+        (view last.now) ≤ token_limit }
+    ensures { IfOk result (λ s. statement_of s ≡ other first (view front.now)
+        (more (view mark.now) (more (view last.now) none))) }
 {
     let at = first + width(front);
     if is_leaf(mark, Kind::Colon) {
@@ -352,7 +360,7 @@ fn two_behind(
 #[cycle(statement)]
 #[tactic(auto, using(crate::proofs::StatementViews::view_try))]
 fn tried(alloc: Global, parts: &[Tree], first: u32, token: u32) -> Result<Statement, AllocError>
-    requires { first + widths (views parts.now) ≤ 1048576 }
+    requires { first + widths (views parts.now) ≤ token_limit }
     ensures { IfOk result (λ s. statement_of s ≡ tried token first (views parts.now)) }
 {
     let [main, behind @ ..] = parts else {
@@ -373,8 +381,9 @@ fn tried(alloc: Global, parts: &[Tree], first: u32, token: u32) -> Result<Statem
 // The clauses of a `try`.
 #[cycle(statement)]
 fn catches(alloc: Global, parts: &[Tree], first: u32) -> Result<Vec<Catch>, AllocError>
-    requires { first + widths (views parts.now) ≤ 1048576 }
-    ensures { IfOk result (λ found. clauses_of (map clause_of found.items) ≡ catches first (views parts.now)) }
+    requires { first + widths (views parts.now) ≤ token_limit }
+    ensures { IfOk result (λ found.
+        clauses_of (map clause_of found.items) ≡ catches first (views parts.now)) }
 {
     let mut found = Vec::new(alloc);
     let mut at = first;
@@ -398,8 +407,10 @@ fn put_clause(
     parts: &[Tree],
     first: u32,
 ) -> Result<(), AllocError>
-    requires { first + widths (views parts.now) ≤ 1048576 }
-    ensures { OnOk result ((rest : plain.Catches) → clauses_before (map clause_of found.new.items) rest ≡ clauses_before (map clause_of found.old.items) (clause first (views parts.now) rest)) }
+    requires { first + widths (views parts.now) ≤ token_limit }
+    ensures { OnOk result
+        ((rest : plain.Catches) → clauses_before (map clause_of found.new.items) rest
+        ≡ clauses_before (map clause_of found.old.items) (clause first (views parts.now) rest)) }
 {
     match parts {
         [word, paren, class, name, close, body] => {
@@ -428,8 +439,11 @@ fn caught(
     body: &Tree,
     first: u32,
 ) -> Result<Catch, AllocError>
-    requires { first + width (view class.now) + width (view name.now) + width (view close.now) + width (view body.now) ≤ 1048576 }
-    ensures { IfOk result (λ c. (rest : plain.Catches) → clause_of c rest ≡ caught is_final first (view class.now) (view name.now) (block (first + width (view class.now) + width (view name.now) + width (view close.now)) (view body.now)) rest) }
+    requires { first + width (view class.now) + width (view name.now) + width
+        (view close.now) + width (view body.now) ≤ token_limit }
+    ensures { IfOk result (λ c. (rest : plain.Catches) → clause_of c rest
+        ≡ caught is_final first (view class.now) (view name.now) (block (first + width
+        (view class.now) + width (view name.now) + width (view close.now)) (view body.now)) rest) }
 {
     let name_at = first + width(class);
     let body_at = name_at + width(name) + width(close);
@@ -447,8 +461,9 @@ fn caught(
 // The block behind `finally`.
 #[cycle(statement)]
 fn last_of(alloc: Global, parts: &[Tree], first: u32) -> Result<Option<Block>, AllocError>
-    requires { first + widths (views parts.now) ≤ 1048576 }
-    ensures { IfOk result (λ last. last_seen (option_map block_of last) ≡ last_of first (views parts.now)) }
+    requires { first + widths (views parts.now) ≤ token_limit }
+    ensures { IfOk result (λ last.
+        last_seen (option_map block_of last) ≡ last_of first (views parts.now)) }
 {
     let mut at = first;
     let mut left = parts;

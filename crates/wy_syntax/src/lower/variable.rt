@@ -5,6 +5,7 @@ ghost use Rattle.wy_tree.specs.Ast.{view, views};
 ghost use Rattle.wy_syntax.specs.Names.{width, widths};
 ghost use Rattle.wy_syntax.specs.Statements.{initial_in, declarator, declarator_list, declarators, lone_declarator};
 ghost use Rattle.wy_syntax.specs.View.{initial_of, declarator_of, declarators_of};
+ghost use Rattle.wy_tree.specs.Tokens.{token_limit};
 
 use crate::expression::Initial;
 use crate::lower::expression::initial;
@@ -16,8 +17,9 @@ use wy_tree::tree::{Form, Tree};
 
 // What stands behind `=`, if it does.
 fn initial_in(alloc: Global, parts: &[Tree], first: u32) -> Result<Option<Initial>, AllocError>
-    requires { first + widths (views parts.now) ≤ 1048576 }
-    ensures { IfOk result (λ given. option_map initial_of given ≡ initial_in first (views parts.now)) }
+    requires { first + widths (views parts.now) ≤ token_limit }
+    ensures { IfOk result (λ given.
+        option_map initial_of given ≡ initial_in first (views parts.now)) }
 {
     let mut at = first;
     let mut left = parts;
@@ -48,7 +50,7 @@ fn lone(alloc: Global, tree: &Tree, first: u32) -> Result<Declarator, AllocError
 
 // A name, with the pairs behind it and what it is given first.
 fn declarator(alloc: Global, tree: &Tree, first: u32) -> Result<Declarator, AllocError>
-    requires { first + width (view tree.now) ≤ 1048576 }
+    requires { first + width (view tree.now) ≤ token_limit }
     ensures { IfOk result (λ d. declarator_of d ≡ declarator first (view tree.now)) }
 {
     let Some(parts) = parts_of(tree, Form::Decl) else {
@@ -69,8 +71,9 @@ fn declarator(alloc: Global, tree: &Tree, first: u32) -> Result<Declarator, Allo
 
 // Declarators with commas between them.
 fn declarator_list(alloc: Global, parts: &[Tree], first: u32) -> Result<Vec<Declarator>, AllocError>
-    requires { first + widths (views parts.now) ≤ 1048576 }
-    ensures { IfOk result (λ found. declarators_of found ≡ declarator_list first (views parts.now)) }
+    requires { first + widths (views parts.now) ≤ token_limit }
+    ensures { IfOk result (λ found.
+        declarators_of found ≡ declarator_list first (views parts.now)) }
 {
     let mut found = Vec::new(alloc);
     let mut at = first;
@@ -89,7 +92,7 @@ fn declarator_list(alloc: Global, parts: &[Tree], first: u32) -> Result<Vec<Decl
 
 /// What is declared, by a tree whose first token has this number.
 pub fn declarators(alloc: Global, tree: &Tree, first: u32) -> Result<Vec<Declarator>, AllocError>
-    requires { first + width (view tree.now) ≤ 1048576 }
+    requires { first + width (view tree.now) ≤ token_limit }
     ensures { IfOk result (λ found. declarators_of found ≡ declarators first (view tree.now)) }
 {
     let Some(parts) = parts_of(tree, Form::Decls) else {

@@ -1,14 +1,14 @@
 use Rattle.std.proofs.Common.{sym, ap, subst, ◌∙◌, ◌≤◌, length}
 use Rattle.std.proofs.lemmas.List.{length-map}
 use Rattle.wy_tree.specs.Ast.{tokens}
-use Rattle.wy_tree.specs.Tokens.{Placed}
+use Rattle.wy_tree.specs.Tokens.{SpannedToken}
 use Rattle.wy_syntax.specs.Declarations.{unit}
 use Rattle.wy_program.proofs.Programs.{Laws, bodies_fit, few_parts}
 use Rattle.wy_program.proofs.laws.texts_are_programs.Goals as goal
 
 pub returns : goal.returns
 returns c = λ text spans tree read is_tree few count p h.
-    let few_tokens : length (tokens tree) ≤ 1048576 = subst (λ n. n ≤ 1048576) (sym (ap length is_tree.1 ∙ length-map spans (λ (s : Placed). s.token))) few in
+    let few_tokens : length (tokens tree) ≤ 1048576 = subst (λ n. n ≤ 1048576) (sym (ap length is_tree.1 ∙ length-map spans (λ (s : SpannedToken). s.token))) few in
     let fit = c.methods_of_programs_fit.ensures.texts text spans tree read is_tree count p h in
     let words = c.texts_are_written.ensures text spans tree read is_tree in
     let laws : Laws = record {

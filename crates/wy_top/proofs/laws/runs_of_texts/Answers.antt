@@ -1,7 +1,7 @@
 use Rattle.std.proofs.Common.{sym, ap, subst, ◌∙◌, ◌≤◌, length, arith}
 use Rattle.std.proofs.lemmas.List.{length-map}
 use Rattle.wy_tree.specs.Ast.{tokens}
-use Rattle.wy_tree.specs.Tokens.{Placed}
+use Rattle.wy_tree.specs.Tokens.{SpannedToken}
 use Rattle.wy_syntax.specs.Declarations.{unit as unit_of}
 use Rattle.wy_typing.specs.Programs.{IsProgram}
 use Rattle.wy_typed_states.specs.Typed.{KeepsLibrary}
@@ -11,7 +11,7 @@ use Rattle.wy_top.proofs.laws.runs_of_texts.Goals as goal
 
 pub returns-clause-typed : goal.returns-clause-typed
 returns-clause-typed c = λ text spans tree read is_tree few count p h.
-    let few_tokens : length (tokens tree) ≤ 1048576 = subst (λ n. n ≤ 1048576) (sym (ap length is_tree.1 ∙ length-map spans (λ (s : Placed). s.token))) few in
+    let few_tokens : length (tokens tree) ≤ 1048576 = subst (λ n. n ≤ 1048576) (sym (ap length is_tree.1 ∙ length-map spans (λ (s : SpannedToken). s.token))) few in
     let parts = few_parts (unit_of 0 tree) count p h (c.trees_declare_few.ensures tree is_tree.0 few_tokens) in
     let fits : IsProgram p = c.texts_are_programs.ensures text spans tree read is_tree few count p h in
     let keeps : KeepsLibrary p = c.programs_keep_the_library.ensures (unit_of 0 tree) count p h (omega (arith, parts.classes)) in
@@ -19,7 +19,7 @@ returns-clause-typed c = λ text spans tree read is_tree few count p h.
 
 pub returns-clause-reached : goal.returns-clause-reached
 returns-clause-reached c = λ text spans tree read is_tree few count p h.
-    let few_tokens : length (tokens tree) ≤ 1048576 = subst (λ n. n ≤ 1048576) (sym (ap length is_tree.1 ∙ length-map spans (λ (s : Placed). s.token))) few in
+    let few_tokens : length (tokens tree) ≤ 1048576 = subst (λ n. n ≤ 1048576) (sym (ap length is_tree.1 ∙ length-map spans (λ (s : SpannedToken). s.token))) few in
     let parts = few_parts (unit_of 0 tree) count p h (c.trees_declare_few.ensures tree is_tree.0 few_tokens) in
     let fits : IsProgram p = c.texts_are_programs.ensures text spans tree read is_tree few count p h in
     let keeps : KeepsLibrary p = c.programs_keep_the_library.ensures (unit_of 0 tree) count p h (omega (arith, parts.classes)) in
@@ -28,7 +28,7 @@ returns-clause-reached c = λ text spans tree read is_tree few count p h.
 
 pub returns-clause-needed : goal.returns-clause-needed
 returns-clause-needed c = λ text spans tree read is_tree few count p h.
-    let few_tokens : length (tokens tree) ≤ 1048576 = subst (λ n. n ≤ 1048576) (sym (ap length is_tree.1 ∙ length-map spans (λ (s : Placed). s.token))) few in
+    let few_tokens : length (tokens tree) ≤ 1048576 = subst (λ n. n ≤ 1048576) (sym (ap length is_tree.1 ∙ length-map spans (λ (s : SpannedToken). s.token))) few in
     let parts = few_parts (unit_of 0 tree) count p h (c.trees_declare_few.ensures tree is_tree.0 few_tokens) in
     let fits : IsProgram p = c.texts_are_programs.ensures text spans tree read is_tree few count p h in
     let keeps : KeepsLibrary p = c.programs_keep_the_library.ensures (unit_of 0 tree) count p h (omega (arith, parts.classes)) in
@@ -37,7 +37,7 @@ returns-clause-needed c = λ text spans tree read is_tree few count p h.
 
 pub returns-clause-calls : goal.returns-clause-calls
 returns-clause-calls c = λ text spans tree read is_tree few count p h.
-    let few_tokens : length (tokens tree) ≤ 1048576 = subst (λ n. n ≤ 1048576) (sym (ap length is_tree.1 ∙ length-map spans (λ (s : Placed). s.token))) few in
+    let few_tokens : length (tokens tree) ≤ 1048576 = subst (λ n. n ≤ 1048576) (sym (ap length is_tree.1 ∙ length-map spans (λ (s : SpannedToken). s.token))) few in
     let parts = few_parts (unit_of 0 tree) count p h (c.trees_declare_few.ensures tree is_tree.0 few_tokens) in
     let fits : IsProgram p = c.texts_are_programs.ensures text spans tree read is_tree few count p h in
     let keeps : KeepsLibrary p = c.programs_keep_the_library.ensures (unit_of 0 tree) count p h (omega (arith, parts.classes)) in

@@ -1,7 +1,7 @@
 use Rattle.std.proofs.Common.{◌∙◌, ap}
 use Rattle.wy_explore.specs.Commands.{command_in}
 use Rattle.wy_explore.proofs.Lines.{no_text, reads_text}
-use Rattle.wy_explore.proofs.command.said.Goals as goal
+use Rattle.wy_explore.proofs.command.command_of.Goals as goal
 
 pub returns-in-Ok : goal.returns-in-Ok
 returns-in-Ok c = reads_text c.args.line.now c.command_in.result (c.command_in.ensures ∙ ap command_in (c.in-Ok.ensures {u = tt}).cases.0)
