@@ -10,3 +10,4 @@ pub mod Deliveries
 pub mod Replies
 pub mod Recorder
 pub mod Openings
+pub mod Left
