@@ -21,6 +21,7 @@ use std::alloc::{AllocError, Global};
 use wy_constant::{
     Rule, Scope, TypeError, class_by_name, field_by_name, value_of_member, value_of_name,
 };
+use wy_kernel::builtin::FIRST_SOURCE_CLASS;
 use wy_kernel::form::{Const, Expr, LibOp};
 use wy_kernel::operator::Primitive;
 use wy_kernel::table::ClassTable;
@@ -148,7 +149,7 @@ pub fn named(
 pub fn no_field(class: u32) -> Rule
     ensures { result ≡ no_field class }
 {
-    if class < 18 {
+    if class < FIRST_SOURCE_CLASS {
         Rule::NotOffered
     } else {
         Rule::UnknownName

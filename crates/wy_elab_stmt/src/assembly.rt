@@ -24,6 +24,7 @@ use crate::order::in_order;
 use std::alloc::{AllocError, Global};
 use wy_constant::{FixedText, Rule, TypeError};
 use wy_elab_expr::Texts;
+use wy_kernel::builtin::FIRST_SOURCE_CLASS;
 use wy_kernel::form::Body;
 use wy_kernel::program::Program;
 use wy_kernel::table::ClassTable;
@@ -134,7 +135,7 @@ fn put_bodies(
         → GetsTo (λ u. bodies_view all.new) result texts.new (behind_bodies (bodies_view all.old)
         (bodies_of w (map declaration_of unit.now) texts.old)) }
 {
-    let mut number = 18;
+    let mut number = FIRST_SOURCE_CLASS;
     for declaration in unit {
         let next = put_declaration(setting, texts, all, number, declaration)?;
         number = next;

@@ -9,6 +9,7 @@ use crate::place::{Place, Role};
 use crate::places::{put, put_block, put_statements, put_written};
 use std::alloc::{AllocError, Global};
 use wy_constant::class_above;
+use wy_kernel::builtin::FIRST_SOURCE_CLASS;
 use wy_kernel::table::ClassTable;
 use wy_members::{initializes_objects, is_constructor};
 use wy_syntax::declaration::{ClassSyntax, Declaration, Member, OwnCall};
@@ -242,7 +243,7 @@ pub fn places_of(
         all.items ≡ places_of (table_of table.now) (map declaration_of unit.now)) }
 {
     let mut all = Vec::new(alloc);
-    let mut number = 18;
+    let mut number = FIRST_SOURCE_CLASS;
     let mut left = unit;
     while let [first, behind @ ..] = left {
         if let Declaration::Class(class) = first {

@@ -11,3 +11,4 @@ pub mod Sessions
 pub mod Opened
 pub mod Requests
 pub mod Generated
+pub mod LeftLemmas

@@ -12,3 +12,4 @@ pub mod Deliveries
 pub mod Replies
 pub mod Recorder
 pub mod Openings
+pub mod Left

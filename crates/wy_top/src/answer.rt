@@ -1,8 +1,8 @@
 //! What the words and the files give, before any byte of it is written.
-ghost use Rattle.std.specs.Prelude.{◌≡◌, ℕ, List, Option, IfOk, Some, map, string_bytes};
+ghost use Rattle.std.specs.Prelude.{◌≡◌, ◌<◌, ℕ, List, Option, IfOk, Some, map, string_bytes};
 ghost use Rattle.wy_outside.specs.Shelf.{Files};
 ghost use Rattle.wy_outside.specs.Counts.{Rose};
-ghost use Rattle.wy_record.specs.declared.recorder.Phase.TheVariants.{Ready};
+ghost use Rattle.wy_record.specs.declared.recorder.Phase.TheVariants.{Failed, Ready};
 ghost use Rattle.wy_reply.specs.declared.status.Status.TheVariants.{Absent, Done, TooLong, Usage, Fault};
 ghost use Rattle.wy_reply.specs.Tellings.{wanted_of};
 ghost use Rattle.wy_top.specs.Answers.{AsksToExplore, IsAnswer, IsFault, counts};
@@ -10,6 +10,7 @@ ghost use Rattle.wy_top.specs.Call.{AnswersRunOf, Carries, Cuts, RecordsNothing,
 ghost use Rattle.wy_top.specs.Reads.{Tells};
 ghost use Rattle.wy_top.specs.Replies.{AnswersBy, HasCause, at_shelf};
 ghost use Rattle.wy_top.specs.Due.{DueForRun, DueForTrace};
+ghost use Rattle.wy_top.specs.Left.{IsSettled, Leaves, LeftFor};
 ghost use Rattle.wy_reply.specs.Recordings.{spelling};
 ghost use Rattle.wy_reply.specs.Report.{report, recorded_report};
 ghost use Rattle.wy_words.specs.Views.{asked_of};
@@ -81,6 +82,13 @@ fn answer_to_record<S: Shelf, R: Recorder>(
         → S.held shelf.old ≡ Some files
         → Traced (spelling R.opening R.frame R.closing) files (asked_of asked.entry)
         (R.mirrors recorder.old) (R.mirrors recorder.new)) }
+    ensures left { (files : Files) → S.held shelf.old ≡ Some files
+        → LeftFor (spelling R.opening R.frame R.closing) files (asked_of asked.entry)
+        (R.phase recorder.new) (R.mirrors recorder.old) (R.mirrors recorder.new) }
+    ensures settled { IfOk result (λ answer.
+        ¬ Rose (R.faults recorder.old) (R.faults recorder.new) → IsSettled (R.phase recorder.new)) }
+    ensures failed { R.faults recorder.old < R.faults recorder.new
+        → R.phase recorder.new ≡ Failed }
     ensures causes { IfOk result (λ answer. HasCause
         (at_shelf (S.faults shelf.old) (S.misses shelf.old) (S.fulls shelf.old))
         (at_shelf (S.faults shelf.new) (S.misses shelf.new) (S.fulls shelf.new)) answer) }
@@ -150,6 +158,13 @@ pub fn answer_to<S: Shelf, R: Recorder>(
         → S.gets shelf.new ≡ S.gets shelf.old }
     ensures records_nothing { RecordsNothing (map string_bytes words.now)
         → recorder.new ≡ recorder.old }
+    ensures left { Leaves (spelling R.opening R.frame R.closing)
+        (map string_bytes words.now) (S.held shelf.old) (R.phase recorder.new)
+        (R.mirrors recorder.old) (R.mirrors recorder.new) }
+    ensures settled { IfOk result (λ answer.
+        ¬ Rose (R.faults recorder.old) (R.faults recorder.new) → IsSettled (R.phase recorder.new)) }
+    ensures failed { R.faults recorder.old < R.faults recorder.new
+        → R.phase recorder.new ≡ Failed }
 {
     words_ask_one_command();
     let request = match command(alloc, words)? {

@@ -79,8 +79,10 @@ fn parsed(alloc: Global, tokens: &[Spanned]) -> Result<Tree, FrontError>
 fn typed(alloc: Global, tree: &Tree, tokens: &[Spanned]) -> Result<TypedProgram, FrontError>
     requires few { length tokens.now ≤ source_limit }
     requires read { Reads (map spanned_token tokens.now) (view tree.now) }
-    ensures found { IfOk result (λ p. IsTypedAs (map spanned_token tokens.now) (view tree.now) p.program) }
-    ensures refused { IfErr result (λ e. LacksTypes (map spanned_token tokens.now) (view tree.now) e) }
+    ensures found { IfOk result (λ p.
+        IsTypedAs (map spanned_token tokens.now) (view tree.now) p.program) }
+    ensures refused { IfErr result (λ e.
+        LacksTypes (map spanned_token tokens.now) (view tree.now) e) }
 {
     match typed_program(alloc, tree, tokens) {
         Ok(program) => Ok(program),

@@ -1,6 +1,7 @@
 //! What is answered for a source: its run, its recording, or why it is no program.
-ghost use Rattle.std.specs.Prelude.{◌≡◌, ◌≤◌, IfOk, false, length};
-ghost use Rattle.wy_record.specs.declared.recorder.Phase.TheVariants.{Ready};
+ghost use Rattle.std.specs.Prelude.{◌≡◌, ◌<◌, ◌≤◌, IfOk, false, length};
+ghost use Rattle.wy_outside.specs.Counts.{Rose};
+ghost use Rattle.wy_record.specs.declared.recorder.Phase.TheVariants.{Failed, Ready};
 ghost use Rattle.wy_gen.specs.Source.{source};
 ghost use Rattle.wy_reply.specs.Generated.{generated_report};
 ghost use Rattle.wy_reply.specs.Report.{report};
@@ -8,6 +9,7 @@ ghost use Rattle.wy_reply.specs.Recordings.{spelling};
 ghost use Rattle.wy_reply.specs.Statuses.{code_of, is_of_files};
 ghost use Rattle.wy_top.specs.Due.{DueFor};
 ghost use Rattle.wy_top.specs.Held.{source_limit};
+ghost use Rattle.wy_top.specs.Left.{IsSettled, LeavesSource};
 ghost use Rattle.wy_top.specs.Replies.{RecordsSource, RefusesSource};
 
 use crate::causes::front_cause;
@@ -73,10 +75,17 @@ pub fn record_source<R: Recorder>(
 ) -> Result<Answer, AllocError>
     requires ready { R.phase recorder.old ≡ Ready }
     requires bound { length contents.source.items ≤ source_limit }
-    ensures { IfOk result (λ answer. RecordsSource (spelling R.opening R.frame R.closing)
+    ensures records { IfOk result (λ answer. RecordsSource (spelling R.opening R.frame R.closing)
         contents.source.items contents.input.items steps
         (R.mirrors recorder.old) (R.mirrors recorder.new)
         (R.faults recorder.old) (R.faults recorder.new) answer) }
+    ensures left { LeavesSource (spelling R.opening R.frame R.closing)
+        contents.source.items contents.input.items steps (R.phase recorder.new)
+        (R.mirrors recorder.old) (R.mirrors recorder.new) }
+    ensures settled { IfOk result (λ answer.
+        ¬ Rose (R.faults recorder.old) (R.faults recorder.new) → IsSettled (R.phase recorder.new)) }
+    ensures failed { R.faults recorder.old < R.faults recorder.new
+        → R.phase recorder.new ≡ Failed }
 {
     let Contents { source, input } = contents;
     match front(alloc, source.as_slice()) {

@@ -8,6 +8,7 @@ ghost use Rattle.wy_words.specs.Words.{Explore, IsNoCommand};
 ghost use Rattle.wy_top.specs.Answers.{AsksToExplore, Knows};
 ghost use Rattle.wy_session.specs.Ways.{TookMany};
 ghost use Rattle.wy_top.specs.Call.{RecordsNothing, Traces, WritesCarried, WritesCut, WritesDue, WritesFaultLine, WritesFront, failures};
+ghost use Rattle.wy_top.specs.Left.{IsSettled, Leaves};
 ghost use Rattle.wy_top.specs.Recorder.{faults_of, mirrors_of};
 ghost use Rattle.wy_reply.specs.Recordings.{trace_spelling};
 
@@ -39,7 +40,8 @@ fn trace_to_explore(request: Option<Command<'_>>) -> Option<&str>
 
 /// Runs the command of the words, without the program's own name, over the files of `shelf`, writes
 /// its text to `out` and returns its status. `keys` is read by `explore` alone, whose lines are answered
-/// as they come, and `recorder` has the trace of a run that is recorded.
+/// as they come, and `recorder` has the trace of a run that is recorded; where it failed, or memory ran
+/// out, it has a first part of it.
 ///
 /// | Status | Comes |
 /// |---|---|
@@ -87,6 +89,14 @@ pub fn whyline<S: Shelf, K: Source, O: Sink, T: TraceSink + Drop>(
         (S.held shelf.old) (O.written out.old) (O.written out.new) }
     ensures records_nothing { RecordsNothing (map string_bytes words.now)
         → recorder.new ≡ recorder.old }
+    ensures leaves { Leaves trace_spelling (map string_bytes words.now) (S.held shelf.old)
+        recorder.new.phase (mirrors_of T.bytes recorder.old.sinks.items)
+        (mirrors_of T.bytes recorder.new.sinks.items) }
+    ensures fails { faults_of T.faults recorder.old.sinks.items
+        < faults_of T.faults recorder.new.sinks.items → recorder.new.phase ≡ Phase.Failed }
+    ensures finishes_first { O.faults out.old < O.faults out.new
+        → ¬ Rose (faults_of T.faults recorder.old.sinks.items)
+        (faults_of T.faults recorder.new.sinks.items) → IsSettled recorder.new.phase }
     ensures usage { result ≡ 2 → IsNoCommand (map string_bytes words.now) }
     ensures absent { result ≡ 3 → Rose (S.misses shelf.old) (S.misses shelf.new) }
     ensures too_long { result ≡ 8 → Rose (S.fulls shelf.old) (S.fulls shelf.new)

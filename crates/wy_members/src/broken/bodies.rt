@@ -8,6 +8,7 @@ ghost use Rattle.wy_members.specs.Least.{Among, IsLeast};
 ghost use Rattle.wy_overloads.specs.LineageView.{lineage_of};
 ghost use Rattle.wy_members.specs.Within.{InClassNumbered, WantsBody, WantsNoBody, WrongBody, WrongBodyAt, WrongBodyIn};
 ghost use Rattle.wy_syntax.specs.View.{block_of, class_of, header_of, member_of};
+ghost use Rattle.wy_kernel.specs.Program.{first_source_class};
 
 use crate::broken::cycle::is_judged;
 use crate::broken::least::{lesser, token_where};
@@ -18,7 +19,7 @@ use wy_syntax::declaration::{ClassSyntax, Header, Member, Modifier};
 use wy_syntax::statement::Block;
 
 pub fn least_in_classes(judged: &Lineage, classes: &[&ClassSyntax]) -> Option<u32>
-    requires { length classes.now + 18 < 2 ^ 32 }
+    requires { length classes.now + first_source_class < 2 ^ 32 }
     ensures { IsLeast (Among (map (λ k. class_of k.now) classes.now)
         (WrongBodyAt (lineage_of judged.now).classes)) result }
 {

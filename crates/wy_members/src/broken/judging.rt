@@ -9,6 +9,7 @@ ghost use Rattle.wy_members.specs.Refusal.{IsRefusal, KeepsRules};
 ghost use Rattle.wy_members.specs.Within.{BadOverridesIn, NotImplementedsIn, RepeatsIn};
 ghost use Rattle.wy_kernel.specs.View.{class_of, field_of, method_of};
 ghost use Rattle.wy_syntax.specs.View.{class_of as class_syntax};
+ghost use Rattle.wy_kernel.specs.Program.{first_source_class};
 
 use crate::broken::again::least_again;
 use crate::broken::breach::Breach;
@@ -37,7 +38,7 @@ pub fn breach_in(
 ) -> Option<Breach>
     requires judged { AreJudged (unit_of names.now) rows.now known.now classes.now
         (lineage_of judged.now) (lineage_of compared.now) }
-    requires few { length classes.now + 18 < 2 ^ 32 }
+    requires few { length classes.now + first_source_class < 2 ^ 32 }
     ensures { MatchOption result (KeepsRules (unit_of names.now)) (λ b.
         IsRefusal (unit_of names.now) b.rule b.token) }
 {
@@ -71,7 +72,7 @@ fn least_bad_override(
     judged: &Lineage,
     compared: &Lineage,
 ) -> Option<u32>
-    requires { length classes.now + 18 < 2 ^ 32 }
+    requires { length classes.now + first_source_class < 2 ^ 32 }
     ensures { IsLeast (BadOverridesIn (unit_of names.now) (lineage_of judged.now).classes
         (lineage_of compared.now) (map (λ k. class_syntax k.now) classes.now)) result }
 {
@@ -86,7 +87,7 @@ fn least_not_implemented(
     judged: &Lineage,
     compared: &Lineage,
 ) -> Option<u32>
-    requires { length classes.now + 18 < 2 ^ 32 }
+    requires { length classes.now + first_source_class < 2 ^ 32 }
     ensures { IsLeast (NotImplementedsIn (lineage_of judged.now) (lineage_of compared.now)
         (map (λ k. class_syntax k.now) classes.now)) result }
 {

@@ -9,6 +9,7 @@ ghost use Rattle.wy_members.specs.Names.{unit_of};
 ghost use Rattle.wy_members.specs.Within.{ExtendsWrongly, HasWrongAbove, IsJudgedIn, NamesClass, NotExtended, WrongAboveAt};
 ghost use Rattle.wy_syntax.specs.Syntax.{Named as NamedSyntax};
 ghost use Rattle.wy_syntax.specs.View.{class_of, named_of};
+ghost use Rattle.wy_kernel.specs.Program.{first_source_class};
 
 use crate::broken::cycle::is_judged;
 use crate::broken::least::{lesser, token_where};
@@ -25,7 +26,7 @@ const OBJECT: u32 = 0;
 const THROWABLE: u32 = 2;
 
 pub fn least_in_classes(names: &Names, judged: &Lineage, classes: &[&ClassSyntax]) -> Option<u32>
-    requires { length classes.now + 18 < 2 ^ 32 }
+    requires { length classes.now + first_source_class < 2 ^ 32 }
     ensures { IsLeast (Among (map (λ k. class_of k.now) classes.now)
         (WrongAboveAt (unit_of names.now) (lineage_of judged.now).classes)) result }
 {
@@ -103,7 +104,7 @@ fn is_not_extended(lineage: &Lineage, d: u32, class: &Class) -> bool
 
 fn is_hidden_in_library(lineage: &Lineage, d: u32) -> bool
     ensures { IsTrue result
-        ↔ ((d < 18) × (d ≡ 0 → ⊥) × (Supertype (lineage_of lineage.now).classes d 2 → ⊥)) }
+        ↔ ((d < first_source_class) × (d ≡ 0 → ⊥) × (Supertype (lineage_of lineage.now).classes d 2 → ⊥)) }
 {
     d < FIRST_SOURCE_CLASS && d != OBJECT && !is_supertype(lineage, d, THROWABLE)
 }

@@ -2,6 +2,7 @@ use Rattle.wy_words.specs.Views.{asked_of}
 use Rattle.wy_words.specs.Words.{Run, Record, Output, Questions, Why, WhyNot, Audit, Gen}
 use Rattle.wy_top.proofs.RunAnswers.{no_command_carries, no_command_cuts, other_command_carries, other_command_cuts, why_carries, whynot_cuts}
 use Rattle.wy_top.proofs.AnswerLemmas.{usage_due, command_due, fault_named, generated_due, generated_settled, traces_due}
+use Rattle.wy_top.proofs.LeftLemmas.{leaves}
 use Rattle.wy_top.proofs.Requests.{methods_asked}
 use Rattle.wy_top.proofs.answer.answer_to.Goals as goal
 
@@ -23,6 +24,10 @@ pub returns-in-Record-clause-traces : goal.returns-in-Record-clause-traces
 returns-in-Record-clause-traces g c =
     traces_due c.words_ask_one_command.ensures _ _ _ (asked_of c.in-Record.asked) c.in-Record.trace.now _ _ c.answer_to_record.result (rw (c.in-Some.is, c.in-Record.is) at c.in_ok-request.ensures.asked)
     c.answer_to_record.ensures.traced
+
+pub returns-in-Record-clause-left : goal.returns-in-Record-clause-left
+returns-in-Record-clause-left g c =
+    leaves c.words_ask_one_command.ensures _ _ _ (asked_of c.in-Record.asked) c.in-Record.trace.now _ _ _ (rw (c.in-Some.is, c.in-Record.is) at c.in_ok-request.ensures.asked) c.answer_to_record.ensures.left
 
 pub returns-in-Record-clause-fault : goal.returns-in-Record-clause-fault
 returns-in-Record-clause-fault g c = fault_named _ (Record (asked_of c.in-Record.asked) c.in-Record.trace.now) _ _ c.answer_to_record.result c.answer_to_record.ensures.due

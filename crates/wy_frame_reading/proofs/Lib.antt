@@ -1,0 +1,9 @@
+pub mod Readers
+pub mod Numbers
+pub mod Tags
+pub mod Slots
+pub mod Values
+pub mod Uses
+pub mod Events
+pub mod Records
+pub mod Frames
