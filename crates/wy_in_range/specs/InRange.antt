@@ -1,0 +1,181 @@
+-- What is in the range of a program in a record of a run, by the events before it: its site, what it is of, its slot, its value and its uses.
+use Rattle.std.specs.Prelude.{◌≡◌, ◌⊎◌, ◌+◌, ◌<◌, ◌≤◌, ◌^◌, ℕ, zero, suc, pos, negsuc, true, false, List, [], ◌∷◌, length, Option, Some, slice_get, take}
+use Rattle.std.specs.Prelude.{None as Absent}
+use Rattle.wy_kernel.specs.declared.types.Base.TheVariants.{Primitive as Basic, Class as Named}
+use Rattle.wy_kernel.specs.declared.types.Ty.{Ty}
+use Rattle.wy_kernel.specs.declared.types.Ty.TheVariants.{Of}
+use Rattle.wy_kernel.specs.Program.{Program, Field, type_code}
+use Rattle.wy_kernel.specs.Builtin as builtin
+use Rattle.wy_kernel.specs.Builtin.{method_site}
+use Rattle.wy_value.specs.declared.value.Value.{Value}
+use Rattle.wy_value.specs.declared.value.Value.TheVariants as val
+use Rattle.wy_event.specs.declared.record.Kind.{Kind}
+use Rattle.wy_event.specs.declared.record.Kind.TheVariants as kind
+use Rattle.wy_event.specs.declared.record.Slot.{Slot}
+use Rattle.wy_event.specs.declared.record.Slot.TheVariants as slot
+use Rattle.wy_event.specs.declared.record.Use.{Use}
+use Rattle.wy_event.specs.declared.record.Use.TheVariants as use_of
+use Rattle.wy_event.specs.Record.{Recorded}
+use Rattle.wy_steps.specs.Sets.{Sets}
+use Rattle.wy_steps.specs.Steps.{code_of, element_limit}
+use Rattle.wy_meaning.specs.Run.{events}
+use Rattle.wy_typing.specs.Expressions.{IsField}
+use Rattle.wy_induction.specs.Law.{Frame}
+use Rattle.wy_typed_states.specs.Typed.{running, local_types}
+
+-- ---- sites
+
+-- a token, or a method of the library
+abbrev pub IsSite : ℕ → ℕ → Type 0
+IsSite tokens site = (site < tokens) ⊎ ((m : ℕ) × (m < length builtin.methods) × (site ≡ method_site m))
+
+-- ---- what an event is of
+
+-- objects are made of the type: it is a class of the program with brackets or without, or a primitive type with brackets
+abbrev pub IsTypeOfObjects : Program → Ty → Type 0
+IsTypeOfObjects p (Of (Named c) brackets) = c < length p.classes
+IsTypeOfObjects p (Of (Basic q) (suc brackets)) = Unit {0}
+IsTypeOfObjects p _ = ⊥
+
+-- the number of a type that objects are made of
+abbrev pub IsCode : Program → ℕ → Type 0
+IsCode p code = (ty : Ty) × IsTypeOfObjects p ty × (type_code ty ≡ code)
+
+-- an Init has a class, a New a type and a Call a method of the program; no other event has any
+abbrev pub WhatInRange : Program → Kind → Option ℕ → Type 0
+WhatInRange p kind.Init (Some c) = c < length p.classes
+WhatInRange p kind.Init Absent = ⊥
+WhatInRange p kind.New (Some code) = IsCode p code
+WhatInRange p kind.New Absent = ⊥
+WhatInRange p kind.Call (Some m) = m < length p.methods
+WhatInRange p kind.Call Absent = ⊥
+WhatInRange p _ Absent = Unit {0}
+WhatInRange p _ (Some n) = ⊥
+
+-- ---- objects and arrays
+
+-- the events by their numbers
+abbrev pub Events : Type 0
+Events = ℕ → Option Recorded
+
+-- numbers of types from here are those of arrays
+abbrev pub arrays_from : ℕ
+arrays_from = 2 ^ 24
+
+-- the event made an object of a class
+pub record IsObject (at : Events) (n : ℕ) : Type 0 where
+  pub event : Recorded
+  pub there : at n ≡ Some event
+  pub is_new : event.kind ≡ kind.New
+  pub no_array : code_of event.what < arrays_from
+
+-- the event made an array
+pub record IsArray (at : Events) (n : ℕ) : Type 0 where
+  pub event : Recorded
+  pub there : at n ≡ Some event
+  pub is_new : event.kind ≡ kind.New
+  pub array : arrays_from ≤ code_of event.what
+
+-- ---- slots
+
+-- the event runs a body that has such a local
+pub record HasLocal (p : Program) (at : Events) (f k : ℕ) : Type 0 where
+  pub event : Recorded
+  pub there : at f ≡ Some event
+  pub body : Frame
+  pub runs : running event ≡ Some body
+  pub within : k < length (local_types p body)
+
+abbrev pub index_limit : ℕ
+index_limit = 2147483648
+
+-- a local of the body that the frame runs, a static field, a field of objects in an object, or an element of an array
+abbrev pub SlotInRange : Program → Events → Slot → Type 0
+SlotInRange p at slot.None = Unit {0}
+SlotInRange p at (slot.Local f k) = HasLocal p at f k
+SlotInRange p at (slot.Static k) = (f : Field) × IsField p k f × (f.is_static ≡ true)
+SlotInRange p at (slot.Field o k) = IsObject at o × ((f : Field) × IsField p k f × (f.is_static ≡ false))
+SlotInRange p at (slot.Elem a j) = IsArray at a × j < index_limit
+
+-- ---- values
+
+abbrev pub IsNone : Value → Type 0
+IsNone val.None = Unit {0}
+IsNone _ = ⊥
+
+abbrev pub IsSome : Value → Type 0
+IsSome val.None = ⊥
+IsSome _ = Unit {0}
+
+abbrev pub IsTruth : Value → Type 0
+IsTruth (val.Bool b) = Unit {0}
+IsTruth _ = ⊥
+
+-- a byte, or -1
+abbrev pub IsByte : Value → Type 0
+IsByte (val.Int (pos n)) = n < 256
+IsByte (val.Int (negsuc zero)) = Unit {0}
+IsByte _ = ⊥
+
+-- what an operand of a print is converted to, or the absence of one
+abbrev pub IsPrinted : Value → Type 0
+IsPrinted (val.Byte z) = ⊥
+IsPrinted (val.Short z) = ⊥
+IsPrinted (val.Object n) = ⊥
+IsPrinted _ = Unit {0}
+
+-- an object of a class
+abbrev pub IsThrown : Events → Value → Type 0
+IsThrown at (val.Object n) = IsObject at n
+IsThrown at _ = ⊥
+
+-- a New of a class has none, and that of an array its length
+abbrev pub IsLength : ℕ → Value → Type 0
+IsLength code v = ((code < arrays_from) × IsNone v) ⊎ ((arrays_from ≤ code) × ((n : ℕ) × (v ≡ val.Int (pos n)) × n ≤ element_limit))
+
+abbrev pub ValueInRange : Events → Kind → Option ℕ → Value → Type 0
+ValueInRange at kind.New what v = IsLength (code_of what) v
+ValueInRange at kind.Bind what v = IsSome v
+ValueInRange at kind.Set what v = IsSome v
+ValueInRange at kind.Test what v = IsTruth v
+ValueInRange at kind.Read what v = IsByte v
+ValueInRange at kind.Print what v = IsPrinted v
+ValueInRange at kind.Return what v = Unit {0}
+ValueInRange at kind.Throw what v = IsThrown at v
+ValueInRange at kind.Catch what v = IsThrown at v
+ValueInRange at _ what v = IsNone v
+
+-- a text of the program is one of its fixed texts
+abbrev pub FixedInRange : Program → Value → Type 0
+FixedInRange p (val.Fixed k) = k < length p.fixed_texts
+FixedInRange p _ = Unit {0}
+
+-- ---- uses
+
+abbrev pub IsPlace : Slot → Type 0
+IsPlace slot.None = ⊥
+IsPlace _ = Unit {0}
+
+abbrev pub UseInRange : Program → Events → Use → Type 0
+UseInRange p at (use_of.Place x moment) = IsPlace x × SlotInRange p at x
+UseInRange p at _ = Unit {0}
+
+abbrev pub UsesInRange : Program → Events → List Use → Type 0
+UsesInRange p at [] = Unit {0}
+UsesInRange p at (u ∷ us) = UseInRange p at u × UsesInRange p at us
+
+-- ---- records
+
+-- of a program of so many tokens
+pub record InRange (tokens : ℕ) (p : Program) (at : Events) (e : Recorded) : Type 0 where
+  pub site : IsSite tokens e.site
+  pub what : WhatInRange p e.kind e.what
+  pub slot : SlotInRange p at e.slot
+  pub value : ValueInRange at e.kind e.what e.value
+  pub fixed : FixedInRange p e.value
+  pub uses : UsesInRange p at e.uses
+
+-- so is each record of the run, by the events before it
+abbrev pub RecordsAreInRange : Sets → ℕ → Program → List ℕ → ℕ → Type 0
+RecordsAreInRange A tokens p input budget =
+    (n : ℕ) (e : Recorded) → slice_get (events A p input budget) n ≡ Some e → InRange tokens p (slice_get (take n (events A p input budget))) e

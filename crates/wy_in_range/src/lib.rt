@@ -1,0 +1,2 @@
+//! Each record of a run is in the range of its program.
+#![tactic(auto)]
