@@ -1,0 +1,27 @@
+-- A trace that keeps the rules is read.
+use Rattle.std.specs.Prelude.{◌≡◌, ◌≤◌, List, ℕ, ◌++◌, length, map, Ok}
+use Rattle.std.specs.List.{concat}
+use Rattle.wy_kernel.specs.declared.program.Program.{Program}
+use Rattle.wy_event.specs.declared.record.Head.{Head}
+use Rattle.wy_event.specs.declared.record.Tail.{Tail}
+use Rattle.wy_event.specs.declared.record.Trace.{Trace}
+use Rattle.wy_event.specs.Record.{Recorded, recorded}
+use Rattle.wy_fitting.specs.Fits.{told}
+use Rattle.wy_spelling.specs.Spelling.{closing, event_frame, opening, trace_limit}
+use Rattle.wy_frames.specs.Traces.{IsReadAs}
+use Rattle.wy_readable.specs.Readable.{KeepsRules}
+
+-- the trace of a run: its head, a frame for each event, and what closes them
+abbrev pub run_bytes : Head → List Recorded → Tail → List ℕ
+run_bytes head rs end = let front = opening head ++ concat (map event_frame rs) in front ++ closing end front
+
+-- bytes are read as a trace, with this head, this end, and these events so far as bytes tell them
+pub record IsRead (p : Program) (head : Head) (rs : List Recorded) (end : Tail) (bytes : List ℕ) : Type 0 where
+  pub trace : Trace
+  pub read : IsReadAs p bytes (Ok trace)
+  pub head_is : trace.head ≡ head
+  pub events_are : map recorded trace.events ≡ map told rs
+  pub tail_is : trace.tail ≡ end
+
+abbrev pub TracesWithinRulesAreRead : Type 0
+TracesWithinRulesAreRead = (p : Program) (head : Head) (rs : List Recorded) (end : Tail) (bytes : List ℕ) → length bytes ≤ trace_limit → bytes ≡ run_bytes head rs end → KeepsRules p head rs end → IsRead p head rs end bytes
