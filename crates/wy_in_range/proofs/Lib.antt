@@ -1,3 +1,5 @@
 mod Facts
 mod Bare
 mod Rules
+mod Values
+mod Forms

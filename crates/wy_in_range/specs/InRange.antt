@@ -4,7 +4,7 @@ use Rattle.std.specs.Prelude.{None as Absent}
 use Rattle.wy_kernel.specs.declared.types.Base.TheVariants.{Primitive as Basic, Class as Named}
 use Rattle.wy_kernel.specs.declared.types.Ty.{Ty}
 use Rattle.wy_kernel.specs.declared.types.Ty.TheVariants.{Of}
-use Rattle.wy_kernel.specs.Program.{Program, Field, type_code}
+use Rattle.wy_kernel.specs.Program.{Program, Field, string_class, type_code}
 use Rattle.wy_kernel.specs.Builtin as builtin
 use Rattle.wy_kernel.specs.Builtin.{method_site}
 use Rattle.wy_value.specs.declared.value.Value.{Value}
@@ -31,9 +31,10 @@ IsSite tokens site = (site < tokens) ⊎ ((m : ℕ) × (m < length builtin.metho
 
 -- ---- what an event is of
 
--- objects are made of the type: it is a class of the program with brackets or without, or a primitive type with brackets
+-- objects are made of the type: it is a class of the program, and not String, or it has brackets
 abbrev pub IsTypeOfObjects : Program → Ty → Type 0
-IsTypeOfObjects p (Of (Named c) brackets) = c < length p.classes
+IsTypeOfObjects p (Of (Named c) zero) = (c < length p.classes) × (c ≡ string_class → ⊥)
+IsTypeOfObjects p (Of (Named c) (suc brackets)) = c < length p.classes
 IsTypeOfObjects p (Of (Basic q) (suc brackets)) = Unit {0}
 IsTypeOfObjects p _ = ⊥
 
