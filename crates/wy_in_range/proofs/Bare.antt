@@ -20,7 +20,7 @@ use Rattle.wy_steps.specs.State.{Carried, Held, Store, Noted, Reach, State, Stop
 use Rattle.wy_steps.specs.Steps.{event_limit, use_limit, element_limit, unit_limit, output_limit, Draft, Made, made, pay, tick, steps_left, frame, event_at, is_begun, held_of, no_value, read, declare, code_of, event_in, next_event, with_event, held_by, slot_with, with_stored, default_primitive, default_value, default_in, owner_in, if_empty, with_created, room_for, noting, note, writing, note_write, creating, note_new, with_active, entered, go_in, activating, with_elements, take_elements, with_units, take_units, room_for_output, write_out, take_byte, next_byte}
 use Rattle.wy_meaning.specs.Run.{end}
 use Rattle.wy_induction.specs.Law.{nothing, both, Entails, Frame, Region, Outside, In, Ends}
-use Rattle.wy_induction.proofs.Rules.{newest, before, trivially}
+use Rattle.wy_induction.proofs.Rules.{newest, before, same, trivially}
 use Rattle.wy_typed_states.proofs.Moments.{Later, later_one, newest_there, MadeAs}
 use Rattle.wy_typed_states.proofs.Law.{current, event, Standing, standing_up}
 use Rattle.wy_typed_states.proofs.Rules.{Ground, A, p, Known}
@@ -66,10 +66,7 @@ module _ (G : Ground) (tokens : ℕ) where
   weaker h e = record { by = λ s st k i. h.by s st (e.by _ k) i }
 
   pub next : {r : Region} {X Y : Type 0} {P : Known G} {R : Y → Known G} {m : Run (A G) X} {f : X → Run (A G) Y} → Bare r P m (λ x. nothing) → ((x : X) → Bare r P (f x) R) → Bare r P (m >>= f) R
-  next h l = bind h (λ x. weaker (l x) (record { by = λ n q. ((before _ _ same).by n q) }))
-    where
-      same : {P : Known G} → Entails P P
-      same = record { by = λ n q. q }
+  next h l = bind h (λ x. weaker (l x) (before _ _ same))
 
   pub after : {r : Region} {Y : Type 0} {P : Known G} {Q : Unit {0} → Known G} {R : Y → Known G} {m : Run (A G) Unit} {k : Run (A G) Y} → Bare r P m Q → Bare r (both P (Q tt)) k R → Bare r P (m >> k) R
   unfolding ◌>>◌

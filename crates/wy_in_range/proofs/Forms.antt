@@ -91,10 +91,10 @@ module _ (G : Ground) (tokens : ℕ) (M : Methods G) where
   pub size_fails : {r : Region} {X : Type 0} {P : Known G} {Q : X → Known G} (site : ℕ) (v : C G tokens) → Site site → Entails P (F v) → B r P (fail w negative_size site v) Q
   size_fails site v = fails negative_size site v (negative_size_fails (p G) G.fits.declarations.library_classes) (λ e. cc e)
 
-  number_fails : {r : Region} {X : Type 0} {P : Known G} {Q : X → Known G} (site : ℕ) (v : C G tokens) → Site site → Entails P (F v) → B r P (fail w number_format site v) Q
+  pub number_fails : {r : Region} {X : Type 0} {P : Known G} {Q : X → Known G} (site : ℕ) (v : C G tokens) → Site site → Entails P (F v) → B r P (fail w number_format site v) Q
   number_fails site v = fails number_format site v (number_format_fails (p G) G.fits.declarations.library_classes) (λ e. cc e)
 
-  place_fails : {r : Region} {X : Type 0} {P : Known G} {Q : X → Known G} (site : ℕ) (v : C G tokens) → Site site → Entails P (F v) → B r P (fail w string_index site v) Q
+  pub place_fails : {r : Region} {X : Type 0} {P : Known G} {Q : X → Known G} (site : ℕ) (v : C G tokens) → Site site → Entails P (F v) → B r P (fail w string_index site v) Q
   place_fails site v = fails string_index site v (string_index_fails (p G) G.fits.declarations.library_classes) (λ e. cc e)
 
   index_fails : {r : Region} {X : Type 0} {P : Known G} {Q : X → Known G} (site : ℕ) (v : C G tokens) → Site site → Entails P (F v) → B r P (fail w array_index site v) Q
@@ -185,6 +185,10 @@ module _ (G : Ground) (tokens : ℕ) (M : Methods G) where
   measures : {r : Region} {P : Known G} (a : ℕ) (ty : Ty) → Entails P (of_type G ty (val.Object a)) → B r P (length_of a) (measured a)
   unfolding length_of
   measures a ty h = bind G tokens (looked_up a ty h) (λ o. gives G tokens _ (newest _ _))
+
+  pub measures_some : {r : Region} {P : Known G} (a : ℕ) → B r P (length_of a) (λ l. nothing)
+  unfolding length_of
+  measures_some a = next G tokens (looks_up a) (λ o. gives G tokens _ trivially)
 
   indexed : (l : ℕ) (v : Value) (j : ℕ) → index_in l v ≡ Some j → j < l
   unfolding index_in

@@ -3,3 +3,4 @@ mod Bare
 mod Rules
 mod Values
 mod Forms
+mod Texts
