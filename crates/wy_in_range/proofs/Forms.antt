@@ -22,7 +22,7 @@ use Rattle.wy_event.specs.Record.{Recorded}
 use Rattle.wy_steps.specs.State.{Carried, Run, Reason, Jumped, Returned, Threw, FellOff, InitFailed, ◌>>◌}
 use Rattle.wy_steps.specs.Steps.{Made, element_limit, constant, joined, joined_all, with_value, value_of, code_of, event_in, event_at}
 use Rattle.wy_meaning.specs.World.{World, plain, about, into, spelling, class_code, throwing, fail, type_of, units_of, natural_of, length_in, length_of, object_of, null_pointer, arithmetic, array_store, array_index, number_format, string_index, negative_size, class_cast}
-use Rattle.wy_meaning.specs.Place.{Spot, local_spot, field_spot, index_in, checked_index, element_spot, lacks_value, fetch, assign, check_store, store, divided}
+use Rattle.wy_meaning.specs.Place.{Spot, local_spot, field_spot, index_in, checked_index, element_spot, lacks_value, fetch, assign, check_store, store, primitive_of, divided}
 use Rattle.wy_typing.specs.Expressions.{IsField}
 use Rattle.wy_induction.specs.Law.{nothing, both, Entails, Frame, Region, In}
 use Rattle.wy_induction.proofs.Rules.{newest, before, trivially}
@@ -34,7 +34,7 @@ use Rattle.wy_typed_states.proofs.Rules.{Ground, A, p, Known}
 use Rattle.wy_typed_states.proofs.Places.{Methods, of_type, world_of}
 use Rattle.wy_in_range.specs.InRange.{IsSite, IsTypeOfObjects, IsCode, arrays_from, IsObject, IsArray, HasLocal, index_limit, IsNone, IsSome, IsThrown, IsLength, ValueInRange, FixedInRange, InRange}
 use Rattle.wy_in_range.proofs.Facts.{S, C, Moment, always, Fine, fine, all_fine, Spotted, spotted, thrown, fair, Drafted, drafted, Inv, found_in_range, uses_append, constant_fine, with_value_fine, joined_fine, value_of_fine}
-use Rattle.wy_in_range.proofs.Values.{field_of_source, object_at}
+use Rattle.wy_in_range.proofs.Values.{Plain, primitive_gives, field_of_source, object_at}
 use Rattle.wy_in_range.proofs.Bare.{Bare, bind, next, after, gives_less, gives, leaves, stops, either, chooses, where_at, frames, looks, reads, declares, takes_elements, takes_units, has_room, writes_out, takes_byte, notes, writes, creates_new}
 
 code_of_class : (c : ℕ) → type_code (class_type c) ≡ class_code c
@@ -132,7 +132,7 @@ module _ (G : Ground) (tokens : ℕ) (M : Methods G) where
 
   -- ---- places
 
-  pub spot_fine : Spot (A G) → Known G
+  unfoldable pub spot_fine : Spot (A G) → Known G
   spot_fine x = both (spotted G tokens x.slot) (F x.parts)
 
   pub spot_slot : {P : Known G} (x : Spot (A G)) → Entails P (spot_fine x) → Entails P (spotted G tokens x.slot)
@@ -277,7 +277,27 @@ module _ (G : Ground) (tokens : ℕ) (M : Methods G) where
   unfolding store
   stores site x v s e f g = after G tokens (checks site x v x.slot s e f) (assigns site x v s (before _ _ e) (before _ _ f) (before _ _ g))
 
-  pub divides : {r : Region} {P : Known G} (site : ℕ) (c : C G tokens) (o : Option Value) → Site site → Entails P (F c) → ((v : Value) → o ≡ Some v → FixedInRange (p G) v) → B r P (divided w site c o) F
+  -- what an operation gave
+  unfoldable pub worked : Value → Known G
+  worked v = always G tokens (Plain (p G) v)
+
+  done : {P : Known G} (v : Value) (c : C G tokens) → Plain (p G) v → Entails P (F c) → Entails P (both (F (with_value v c)) (worked (with_value v c).value))
+  unfolding both worked fine with_value
+  done v c h e = record { by = λ n q. ((h.0, (e.by n q).1), h) }
+
+  pub divides : {r : Region} {P : Known G} (site : ℕ) (c : C G tokens) (o : Option Value) → Site site → Entails P (F c) → ((v : Value) → o ≡ Some v → Plain (p G) v) → B r P (divided w site c o) (λ u. both (F u) (worked u.value))
   unfolding divided
-  divides site c (Some v) s e h = gives G tokens _ (with_value_fine G tokens v c (h v refl) e)
+  divides site c (Some v) s e h = gives G tokens _ (done v c (h v refl) e)
   divides site c Absent s e h = zero_fails site c s e
+
+  pub brought : {P : Known G} (ty : Ty) (c : C G tokens) → Entails P (both (F c) (worked c.value)) → Entails P (F (with_value (primitive_of ty c.value) c))
+  unfolding both worked fine with_value
+  brought ty c e = record { by = λ n q. let h = e.by n q in ((primitive_gives (p G) ty c.value h.1).0, h.0.1) }
+
+  pub brought_some : {P : Known G} (ty : Ty) (c : C G tokens) → Entails P (both (F c) (worked c.value)) → Entails P (some (primitive_of ty c.value))
+  unfolding both worked
+  brought_some ty c e = record { by = λ n q. (primitive_gives (p G) ty c.value (e.by n q).1).1 }
+
+  pub worked_fine : {P : Known G} (c : C G tokens) → Entails P (both (F c) (worked c.value)) → Entails P (F c)
+  unfolding both
+  worked_fine c e = record { by = λ n q. (e.by n q).0 }

@@ -4,3 +4,4 @@ mod Rules
 mod Values
 mod Forms
 mod Texts
+mod Expressions

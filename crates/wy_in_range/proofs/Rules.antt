@@ -89,6 +89,16 @@ module _ (G : Ground) (tokens : ℕ) where
   pub with_types : {r : Region} {X : Type 0} {P : Known G} {Q U R : X → Known G} {m : Run (A G) X} → Does G r P m Q → Full r P m U → ((x : X) → Entails (both (both P (Q x)) (U x)) (R x)) → Full r P m R
   with_types {P = P} {Q = Q} {U = U} {R = R} {m = m} d h l = record { by = λ s at. typed_lesser P Q U R s (m s) at (ends d s at.typed at.stands at.known) (h.by s at) l }
 
+  -- and what is in range at its end
+  whole_lesser : {r : Region} {X : Type 0} (P : Known G) (Q U R : X → Known G) (s : S G tokens) (out : Outcome (A G) X) → At r P s → TypedEnd r Q out → Comes G tokens s U out → ((x : X) (t : S G tokens) → Inv G tokens t → (Q x).holds t.noted → (U x).holds t.noted → (R x).holds t.noted) → Comes G tokens s R out
+  unfolding end
+  whole_lesser P Q U R s (Done x t) at e c l = record { later = c.later; frame = c.frame; inv = c.inv; given = l x t c.inv e.1 c.given }
+  whole_lesser P Q U R s (Left why t) at e c l = record { later = c.later; frame = c.frame; inv = c.inv; given = c.given }
+  whole_lesser P Q U R s (Stopped why t) at e c l = record { later = c.later; frame = c.frame; inv = c.inv; given = tt }
+
+  pub with_end : {r : Region} {X : Type 0} {P : Known G} {Q U R : X → Known G} {m : Run (A G) X} → Does G r P m Q → Full r P m U → ((x : X) (t : S G tokens) → Inv G tokens t → (Q x).holds t.noted → (U x).holds t.noted → (R x).holds t.noted) → Full r P m R
+  with_end {P = P} {Q = Q} {U = U} {R = R} {m = m} d h l = record { by = λ s at. whole_lesser P Q U R s (m s) at (ends d s at.typed at.stands at.known) (h.by s at) l }
+
   pub either : {r : Region} {X : Type 0} {P : Known G} {Q : X → Known G} {m k : Run (A G) X} (c : Bool) → (c ≡ true → Full r P m Q) → (c ≡ false → Full r P k Q) → Full r P (choose c m k) Q
   unfolding choose
   either true h l = h refl
