@@ -1,5 +1,5 @@
 -- Each expression of a body keeps what is in range.
-use Rattle.std.proofs.Common.{◌≡◌, ◌<◌, ◌≤◌, ◌⊎◌, inl, inr, ⊎_elim, arith, ℕ, zero, suc, Bool, true, false, List, [], ◌∷◌, ◌++◌, length, replicate, Option, Some, refl, sym, ap, ◌∙◌, subst}
+use Rattle.std.proofs.Common.{◌≡◌, ◌<◌, ◌≤◌, ◌+◌, ◌*◌, ◌^◌, ◌⊎◌, inl, inr, ⊎_elim, arith, ℕ, zero, suc, Bool, true, false, List, [], ◌∷◌, ◌++◌, length, replicate, Option, Some, refl, sym, ap, ◌∙◌, subst}
 use Rattle.std.specs.Prelude.{None as Absent}
 use Rattle.std.specs.Prelude.{◌==◌, if◌then◌else◌, slice_get}
 use Rattle.std.specs.List.{AllByRecursion}
@@ -53,14 +53,14 @@ use Rattle.wy_typed_states.proofs.Rules.{Ground, A, p, Known, Does, asks, ticks,
 use Rattle.wy_typed_states.proofs.Rules as typed_rule
 use Rattle.wy_typed_states.proofs.Facts.{found_as, new_is, AllAre, all_are, called}
 use Rattle.wy_typed_states.proofs.Places.{Methods, world_of, of_type, Locates, finds, fetches, finds_type, may_initialize}
-use Rattle.wy_typed_states.proofs.Forms.{T, chosen_calls_at, object_is_object, shows}
+use Rattle.wy_typed_states.proofs.Forms.{T, chosen_calls_at, object_is_object, shows, concatenates}
 use Rattle.wy_typed_states.proofs.Calls.{AllTypes, gives_all, one_method, calls_with, static_calls, Constructs, constructor_calls}
 use Rattle.wy_typed_states.proofs.Arrays.{makes_array, AllAlike, alike, elements_are, element_place, element_stores, made_elements, array_made, one_less}
 use Rattle.wy_typed_states.proofs.Expressions as expression
 use Rattle.wy_in_range.specs.Sites.{Sited, PlaceSited, PartSited, RowSited}
 use Rattle.wy_in_range.specs.InRange.{IsSite, IsArray, IsSome, IsTruth, FixedInRange}
 use Rattle.wy_in_range.proofs.Facts.{S, C, Moment, always, Fine, fine, all_fine, Spotted, spotted, drafted, constant_fine, with_value_fine, joined_fine, value_of_fine, chosen_fine}
-use Rattle.wy_in_range.proofs.Values.{Plain, binary_gives, operated_gives, unary_gives, converted_fixed, primitive_gives, some_value, truth, locals_known, field_known, field_class, method_class}
+use Rattle.wy_in_range.proofs.Values.{Plain, binary_gives, operated_gives, unary_gives, converted_fixed, primitive_gives, some_value, truth, primitive_fixed, locals_known, field_known, field_class, method_class}
 use Rattle.wy_in_range.proofs.Bare as bare
 use Rattle.wy_in_range.proofs.Bare.{Bare}
 use Rattle.wy_in_range.proofs.Forms as plain_form
@@ -175,3 +175,168 @@ module _ (G : Ground) (tokens : ℕ) (M : Methods G) (L : Inner G tokens M) wher
         bare.bind G tokens (plain_form.divides G tokens M site (joined val.None old v) (operated op wide old.value v.value) s (joined_fine G tokens val.None old v tt (before _ _ (newest _ _)) (newest _ _)) (λ x q. operated_gives (p G) op wide old.value v.value x q)) (λ new.
         bare.bind G tokens (plain_form.assigns G tokens M site at (with_value (primitive_of to new.value) new) s (before _ _ (before _ _ (before _ _ (before _ _ (newest _ _))))) (plain_form.brought G tokens M to new (newest _ _)) (plain_form.brought_some G tokens M to new (newest _ _))) (λ set.
         bare.gives G tokens _ (if_good gives_old old set (before _ _ (before _ _ (before _ _ (newest _ _)))) (newest _ _)))))))
+
+    -- ---- calls that the class of the receiver decides
+
+    pub chosen_good : {P : Known G} (k : ℕ) (md : Method) → IsMethod (p G) k md → md.form ≡ kinds.Instance → md.is_private ≡ false → (site : ℕ) (v : K) (args : List K) (n : ℕ) → Ok site → v.value ≡ val.Object n → Entails P (of_type G (class_type md.class) v.value) → Entails P (all_are G md.params args) → Entails P (F v) → Entails P (all_fine G tokens args) → O P (call_chosen w site k v args) F
+    unfolding call_chosen called found_as all_are is both bound
+    chosen_good k md m f public site v args n s e h a fv fa = bare_first G tokens (finds_type G M (class_type md.class) v.value h) (plain_form.finds_type G tokens M v.value) (λ found.
+        L.calls (In i) site (dispatch (p G) k (class_of_type found)) (Some v) args _ (record { by = λ n1 q. chosen_calls_at G M i k md m f public n1 v args n found e (h.by n1 q.0.0) q.0.1 (a.by n1 q.0.0) }) s (before _ _ (before _ _ (plain_text.more_fine G tokens M v args fv fa))))
+
+    -- ---- texts
+
+    shows_as_good : {P : Known G} (site : ℕ) (v : K) (x : Value) (ty : Ty) → Ok site → v.value ≡ x → Entails P (of_type G ty v.value) → Entails P (F v) → O P (shown_as w site v x) F
+    unfolding shown_as is all_are
+    shows_as_good site v (val.Object n) ty s e h f = chosen_good to_string to_string_method (to_string_is (p G) G.fits.declarations.library_methods) refl refl site v [] n s e
+        (record { by = λ n1 q. subst (λ u. Is (p G) n1 object_type u) (sym e) (object_is_object G M i n1 ty n (subst (λ u. Is (p G) n1 ty u) e (h.by n1 q))) }) (record { by = λ n1 q. tt }) f (plain_text.none_fine G tokens M)
+    shows_as_good site v _ ty s e h f = plainly G tokens (bare.gives G tokens v f)
+
+    pub shows_good : {P : Known G} (site : ℕ) (v : K) (ty : Ty) → Ok site → Entails P (of_type G ty v.value) → Entails P (F v) → O P (shown w site v) F
+    unfolding shown
+    shows_good site v ty s h f = shows_as_good site v v.value ty s refl h f
+
+    concatenates_good : {P : Known G} (site : ℕ) (x y : K) (a c : Ty) → Ok site → Entails P (of_type G a x.value) → Entails P (of_type G c y.value) → Entails P (F x) → Entails P (F y) → O P (concatenated w site x y) F
+    unfolding concatenated
+    concatenates_good site x y a c s e f fx fy = bind G tokens (shows G M i site x a e) (shows_good site x a s e fx) (λ l. then_bare G tokens (shows_good site y c s (before _ _ (before _ _ f)) (before _ _ (before _ _ fy))) (λ r.
+        bare.next G tokens (plain_text.spells G tokens M l.value) (λ us. bare.next G tokens (plain_text.spells G tokens M r.value) (λ vs. plain_text.makes_text G tokens M site _ _ s (joined_fine G tokens val.None l r tt (before _ _ (newest _ _)) (newest _ _))))))
+
+    cat_good : (l r : Run (A G) K) (site : ℕ) (a c : Ty) → Ok site → T G M i l a → T G M i r c → Good l → Good r → Good (cat w l r site)
+    unfolding cat
+    cat_good l r site a c s dl dr fl fr = record { by = λ P. bind G tokens (dl.by P) (fl.by P) (λ x. bind G tokens (dr.by _) (fr.by _) (λ y. concatenates_good site x y a c s (before _ _ (before _ _ (before _ _ (newest _ _)))) (before _ _ (newest _ _)) (before _ _ (before _ _ (newest _ _))) (newest _ _))) }
+
+    append_good : (x : Located (A G)) (m : Run (A G) K) (site : ℕ) (ty from : Ty) → Ok site → Locates G M i x ty → T G M i m from → LocatedGood x → Good m → Good (append_place w x m site)
+    unfolding append_place
+    append_good x m site ty from s d dm f g = record {
+      by = λ P. bind G tokens (finds G M i x ty d) (finds_good x ty d f) (λ at. bind G tokens (fetches G M i at ty (before _ _ (newest _ _))) (plainly G tokens (plain_form.fetches G tokens M at (newest _ _))) (λ old. bind G tokens (dm.by _) (g.by _) (λ v.
+          then_plainly G tokens (concatenates G M i site old v ty from (before _ _ (before _ _ (before _ _ (newest _ _)))) (before _ _ (newest _ _)))
+          (concatenates_good site old v ty from s (before _ _ (before _ _ (before _ _ (newest _ _)))) (before _ _ (newest _ _)) (before _ _ (before _ _ (newest _ _))) (newest _ _))
+          (λ t. plain_form.stores G tokens M site at t s (before _ _ (before _ _ (before _ _ (before _ _ (before _ _ (before _ _ (newest _ _))))))) (newest _ _) (before _ _ (is_some text_type t.value (λ e. cc e) (newest _ _)))))));
+    }
+
+    -- ---- calls
+
+    object_good : {P : Known G} (k : ℕ) (md : Method) (site : ℕ) (r : K) (x : Value) (vs : List K) → Ok site → IsMethod (p G) k md → md.form ≡ kinds.Instance → md.is_private ≡ false → r.value ≡ x → is_text x ≡ false → is_null x ≡ false → Entails P (of_type G (class_type md.class) r.value) → Entails P (all_are G md.params vs) → Entails P (F r) → Entails P (all_fine G tokens vs) → O P (call_chosen w site k r vs) F
+    unfolding is is_text is_null
+    object_good k md site r (val.Object n) vs s m f public e t u h a fr fa = chosen_good k md m f public site r vs n s e h a fr fa
+    object_good k md site r (val.Text n) vs s m f public e t u h a fr fa = absurd (cc t)
+    object_good k md site r (val.Fixed n) vs s m f public e t u h a fr fa = absurd (cc t)
+    object_good k md site r val.Null vs s m f public e t u h a fr fa = absurd (cc u)
+    object_good k md site r val.None vs s m f public e t u h a fr fa = where_at G tokens (λ z at. absurd (let y = subst (λ (u : Value). Is (p G) z.noted (class_type md.class) u) e (h.by z.noted at.known) in cc y))
+    object_good k md site r (val.Bool x) vs s m f public e t u h a fr fa = where_at G tokens (λ z at. absurd (let y = subst (λ (u : Value). Is (p G) z.noted (class_type md.class) u) e (h.by z.noted at.known) in cc y))
+    object_good k md site r (val.Byte x) vs s m f public e t u h a fr fa = where_at G tokens (λ z at. absurd (let y = subst (λ (u : Value). Is (p G) z.noted (class_type md.class) u) e (h.by z.noted at.known) in cc y))
+    object_good k md site r (val.Short x) vs s m f public e t u h a fr fa = where_at G tokens (λ z at. absurd (let y = subst (λ (u : Value). Is (p G) z.noted (class_type md.class) u) e (h.by z.noted at.known) in cc y))
+    object_good k md site r (val.Char x) vs s m f public e t u h a fr fa = where_at G tokens (λ z at. absurd (let y = subst (λ (u : Value). Is (p G) z.noted (class_type md.class) u) e (h.by z.noted at.known) in cc y))
+    object_good k md site r (val.Int x) vs s m f public e t u h a fr fa = where_at G tokens (λ z at. absurd (let y = subst (λ (u : Value). Is (p G) z.noted (class_type md.class) u) e (h.by z.noted at.known) in cc y))
+    object_good k md site r (val.Long x) vs s m f public e t u h a fr fa = where_at G tokens (λ z at. absurd (let y = subst (λ (u : Value). Is (p G) z.noted (class_type md.class) u) e (h.by z.noted at.known) in cc y))
+
+    chosen_call_good : (k : ℕ) (md : Method) (receiver : Run (A G) K) (args : List (Run (A G) K)) (site : ℕ) (ty : Ty) → Ok site → IsMethod (p G) k md → md.form ≡ kinds.Instance → md.is_private ≡ false → T G M i receiver ty → Fits (p G).classes ty (class_type md.class) → AllTypes G M i args md.params → Good receiver → AllGood args → Good (call_on w call.Chosen k receiver args site)
+    unfolding call_on call_form
+    chosen_call_good k md receiver args site ty s m f public d fits da g ga = record {
+      by = λ P. bind G tokens (d.by P) (g.by P) (λ r. bind G tokens (gives_all G M i args md.params _ da) (all_good args md.params _ da ga) (λ vs.
+          either G tokens (is_null r.value) (λ e. plainly G tokens (plain_form.null_fails G tokens M site r s (before _ _ (before _ _ (newest _ _))))) (λ e.
+          either G tokens (is_text r.value) (λ t. plainly G tokens (plain_text.on_text G tokens M (k == equals) r vs (before _ _ (before _ _ (newest _ _))) (newest _ _)))
+          (λ t. object_good k md site r r.value vs s m f public refl t e (fitted ty (class_type md.class) r.value fits (before _ _ (before _ _ (before _ _ (newest _ _))))) (before _ _ (newest _ _)) (before _ _ (before _ _ (newest _ _))) (newest _ _)))));
+    }
+
+    direct_good : (k : ℕ) (md : Method) (receiver : Run (A G) K) (args : List (Run (A G) K)) (site : ℕ) → Ok site → IsMethod (p G) k md → this_types md.form md.class ≡ class_type md.class ∷ [] → T G M i receiver (class_type md.class) → AllTypes G M i args md.params → Good receiver → AllGood args → Good (call_on w call.Direct k receiver args site)
+    unfolding call_on call_form called all_are is both bound
+    direct_good k md receiver args site s m t d da g ga = record {
+      by = λ P. bind G tokens (d.by P) (g.by P) (λ r. bind G tokens (gives_all G M i args md.params _ da) (all_good args md.params _ da ga) (λ vs.
+          either G tokens (is_null r.value) (λ q. plainly G tokens (plain_form.null_fails G tokens M site r s (before _ _ (before _ _ (newest _ _))))) (λ q.
+          L.calls (In i) site k (Some r) vs _ (record { by = λ n h. calls_with G M i n k md r vs m t h.0.0.0.1 h.0.1 }) s (plain_text.more_fine G tokens M r vs (before _ _ (before _ _ (newest _ _))) (newest _ _)))));
+    }
+
+    static_call_good : (k : ℕ) (md : Method) (args : List (Run (A G) K)) (site : ℕ) → Ok site → IsMethod (p G) k md → md.form ≡ kinds.Static → AllTypes G M i args md.params → AllGood args → Good (call_static w k args site)
+    unfolding call_static called all_are both bound ◌>>◌
+    static_call_good k md args site s m f da ga = record {
+      by = λ P. bind G tokens (gives_all G M i args md.params _ da) (all_good args md.params _ da ga) (λ vs. bind G tokens (may_initialize G M site (method (p G) k).class) (initializes site (method (p G) k).class s (method_class G k md m)) (λ u.
+          L.calls (In i) site k Absent vs _ (record { by = λ n h. static_calls G M i n k md vs m f h.0.0.0.1 }) s (before _ _ (before _ _ (newest _ _)))));
+    }
+
+    -- ---- creation
+
+    constructs_good : {P : Known G} (site c : ℕ) (k : Option ℕ) (params : List Ty) (v : K) (args : List K) → Ok site → Constructs G M i c k params → Entails P (of_type G (class_type c) v.value) → Entails P (all_are G params args) → Entails P (F v) → Entails P (all_fine G tokens args) → O P (construct w site k v args) (λ t. nothing)
+    unfolding construct called is all_are bound
+    constructs_good site c Absent params v args s h e a fv fa = plainly G tokens (bare.gives G tokens tt trivially)
+    constructs_good site c (Some k) params v args s h e a fv fa = then_bare G tokens (L.calls (In i) site k (Some v) args _ (record { by = λ n q. constructor_calls G M i n c k h.0 params v args h.1 h.2 h.3 (e.by n q) (a.by n q) }) s (plain_text.more_fine G tokens M v args fv fa)) (λ u. bare.gives G tokens tt trivially)
+
+    create_good : (c : ℕ) (k : Option ℕ) (params : List Ty) (args : List (Run (A G) K)) (site : ℕ) → Ok site → IsMade (p G) c → (c ≡ string_class → ⊥) → Constructs G M i c k params → AllTypes G M i args params → AllGood args → Good (create w c k args site)
+    unfolding create value_of ◌>>◌
+    create_good c k params args site s m n h da ga =
+        let lt = slice_get_within (p G).classes c m.0 m.1 in
+        let code = class_code_is (length (p G).classes) c G.library.few lt in
+        record {
+          by = λ P. bind G tokens (may_initialize G M site c) (initializes site c s lt) (λ t. bind G tokens (notes_object G site (class_code c) (constant val.None)) (plainly G tokens (bare.creates_new G tokens (about kind.New site (class_code c) val.None) (constant val.None) (plain_form.object_draft G tokens M site c s lt n) (constant_fine G tokens val.None tt))) (λ e.
+              bind G tokens (gives_all G M i args params _ da) (all_good args params _ da ga) (λ vs. then_bare G tokens (constructs_good site c k params (value_of e (val.Object e.number)) vs s h
+              (before _ _ (before _ _ (before _ _ (new_is G e site (class_code c) val.None (class_type c) (class_type c) (newest _ _) code (record { reference = tt; concrete = m; below = same }))))) (before _ _ (newest _ _)) (value_of_fine G tokens e _ tt) (newest _ _))
+              (λ t. bare.gives G tokens _ (value_of_fine G tokens e _ tt)))));
+        }
+
+    -- ---- arrays
+
+    objects_of : (base : Base) (n m : ℕ) → IsTypeOf (length (p G).classes) (Of base m) → MakesArrays G tokens M (Of base (suc n))
+    unfolding type_code base_code
+    objects_of (Named c) n m known = record { objects = known; array = omega arith }
+    objects_of (Basic q) n m known = record { objects = tt; array = omega arith }
+
+    nested_from : (n : List (Noted (A G))) (base : Base) (m brackets k : ℕ) (ds : List K) → IsTypeOf (length (p G).classes) (Of base k) → m ≤ brackets → AllAre G n (replicate m int_type) ds → Nested G tokens M (Of base brackets) ds
+    nested_from n base m brackets k [] known le h = tt
+    nested_from n base zero brackets k (d ∷ ds) known le h = absurd h
+    nested_from n base (suc m) zero k (d ∷ ds) known le h = absurd (omega (arith, le))
+    nested_from n base (suc m) (suc brackets) k (d ∷ ds) known le h = (objects_of base brackets k known, subst (λ t. Nested G tokens M t ds) (sym (one_less G M base brackets)) (nested_from n base m brackets k ds known (omega (arith, le)) h.1))
+
+    array_good : (base : Base) (brackets n : ℕ) (dims : List (Run (A G) K)) (site : ℕ) → Ok site → n < brackets → IsTypeOf (length (p G).classes) (Of base brackets) → AllTypes G M i dims (replicate (suc n) int_type) → AllGood dims → Good (create_array w (Of base brackets) dims site)
+    unfolding create_array all_are both
+    array_good base brackets n dims site s lt known d f = record {
+      by = λ P. bind G tokens (gives_all G M i dims _ _ d) (all_good dims _ _ d f) (λ ds. either G tokens (any_negative ds) (λ e. plainly G tokens (plain_form.size_fails G tokens M site _ s (plain_text.together_fine G tokens M ds (newest _ _)))) (λ e.
+          where_at G tokens (λ z at. plainly G tokens (plain_text.makes_arrays G tokens M site (Of base brackets) ds s (nested_from z.noted base (suc n) brackets brackets ds known (omega (arith, lt)) at.known.0.1) (newest _ _)))));
+    }
+
+    set_value : {P : Known G} (e : Made (A G)) (v : K) → Entails P (F v) → Entails P (F (joined v.value (value_of e (val.Object e.number)) v))
+    unfolding fine joined value_of
+    set_value e v f = record { by = λ n q. ((f.by n q).0, (tt, (f.by n q).1)) }
+
+    elements_good : (ms : List (Run (A G) K)) (sites : List ℕ) (e : Made (A G)) (k count : ℕ) (base : Base) (brackets : ℕ) (P : Known G) → AllByRecursion Ok sites → k + length ms ≤ count → Entails P (elements_are G M e.number (Of base brackets)) → Entails P (array G tokens M e.number) → Entails P (always G tokens (count ≤ element_limit)) → AllTypes G M i ms (replicate (length sites) (Of base brackets)) → AllGood ms → O P (set_elements e k sites ms) (λ t. nothing)
+    unfolding set_elements first_site rest_sites
+    elements_good [] sites e k count base brackets P s lt r a few d f = plainly G tokens (bare.gives G tokens tt trivially)
+    elements_good (m ∷ ms) [] e k count base brackets P s lt r a few d f = absurd d.0
+    elements_good (m ∷ ms) (site ∷ sites) e k count base brackets P s lt r a few d f = bind G tokens (d.0.by P) (f.0.by P) (λ v. bind G tokens
+        (sets_slot G site (slot.Elem e.number k) v.value _ (element_place G M e.number k (Of base brackets) (before _ _ (before _ _ r))) (element_stores G M e.number k (Of base brackets) v.value (before _ _ (before _ _ r)) (before _ _ (newest _ _))))
+        (plainly G tokens (bare.writes G tokens _ _ (plain_form.set_draft G tokens M site (slot.Elem e.number k) v s.0 (plain_text.element_place G tokens M e.number k count (omega (arith, lt)) (before _ _ (before _ _ a)) (before _ _ (before _ _ few))) (newest _ _) (is_some (Of base brackets) v.value (λ q. cc q) (before _ _ (newest _ _)))) (set_value e v (newest _ _))))
+        (λ set. elements_good ms sites e (suc k) count base brackets _ s.1 (omega (arith, lt)) (before _ _ (before _ _ (before _ _ (before _ _ r)))) (before _ _ (before _ _ (before _ _ (before _ _ a)))) (before _ _ (before _ _ (before _ _ (before _ _ few)))) d.1 f.1))
+
+    filled_good : (base : Base) (brackets : ℕ) (ms : List (Run (A G) K)) (sites : List ℕ) (site : ℕ) → Ok site → AllByRecursion Ok sites → IsTypeOf (length (p G).classes) (Of base brackets) → AllTypes G M i ms (replicate (length sites) (Of base brackets)) → AllGood ms → Good (create_filled w (Of base (suc brackets)) ms sites site)
+    unfolding create_filled both ◌>>◌
+    filled_good base brackets ms sites site s ss known d f =
+        let made = array_made G M base brackets brackets known in
+        record {
+          by = λ P. bind G tokens (makes_array G M site (Of base (suc brackets)) (length ms) (constant val.None)) (plainly G tokens (plain_text.makes_array G tokens M site (Of base (suc brackets)) (length ms) (constant val.None) s (objects_of base brackets brackets known) (constant_fine G tokens val.None tt))) (λ e.
+              then_bare G tokens (elements_good ms sites e 0 (length ms) base brackets _ ss (omega arith) (before _ _ (made_elements G M e site (Of base (suc brackets)) (length ms) (Of base brackets) (newest _ _) (λ m q. (made.code, one_less G M base brackets)))) (record { by = λ n q. q.1.0 }) (record { by = λ n q. q.1.1 }) d f) (λ t. bare.gives G tokens _ (value_of_fine G tokens e _ tt)));
+        }
+
+    -- ---- conditions
+
+    abbrev ArmGood : Option (Run (A G) K) → Type 1
+    ArmGood Absent = Unit {1}
+    ArmGood (Some m) = Good m
+
+    arm_value : {P : Known G} (e : Made (A G)) (v : K) → Entails P (F v) → Entails P (F (value_of e v.value))
+    unfolding fine value_of
+    arm_value e v f = record { by = λ n q. ((f.by n q).0, (tt, tt)) }
+
+    arm_good : {P : Known G} (e : Made (A G)) (v : K) (m : Option (Run (A G) K)) → Entails P (F v) → ArmGood m → O P (arm e v.value m) F
+    unfolding arm
+    arm_good e v Absent f h = plainly G tokens (bare.gives G tokens _ (arm_value e v f))
+    arm_good {P = P} e v (Some m) f h = then_bare G tokens (h.by P) (λ c. bare.gives G tokens _ (chosen_fine G tokens e c (newest _ _)))
+
+    pub test_draft : {P : Known G} (site : ℕ) (v : Value) → Ok site → Entails P (of_type G boolean_type v) → Entails P (drafted G tokens (plain kind.Test site v))
+    unfolding drafted plain is
+    test_draft site v s e = record { by = λ n q. record { site = s; what = tt; slot = tt; value = truth G n v (e.by n q); fixed = primitive_fixed G n _ v (e.by n q) } }
+
+    conditional_good : (test : Run (A G) K) (a d : Option (Run (A G) K)) (site : ℕ) → Ok site → T G M i test boolean_type → Good test → ArmGood a → ArmGood d → Good (conditional test a d site)
+    unfolding conditional
+    conditional_good test a d site s dt ft fa fd = record {
+      by = λ P. scopes G tokens (bind G tokens (dt.by P) (ft.by P) (λ v.
+          bind G tokens (notes_test G Around site v.value v) (plainly G tokens (bare.enters G tokens (note (plain kind.Test site v.value) v) Around (plain kind.Test site v.value) v (bare.note_adds G tokens (plain kind.Test site v.value) v) (test_draft site v.value s (before _ _ (newest _ _))) (newest _ _))) (λ e.
+          either G tokens (is_true v.value) (λ q. arm_good e v a (before _ _ (before _ _ (newest _ _))) fa) (λ q. arm_good e v d (before _ _ (before _ _ (newest _ _))) fd))));
+    }

@@ -246,7 +246,7 @@ module _ (G : Ground) (tokens : ℕ) (M : Methods G) where
   repeats zero k f h = gives G tokens tt trivially
   repeats (suc n) k f h = after G tokens (h k (omega arith)) (weaker G tokens (repeats n (suc k) f (λ j lt. h j (omega (arith, lt)))) (before _ _ same))
 
-  element_place : {P : Known G} (k j n : ℕ) → j < n → Entails P (array k) → Entails P (always G tokens (n ≤ element_limit)) → Entails P (spotted G tokens (slot.Elem k j))
+  pub element_place : {P : Known G} (k j n : ℕ) → j < n → Entails P (array k) → Entails P (always G tokens (n ≤ element_limit)) → Entails P (spotted G tokens (slot.Elem k j))
   unfolding spotted array
   element_place k j n lt e f = record { by = λ m q. (tt, (e.by m q, let few = f.by m q in omega (arith, lt, few))) }
 
