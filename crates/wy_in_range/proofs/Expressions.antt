@@ -1,7 +1,7 @@
 -- Each expression of a body keeps what is in range.
 use Rattle.std.proofs.Common.{◌≡◌, ◌<◌, ◌≤◌, ◌+◌, ◌*◌, ◌^◌, ◌⊎◌, inl, inr, ⊎_elim, arith, ℕ, zero, suc, Bool, true, false, List, [], ◌∷◌, ◌++◌, length, replicate, Option, Some, refl, sym, ap, ◌∙◌, subst}
 use Rattle.std.specs.Prelude.{None as Absent}
-use Rattle.std.specs.Prelude.{◌==◌, if◌then◌else◌, slice_get}
+use Rattle.std.specs.Prelude.{pos, ◌==◌, if◌then◌else◌, slice_get}
 use Rattle.std.specs.List.{AllByRecursion}
 use Rattle.std.proofs.lemmas.Option.{slice_get_within}
 use Rattle.wy_kernel.specs.declared.types.Base.{Base}
@@ -16,6 +16,7 @@ use Rattle.wy_kernel.specs.declared.form.LibOp.{LibOp}
 use Rattle.wy_kernel.specs.declared.form.CondForm.{CondForm}
 use Rattle.wy_kernel.specs.declared.form.CallForm.{CallForm}
 use Rattle.wy_kernel.specs.declared.form.CallForm.TheVariants as call
+use Rattle.wy_kernel.specs.Form as form
 use Rattle.wy_kernel.specs.Form.{Constant, Expression, Const, Str, Read, Set, Upd, Un, Bin, Conv, Cast, InstanceOf, Cond, New, NewArray, Call, Cat, Lib, Place, Local, Static, Field, Elem, Part, absent, the, Row, none, more}
 use Rattle.wy_kernel.specs.Program as part
 use Rattle.wy_kernel.specs.Program.{Method, method, field, is_source, is_below, dispatch, class_of_type, object_class, string_class, type_code, base_code, element_type}
@@ -340,3 +341,195 @@ module _ (G : Ground) (tokens : ℕ) (M : Methods G) (L : Inner G tokens M) wher
           bind G tokens (notes_test G Around site v.value v) (plainly G tokens (bare.enters G tokens (note (plain kind.Test site v.value) v) Around (plain kind.Test site v.value) v (bare.note_adds G tokens (plain kind.Test site v.value) v) (test_draft site v.value s (before _ _ (newest _ _))) (newest _ _))) (λ e.
           either G tokens (is_true v.value) (λ q. arm_good e v a (before _ _ (before _ _ (newest _ _))) fa) (λ q. arm_good e v d (before _ _ (before _ _ (newest _ _))) fd))));
     }
+
+    -- ---- each form
+
+    -- where its sites are in range, for each type that it has
+    pub record Keeps (e : Expression) : Type 1 where
+      pub by : Sited Ok e → (ty : Ty) → Has e ty → Good (eval w e)
+
+    typed_as : (e : Expression) (ty : Ty) → Has e ty → T G M i (eval w e) ty
+    typed_as e ty h = (expression.typed G M i e).by ty h
+
+    ticked : (m : Run (A G) K) → Good m → Good (tick >> m)
+    ticked m h = record { by = λ P. after G tokens (ticks G) (plainly G tokens (bare.ticks G tokens)) (λ P. h.by P) }
+
+    given_good : (e : Expression) (ty : Ty) → Keeps e → Sited Ok e → Gives (p G) (local_types (p G) i) e ty → Good (eval w e)
+    given_good e ty d s (fitting {a = a} g f) = d.by s a g
+
+    given_typed : (e : Expression) (ty : Ty) → Gives (p G) (local_types (p G) i) e ty → T G M i (eval w e) ty
+    given_typed e ty g = expression.given G M i e ty (expression.typed G M i e) g
+
+    rows_typed : (row : Row) (ts : List Ty) → GivesAll (p G) (local_types (p G) i) row ts → AllTypes G M i (eval_row w row) ts
+    rows_typed row ts h = expression.given_all G M i row ts (row_of row) h
+      where
+        row_of : (row : Row) → OfRow (expression.Typed G M i) row
+        row_of none = tt
+        row_of (more e rest) = (expression.typed G M i e, row_of rest)
+
+    rows_good : (row : Row) (ts : List Ty) → OfRow Keeps row → RowSited Ok row → GivesAll (p G) (local_types (p G) i) row ts → AllGood (eval_row w row)
+    unfolding eval_row
+    rows_good none ts d s g = tt
+    rows_good (more e rest) (t ∷ ts) d s (typing.and_more g gs) = (given_good e t d.0 s.0 g, rows_good rest ts d.1 s.1 gs)
+    rows_good (more e rest) [] d s g = elim g [ ]
+
+    located_typed : (x : Place) (ty : Ty) → IsPlace (p G) (local_types (p G) i) x ty → Locates G M i (locate w x) ty
+    located_typed x ty h = expression.located G M i x ty (place_of x) h
+      where
+        place_of : (x : Place) → OfPlace (expression.Typed G M i) x
+        place_of (Local k) = tt
+        place_of (Static k site) = tt
+        place_of (Field object k site) = expression.typed G M i object
+        place_of (Elem array index site) = (expression.typed G M i array, expression.typed G M i index)
+
+    located_good : (x : Place) (ty : Ty) → OfPlace Keeps x → PlaceSited Ok x → IsPlace (p G) (local_types (p G) i) x ty → LocatedGood (locate w x)
+    unfolding locate
+    located_good (Local k) ty d s (typing.local e) = (slice_get_within (local_types (p G) i) k ty e, tt)
+    located_good (Static k site) ty d s (typing.static {f = f} e h) = (s, (f, e, h), tt)
+    located_good (Field object k site) ty d s (typing.field {f = f} e h g) = (s.0, (f, e, h, given_typed object _ g), given_good object _ d s.1 g)
+    located_good (Elem array index site) ty d s (typing.element {base = c} {brackets = n} g k) = (s.0, d.0.by s.1 _ g, d.1.by s.2 _ k)
+
+    -- a place has a type that values have
+    place_known : (x : Place) (ty : Ty) → IsPlace (p G) (local_types (p G) i) x ty → ty ≡ Void → ⊥
+    place_known (Local k) ty (typing.local e) q = locals_known G i k ty e q
+    place_known (Static k site) ty (typing.static {f = f} e h) q = field_known G k f e q
+    place_known (Field object k site) ty (typing.field {f = f} e h g) q = field_known G k f e q
+    place_known (Elem array index site) ty (typing.element {base = c} {brackets = n} g k) q = cc q
+
+    then_good : (m : Run (A G) K) (f : K → Run (A G) K) → Good m → ((v : K) (P : Known G) → Entails P (F v) → B P (f v) F) → Good (m >>= f)
+    then_good m f h q = record { by = λ P. then_bare G tokens (h.by P) (λ v. q v _ (newest _ _)) }
+
+    of_read : (x : Place) (ty : Ty) → OfPlace Keeps x → PlaceSited Ok x → Has (Read x) ty → Good (eval w (Read x))
+    unfolding eval
+    of_read x ty d s (typing.read g) = ticked _ (record { by = λ P. reads_good (locate w x) ty (located_typed x ty g) (located_good x ty d s g) })
+
+    of_set : (x : Place) (e : Expression) (site : ℕ) (ty : Ty) → OfPlace Keeps x → Keeps e → Sited Ok (Set x e site) → Has (Set x e site) ty → Good (eval w (Set x e site))
+    unfolding eval
+    of_set x e site ty d de s (typing.assigned g k) = ticked _ (record { by = λ P. sets_good (locate w x) (eval w e) site ty s.0 (place_known x ty g) (located_typed x ty g) (given_typed e ty k) (located_good x ty d s.1 g) (given_good e ty de s.2 k) })
+
+    one_good : Good (return (constant (val.Int (pos 1))))
+    one_good = record { by = λ P. plainly G tokens (bare.gives G tokens _ (constant_fine G tokens (val.Int (pos 1)) tt)) }
+
+    of_update : (x : Place) (op : BinOp) (value : Part) (value_ty place_ty : Ty) (wide : Option Primitive) (gives_old : Bool) (site : ℕ) (ty : Ty) → OfPlace Keeps x → OfPart Keeps value → Sited Ok (Upd x op value value_ty place_ty wide gives_old site) → Has (Upd x op value value_ty place_ty wide gives_old site) ty → Good (eval w (Upd x op value value_ty place_ty wide gives_old site))
+    unfolding eval eval_part part_or update
+    of_update x op value value_ty place_ty wide gives_old site ty d de s (typing.updated {value = e} {to = to} {from = from} {wide = r} g k u) = ticked _ (record { by = λ P. updates_good (locate w x) op (eval w e) (primitive_type to) r false site s.0 (located_typed x _ g) (located_good x _ d s.1 g) (de.by s.2 _ k) })
+    of_update x op value value_ty place_ty wide gives_old site ty d de s (typing.stepped {to = to} {wide = r} g k u) = ticked _ (record { by = λ P. updates_good (locate w x) op _ (primitive_type to) r gives_old site s.0 (located_typed x _ g) (located_good x _ d s.1 g) one_good })
+    of_update x op value value_ty place_ty wide gives_old site ty d de s (typing.extended {value = e} g k j f) = ticked _ (append_good (locate w x) (eval w e) site ty value_ty s.0 (located_typed x _ g) (typed_as e value_ty k) (located_good x _ d s.1 g) (de.by s.2 _ k))
+
+    unary_fine : {P : Known G} (op : UnOp) (v : K) → Entails P (F v) → Entails P (F (with_value (unary_of op v.value) v))
+    unfolding fine with_value
+    unary_fine op v f = record { by = λ n q. (unary_gives (p G) op v.value (f.by n q).0, (f.by n q).1) }
+
+    converted_fine : {P : Known G} (to : Primitive) (v : K) → Entails P (F v) → Entails P (F (with_value (converted to v.value) v))
+    unfolding fine with_value
+    converted_fine to v f = record { by = λ n q. (converted_fixed (p G) to v.value (f.by n q).0, (f.by n q).1) }
+
+    of_unary : (op : UnOp) (e : Expression) (ty : Ty) → Keeps e → Sited Ok e → Has (Un op e) ty → Good (eval w (Un op e))
+    unfolding eval unary
+    of_unary op e ty d s (typing.signed n q g) = ticked _ (then_good _ _ (d.by s _ g) (λ v P f. bare.gives G tokens _ (unary_fine op v f)))
+    of_unary op e ty d s (typing.negated g) = ticked _ (then_good _ _ (d.by s _ g) (λ v P f. bare.gives G tokens _ (unary_fine op v f)))
+
+    of_binary : (op : BinOp) (l r : Expression) (site : ℕ) (ty : Ty) → Keeps l → Keeps r → Sited Ok (Bin op l r site) → Has (Bin op l r site) ty → Good (eval w (Bin op l r site))
+    unfolding eval binary
+    of_binary op l r site ty dl dr s (typing.operated {a = a} {b = c} g k u) =
+        ticked _ (record {
+          by = λ P. bind G tokens ((typed_as l a g).by P) ((dl.by s.1 _ g).by P) (λ x. then_bare G tokens ((dr.by s.2 _ k).by _) (λ y.
+              bare.gives_less G tokens (plain_form.divides G tokens M site _ (binary_of op x.value y.value) s.0 (joined_fine G tokens val.None x y tt (before _ _ (newest _ _)) (newest _ _)) (λ v q. binary_gives (p G) op x.value y.value v q)) (λ u. plain_form.worked_fine G tokens M u (newest _ _))));
+        })
+
+    of_conversion : (to : Primitive) (e : Expression) (ty : Ty) → Keeps e → Sited Ok e → Has (Conv to e) ty → Good (eval w (Conv to e))
+    unfolding eval convert
+    of_conversion to e ty d s (typing.converted t f g) = ticked _ (then_good _ _ (d.by s _ g) (λ v P f. bare.gives G tokens _ (converted_fine to v f)))
+
+    of_cast : (to : Ty) (e : Expression) (site : ℕ) (ty : Ty) → Keeps e → Sited Ok (Cast to e site) → Has (Cast to e site) ty → Good (eval w (Cast to e site))
+    unfolding eval cast
+    of_cast to e site ty d s (typing.cast r g c) = ticked _ (then_good _ _ (d.by s.1 _ g) (λ v P f. bare.next G tokens (plain_form.finds_type G tokens M v.value) (λ found. bare.chooses G tokens (is_null v.value) (bare.gives G tokens v f) (bare.chooses G tokens (is_below (p G) found to) (bare.gives G tokens v f) (plain_form.cast_fails G tokens M site v s.0 f)))))
+
+    of_instance_of : (of : Ty) (e : Expression) (ty : Ty) → Keeps e → Sited Ok e → Has (InstanceOf of e) ty → Good (eval w (InstanceOf of e))
+    unfolding eval instance_of
+    of_instance_of of e ty d s (typing.tested r g c) = ticked _ (then_good _ _ (d.by s _ g) (λ v P f. bare.next G tokens (plain_form.finds_type G tokens M v.value) (λ found. bare.gives G tokens _ (with_value_fine G tokens _ v tt f))))
+
+    of_conditional : (f : CondForm) (t : Expression) (x y : Part) (site : ℕ) (ty : Ty) → Keeps t → OfPart Keeps x → OfPart Keeps y → Sited Ok (Cond f t x y site) → Has (Cond f t x y site) ty → Good (eval w (Cond f t x y site))
+    unfolding eval eval_part
+    of_conditional f t x y site ty d dx dy s (typing.both {right = r} g k) = ticked _ (conditional_good (eval w t) _ _ site s.0 (typed_as t _ g) (d.by s.1 _ g) (dx.by s.2 _ k) tt)
+    of_conditional f t x y site ty d dx dy s (typing.either {right = r} g k) = ticked _ (conditional_good (eval w t) _ _ site s.0 (typed_as t _ g) (d.by s.1 _ g) tt (dy.by s.3 _ k))
+    of_conditional f t x y site ty d dx dy s (typing.chosen g v k m n) = ticked _ (conditional_good (eval w t) _ _ site s.0 (typed_as t _ g) (d.by s.1 _ g) (given_good _ _ dx s.2 m) (given_good _ _ dy s.3 n))
+
+    no_text_constructor : (k : ℕ) (md : Method) → IsMethod (p G) k md → md.form ≡ kinds.Constructor → md.class ≡ string_class → ⊥
+    no_text_constructor k md m f e = go k refl (text_methods (p G) G.library G.fits.declarations.library_methods k md m (inr e))
+      where
+        go : (j : ℕ) → k ≡ j → k < 2 → ⊥
+        go zero q l = cc (sym f ∙ ap (λ (x : Method). x.form) (one_method (p G).methods 0 md to_string_method (subst (λ z. IsMethod (p G) z md) q m) (to_string_is (p G) G.fits.declarations.library_methods)))
+        go (suc zero) q l = cc (sym f ∙ ap (λ (x : Method). x.form) (one_method (p G).methods 1 md equals_method (subst (λ z. IsMethod (p G) z md) q m) (equals_is (p G) G.fits.declarations.library_methods)))
+        go (suc (suc j)) q l = omega (arith, l, q)
+
+    of_creation : (c : ℕ) (k : Option ℕ) (args : Row) (site : ℕ) (ty : Ty) → OfRow Keeps args → Sited Ok (New c k args site) → Has (New c k args site) ty → Good (eval w (New c k args site))
+    unfolding eval eval_row
+    of_creation c k args site ty d s (typing.made_plain m) = ticked _ (create_good object_class Absent [] [] site s.0 m (λ e. cc e) tt tt tt)
+    of_creation c k args site ty d s (typing.made {k = n} {m = md} m e f q u a) = ticked _ (create_good c (Some n) md.params (eval_row w args) site s.0 m (λ z. no_text_constructor n md e f (q ∙ z)) (md, e, ap (λ g. this_types g md.class) f ∙ ap (λ x. class_type x ∷ []) q, refl) (rows_typed args md.params a) (rows_good args md.params d s.1 a))
+
+    of_array : (of : Ty) (dims elements : Row) (sites : List ℕ) (site : ℕ) (ty : Ty) → OfRow Keeps dims → OfRow Keeps elements → Sited Ok (NewArray of dims elements sites site) → Has (NewArray of dims elements sites site) ty → Good (eval w (NewArray of dims elements sites site))
+    unfolding eval eval_row new_array
+    of_array of (more e rest) elements sites site ty dd de s (typing.array {base = c} {brackets = n} m lt known g) = ticked _ (array_good c n m (eval_row w (more e rest)) site s.0 lt known (rows_typed (more e rest) _ g) (rows_good (more e rest) _ dd s.1 g))
+    of_array of none elements sites site ty dd de s (typing.filled {base = c} {brackets = n} known g) = ticked _ (filled_good c n (eval_row w elements) sites site s.0 s.3 known (rows_typed elements _ g) (rows_good elements _ de s.2 g))
+    of_array of none elements sites site ty dd de s (typing.array {base = c} {brackets = n} m lt known g) = elim g [ ]
+
+    of_call_on : (f : CallForm) (k : ℕ) (md : Method) (e : Expression) (on : Ty) (args : Row) (site : ℕ) → Ok site → IsMethod (p G) k md → md.form ≡ kinds.Instance → MayBeCalled (p G) f k md → T G M i (eval w e) on → Fits (p G).classes on (class_type md.class) → Good (eval w e) → AllTypes G M i (eval_row w args) md.params → AllGood (eval_row w args) → Good (meaning.call w f k (Some (eval w e)) (eval_row w args) site)
+    unfolding meaning.call part_or
+    of_call_on call.Chosen k md e on args site s m h c d g fe da fa = chosen_call_good k md (eval w e) (eval_row w args) site on s m h c d g da fe fa
+    of_call_on call.Direct k md e on args site s m h c d g fe da fa = direct_good k md (eval w e) (eval_row w args) site s m (ap (λ x. this_types x md.class) h) (record { by = λ P. typed_rule.gives_less G (d.by P) (λ v. fitted on (class_type md.class) v.value g (newest _ _)) }) da fe fa
+    of_call_on call.Static k md e on args site s m h c d g fe da fa = absurd c
+
+    of_call : (f : CallForm) (k : ℕ) (receiver : Part) (on : Ty) (args : Row) (site : ℕ) (ty : Ty) → OfPart Keeps receiver → OfRow Keeps args → Sited Ok (Call f k receiver on args site) → Has (Call f k receiver on args site) ty → Good (eval w (Call f k receiver on args site))
+    unfolding eval eval_part meaning.call part_or
+    of_call f k receiver on args site ty dr da s (typing.called {m = md} m h u a) = ticked _ (static_call_good k md (eval_row w args) site s.0 m h (rows_typed args md.params a) (rows_good args md.params da s.2 a))
+    of_call f k receiver on args site ty dr da s (typing.called_on {m = md} {receiver = e} m h c g r q a) = ticked _ (of_call_on f k md e on args site s.0 m h c (given_typed e on g) q (given_good e on dr s.1 g) (rows_typed args md.params a) (rows_good args md.params da s.2 a))
+    of_call f k receiver on args site ty dr da s (typing.begun {m = md} {receiver = e} m h u g a) = ticked _ (direct_good k md (eval w e) (eval_row w args) site s.0 m (expression.not_static G M i md.form md.class h) (given_typed e _ g) (rows_typed args md.params a) (given_good e _ dr s.1 g) (rows_good args md.params da s.2 a))
+
+    of_cat : (l r : Expression) (a c : Ty) (site : ℕ) (ty : Ty) → Keeps l → Keeps r → Sited Ok (Cat l r a c site) → Has (Cat l r a c site) ty → Good (eval w (Cat l r a c site))
+    unfolding eval
+    of_cat l r a c site ty dl dr s (typing.joined g k j) = ticked _ (cat_good (eval w l) (eval w r) site a c s.0 (typed_as l a g) (typed_as r c k) (dl.by s.1 _ g) (dr.by s.2 _ k))
+
+    of_library : (op : LibOp) (args : Row) (site : ℕ) (ty : Ty) → OfRow Keeps args → Sited Ok (Lib op args site) → Has (Lib op args site) ty → Good (eval w (Lib op args site))
+    unfolding eval library_form
+    of_library op args site ty d s (typing.offered {params = ts} f a) = ticked _ (record { by = λ P. then_bare G tokens (all_good (eval_row w args) ts P (rows_typed args ts a) (rows_good args ts d s.1 a)) (λ vs. plain_text.in_library G tokens M op site vs s.0 (newest _ _)) })
+
+    constant_plain : (v : Constant) → FixedInRange (p G) (constant_value v)
+    unfolding constant_value
+    constant_plain form.Null = tt
+    constant_plain (form.Truth x) = tt
+    constant_plain (form.Byte z) = tt
+    constant_plain (form.Short z) = tt
+    constant_plain (form.Char n) = tt
+    constant_plain (form.Int z) = tt
+    constant_plain (form.Long z) = tt
+
+    of_constant : (v : Constant) → Good (eval w (Const v))
+    unfolding eval
+    of_constant v = ticked _ (record { by = λ P. plainly G tokens (bare.gives G tokens _ (constant_fine G tokens (constant_value v) (constant_plain v))) })
+
+    of_str : (k : ℕ) (ty : Ty) → Has (Str k) ty → Good (eval w (Str k))
+    unfolding eval
+    of_str k ty (typing.text lt) = ticked _ (record { by = λ P. plainly G tokens (bare.gives G tokens _ (constant_fine G tokens (val.Fixed k) lt)) })
+
+    step : (e : Expression) → Parts Keeps e → Keeps e
+    step (Const v) d = record { by = λ s ty g. of_constant v }
+    step (Str k) d = record { by = λ s ty g. of_str k ty g }
+    step (Read x) d = record { by = λ s ty g. of_read x ty d s g }
+    step (Set x e site) d = record { by = λ s ty g. of_set x e site ty d.0 d.1 s g }
+    step (Upd x op value value_ty place_ty wide gives_old site) d = record { by = λ s ty g. of_update x op value value_ty place_ty wide gives_old site ty d.0 d.1 s g }
+    step (Un op e) d = record { by = λ s ty g. of_unary op e ty d s g }
+    step (Bin op l r site) d = record { by = λ s ty g. of_binary op l r site ty d.0 d.1 s g }
+    step (Conv to e) d = record { by = λ s ty g. of_conversion to e ty d s g }
+    step (Cast to e site) d = record { by = λ s ty g. of_cast to e site ty d s g }
+    step (InstanceOf of e) d = record { by = λ s ty g. of_instance_of of e ty d s g }
+    step (Cond f t x y site) d = record { by = λ s ty g. of_conditional f t x y site ty d.0 d.1 d.2 s g }
+    step (New c k args site) d = record { by = λ s ty g. of_creation c k args site ty d s g }
+    step (NewArray of dims elements sites site) d = record { by = λ s ty g. of_array of dims elements sites site ty d.0 d.1 s g }
+    step (Call f k receiver on args site) d = record { by = λ s ty g. of_call f k receiver on args site ty d.0 d.1 s g }
+    step (Cat l r a c site) d = record { by = λ s ty g. of_cat l r a c site ty d.0 d.1 s g }
+    step (Lib op args site) d = record { by = λ s ty g. of_library op args site ty d s g }
+
+    -- so does every expression
+    pub keeps : (e : Expression) → Keeps e
+    keeps e = of_expression Keeps step e
