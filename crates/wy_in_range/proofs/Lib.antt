@@ -2,6 +2,8 @@ mod Facts
 mod Bare
 mod Rules
 mod Values
+mod Strings
 mod Forms
 mod Texts
 mod Expressions
+mod Statements

@@ -1,10 +1,12 @@
 -- What is in the range of a program in a record of a run, by the events before it: its site, what it is of, its slot, its value and its uses.
 use Rattle.std.specs.Prelude.{◌≡◌, ◌⊎◌, ◌+◌, ◌<◌, ◌≤◌, ◌^◌, ℕ, zero, suc, pos, negsuc, true, false, List, [], ◌∷◌, length, Option, Some, slice_get, take}
 use Rattle.std.specs.Prelude.{None as Absent}
+use Rattle.std.specs.List.{Contains}
 use Rattle.wy_kernel.specs.declared.types.Base.TheVariants.{Primitive as Basic, Class as Named}
 use Rattle.wy_kernel.specs.declared.types.Ty.{Ty}
 use Rattle.wy_kernel.specs.declared.types.Ty.TheVariants.{Of}
 use Rattle.wy_kernel.specs.Program.{Program, Field, string_class, type_code}
+use Rattle.wy_kernel.specs.Subtyping.{direct_supertypes}
 use Rattle.wy_kernel.specs.Builtin as builtin
 use Rattle.wy_kernel.specs.Builtin.{method_site}
 use Rattle.wy_value.specs.declared.value.Value.{Value}
@@ -52,6 +54,10 @@ WhatInRange p kind.Call (Some m) = m < length p.methods
 WhatInRange p kind.Call Absent = ⊥
 WhatInRange p _ Absent = Unit {0}
 WhatInRange p _ (Some n) = ⊥
+
+-- no class extends String (JLS 8.1.1.2)
+abbrev pub StringIsFinal : Program → Type 0
+StringIsFinal p = (c : ℕ) → Contains (direct_supertypes p.classes c) string_class → ⊥
 
 -- ---- objects and arrays
 
