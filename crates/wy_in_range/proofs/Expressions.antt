@@ -73,7 +73,7 @@ use Rattle.wy_in_range.proofs.Rules.{At, Full, bind, after, weaker, where_at, ei
 -- what calls and initializations keep
 pub record Inner (G : Ground) (tokens : ℕ) (M : Methods G) : Type 1 where
   pub calls : (r : Region) (site m : ℕ) (receiver : Option (Carried (A G))) (args : List (Carried (A G))) (P : Known G) → Entails P (called G m receiver args) → IsSite tokens site → Entails P (all_fine G tokens (bound receiver args)) → Full G tokens r P (M.call site m receiver args) (fine G tokens)
-  pub enters : (r : Region) (site c : ℕ) (P : Known G) → IsSite tokens site → c < length (p G).classes → Full G tokens r P (M.enter site c) (λ t. nothing)
+  pub enters : (r : Region) (site c : ℕ) (P : Known G) → is_source c ≡ true → IsSite tokens site → c < length (p G).classes → Full G tokens r P (M.enter site c) (λ t. nothing)
 
 module _ (G : Ground) (tokens : ℕ) (M : Methods G) (L : Inner G tokens M) where
   abbrev w : World (A G)
@@ -90,14 +90,15 @@ module _ (G : Ground) (tokens : ℕ) (M : Methods G) (L : Inner G tokens M) wher
 
   -- ---- classes
 
-  starts : {r : Region} {P : Known G} (site c : ℕ) (source : Bool) → Ok site → c < length (p G).classes → Full G tokens r P (initialize_source w site c source) (λ t. nothing)
+  starts : {r : Region} {P : Known G} (site c : ℕ) (source : Bool) → is_source c ≡ source → (source ≡ true → Ok site) → c < length (p G).classes → Full G tokens r P (initialize_source w site c source) (λ t. nothing)
   unfolding initialize_source
-  starts site c false s lt = plainly G tokens (bare.gives G tokens tt trivially)
-  starts {r = r} site c true s lt = bare_first G tokens (asks G c) (bare.asks G tokens c) (λ going. either G tokens going (λ q. plainly G tokens (bare.gives G tokens tt trivially)) (λ q. L.enters r site c _ s lt))
+  starts site c false e s lt = plainly G tokens (bare.gives G tokens tt trivially)
+  starts {r = r} site c true e s lt = bare_first G tokens (asks G c) (bare.asks G tokens c) (λ going. either G tokens going (λ q. plainly G tokens (bare.gives G tokens tt trivially)) (λ q. L.enters r site c _ e (s refl) lt))
 
-  pub initializes : {r : Region} {P : Known G} (site c : ℕ) → Ok site → c < length (p G).classes → Full G tokens r P (initialize w site c) (λ t. nothing)
+  -- the site is in range, where the class is one of the text
+  pub initializes : {r : Region} {P : Known G} (site c : ℕ) → (is_source c ≡ true → Ok site) → c < length (p G).classes → Full G tokens r P (initialize w site c) (λ t. nothing)
   unfolding initialize
-  initializes site c s lt = starts site c (is_source c) s lt
+  initializes site c s lt = starts site c (is_source c) refl s lt
 
   module _ (i : Frame) where
     abbrev Has : Expression → Ty → Type 0
@@ -144,7 +145,7 @@ module _ (G : Ground) (tokens : ℕ) (M : Methods G) (L : Inner G tokens M) wher
 
     static_good : {P : Known G} (k site : ℕ) (f : part.Field) → Ok site → IsField (p G) k f → f.is_static ≡ true → O P (static_spot w k site) (spot_fine G tokens M)
     unfolding static_spot ◌>>◌ both spot_fine spotted fine constant
-    static_good k site f s e h = then_bare G tokens (initializes site (field (p G) k).class s (field_class G k f e)) (λ t. bare.gives G tokens _ (record { by = λ n q. ((tt, (f, e, h)), (tt, tt)) }))
+    static_good k site f s e h = then_bare G tokens (initializes site (field (p G) k).class (λ q. s) (field_class G k f e)) (λ t. bare.gives G tokens _ (record { by = λ n q. ((tt, (f, e, h)), (tt, tt)) }))
 
     finds_good : {P : Known G} (x : Located (A G)) (ty : Ty) → Locates G M i x ty → LocatedGood x → O P (find w x) (spot_fine G tokens M)
     unfolding find
@@ -250,7 +251,7 @@ module _ (G : Ground) (tokens : ℕ) (M : Methods G) (L : Inner G tokens M) wher
     static_call_good : (k : ℕ) (md : Method) (args : List (Run (A G) K)) (site : ℕ) → Ok site → IsMethod (p G) k md → md.form ≡ kinds.Static → AllTypes G M i args md.params → AllGood args → Good (call_static w k args site)
     unfolding call_static called all_are both bound ◌>>◌
     static_call_good k md args site s m f da ga = record {
-      by = λ P. bind G tokens (gives_all G M i args md.params _ da) (all_good args md.params _ da ga) (λ vs. bind G tokens (may_initialize G M site (method (p G) k).class) (initializes site (method (p G) k).class s (method_class G k md m)) (λ u.
+      by = λ P. bind G tokens (gives_all G M i args md.params _ da) (all_good args md.params _ da ga) (λ vs. bind G tokens (may_initialize G M site (method (p G) k).class) (initializes site (method (p G) k).class (λ q. s) (method_class G k md m)) (λ u.
           L.calls (In i) site k Absent vs _ (record { by = λ n h. static_calls G M i n k md vs m f h.0.0.0.1 }) s (before _ _ (before _ _ (newest _ _)))));
     }
 
@@ -267,7 +268,7 @@ module _ (G : Ground) (tokens : ℕ) (M : Methods G) (L : Inner G tokens M) wher
         let lt = slice_get_within (p G).classes c m.0 m.1 in
         let code = class_code_is (length (p G).classes) c G.library.few lt in
         record {
-          by = λ P. bind G tokens (may_initialize G M site c) (initializes site c s lt) (λ t. bind G tokens (notes_object G site (class_code c) (constant val.None)) (plainly G tokens (bare.creates_new G tokens (about kind.New site (class_code c) val.None) (constant val.None) (plain_form.object_draft G tokens M site c s lt n) (constant_fine G tokens val.None tt))) (λ e.
+          by = λ P. bind G tokens (may_initialize G M site c) (initializes site c (λ q. s) lt) (λ t. bind G tokens (notes_object G site (class_code c) (constant val.None)) (plainly G tokens (bare.creates_new G tokens (about kind.New site (class_code c) val.None) (constant val.None) (plain_form.object_draft G tokens M site c s lt n) (constant_fine G tokens val.None tt))) (λ e.
               bind G tokens (gives_all G M i args params _ da) (all_good args params _ da ga) (λ vs. then_bare G tokens (constructs_good site c k params (value_of e (val.Object e.number)) vs s h
               (before _ _ (before _ _ (before _ _ (new_is G e site (class_code c) val.None (class_type c) (class_type c) (newest _ _) code (record { reference = tt; concrete = m; below = same }))))) (before _ _ (newest _ _)) (value_of_fine G tokens e _ tt) (newest _ _))
               (λ t. bare.gives G tokens _ (value_of_fine G tokens e _ tt)))));

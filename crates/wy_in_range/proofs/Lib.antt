@@ -7,3 +7,4 @@ mod Forms
 mod Texts
 mod Expressions
 mod Statements
+mod Bodies

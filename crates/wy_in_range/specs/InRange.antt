@@ -5,7 +5,7 @@ use Rattle.std.specs.List.{Contains}
 use Rattle.wy_kernel.specs.declared.types.Base.TheVariants.{Primitive as Basic, Class as Named}
 use Rattle.wy_kernel.specs.declared.types.Ty.{Ty}
 use Rattle.wy_kernel.specs.declared.types.Ty.TheVariants.{Of}
-use Rattle.wy_kernel.specs.Program.{Program, Field, string_class, type_code}
+use Rattle.wy_kernel.specs.Program.{Program, Body, Class, Field, Method, is_source, string_class, type_code}
 use Rattle.wy_kernel.specs.Subtyping.{direct_supertypes}
 use Rattle.wy_kernel.specs.Builtin as builtin
 use Rattle.wy_kernel.specs.Builtin.{method_site}
@@ -21,15 +21,23 @@ use Rattle.wy_event.specs.Record.{Recorded}
 use Rattle.wy_steps.specs.Sets.{Sets}
 use Rattle.wy_steps.specs.Steps.{code_of, element_limit}
 use Rattle.wy_meaning.specs.Run.{events}
-use Rattle.wy_typing.specs.Expressions.{IsField}
+use Rattle.wy_typing.specs.Expressions.{IsMethod, IsField}
 use Rattle.wy_induction.specs.Law.{Frame}
 use Rattle.wy_typed_states.specs.Typed.{running, local_types}
+use Rattle.wy_in_range.specs.Sites.{BodySited}
 
 -- ---- sites
 
 -- a token, or a method of the library
 abbrev pub IsSite : ℕ → ℕ → Type 0
 IsSite tokens site = (site < tokens) ⊎ ((m : ℕ) × (m < length builtin.methods) × (site ≡ method_site m))
+
+-- in the bodies of methods and of initializers, at the classes of a text and at its main
+pub record SitesInRange (tokens : ℕ) (p : Program) : Type 0 where
+  pub methods : (k : ℕ) (b : Body) → slice_get p.bodies k ≡ Some (Some b) → BodySited (IsSite tokens) b
+  pub initializers : (c : ℕ) (b : Body) → slice_get p.init_bodies c ≡ Some (Some b) → BodySited (IsSite tokens) b
+  pub classes : (c : ℕ) (k : Class) → is_source c ≡ true → slice_get p.classes c ≡ Some k → IsSite tokens k.site
+  pub main : (m : Method) → IsMethod p p.main m → IsSite tokens m.site
 
 -- ---- what an event is of
 
