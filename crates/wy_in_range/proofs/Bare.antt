@@ -24,8 +24,8 @@ use Rattle.wy_induction.proofs.Rules.{newest, before, same, trivially}
 use Rattle.wy_typed_states.proofs.Moments.{Later, later_one, newest_there, MadeAs}
 use Rattle.wy_typed_states.proofs.Law.{current, event, Standing, standing_up}
 use Rattle.wy_typed_states.proofs.Rules.{Ground, A, p, Known}
-use Rattle.wy_in_range.specs.InRange.{FixedInRange, InRange}
-use Rattle.wy_in_range.proofs.Facts.{S, C, Moment, always, Fine, fine, Spotted, spotted, fair, Drafted, drafted, AllInRange, StoreInRange, IsByteOf, Inv}
+use Rattle.wy_in_range.specs.InRange.{FixedInRange, InRange, IsByteOf}
+use Rattle.wy_in_range.proofs.Facts.{S, C, Moment, always, Fine, fine, Spotted, spotted, fair, Drafted, drafted, AllInRange, StoreInRange, Inv}
 
 module _ (G : Ground) (tokens : ℕ) where
   abbrev Ok : S G tokens → Type 0
@@ -111,7 +111,7 @@ module _ (G : Ground) (tokens : ℕ) where
   -- ---- steps
 
   -- a state with the same events, slots and input, in the same body
-  quietly : {X : Type 0} (s t : S G tokens) (Q : X → Known G) (o : Outcome (A G) X) → end o ≡ t → t.noted ≡ s.noted → t.frame ≡ s.frame → StoreInRange G tokens t.store → AllByRecursion (IsByteOf G tokens) t.input → Ok s → Given Q o → Comes s Q o
+  quietly : {X : Type 0} (s t : S G tokens) (Q : X → Known G) (o : Outcome (A G) X) → end o ≡ t → t.noted ≡ s.noted → t.frame ≡ s.frame → StoreInRange G tokens t.store → AllByRecursion (IsByteOf) t.input → Ok s → Given Q o → Comes s Q o
   quietly s t Q o e n f st inp i g = record {
     later = subst (λ (u : S G tokens). Later s.noted u.noted) (sym e) (subst (λ (u : Moment G tokens). Later s.noted u) (sym n) (λ k r h. h));
     frame = ap (λ (u : S G tokens). u.frame) e ∙ f;
@@ -191,7 +191,7 @@ module _ (G : Ground) (tokens : ℕ) where
   IsByteIn Absent = Unit {0}
   IsByteIn (Some b) = b < 256
 
-  byte_taken : (bytes : List ℕ) (s : S G tokens) → AllByRecursion (IsByteOf G tokens) bytes → Ok s → Comes s (λ o. always G tokens (IsByteIn o)) (take_byte bytes s)
+  byte_taken : (bytes : List ℕ) (s : S G tokens) → AllByRecursion (IsByteOf) bytes → Ok s → Comes s (λ o. always G tokens (IsByteIn o)) (take_byte bytes s)
   unfolding take_byte end
   byte_taken [] s h i = here s _ _ refl i tt
   byte_taken (b ∷ rest) s h i = quietly s (record s { input = rest }) _ _ refl refl refl i.store h.1 i h.0
@@ -301,7 +301,7 @@ module _ (G : Ground) (tokens : ℕ) where
     inv = record {
       noted = subst (λ (n : Moment G tokens). AllInRange G tokens n) (sym a.noted) (event_in_range d c s h f, i.noted);
       store = a.store i.store h.fixed;
-      input = subst (λ (l : List ℕ). AllByRecursion (IsByteOf G tokens) l) (sym a.input) i.input;
+      input = subst (λ (l : List ℕ). AllByRecursion (IsByteOf) l) (sym a.input) i.input;
     };
     given = subst (λ (n : Moment G tokens). MadeAs n d e) (sym a.noted) (made_here d c s e a.number);
   }

@@ -17,7 +17,7 @@ use Rattle.wy_steps.specs.Steps.{Draft, event_in, constant, with_value, joined, 
 use Rattle.wy_induction.specs.Law.{nothing, both, Entails}
 use Rattle.wy_typed_states.proofs.Moments.{Later, later_one, one_of_longer}
 use Rattle.wy_typed_states.proofs.Rules.{Ground, A, p, Known}
-use Rattle.wy_in_range.specs.InRange.{Events, IsObject, IsArray, HasLocal, SlotInRange, IsThrown, ValueInRange, FixedInRange, IsPlace, UseInRange, UsesInRange, IsSite, WhatInRange, InRange}
+use Rattle.wy_in_range.specs.InRange.{Events, IsObject, IsArray, HasLocal, SlotInRange, IsThrown, ValueInRange, FixedInRange, IsPlace, UseInRange, UsesInRange, IsSite, WhatInRange, InRange, IsByteOf}
 
 -- ---- with more events
 
@@ -162,9 +162,6 @@ module _ (G : Ground) (tokens : ℕ) where
 
   abbrev pub StoreInRange : Store (A G) → Type 0
   StoreInRange store = (x : Slot) (h : Held (A G)) → store x ≡ Some h → FixedInRange (p G) h.value
-
-  abbrev pub IsByteOf : ℕ → Type 0
-  IsByteOf b = b < 256
 
   pub record Inv (s : S) : Type 0 where
     pub noted : AllInRange s.noted

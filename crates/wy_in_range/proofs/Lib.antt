@@ -8,3 +8,4 @@ mod Texts
 mod Expressions
 mod Statements
 mod Bodies
+mod Runs

@@ -15,7 +15,8 @@ use Rattle.wy_typed_states.specs.Typed.{Runs, IsTypedState}
 use Rattle.wy_typed_states.proofs.Moments.{Later}
 use Rattle.wy_typed_states.proofs.Law.{law, runs, reason, Standing, standing_up}
 use Rattle.wy_typed_states.proofs.Rules.{Ground, A, p, Known, Kept, typed, Does, ticks as ticks_typed}
-use Rattle.wy_in_range.proofs.Facts.{S, C, Moment, fair, AllInRange, StoreInRange, IsByteOf, Inv}
+use Rattle.wy_in_range.specs.InRange.{IsByteOf}
+use Rattle.wy_in_range.proofs.Facts.{S, C, Moment, fair, AllInRange, StoreInRange, Inv}
 use Rattle.wy_in_range.proofs.Bare as bare
 use Rattle.wy_in_range.proofs.Bare.{Bare, Comes, Given, onward}
 
@@ -172,7 +173,7 @@ module _ (G : Ground) (tokens : ℕ) where
   alike_inv t u h i = record {
     noted = subst (λ (x : Moment G tokens). AllInRange G tokens x) (sym h.noted) i.noted;
     store = subst (λ (x : Store (A G)). StoreInRange G tokens x) (sym h.store) i.store;
-    input = subst (λ (x : List ℕ). AllByRecursion (IsByteOf G tokens) x) (sym h.input) i.input;
+    input = subst (λ (x : List ℕ). AllByRecursion (IsByteOf) x) (sym h.input) i.input;
   }
 
   like_done : {X : Type 0} (s t u : S G tokens) (Q : X → Known G) (x : X) → Alike t u → u.frame ≡ s.frame → Comes G tokens s Q (Done x t) → Comes G tokens s Q (Done x u)

@@ -190,6 +190,9 @@ pub record InRange (tokens : ℕ) (p : Program) (at : Events) (e : Recorded) : T
   pub fixed : FixedInRange p e.value
   pub uses : UsesInRange p at e.uses
 
+abbrev pub IsByteOf : ℕ → Type 0
+IsByteOf b = b < 256
+
 -- so is each record of the run, by the events before it
 abbrev pub RecordsAreInRange : Sets → ℕ → Program → List ℕ → ℕ → Type 0
 RecordsAreInRange A tokens p input budget =
