@@ -1,5 +1,5 @@
 -- What a trace keeps so that a reader finds nothing wrong with it: what its head, events, coverage and end may say.
-use Rattle.std.specs.Prelude.{◌≡◌, ℕ, ◌+◌, ◌<◌, ◌≤◌, Bool, true, List, [], ◌∷◌, ◌++◌, length, map, take, All, Option, Some, IfSome, slice_get}
+use Rattle.std.specs.Prelude.{◌≡◌, ℕ, ◌+◌, ◌<◌, ◌≤◌, true, false, List, [], ◌∷◌, ◌++◌, length, map, take, All, Option, Some, IfSome, slice_get}
 use Rattle.std.specs.Prelude.{None as Absent}
 use Rattle.wy_kernel.specs.declared.program.Program.{Program}
 use Rattle.wy_kernel.specs.View.{NONE}
@@ -145,13 +145,13 @@ pub record CoverMayStand (earlier : List Known) (c : Cover) : Type 0 where
   pub first : first_rule c.begins (length earlier) c.first ≡ Absent
   pub cause : cause_rule earlier c.cause ≡ Absent
 
--- of a run that had so many steps, behind what is known of its events
-pub record EndMayStand (statements steps : ℕ) (earlier : List Known) (end : Tail) : Type 0 where
-  pub statements : length end.coverage.statements ≡ statements
+-- of a program with so many statements and a run that had so many steps, behind what is known of its events
+pub record EndMayStand (statements budget : ℕ) (earlier : List Known) (end : Tail) : Type 0 where
+  pub each_covered : length end.coverage.statements ≡ statements
   pub covers : All (CoverMayStand earlier) end.coverage.statements
   pub stop : end.stop ≤ 11
   pub last : last_rule earlier end.stop end.last ≡ Absent
-  pub steps : end.steps ≤ steps
+  pub steps : end.steps ≤ budget
 
 -- an end counts the events, what they used, and what they printed
 pub record CountsAre (r : Ranges) (rs : List Recorded) (end : Tail) : Type 0 where
