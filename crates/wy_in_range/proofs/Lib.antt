@@ -9,3 +9,4 @@ mod Expressions
 mod Statements
 mod Bodies
 mod Runs
+mod Sited

@@ -85,3 +85,18 @@ pub record BodySited (P : ℕ → Type 0) (b : Body) : Type 0 where
   pub locals : LocalsSited P b.locals
   pub end : P b.end
 
+-- ---- programs
+
+-- one of so many tokens
+abbrev pub IsToken : ℕ → ℕ → Type 0
+IsToken tokens site = site < tokens
+
+-- what the text declares stands at its tokens, and so does all that stands in its bodies; in the body of a method of the library, which has the
+-- first numbers, each site is that of the method
+pub record HasSites (tokens : ℕ) (p : Program) : Type 0 where
+  pub classes : (c : ℕ) (k : Class) → length builtin.classes ≤ c → slice_get p.classes c ≡ Some k → IsToken tokens k.site
+  pub methods : (k : ℕ) (m : Method) → length builtin.methods ≤ k → slice_get p.methods k ≡ Some m → IsToken tokens m.site
+  pub fields : (k : ℕ) (f : part.Field) → length builtin.fields ≤ k → slice_get p.fields k ≡ Some f → IsToken tokens f.site
+  pub bodies : (k : ℕ) (b : Body) → length builtin.methods ≤ k → slice_get p.bodies k ≡ Some (Some b) → BodySited (IsToken tokens) b
+  pub initializers : (c : ℕ) (b : Body) → slice_get p.init_bodies c ≡ Some (Some b) → BodySited (IsToken tokens) b
+  pub library : (k : ℕ) (b : Body) → k < length builtin.methods → slice_get p.bodies k ≡ Some (Some b) → BodySited (λ site. site ≡ method_site k) b
