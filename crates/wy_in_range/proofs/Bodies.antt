@@ -37,7 +37,7 @@ use Rattle.wy_typed_states.proofs.Statements.{GivesBack}
 use Rattle.wy_typed_states.proofs.Bodies as typed_body
 use Rattle.wy_typed_states.proofs.Bodies.{part_there, body_there}
 use Rattle.wy_in_range.specs.Sites.{BodySited}
-use Rattle.wy_in_range.specs.InRange.{IsSite, HasLocal, StringIsFinal, SitesInRange}
+use Rattle.wy_in_range.specs.InRange.{Text, IsSite, HasLocal, StringIsFinal, SitesInRange}
 use Rattle.wy_in_range.proofs.Facts.{S, C, Moment, fine, all_fine, drafted, constant_fine}
 use Rattle.wy_in_range.proofs.Values.{some_value, locals_known}
 use Rattle.wy_in_range.proofs.Bare as bare
@@ -55,38 +55,38 @@ length_last : (xs : List Ty) (y : Ty) → length (xs ++ y ∷ []) ≡ suc (lengt
 length_last [] y = refl
 length_last (x ∷ xs) y = ap suc (length_last xs y)
 
-module _ (G : Ground) (tokens : ℕ) (final : StringIsFinal (p G)) (sites : SitesInRange tokens (p G)) (M : Methods G) (L : Inner G tokens M) where
+module _ (G : Ground) (W : Text) (final : StringIsFinal (p G)) (sites : SitesInRange W.tokens (p G)) (M : Methods G) (L : Inner G W M) where
   abbrev w : World (A G)
   w = world_of G M
 
   abbrev K : Type 0
-  K = C G tokens
+  K = C G W
 
   abbrev Ok : ℕ → Type 0
-  Ok site = IsSite tokens site
+  Ok site = IsSite W.tokens site
 
   abbrev F : K → Known G
-  F c = fine G tokens c
+  F c = fine G W c
 
   -- ---- calls
 
-  call_draft : {P : Known G} (site m : ℕ) → Ok site → m < length (p G).methods → Entails P (drafted G tokens (about kind.Call site m val.None))
+  call_draft : {P : Known G} (site m : ℕ) → Ok site → m < length (p G).methods → Entails P (drafted G W (about kind.Call site m val.None))
   unfolding drafted about
-  call_draft site m s lt = record { by = λ n q. record { site = s; what = lt; slot = tt; value = tt; fixed = tt } }
+  call_draft site m s lt = record { by = λ n q. record { site = s; what = lt; slot = tt; value = tt; fixed = tt; quiet = tt } }
 
-  init_draft : {P : Known G} (site c : ℕ) → Ok site → c < length (p G).classes → Entails P (drafted G tokens (about kind.Init site c val.None))
+  init_draft : {P : Known G} (site c : ℕ) → Ok site → c < length (p G).classes → Entails P (drafted G W (about kind.Init site c val.None))
   unfolding drafted about
-  init_draft site c s lt = record { by = λ n q. record { site = s; what = lt; slot = tt; value = tt; fixed = tt } }
+  init_draft site c s lt = record { by = λ n q. record { site = s; what = lt; slot = tt; value = tt; fixed = tt; quiet = tt } }
 
-  uses_fine : {P : Known G} (f : MethodForm) (r : Option K) (args : List K) → Entails P (all_fine G tokens (bound r args)) → Entails P (F (call_uses f r))
+  uses_fine : {P : Known G} (f : MethodForm) (r : Option K) (args : List K) → Entails P (all_fine G W (bound r args)) → Entails P (F (call_uses f r))
   unfolding call_uses bound
-  uses_fine kinds.Constructor r args e = constant_fine G tokens val.None tt
-  uses_fine kinds.Static Absent args e = constant_fine G tokens val.None tt
-  uses_fine kinds.Instance Absent args e = constant_fine G tokens val.None tt
-  uses_fine kinds.Fields Absent args e = constant_fine G tokens val.None tt
-  uses_fine kinds.Static (Some v) args e = plain_text.first_fine G tokens M v args e
-  uses_fine kinds.Instance (Some v) args e = plain_text.first_fine G tokens M v args e
-  uses_fine kinds.Fields (Some v) args e = plain_text.first_fine G tokens M v args e
+  uses_fine kinds.Constructor r args e = constant_fine G W val.None tt
+  uses_fine kinds.Static Absent args e = constant_fine G W val.None tt
+  uses_fine kinds.Instance Absent args e = constant_fine G W val.None tt
+  uses_fine kinds.Fields Absent args e = constant_fine G W val.None tt
+  uses_fine kinds.Static (Some v) args e = plain_text.first_fine G W M v args e
+  uses_fine kinds.Instance (Some v) args e = plain_text.first_fine G W M v args e
+  uses_fine kinds.Fields (Some v) args e = plain_text.first_fine G W M v args e
 
   module _ (m : ℕ) (x : Body) (is_body : body (p G) m ≡ Some x) (sited : BodySited Ok x) (md : Method) (found : IsMethod (p G) m md) (fits : IsBodyOf (p G) md x) where
     is_local : (pre : List Ty) (t : Ty) (rest : List Ty) → types x ≡ pre ++ t ∷ rest → slice_get (local_types (p G) (OfCall m)) (length pre) ≡ Some t
@@ -96,7 +96,7 @@ module _ (G : Ground) (tokens : ℕ) (final : StringIsFinal (p G)) (sites : Site
     unfolding local_site
     site_of_local k lt = sited.locals k _ (subst (λ n. k < n) (length-map x.locals (λ (l : part.Local). l.ty)) lt)
 
-    bind_draft : {P : Known G} (pre : List Ty) (t : Ty) (rest : List Ty) (f k : ℕ) (v : K) → types x ≡ pre ++ t ∷ rest → length pre ≡ k → Entails P (runs (A G) (p G) (OfCall m) f) → ((n : Moment G tokens) → P.holds n → Is (p G) n t v.value) → Entails P (F v) → Entails P (drafted G tokens (into kind.Bind (local_site x k) (slot.Local f k) v.value))
+    bind_draft : {P : Known G} (pre : List Ty) (t : Ty) (rest : List Ty) (f k : ℕ) (v : K) → types x ≡ pre ++ t ∷ rest → length pre ≡ k → Entails P (runs (A G) (p G) (OfCall m) f) → ((n : Moment G W) → P.holds n → Is (p G) n t v.value) → Entails P (F v) → Entails P (drafted G W (into kind.Bind (local_site x k) (slot.Local f k) v.value))
     unfolding drafted into runs fine
     bind_draft pre t rest f k v e l r h g =
         let there : slice_get (local_types (p G) (OfCall m)) k ≡ Some t = subst (λ j. slice_get (local_types (p G) (OfCall m)) j ≡ Some t) l (is_local pre t rest e) in
@@ -108,61 +108,62 @@ module _ (G : Ground) (tokens : ℕ) (final : StringIsFinal (p G)) (sites : Site
             slot = record { event = y.event; there = y.there; body = OfCall m; runs = y.runs; within = lt };
             value = some_value G n t v.value (locals_known G (OfCall m) k t there) (h n q);
             fixed = (g.by n q).0;
+            quiet = tt;
           };
         }
 
-    binds : (ts : List Ty) (vs : List K) (pre rest : List Ty) (f k : ℕ) (P : Known G) → types x ≡ pre ++ (ts ++ rest) → length pre ≡ k → Entails P (runs (A G) (p G) (OfCall m) f) → Entails P (all_are G ts vs) → Entails P (all_fine G tokens vs) → Bare G tokens (Ends (OfCall m)) P (bind_all x f k vs) (λ t. nothing)
+    binds : (ts : List Ty) (vs : List K) (pre rest : List Ty) (f k : ℕ) (P : Known G) → types x ≡ pre ++ (ts ++ rest) → length pre ≡ k → Entails P (runs (A G) (p G) (OfCall m) f) → Entails P (all_are G ts vs) → Entails P (all_fine G W vs) → Bare G W (Ends (OfCall m)) P (bind_all x f k vs) (λ t. nothing)
     unfolding bind_all all_are
-    binds ts [] pre rest f k P e l r h g = bare.gives G tokens tt trivially
-    binds [] (v ∷ vs) pre rest f k P e l r h g = bare.where_at G tokens (λ s q. absurd (h.by s.noted q))
+    binds ts [] pre rest f k P e l r h g = bare.gives G W tt trivially
+    binds [] (v ∷ vs) pre rest f k P e l r h g = bare.where_at G W (λ s q. absurd (h.by s.noted q))
     binds (t ∷ ts) (v ∷ vs) pre rest f k P e l r h g =
-        bare.next G tokens (bare.gives_less G tokens (bare.writes G tokens _ v (bind_draft pre t (ts ++ rest) f k v e l r (λ n q. (h.by n q).0) (plain_text.first_fine G tokens M v vs g)) (plain_text.first_fine G tokens M v vs g)) (λ y. trivially)) (λ y.
-        binds ts vs (pre ++ t ∷ []) rest f (suc k) P (e ∙ sym (append_assoc pre (t ∷ []) (ts ++ rest))) (length_last pre t ∙ ap suc l) r (record { by = λ n q. (h.by n q).1 }) (plain_text.rest_fine G tokens M v vs g))
+        bare.next G W (bare.gives_less G W (bare.writes G W _ v (bind_draft pre t (ts ++ rest) f k v e l r (λ n q. (h.by n q).0) (plain_text.first_fine G W M v vs g)) (plain_text.first_fine G W M v vs g)) (λ y. trivially)) (λ y.
+        binds ts vs (pre ++ t ∷ []) rest f (suc k) P (e ∙ sym (append_assoc pre (t ∷ []) (ts ++ rest))) (length_last pre t ∙ ap suc l) r (record { by = λ n q. (h.by n q).1 }) (plain_text.rest_fine G W M v vs g))
 
-    block_runs : {P : Known G} → Full G tokens (In (OfCall m)) P (exec w x.block) (λ u. nothing)
+    block_runs : {P : Known G} → Full G W (In (OfCall m)) P (exec w x.block) (λ u. nothing)
     block_runs {P = P} =
         let back : GivesBack G M (OfCall m) (result_of md.form md.result) = typed_body.gives_back G M m x is_body md found fits in
-        ((keeps_range G tokens final M L (OfCall m) (result_of md.form md.result) back x.block).by sited.block (typed_body.block_typed G M m x is_body md found fits)).by P
+        ((keeps_range G W final M L (OfCall m) (result_of md.form md.result) back x.block).by sited.block (typed_body.block_typed G M m x is_body md found fits)).by P
 
-    body_runs : {P : Known G} (c : Bool) → Full G tokens (Ends (OfCall m)) P (run_body (exec w x.block) c x.end) F
+    body_runs : {P : Known G} (c : Bool) → Full G W (Ends (OfCall m)) P (run_body (exec w x.block) c x.end) F
     unfolding run_body ◌>>◌
-    body_runs c = catches_last G tokens (then_bare G tokens block_runs (λ t. plain_text.ends_body G tokens M c x.end sited.end)) (λ why. plain_text.at_returns G tokens M why (newest _ _))
+    body_runs c = catches_last G W (then_bare G W block_runs (λ t. plain_text.ends_body G W M c x.end sited.end)) (λ why. plain_text.at_returns G W M why (newest _ _))
 
     all_given : {P : Known G} (r : Option K) (args : List K) → Entails P (called G m r args) → Entails P (all_are G (this_types md.form md.class ++ md.params) (bound r args))
     unfolding called all_are
     all_given r args h = record { by = λ n q. typed_body.given_at G M m x is_body md found fits n r args (h.by n q) }
 
-    frame_runs : {P : Known G} (f : ℕ) (r : Option K) (args : List K) → Entails P (runs (A G) (p G) (OfCall m) f) → Entails P (called G m r args) → Entails P (all_fine G tokens (bound r args)) → Full G tokens (Ends (OfCall m)) P (frame_of_call x (exec w x.block) (is_void md.result) f (bound r args)) F
+    frame_runs : {P : Known G} (f : ℕ) (r : Option K) (args : List K) → Entails P (runs (A G) (p G) (OfCall m) f) → Entails P (called G m r args) → Entails P (all_fine G W (bound r args)) → Full G W (Ends (OfCall m)) P (frame_of_call x (exec w x.block) (is_void md.result) f (bound r args)) F
     unfolding frame_of_call
-    frame_runs {P = P} f r args e h g = after G tokens
+    frame_runs {P = P} f r args e h g = after G W
         (typed_body.binds G M m x is_body (this_types md.form md.class ++ md.params) (bound r args) [] fits.begins.0 f 0 P fits.begins.1 refl e (all_given r args h))
-        (plainly G tokens (binds (this_types md.form md.class ++ md.params) (bound r args) [] fits.begins.0 f 0 P fits.begins.1 refl e (all_given r args h) g)) (λ P. body_runs (is_void md.result))
+        (plainly G W (binds (this_types md.form md.class ++ md.params) (bound r args) [] fits.begins.0 f 0 P fits.begins.1 refl e (all_given r args h) g)) (λ P. body_runs (is_void md.result))
 
-    method_runs : {d : Region} {P : Known G} (site : ℕ) (r : Option K) (args : List K) → Ok site → m < length (p G).methods → Entails P (called G m r args) → Entails P (all_fine G tokens (bound r args)) → Full G tokens d P (call_method site m md x (exec w x.block) r args) F
+    method_runs : {d : Region} {P : Known G} (site : ℕ) (r : Option K) (args : List K) → Ok site → m < length (p G).methods → Entails P (called G m r args) → Entails P (all_fine G W (bound r args)) → Full G W d P (call_method site m md x (exec w x.block) r args) F
     unfolding call_method
-    method_runs site r args s lt h g = scopes G tokens (bind G tokens (notes_call G Around site m (call_uses md.form r))
-        (plainly G tokens (bare.enters G tokens (note (about kind.Call site m val.None) (call_uses md.form r)) Around (about kind.Call site m val.None) (call_uses md.form r) (bare.note_adds G tokens (about kind.Call site m val.None) (call_uses md.form r)) (call_draft site m s lt) (uses_fine md.form r args g)))
-        (λ e. runs_in G tokens e.number (typed_body.runs_call G M e site m (newest _ _)) (frame_runs e.number r args (typed_body.runs_call G M e site m (newest _ _)) (before _ _ (before _ _ h)) (before _ _ (before _ _ g)))))
+    method_runs site r args s lt h g = scopes G W (bind G W (notes_call G Around site m (call_uses md.form r))
+        (plainly G W (bare.enters G W (note (about kind.Call site m val.None) (call_uses md.form r)) Around (about kind.Call site m val.None) (call_uses md.form r) (bare.note_adds G W (about kind.Call site m val.None) (call_uses md.form r)) (call_draft site m s lt) (uses_fine md.form r args g)))
+        (λ e. runs_in G W e.number (typed_body.runs_call G M e site m (newest _ _)) (frame_runs e.number r args (typed_body.runs_call G M e site m (newest _ _)) (before _ _ (before _ _ h)) (before _ _ (before _ _ g)))))
 
-  pub call_runs : {d : Region} {P : Known G} (site m : ℕ) (x : Option Body) (r : Option K) (args : List K) → body (p G) m ≡ x → Entails P (called G m r args) → Ok site → Entails P (all_fine G tokens (bound r args)) → Full G tokens d P (call_body w site m x r args) F
+  pub call_runs : {d : Region} {P : Known G} (site m : ℕ) (x : Option Body) (r : Option K) (args : List K) → body (p G) m ≡ x → Entails P (called G m r args) → Ok site → Entails P (all_fine G W (bound r args)) → Full G W d P (call_body w site m x r args) F
   unfolding call_body body method
-  call_runs site m Absent r args e h s g = plainly G tokens (bare.stops G tokens _)
+  call_runs site m Absent r args e h s g = plainly G W (bare.stops G W _)
   call_runs {d = d} {P = P} site m (Some x) r args e h s g =
       let there : slice_get (p G).bodies m ≡ Some (Some x) = body_there G M (p G).bodies m x e in
       let lt : m < length (p G).methods = subst (λ k. m < k) G.fits.a_place_a_method (slice_get_within (p G).bodies m (Some x) there) in
       let y = part_there (p G).methods m lt in
-      subst (λ md. Full G tokens d P (call_method site m md x (exec w x.block) r args) F) (sym (part_is (p G).methods m _ y.0 y.1))
+      subst (λ md. Full G W d P (call_method site m md x (exec w x.block) r args) F) (sym (part_is (p G).methods m _ y.0 y.1))
       (method_runs m x e (sites.methods m x there) y.0 y.1 (G.fits.bodies m y.0 x y.1 there) site r args s lt h g)
 
   -- ---- initializations
 
-  init_block_runs : {P : Known G} (c : ℕ) (x : Option Body) → init_body (p G) c ≡ x → Full G tokens (In (OfInit c)) P (init_block w x) (λ u. nothing)
+  init_block_runs : {P : Known G} (c : ℕ) (x : Option Body) → init_body (p G) c ≡ x → Full G W (In (OfInit c)) P (init_block w x) (λ u. nothing)
   unfolding init_block init_body
-  init_block_runs c Absent e = plainly G tokens (bare.gives G tokens tt trivially)
+  init_block_runs c Absent e = plainly G W (bare.gives G W tt trivially)
   init_block_runs {P = P} c (Some x) e =
       let there = body_there G M (p G).init_bodies c x e in
       let fits : IsBody (p G) [] Absent x = G.fits.initializers c x there in
-      ((keeps_range G tokens final M L (OfInit c) Absent (typed_body.no_result G M c) x.block).by (sites.initializers c x there).block (subst (λ y. IsTyped (record { program = p G; locals = types_of y; result = Absent }) x.block) (sym e) fits.block)).by P
+      ((keeps_range G W final M L (OfInit c) Absent (typed_body.no_result G M c) x.block).by (sites.initializers c x there).block (subst (λ y. IsTyped (record { program = p G; locals = types_of y; result = Absent }) x.block) (sym e) fits.block)).by P
 
   above_below : (c d : ℕ) → c < length (p G).classes → (class (p G) c).above ≡ Some d → d < length (p G).classes
   unfolding class direct_supertypes
@@ -175,14 +176,14 @@ module _ (G : Ground) (tokens : ℕ) (final : StringIsFinal (p G)) (sites : Site
   unfolding class
   class_site c lt e = let k = part_there (p G).classes c lt in subst (λ (z : Class). Ok z.site) (sym (part_is (p G).classes c _ k.0 k.1)) (sites.classes c k.0 e k.1)
 
-  above_runs : {d : Region} {P : Known G} (c site : ℕ) (x : Option ℕ) → c < length (p G).classes → Ok site → (class (p G) c).above ≡ x → Full G tokens d P (initialize_above w site x) (λ u. nothing)
+  above_runs : {d : Region} {P : Known G} (c site : ℕ) (x : Option ℕ) → c < length (p G).classes → Ok site → (class (p G) c).above ≡ x → Full G W d P (initialize_above w site x) (λ u. nothing)
   unfolding initialize_above
-  above_runs c site Absent lt s e = plainly G tokens (bare.gives G tokens tt trivially)
-  above_runs c site (Some k) lt s e = initializes G tokens M L site k (λ q. s) (above_below c k lt e)
+  above_runs c site Absent lt s e = plainly G W (bare.gives G W tt trivially)
+  above_runs c site (Some k) lt s e = initializes G W M L site k (λ q. s) (above_below c k lt e)
 
-  pub init_runs : {d : Region} {P : Known G} (site c : ℕ) (x : Option Body) → init_body (p G) c ≡ x → is_source c ≡ true → Ok site → c < length (p G).classes → Full G tokens d P (initialization w site c (init_block w x)) (λ t. nothing)
+  pub init_runs : {d : Region} {P : Known G} (site c : ℕ) (x : Option Body) → init_body (p G) c ≡ x → is_source c ≡ true → Ok site → c < length (p G).classes → Full G W d P (initialization w site c (init_block w x)) (λ t. nothing)
   unfolding initialization
-  init_runs site c x e source s lt = scopes G tokens (bind G tokens (notes_init G Around site c)
-      (plainly G tokens (bare.enters G tokens (note_new (p G) (about kind.Init site c val.None) (constant val.None)) Around (about kind.Init site c val.None) (constant val.None) (bare.new_adds G tokens (about kind.Init site c val.None) (constant val.None)) (init_draft site c s lt) (constant_fine G tokens val.None tt)))
-      (λ y. runs_in G tokens y.number (typed_body.runs_init G M y site c (newest _ _)) (after G tokens (typed_body.above_does G M c (class (p G) c).site (class (p G) c).above) (above_runs c (class (p G) c).site (class (p G) c).above lt (class_site c lt source) refl)
-      (λ P. catches_last G tokens (init_block_runs c x e) (λ why. plain_text.at_failures G tokens M why (newest _ _))))))
+  init_runs site c x e source s lt = scopes G W (bind G W (notes_init G Around site c)
+      (plainly G W (bare.enters G W (note_new (p G) (about kind.Init site c val.None) (constant val.None)) Around (about kind.Init site c val.None) (constant val.None) (bare.new_adds G W (about kind.Init site c val.None) (constant val.None)) (init_draft site c s lt) (constant_fine G W val.None tt)))
+      (λ y. runs_in G W y.number (typed_body.runs_init G M y site c (newest _ _)) (after G W (typed_body.above_does G M c (class (p G) c).site (class (p G) c).above) (above_runs c (class (p G) c).site (class (p G) c).above lt (class_site c lt source) refl)
+      (λ P. catches_last G W (init_block_runs c x e) (λ why. plain_text.at_failures G W M why (newest _ _))))))

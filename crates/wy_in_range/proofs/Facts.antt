@@ -1,5 +1,5 @@
 -- What is known of the ranges of values, slots and uses, at each moment of a run from then on.
-use Rattle.std.proofs.Common.{◌≡◌, ◌<◌, ◌≤◌, ◌⊎◌, inl, inr, ℕ, suc, List, [], ◌∷◌, ◌++◌, length, Option, Some, refl, sym, subst}
+use Rattle.std.proofs.Common.{◌≡◌, ◌<◌, ◌≤◌, ◌+◌, ◌⊎◌, inl, inr, ℕ, suc, List, [], ◌∷◌, ◌++◌, length, Option, Some, refl, sym, subst}
 use Rattle.std.specs.Prelude.{None as Absent}
 use Rattle.std.specs.List.{AllByRecursion}
 use Rattle.wy_kernel.specs.Program.{Program}
@@ -17,7 +17,7 @@ use Rattle.wy_steps.specs.Steps.{Draft, event_in, constant, with_value, joined, 
 use Rattle.wy_induction.specs.Law.{nothing, both, Entails}
 use Rattle.wy_typed_states.proofs.Moments.{Later, later_one, one_of_longer}
 use Rattle.wy_typed_states.proofs.Rules.{Ground, A, p, Known}
-use Rattle.wy_in_range.specs.InRange.{Events, IsObject, IsArray, HasLocal, SlotInRange, IsThrown, ValueInRange, FixedInRange, IsPlace, UseInRange, UsesInRange, IsSite, WhatInRange, InRange, IsByteOf}
+use Rattle.wy_in_range.specs.InRange.{Text, Events, IsObject, IsArray, HasLocal, SlotInRange, IsThrown, ValueInRange, FixedInRange, IsPlace, UseInRange, UsesInRange, IsSite, WhatInRange, InRange, IsByteOf, IsNoPrint, written_as, written_by}
 
 -- ---- with more events
 
@@ -70,7 +70,7 @@ pub uses_append : (p : Program) (at : Events) (us ws : List Use) → UsesInRange
 uses_append p at [] ws h k = k
 uses_append p at (u ∷ us) ws h k = (h.0, uses_append p at us ws h.1 k)
 
-module _ (G : Ground) (tokens : ℕ) where
+module _ (G : Ground) (W : Text) where
   abbrev pub S : Type 0
   S = State (A G)
 
@@ -134,11 +134,12 @@ module _ (G : Ground) (tokens : ℕ) where
 
   -- an event of the draft is in range, but for its uses
   pub record Drafted (n : Moment) (d : Draft) : Type 0 where
-    pub site : IsSite tokens d.site
+    pub site : IsSite W.tokens d.site
     pub what : WhatInRange (p G) d.kind d.what
     pub slot : SlotInRange (p G) (event_in n) d.slot
     pub value : ValueInRange (event_in n) d.kind d.what d.value
     pub fixed : FixedInRange (p G) d.value
+    pub quiet : IsNoPrint d.kind
 
   pub drafted_up : (m n : Moment) (d : Draft) → Later m n → Drafted m d → Drafted n d
   drafted_up m n d le h = record {
@@ -147,6 +148,7 @@ module _ (G : Ground) (tokens : ℕ) where
     slot = slot_up (p G) (event_in m) (event_in n) le d.slot h.slot;
     value = value_up (p G) (event_in m) (event_in n) le d.kind d.what d.value h.value;
     fixed = h.fixed;
+    quiet = h.quiet;
   }
 
   unfoldable pub drafted : Draft → Known G
@@ -158,24 +160,30 @@ module _ (G : Ground) (tokens : ℕ) where
   -- each record is in range by those before it
   abbrev pub AllInRange : Moment → Type 0
   AllInRange [] = Unit {0}
-  AllInRange (x ∷ rest) = InRange tokens (p G) (event_in rest) x.event × AllInRange rest
+  AllInRange (x ∷ rest) = InRange W.tokens (p G) (event_in rest) x.event × AllInRange rest
 
   abbrev pub StoreInRange : Store (A G) → Type 0
   StoreInRange store = (x : Slot) (h : Held (A G)) → store x ≡ Some h → FixedInRange (p G) h.value
+
+  -- the bytes that the events wrote, the newest first
+  pub written_before : Moment → ℕ
+  written_before [] = 0
+  written_before (x ∷ rest) = written_by (p G) W.ends_line (event_in rest) x.event + written_before rest
 
   pub record Inv (s : S) : Type 0 where
     pub noted : AllInRange s.noted
     pub store : StoreInRange s.store
     pub input : AllByRecursion IsByteOf s.input
+    pub output : length s.output ≡ written_before s.noted
 
-  pub found_in_range : (n : Moment) → AllInRange n → (k : ℕ) (e : Recorded) → event_in n k ≡ Some e → InRange tokens (p G) (event_in n) e
+  pub found_in_range : (n : Moment) → AllInRange n → (k : ℕ) (e : Recorded) → event_in n k ≡ Some e → InRange W.tokens (p G) (event_in n) e
   unfolding event_in
   found_in_range [] h k e there = absurd (cc there)
   found_in_range (x ∷ rest) h k e there = go (found_in_range rest h.1 k e) (one_of_longer x rest k e there)
     where
-      go : (event_in rest k ≡ Some e → InRange tokens (p G) (event_in rest) e) → ((k ≡ length rest) × (x.event ≡ e)) ⊎ (event_in rest k ≡ Some e) → InRange tokens (p G) (event_in (x ∷ rest)) e
-      go f (inl q) = subst (λ r. InRange tokens (p G) (event_in (x ∷ rest)) r) q.1 (in_range_up (p G) (event_in rest) (event_in (x ∷ rest)) (later_one x rest) tokens x.event h.0)
-      go f (inr q) = in_range_up (p G) (event_in rest) (event_in (x ∷ rest)) (later_one x rest) tokens e (f q)
+      go : (event_in rest k ≡ Some e → InRange W.tokens (p G) (event_in rest) e) → ((k ≡ length rest) × (x.event ≡ e)) ⊎ (event_in rest k ≡ Some e) → InRange W.tokens (p G) (event_in (x ∷ rest)) e
+      go f (inl q) = subst (λ r. InRange W.tokens (p G) (event_in (x ∷ rest)) r) q.1 (in_range_up (p G) (event_in rest) (event_in (x ∷ rest)) (later_one x rest) W.tokens x.event h.0)
+      go f (inr q) = in_range_up (p G) (event_in rest) (event_in (x ∷ rest)) (later_one x rest) W.tokens e (f q)
 
   -- ---- carried values
 

@@ -31,7 +31,7 @@ use Rattle.wy_typed_states.proofs.Places.{Methods, of_type, world_of, may_initia
 use Rattle.wy_typed_states.proofs.Arrays.{makes_array, made_is, array_made}
 use Rattle.wy_typed_states.proofs.Bodies.{body_called, initialized, part_there}
 use Rattle.wy_typed_states.proofs.Runs.{main_calls, start_typed}
-use Rattle.wy_in_range.specs.InRange.{IsSite, StringIsFinal, SitesInRange, InRange, IsByteOf, RecordsAreInRange}
+use Rattle.wy_in_range.specs.InRange.{Text, IsSite, StringIsFinal, SitesInRange, InRange, IsByteOf, RecordsAreInRange}
 use Rattle.wy_in_range.proofs.Facts.{S, C, Moment, AllInRange, Inv, fine, all_fine, constant_fine, value_of_fine, in_range_up}
 use Rattle.wy_in_range.proofs.Values.{method_class}
 use Rattle.wy_in_range.proofs.Bare as bare
@@ -41,11 +41,11 @@ use Rattle.wy_in_range.proofs.Expressions.{Inner, initializes}
 use Rattle.wy_in_range.proofs.Bodies.{call_runs, init_runs}
 use Rattle.wy_in_range.proofs.Rules.{At, Full, bind, plainly}
 
-module _ (G : Ground) (tokens : ℕ) (final : StringIsFinal (p G)) (sites : SitesInRange tokens (p G)) where
+module _ (G : Ground) (W : Text) (final : StringIsFinal (p G)) (sites : SitesInRange W.tokens (p G)) where
   -- the calls and initializations of the world at a depth
   pub record Depth (depth : ℕ) : Type 1 where
     pub methods : Methods G
-    pub inner : Inner G tokens methods
+    pub inner : Inner G W methods
     pub is : world_of G methods ≡ world (p G) depth
 
   at_depth : (depth : ℕ) → Depth depth
@@ -58,8 +58,8 @@ module _ (G : Ground) (tokens : ℕ) (final : StringIsFinal (p G)) (sites : Site
       enters = λ d site c P. stops G DepthLimit tt;
     };
     inner = record {
-      calls = λ r site m receiver args P h s g. plainly G tokens (bare.stops G tokens DepthLimit);
-      enters = λ r site c P e s lt. plainly G tokens (bare.stops G tokens DepthLimit);
+      calls = λ r site m receiver args P h s g. plainly G W (bare.stops G W DepthLimit);
+      enters = λ r site c P e s lt. plainly G W (bare.stops G W DepthLimit);
     };
     is = refl;
   }
@@ -74,8 +74,8 @@ module _ (G : Ground) (tokens : ℕ) (final : StringIsFinal (p G)) (sites : Site
           enters = λ d site c P. initialized G below.methods c site (init_body (p G) c) refl;
         };
         inner = record {
-          calls = λ r site m receiver args P h s g. call_runs G tokens final sites below.methods below.inner site m (body (p G) m) receiver args refl h s g;
-          enters = λ r site c P e s lt. init_runs G tokens final sites below.methods below.inner site c (init_body (p G) c) refl e s lt;
+          calls = λ r site m receiver args P h s g. call_runs G W final sites below.methods below.inner site m (body (p G) m) receiver args refl h s g;
+          enters = λ r site c P e s lt. init_runs G W final sites below.methods below.inner site c (init_body (p G) c) refl e s lt;
         };
         is = ap (λ (x : World (A G)). record {
           program = p G;
@@ -86,13 +86,13 @@ module _ (G : Ground) (tokens : ℕ) (final : StringIsFinal (p G)) (sites : Site
 
   -- ---- whole runs
 
-  module _ (M : Methods G) (L : Inner G tokens M) where
+  module _ (M : Methods G) (L : Inner G W M) where
     abbrev w : World (A G)
     w = world_of G M
 
-    main_site : IsSite tokens (method (p G) (p G).main).site
+    main_site : IsSite W.tokens (method (p G) (p G).main).site
     unfolding method
-    main_site = let m = G.fits.main in subst (λ (z : Method). IsSite tokens z.site) (sym (part_is (p G).methods (p G).main _ m.method m.found)) (sites.main m.method m.found)
+    main_site = let m = G.fits.main in subst (λ (z : Method). IsSite W.tokens z.site) (sym (part_is (p G).methods (p G).main _ m.method m.found)) (sites.main m.method m.found)
 
     abbrev first_class : ℕ
     first_class = (method (p G) (p G).main).class
@@ -100,11 +100,11 @@ module _ (G : Ground) (tokens : ℕ) (final : StringIsFinal (p G)) (sites : Site
     first_below : first_class < length (p G).classes
     first_below = let m = G.fits.main in method_class G (p G).main m.method m.found
 
-    first_site : is_source first_class ≡ true → IsSite tokens (class (p G) first_class).site
+    first_site : is_source first_class ≡ true → IsSite W.tokens (class (p G) first_class).site
     unfolding class
-    first_site e = let k = part_there (p G).classes first_class first_below in subst (λ (z : Class). IsSite tokens z.site) (sym (part_is (p G).classes first_class _ k.0 k.1)) (sites.classes first_class k.0 e k.1)
+    first_site e = let k = part_there (p G).classes first_class first_below in subst (λ (z : Class). IsSite W.tokens z.site) (sym (part_is (p G).classes first_class _ k.0 k.1)) (sites.classes first_class k.0 e k.1)
 
-    strings_made : string_class < length (p G).classes → MakesArrays G tokens M strings
+    strings_made : string_class < length (p G).classes → MakesArrays G W M strings
     unfolding type_code base_code
     strings_made known = record { objects = known; array = omega arith }
 
@@ -112,26 +112,26 @@ module _ (G : Ground) (tokens : ℕ) (final : StringIsFinal (p G)) (sites : Site
     unfolding called is value_of
     main_called args h = record { by = λ n q. main_calls G M n _ (h.by n q) }
 
-    runs_main : {P : Known G} → Full G tokens Outside P (main_run w) (fine G tokens)
+    runs_main : {P : Known G} → Full G W Outside P (main_run w) (fine G W)
     unfolding main_run ◌>>◌ bound
     runs_main =
         let text = text_made (p G) G.fits.declarations.library_classes in
         let known : string_class < length (p G).classes = slice_get_within (p G).classes string_class text.0 text.1 in
-        bind G tokens (may_initialize G M (class (p G) first_class).site first_class) (initializes G tokens M L (class (p G) first_class).site first_class first_site first_below) (λ t.
-        bind G tokens (makes_array G M _ strings 0 _) (plainly G tokens (plain_text.makes_array G tokens M _ strings 0 _ main_site (strings_made known) (constant_fine G tokens (val.Int (pos 0)) tt))) (λ args.
+        bind G W (may_initialize G M (class (p G) first_class).site first_class) (initializes G W M L (class (p G) first_class).site first_class first_site first_below) (λ t.
+        bind G W (makes_array G M _ strings 0 _) (plainly G W (plain_text.makes_array G W M _ strings 0 _ main_site (strings_made known) (constant_fine G W (val.Int (pos 0)) tt))) (λ args.
         L.calls Outside (method (p G) (p G).main).site (p G).main Absent _ _ (main_called args (before _ _ (made_is G M args _ strings 0 (newest _ _) (λ m q. array_made G M (Named string_class) 0 0 known)))) main_site
-        (plain_text.more_fine G tokens M _ [] (value_of_fine G tokens args _ tt) (plain_text.none_fine G tokens M))))
+        (plain_text.more_fine G W M _ [] (value_of_fine G W args _ tt) (plain_text.none_fine G W M))))
 
-  start_inv : (input : List ℕ) (budget : ℕ) → AllByRecursion IsByteOf input → Inv G tokens (start {A = A G} input budget)
+  start_inv : (input : List ℕ) (budget : ℕ) → AllByRecursion IsByteOf input → Inv G W (start {A = A G} input budget)
   unfolding start
   start_inv input budget bytes = record { noted = tt; store = λ x h e. absurd (cc e); input = bytes }
 
   -- in each run all records are in range
-  pub run_kept : (input : List ℕ) (budget : ℕ) → AllByRecursion IsByteOf input → Inv G tokens (end (outcome {A = A G} (p G) input budget))
+  pub run_kept : (input : List ℕ) (budget : ℕ) → AllByRecursion IsByteOf input → Inv G W (end (outcome {A = A G} (p G) input budget))
   unfolding outcome start
   run_kept input budget bytes =
       let D = at_depth depth_limit in
-      subst (λ w. Inv G tokens (end (main_run w (start input budget)))) D.is ((runs_main D.methods D.inner {P = nothing}).by (start input budget)
+      subst (λ w. Inv G W (end (main_run w (start input budget)))) D.is ((runs_main D.methods D.inner {P = nothing}).by (start input budget)
       (record { typed = start_typed G input budget; stands = tt; known = tt; inv = start_inv input budget bytes })).inv
 
 -- ---- records in the order of time
@@ -172,17 +172,17 @@ module _ (A : Sets) where
       (λ q. subst (λ (l : List Recorded). slice_get l k ≡ Some e) (sym (in_order-cons x rest)) (slice_get_before (in_order rest) (x.event ∷ []) k e (there_in_order rest k e q)))
       (one_of_longer x rest k e h)
 
-module _ (G : Ground) (tokens : ℕ) where
+module _ (G : Ground) (W : Text) where
   abbrev Before : List Recorded → ℕ → Recorded → Type 0
-  Before rs n e = InRange tokens (p G) (slice_get (take n rs)) e
+  Before rs n e = InRange W.tokens (p G) (slice_get (take n rs)) e
 
-  each_in_range : (noted : Moment G tokens) → AllInRange G tokens noted → (n : ℕ) (e : Recorded) → slice_get (in_order (A G) noted) n ≡ Some e → Before (in_order (A G) noted) n e
+  each_in_range : (noted : Moment G W) → AllInRange G W noted → (n : ℕ) (e : Recorded) → slice_get (in_order (A G) noted) n ≡ Some e → Before (in_order (A G) noted) n e
   unfolding in_order
   each_in_range [] h n e there = absurd (cc there)
   each_in_range (x ∷ rest) h n e there = subst (λ (l : List Recorded). Before l n e) (sym (in_order-cons (A G) x rest)) (⊎_elim
-      (λ found. subst (λ (l : List Recorded). InRange tokens (p G) (slice_get l) e) (sym (take-append-le n (in_order (A G) rest) (x.event ∷ []) (let lt = slice_get_within (in_order (A G) rest) n e found in omega (arith, lt)))) (each_in_range rest h.1 n e found))
-      (λ last. subst (λ k. Before (in_order (A G) rest ++ x.event ∷ []) k e) (sym last.0) (subst (λ (l : List Recorded). InRange tokens (p G) (slice_get l) e) (sym (take-append_seam (in_order (A G) rest) (x.event ∷ [])))
-      (subst (λ r. InRange tokens (p G) (slice_get (in_order (A G) rest)) r) last.1 (in_range_up (p G) (event_in rest) (slice_get (in_order (A G) rest)) (there_in_order (A G) rest) tokens x.event h.0))))
+      (λ found. subst (λ (l : List Recorded). InRange W.tokens (p G) (slice_get l) e) (sym (take-append-le n (in_order (A G) rest) (x.event ∷ []) (let lt = slice_get_within (in_order (A G) rest) n e found in omega (arith, lt)))) (each_in_range rest h.1 n e found))
+      (λ last. subst (λ k. Before (in_order (A G) rest ++ x.event ∷ []) k e) (sym last.0) (subst (λ (l : List Recorded). InRange W.tokens (p G) (slice_get l) e) (sym (take-append_seam (in_order (A G) rest) (x.event ∷ [])))
+      (subst (λ r. InRange W.tokens (p G) (slice_get (in_order (A G) rest)) r) last.1 (in_range_up (p G) (event_in rest) (slice_get (in_order (A G) rest)) (there_in_order (A G) rest) W.tokens x.event h.0))))
       (slice_get_snoc (in_order (A G) rest) x.event n e (subst (λ (l : List Recorded). slice_get l n ≡ Some e) (in_order-cons (A G) x rest) there)))
 
 pub records_in_range : (A : Sets) (tokens : ℕ) (p : Program) → IsProgram p → KeepsLibrary p → SitesInRange tokens p → StringIsFinal p → (input : List ℕ) (budget : ℕ) → AllByRecursion IsByteOf input → RecordsAreInRange A tokens p input budget

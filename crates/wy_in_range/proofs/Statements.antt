@@ -38,7 +38,7 @@ use Rattle.wy_typed_states.proofs.Statements as typed_statement
 use Rattle.wy_typed_states.proofs.Statements.{GivesBack, leaves_typed, place}
 use Rattle.wy_typed_states.proofs.Expressions as expression
 use Rattle.wy_in_range.specs.Sites.{Sited, PartSited, StatementSited, ActSited, OtherSited, AllSited, CatchesSited}
-use Rattle.wy_in_range.specs.InRange.{IsSite, HasLocal, IsThrown, IsPrinted, FixedInRange, StringIsFinal}
+use Rattle.wy_in_range.specs.InRange.{Text, IsSite, HasLocal, IsThrown, IsPrinted, FixedInRange, StringIsFinal}
 use Rattle.wy_in_range.proofs.Facts.{S, C, Moment, always, Fine, fine, thrown, fair, drafted, Inv, constant_fine}
 use Rattle.wy_in_range.proofs.Values.{throwable}
 use Rattle.wy_in_range.proofs.Strings.{text_printed}
@@ -49,24 +49,24 @@ use Rattle.wy_in_range.proofs.Texts as plain_text
 use Rattle.wy_in_range.proofs.Expressions.{Inner, Good, keeps, shows_good, chosen_good, test_draft}
 use Rattle.wy_in_range.proofs.Rules.{At, Full, bind, after, weaker, where_at, with_end, either, plainly, then_plainly, then_bare, bare_first, forgets, catches, numbered, whiles, dos}
 
-module _ (G : Ground) (tokens : ℕ) (final : StringIsFinal (p G)) (M : Methods G) (L : Inner G tokens M) (i : Frame) (result : Option Ty) (back : GivesBack G M i result) where
+module _ (G : Ground) (W : Text) (final : StringIsFinal (p G)) (M : Methods G) (L : Inner G W M) (i : Frame) (result : Option Ty) (back : GivesBack G M i result) where
   abbrev w : World (A G)
   w = world_of G M
 
   abbrev K : Type 0
-  K = C G tokens
+  K = C G W
 
   abbrev Ok : ℕ → Type 0
-  Ok site = IsSite tokens site
+  Ok site = IsSite W.tokens site
 
   abbrev here : Within
   here = place G M i result
 
   abbrev F : K → Known G
-  F c = fine G tokens c
+  F c = fine G W c
 
   abbrev O : {X : Type 0} → Known G → Run (A G) X → (X → Known G) → Type 0
-  O P m Q = Full G tokens (In i) P m Q
+  O P m Q = Full G W (In i) P m Q
 
   -- a run of statements
   pub record Runs (m : Run (A G) Unit) : Type 1 where
@@ -80,7 +80,7 @@ module _ (G : Ground) (tokens : ℕ) (final : StringIsFinal (p G)) (M : Methods 
 
   -- the statement, where its sites are in range and its forms fit their types
   pub record Keeps (x : Statement) : Type 1 where
-    pub by : StatementSited Ok x → IsTyped here x → Runs (exec w x)
+    pub by : StatementSited Ok x → Lined W.ends_line x → IsTyped here x → Runs (exec w x)
 
   -- ---- statements in order
 
@@ -91,22 +91,22 @@ module _ (G : Ground) (tokens : ℕ) (final : StringIsFinal (p G)) (M : Methods 
 
   all_run : (x : Statements) → OfStatements Keeps x → AllSited Ok x → AllTyped here x → Runs (exec_all w x)
   unfolding exec_all
-  all_run done d s t = record { by = λ P. plainly G tokens (bare.gives G tokens tt trivially) }
-  all_run (first x rest) d s t = record { by = λ P. after G tokens (typed_exec x t.0 P) ((d.0.by s.0 t.0).by P) (all_run rest d.1 s.1 t.1).by }
+  all_run done d s t = record { by = λ P. plainly G W (bare.gives G W tt trivially) }
+  all_run (first x rest) d s t = record { by = λ P. after G W (typed_exec x t.0 P) ((d.0.by s.0 t.0).by P) (all_run rest d.1 s.1 t.1).by }
 
   -- ---- tests
 
   tests : (site reach : ℕ) (e : Expression) → Ok site → Sited Ok e → HasType (p G) (local_types (p G) i) e boolean_type → (P : Known G) → O P (tested site reach (eval w e)) (λ c. nothing)
   unfolding tested
-  tests site reach e s se t P = then_plainly G tokens (((expression.typed G M i e).by boolean_type t).by P) (((keeps G tokens M L i e).by se boolean_type t).by P) (λ v. bare.bind G tokens (bare.frames G tokens) (λ f.
-      bare.bind G tokens (bare.enters G tokens (note (plain kind.Test site v.value) v) (Through f reach) (plain kind.Test site v.value) v (bare.note_adds G tokens (plain kind.Test site v.value) v) (test_draft G tokens M L i site v.value s (before _ _ (before _ _ (newest _ _)))) (before _ _ (newest _ _))) (λ e. bare.gives G tokens _ trivially)))
+  tests site reach e s se t P = then_plainly G W (((expression.typed G M i e).by boolean_type t).by P) (((keeps G W M L i e).by se boolean_type t).by P) (λ v. bare.bind G W (bare.frames G W) (λ f.
+      bare.bind G W (bare.enters G W (note (plain kind.Test site v.value) v) (Through f reach) (plain kind.Test site v.value) v (bare.note_adds G W (plain kind.Test site v.value) v) (test_draft G W M L i site v.value s (before _ _ (before _ _ (newest _ _)))) (before _ _ (newest _ _))) (λ e. bare.gives G W _ trivially)))
 
   test_typed : (site reach : ℕ) (e : Expression) → HasType (p G) (local_types (p G) i) e boolean_type → Typed (tested site reach (eval w e))
   test_typed site reach e t P = (typed_statement.tests G M i result back site reach (eval w e) ((expression.typed G M i e).by boolean_type t)).by P
 
   -- ---- try
 
-  catch_draft : {P : Known G} (site k : ℕ) (ty : Ty) (f : Option ℕ) (v : K) → Ok site → slice_get (local_types (p G) i) k ≡ Some ty → Entails P (current (A G) (p G) i f) → Entails P (F v) → Entails P (thrown G tokens v.value) → Entails P (drafted G tokens (into kind.Catch site (slot.Local (code_of f) k) v.value))
+  catch_draft : {P : Known G} (site k : ℕ) (ty : Ty) (f : Option ℕ) (v : K) → Ok site → slice_get (local_types (p G) i) k ≡ Some ty → Entails P (current (A G) (p G) i f) → Entails P (F v) → Entails P (thrown G W v.value) → Entails P (drafted G W (into kind.Catch site (slot.Local (code_of f) k) v.value))
   unfolding drafted into current fine thrown code_of
   catch_draft site k ty f v s e c h t = record {
     by = λ n q.
@@ -117,24 +117,25 @@ module _ (G : Ground) (tokens : ℕ) (final : StringIsFinal (p G)) (M : Methods 
           slot = subst (λ z. HasLocal (p G) (event_in n) z k) (sym (ap code_of r.1)) (record { event = r.2.event; there = r.2.there; body = i; runs = r.2.runs; within = slice_get_within (local_types (p G) i) k ty e });
           value = t.by n q;
           fixed = (h.by n q).0;
+          quiet = tt;
         };
   }
 
-  takes : {P : Known G} (c k site : ℕ) (block : Statement) (number : ℕ) (v : K) → Keeps block → Ok site → StatementSited Ok block → IsTyped here block → slice_get (local_types (p G) i) k ≡ Some (class_type c) → Entails P (of_type G (class_type c) v.value) → Entails P (F v) → Entails P (thrown G tokens v.value) → O P (caught (record { class = c; local = k; site = site; number = number; block = exec w block }) v) (λ u. nothing)
+  takes : {P : Known G} (c k site : ℕ) (block : Statement) (number : ℕ) (v : K) → Keeps block → Ok site → StatementSited Ok block → IsTyped here block → slice_get (local_types (p G) i) k ≡ Some (class_type c) → Entails P (of_type G (class_type c) v.value) → Entails P (F v) → Entails P (thrown G W v.value) → O P (caught (record { class = c; local = k; site = site; number = number; block = exec w block }) v) (λ u. nothing)
   unfolding caught current stores is both code_of
-  takes {P = P} c k site block number v d s sb t e q fv tv = bare_first G tokens (frames G) (bare.frames G tokens) (λ f. bind G tokens
+  takes {P = P} c k site block number v d s sb t e q fv tv = bare_first G W (frames G) (bare.frames G W) (λ f. bind G W
       (catches_local G (Through f number) site (code_of f) k v.value v (record { by = λ n y. let r = y.1 in typed_statement.binds G M i result back n (code_of f) k v.value (class_type c) e (subst (λ z. HasFrame n z i) (sym (ap code_of r.1)) r.2) (q.by n y.0.0) }))
-      (plainly G tokens (bare.enters G tokens (note_write (into kind.Catch site (slot.Local (code_of f) k) v.value) v) (Through f number) (into kind.Catch site (slot.Local (code_of f) k) v.value) v (bare.write_adds G tokens (into kind.Catch site (slot.Local (code_of f) k) v.value) v) (catch_draft site k (class_type c) f v s e (newest _ _) (before _ _ (before _ _ fv)) (before _ _ (before _ _ tv))) (before _ _ (before _ _ fv))))
+      (plainly G W (bare.enters G W (note_write (into kind.Catch site (slot.Local (code_of f) k) v.value) v) (Through f number) (into kind.Catch site (slot.Local (code_of f) k) v.value) v (bare.write_adds G W (into kind.Catch site (slot.Local (code_of f) k) v.value) v) (catch_draft site k (class_type c) f v s e (newest _ _) (before _ _ (before _ _ fv)) (before _ _ (before _ _ tv))) (before _ _ (before _ _ fv))))
       (λ x. (d.by sb t).by _))
 
-  threw_fair : {P : Known G} (e : ℕ) (v : K) → Entails P (F v) → Entails P (thrown G tokens v.value) → Entails P (fair G tokens (Threw e v))
+  threw_fair : {P : Known G} (e : ℕ) (v : K) → Entails P (F v) → Entails P (thrown G W v.value) → Entails P (fair G W (Threw e v))
   unfolding fair both
   threw_fair e v f t = record { by = λ n q. (f.by n q, t.by n q) }
 
-  handles : {P : Known G} (x : Catches) (found : Ty) (e : ℕ) (v : K) → OfCatches Keeps x → CatchesSited Ok x → CatchesTyped here x → Entails P (of_type G (class_type throwable_class) v.value) → Entails P (found_as G v.value found) → Entails P (F v) → Entails P (thrown G tokens v.value) → O P (handle (p G) (exec_catches w x) (class_of_type found) e v) (λ u. nothing)
+  handles : {P : Known G} (x : Catches) (found : Ty) (e : ℕ) (v : K) → OfCatches Keeps x → CatchesSited Ok x → CatchesTyped here x → Entails P (of_type G (class_type throwable_class) v.value) → Entails P (found_as G v.value found) → Entails P (F v) → Entails P (thrown G W v.value) → O P (handle (p G) (exec_catches w x) (class_of_type found) e v) (λ u. nothing)
   unfolding handle exec_catches is found_as
-  handles uncaught found e v d s t q f fv tv = plainly G tokens (bare.leaves G tokens (Threw e v) (threw_fair e v fv tv))
-  handles (catch c k site block rest) found e v d s t q f fv tv = either G tokens (is_subclass (p G) (class_of_type found) c)
+  handles uncaught found e v d s t q f fv tv = plainly G W (bare.leaves G W (Threw e v) (threw_fair e v fv tv))
+  handles (catch c k site block rest) found e v d s t q f fv tv = either G W (is_subclass (p G) (class_of_type found) c)
       (λ b. takes c k site block _ v d.0 s.0 s.1 t.1 t.0.bound (record { by = λ n y. caught_is G n v.value found c (q.by n y) (f.by n y) b }) fv tv)
       (λ b. handles rest found e v d.1 s.2 t.2 q f fv tv)
 
@@ -142,19 +143,19 @@ module _ (G : Ground) (tokens : ℕ) (final : StringIsFinal (p G)) (M : Methods 
   unfolding reason
   typed_thrown e v q = q
 
-  fair_value : {P : Known G} (e : ℕ) (v : K) → Entails P (fair G tokens (Threw e v)) → Entails P (F v)
+  fair_value : {P : Known G} (e : ℕ) (v : K) → Entails P (fair G W (Threw e v)) → Entails P (F v)
   unfolding fair both
   fair_value e v q = record { by = λ n h. (q.by n h).0 }
 
-  fair_thrown : {P : Known G} (e : ℕ) (v : K) → Entails P (fair G tokens (Threw e v)) → Entails P (thrown G tokens v.value)
+  fair_thrown : {P : Known G} (e : ℕ) (v : K) → Entails P (fair G W (Threw e v)) → Entails P (thrown G W v.value)
   unfolding fair both
   fair_thrown e v q = record { by = λ n h. (q.by n h).1 }
 
-  at_throws : {P : Known G} (x : Catches) (why : Reason (A G)) → OfCatches Keeps x → CatchesSited Ok x → CatchesTyped here x → Entails P (reason (A G) (p G) (In i) why) → Entails P (fair G tokens why) → O P (at_throw w (exec_catches w x) why) (λ u. nothing)
+  at_throws : {P : Known G} (x : Catches) (why : Reason (A G)) → OfCatches Keeps x → CatchesSited Ok x → CatchesTyped here x → Entails P (reason (A G) (p G) (In i) why) → Entails P (fair G W why) → O P (at_throw w (exec_catches w x) why) (λ u. nothing)
   unfolding at_throw
-  at_throws x (Jumped target e) d s t q f = plainly G tokens (bare.leaves G tokens _ f)
-  at_throws x (Returned e v) d s t q f = plainly G tokens (bare.leaves G tokens _ f)
-  at_throws x (Threw e v) d s t q f = bare_first G tokens (finds_type G M (class_type throwable_class) v.value (typed_thrown e v q)) (plain_form.finds_type G tokens M v.value) (λ found. handles x found e v d s t (before _ _ (before _ _ (typed_thrown e v q))) (before _ _ (newest _ _)) (before _ _ (before _ _ (fair_value e v f))) (before _ _ (before _ _ (fair_thrown e v f))))
+  at_throws x (Jumped target e) d s t q f = plainly G W (bare.leaves G W _ f)
+  at_throws x (Returned e v) d s t q f = plainly G W (bare.leaves G W _ f)
+  at_throws x (Threw e v) d s t q f = bare_first G W (finds_type G M (class_type throwable_class) v.value (typed_thrown e v q)) (plain_form.finds_type G W M v.value) (λ found. handles x found e v d s t (before _ _ (before _ _ (typed_thrown e v q))) (before _ _ (newest _ _)) (before _ _ (before _ _ (fair_value e v f))) (before _ _ (before _ _ (fair_thrown e v f))))
 
   -- the typed parts of a `try`
   module _ (main : Statement) (x : Catches) (tm : IsTyped here main) (tc : CatchesTyped here x) where
@@ -167,17 +168,17 @@ module _ (G : Ground) (tokens : ℕ) (final : StringIsFinal (p G)) (M : Methods 
     guarded_typed P = (typed_statement.tries G M i result back (exec w main) (exec_catches w x) (leaves_typed G M i result back main tm) (clauses_leave x tc)).by P
 
   guarded : (main : Statement) (x : Catches) → Keeps main → OfCatches Keeps x → StatementSited Ok main → CatchesSited Ok x → IsTyped here main → CatchesTyped here x → Runs (catching (exec w main) (at_throw w (exec_catches w x)))
-  guarded main x d dc s sc t tc = record { by = λ P. catches G tokens (typed_exec main t P) ((d.by s t).by P) (λ why. at_throws x why dc sc tc (before _ _ (newest _ _)) (newest _ _)) }
+  guarded main x d dc s sc t tc = record { by = λ P. catches G W (typed_exec main t P) ((d.by s t).by P) (λ why. at_throws x why dc sc tc (before _ _ (newest _ _)) (newest _ _)) }
 
-  then_leave : {P : Known G} (last : Run (A G) Unit) (why : Reason (A G)) → Runs last → Entails P (fair G tokens why) → O {X = Unit {0}} P (last >> leave why) (λ u. nothing)
+  then_leave : {P : Known G} (last : Run (A G) Unit) (why : Reason (A G)) → Runs last → Entails P (fair G W why) → O {X = Unit {0}} P (last >> leave why) (λ u. nothing)
   unfolding ◌>>◌
-  then_leave {P = P} last why h f = then_bare G tokens (h.by P) (λ t. bare.leaves G tokens why (before _ _ f))
+  then_leave {P = P} last why h f = then_bare G W (h.by P) (λ t. bare.leaves G W why (before _ _ f))
 
   lasts : (m last : Run (A G) Unit) → Typed m → Runs m → Typed last → Runs last → Runs (finally m last)
   unfolding finally
   lasts m last tm rm tl rl = record {
-    by = λ P. after G tokens (typed_rule.catches G (tm P) (λ why. typed_rule.after G (tl _) (typed_rule.leaves G why (newest _ _))))
-        (catches G tokens (tm P) (rm.by P) (λ why. then_leave last why rl (newest _ _)))
+    by = λ P. after G W (typed_rule.catches G (tm P) (λ why. typed_rule.after G (tl _) (typed_rule.leaves G why (newest _ _))))
+        (catches G W (tm P) (rm.by P) (λ why. then_leave last why rl (newest _ _)))
         (λ P. rl.by P);
   }
 
@@ -189,7 +190,7 @@ module _ (G : Ground) (tokens : ℕ) (final : StringIsFinal (p G)) (M : Methods 
   -- ---- prints
 
   abbrev printed : Value → Known G
-  printed v = always G tokens (IsPrinted v)
+  printed v = always G W (IsPrinted v)
 
   printed_as : {P : Known G} (v : K) (x : Value) → v.value ≡ x → IsPrinted x → Entails P (F v) → Entails P (both (F v) (printed v.value))
   unfolding both fine
@@ -200,29 +201,29 @@ module _ (G : Ground) (tokens : ℕ) (final : StringIsFinal (p G)) (M : Methods 
   IsNarrow (val.Short z) = Unit {0}
   IsNarrow _ = ⊥
 
-  no_byte : (ty : Ty) (x : Value) (n : Moment G tokens) → IsPrintedType ty → Is (p G) n ty x → (z : Value) → x ≡ z → IsNarrow z → ⊥
+  no_byte : (ty : Ty) (x : Value) (n : Moment G W) → IsPrintedType ty → Is (p G) n ty x → (z : Value) → x ≡ z → IsNarrow z → ⊥
   no_byte ty x n h is (val.Byte z) e k = subst IsPrintedType (subst (λ u. Is (p G) n ty u) e is) h
   no_byte ty x n h is (val.Short z) e k = subst IsPrintedType (subst (λ u. Is (p G) n ty u) e is) h
   no_byte ty x n h is _ e k = k
 
   shows_as_printed : {P : Known G} (site : ℕ) (v : K) (x : Value) (ty : Ty) → Ok site → IsPrintedType ty → v.value ≡ x → Entails P (of_type G ty v.value) → Entails P (F v) → O P (shown_as w site v x) (λ u. both (F u) (printed u.value))
   unfolding shown_as is all_are both
-  shows_as_printed site v (val.Object n) ty s pt e h f = with_end G tokens
+  shows_as_printed site v (val.Object n) ty s pt e h f = with_end G W
       (chosen_gives G M i to_string to_string_method (to_string_is (p G) G.fits.declarations.library_methods) refl refl site v [] n e
       (record { by = λ n1 q. subst (λ u. Is (p G) n1 object_type u) (sym e) (object_is_object G M i n1 ty n (subst (λ u. Is (p G) n1 ty u) e (h.by n1 q))) }) (record { by = λ n1 q. tt }))
-      (chosen_good G tokens M L i to_string to_string_method (to_string_is (p G) G.fits.declarations.library_methods) refl refl site v [] n s e
-      (record { by = λ n1 q. subst (λ u. Is (p G) n1 object_type u) (sym e) (object_is_object G M i n1 ty n (subst (λ u. Is (p G) n1 ty u) e (h.by n1 q))) }) (record { by = λ n1 q. tt }) f (plain_text.none_fine G tokens M))
-      (λ u t inv q fu. (fu, text_printed G tokens final t.noted inv.noted u.value q))
-  shows_as_printed site v (val.Byte z) ty s pt e h f = where_at G tokens (λ y at. absurd (no_byte ty v.value y.noted pt (h.by y.noted at.known) (val.Byte z) e tt))
-  shows_as_printed site v (val.Short z) ty s pt e h f = where_at G tokens (λ y at. absurd (no_byte ty v.value y.noted pt (h.by y.noted at.known) (val.Short z) e tt))
-  shows_as_printed site v (val.Bool z) ty s pt e h f = plainly G tokens (bare.gives G tokens v (printed_as v _ e tt f))
-  shows_as_printed site v (val.Char z) ty s pt e h f = plainly G tokens (bare.gives G tokens v (printed_as v _ e tt f))
-  shows_as_printed site v (val.Int z) ty s pt e h f = plainly G tokens (bare.gives G tokens v (printed_as v _ e tt f))
-  shows_as_printed site v (val.Long z) ty s pt e h f = plainly G tokens (bare.gives G tokens v (printed_as v _ e tt f))
-  shows_as_printed site v val.Null ty s pt e h f = plainly G tokens (bare.gives G tokens v (printed_as v _ e tt f))
-  shows_as_printed site v (val.Text z) ty s pt e h f = plainly G tokens (bare.gives G tokens v (printed_as v _ e tt f))
-  shows_as_printed site v (val.Fixed z) ty s pt e h f = plainly G tokens (bare.gives G tokens v (printed_as v _ e tt f))
-  shows_as_printed site v val.None ty s pt e h f = plainly G tokens (bare.gives G tokens v (printed_as v _ e tt f))
+      (chosen_good G W M L i to_string to_string_method (to_string_is (p G) G.fits.declarations.library_methods) refl refl site v [] n s e
+      (record { by = λ n1 q. subst (λ u. Is (p G) n1 object_type u) (sym e) (object_is_object G M i n1 ty n (subst (λ u. Is (p G) n1 ty u) e (h.by n1 q))) }) (record { by = λ n1 q. tt }) f (plain_text.none_fine G W M))
+      (λ u t inv q fu. (fu, text_printed G W final t.noted inv.noted u.value q))
+  shows_as_printed site v (val.Byte z) ty s pt e h f = where_at G W (λ y at. absurd (no_byte ty v.value y.noted pt (h.by y.noted at.known) (val.Byte z) e tt))
+  shows_as_printed site v (val.Short z) ty s pt e h f = where_at G W (λ y at. absurd (no_byte ty v.value y.noted pt (h.by y.noted at.known) (val.Short z) e tt))
+  shows_as_printed site v (val.Bool z) ty s pt e h f = plainly G W (bare.gives G W v (printed_as v _ e tt f))
+  shows_as_printed site v (val.Char z) ty s pt e h f = plainly G W (bare.gives G W v (printed_as v _ e tt f))
+  shows_as_printed site v (val.Int z) ty s pt e h f = plainly G W (bare.gives G W v (printed_as v _ e tt f))
+  shows_as_printed site v (val.Long z) ty s pt e h f = plainly G W (bare.gives G W v (printed_as v _ e tt f))
+  shows_as_printed site v val.Null ty s pt e h f = plainly G W (bare.gives G W v (printed_as v _ e tt f))
+  shows_as_printed site v (val.Text z) ty s pt e h f = plainly G W (bare.gives G W v (printed_as v _ e tt f))
+  shows_as_printed site v (val.Fixed z) ty s pt e h f = plainly G W (bare.gives G W v (printed_as v _ e tt f))
+  shows_as_printed site v val.None ty s pt e h f = plainly G W (bare.gives G W v (printed_as v _ e tt f))
 
   shows_printed : {P : Known G} (site : ℕ) (v : K) (ty : Ty) → Ok site → IsPrintedType ty → Entails P (of_type G ty v.value) → Entails P (F v) → O P (shown w site v) (λ u. both (F u) (printed u.value))
   unfolding shown
@@ -239,42 +240,42 @@ module _ (G : Ground) (tokens : ℕ) (final : StringIsFinal (p G)) (M : Methods 
   prints_value : (e : Expression) (ty : Ty) (ends_line : Bool) (site : ℕ) → Ok site → Sited Ok e → IsPrintedType ty → HasType (p G) (local_types (p G) i) e ty → Runs (print_value w (eval w e) ends_line site)
   unfolding print_value
   prints_value e ty ends_line site s se pt t = record {
-    by = λ P. bind G tokens (((expression.typed G M i e).by ty t).by P) (((keeps G tokens M L i e).by se ty t).by P) (λ v. then_bare G tokens (shows_printed site v ty s pt (before _ _ (newest _ _)) (newest _ _)) (λ x.
-        bare.next G tokens (plain_text.spells G tokens M x.value) (λ us. plain_text.prints G tokens M site _ x s (print_fine x (newest _ _)) (print_value_known x (newest _ _)))));
+    by = λ P. bind G W (((expression.typed G M i e).by ty t).by P) (((keeps G W M L i e).by se ty t).by P) (λ v. then_bare G W (shows_printed site v ty s pt (before _ _ (newest _ _)) (newest _ _)) (λ x.
+        bare.next G W (plain_text.spells G W M x.value) (λ us. plain_text.prints G W M site _ x s (print_fine x (newest _ _)) (print_value_known x (newest _ _)))));
   }
 
   prints : (x : Part) (ty : Ty) (ends_line : Bool) (site : ℕ) → Ok site → PartSited Ok x → IsOperand here x ty ends_line → Runs (print_form w (eval_part w x) ends_line site)
   unfolding print_form eval_part
-  prints absent ty ends_line site s sx t = record { by = λ P. plainly G tokens (plain_text.prints_nothing G tokens M ends_line site s) }
+  prints absent ty ends_line site s sx t = record { by = λ P. plainly G W (plain_text.prints_nothing G W M ends_line site s) }
   prints (the e) ty ends_line site s sx t = prints_value e ty ends_line site s sx t.0 t.1
 
   -- ---- each statement
 
   others : (x : Other) → OfOther Keeps x → OtherSited Ok x → OtherTyped here x → Runs (other_or (exec_other w x))
   unfolding other_or exec_other
-  others no_statement d s t = record { by = λ P. plainly G tokens (bare.gives G tokens tt trivially) }
+  others no_statement d s t = record { by = λ P. plainly G W (bare.gives G W tt trivially) }
   others (this x) d s t = d.by s t
 
-  returns_value : {P : Known G} (site : ℕ) (v : K) → Ok site → Entails P (F v) → Bare G tokens (In i) {X = Unit {0}} P (note (plain kind.Return site v.value) v >>= (λ e. leave (Returned e.number (carried_of e v.value)))) (λ u. nothing)
+  returns_value : {P : Known G} (site : ℕ) (v : K) → Ok site → Entails P (F v) → Bare G W (In i) {X = Unit {0}} P (note (plain kind.Return site v.value) v >>= (λ e. leave (Returned e.number (carried_of e v.value)))) (λ u. nothing)
   unfolding plain drafted fine fair carried_of both
-  returns_value site v s f = bare.bind G tokens (bare.notes G tokens (plain kind.Return site v.value) v (record { by = λ n q. record { site = s; what = tt; slot = tt; value = tt; fixed = (f.by n q).0 } }) f) (λ e. bare.leaves G tokens _ (record { by = λ n q. ((f.by n q.0).0, (tt, tt)) }))
+  returns_value site v s f = bare.bind G W (bare.notes G W (plain kind.Return site v.value) v (record { by = λ n q. record { site = s; what = tt; slot = tt; value = tt; fixed = (f.by n q).0; quiet = tt } }) f) (λ e. bare.leaves G W _ (record { by = λ n q. ((f.by n q.0).0, (tt, tt)) }))
 
   returns : (site : ℕ) (x : Part) → Ok site → PartSited Ok x → IsResult here x → Runs (return_form site (part_or val.None (eval_part w x)))
   unfolding return_form part_or eval_part
-  returns site absent s sx t = record { by = λ P. plainly G tokens (bare.bind G tokens (bare.gives G tokens _ (constant_fine G tokens val.None tt)) (λ v. returns_value site v s (newest _ _))) }
-  returns site (the e) s sx (ty, r, vt, fitting {a = a} h f) = record { by = λ P. then_bare G tokens (((keeps G tokens M L i e).by sx a h).by P) (λ v. returns_value site v s (newest _ _)) }
+  returns site absent s sx t = record { by = λ P. plainly G W (bare.bind G W (bare.gives G W _ (constant_fine G W val.None tt)) (λ v. returns_value site v s (newest _ _))) }
+  returns site (the e) s sx (ty, r, vt, fitting {a = a} h f) = record { by = λ P. then_bare G W (((keeps G W M L i e).by sx a h).by P) (λ v. returns_value site v s (newest _ _)) }
 
-  is_thrown : {P : Known G} (v : K) → is_null v.value ≡ false → Entails P (of_type G (class_type throwable_class) v.value) → Entails P (thrown G tokens v.value)
+  is_thrown : {P : Known G} (v : K) → is_null v.value ≡ false → Entails P (of_type G (class_type throwable_class) v.value) → Entails P (thrown G W v.value)
   unfolding is thrown
   is_thrown v e h = record { by = λ n q. throwable G n v.value e (h.by n q) }
 
   throws : (site : ℕ) (e : Expression) → Ok site → Sited Ok e → (a : Ty) → HasType (p G) (local_types (p G) i) e a → ((P : Known G) → Does G (In i) P (eval w e) (λ v. of_type G (class_type throwable_class) v.value)) → Runs (throw_form w site (eval w e))
   unfolding throw_form
-  throws site e s se a h d = record { by = λ P. then_plainly G tokens (d P) (((keeps G tokens M L i e).by se a h).by P) (λ v. bare.either G tokens (is_null v.value) (λ q. plain_form.null_fails G tokens M site v s (newest _ _)) (λ q. plain_form.throws G tokens M site v s (newest _ _) (is_thrown v q (before _ _ (newest _ _))))) }
+  throws site e s se a h d = record { by = λ P. then_plainly G W (d P) (((keeps G W M L i e).by se a h).by P) (λ v. bare.either G W (is_null v.value) (λ q. plain_form.null_fails G W M site v s (newest _ _)) (λ q. plain_form.throws G W M site v s (newest _ _) (is_thrown v q (before _ _ (newest _ _))))) }
 
   for_tests : (site reach : ℕ) (x : Part) → Ok site → PartSited Ok x → IsTest here x → (P : Known G) → O P (for_test site reach (eval_part w x)) (λ c. nothing)
   unfolding for_test eval_part
-  for_tests site reach absent s sx t P = plainly G tokens (bare.gives G tokens true trivially)
+  for_tests site reach absent s sx t P = plainly G W (bare.gives G W true trivially)
   for_tests site reach (the e) s sx t P = tests site reach e s sx t P
 
   for_typed : (site reach : ℕ) (x : Part) → IsTest here x → Typed (for_test site reach (eval_part w x))
@@ -285,16 +286,16 @@ module _ (G : Ground) (tokens : ℕ) (final : StringIsFinal (p G)) (M : Methods 
   acts : (number site : ℕ) (askable : Bool) (reach : ℕ) (x : Act) → ActParts (λ e. Unit {1}) Keeps x → Ok site → ActSited Ok x → Acts here x → Runs (exec_act w site reach x)
   unfolding exec_act evaluated if_form for_form
   acts number site askable reach (Block parts) d o s t = all_run parts d s t
-  acts number site askable reach (Eval value) d o s t = record { by = λ P. then_bare G tokens (((keeps G tokens M L i value).by s t.0 t.1).by P) (λ v. bare.gives G tokens tt trivially) }
-  acts number site askable reach (Declare k) d o s t = record { by = λ P. plainly G tokens (plain_text.declares_local G tokens M k) }
-  acts number site askable reach (If test x y) d o s t = record { by = λ P. bind G tokens (test_typed site reach test t.0 P) (tests site reach test o s.0 t.0 P) (λ c. either G tokens c (λ q. (d.1.by s.1 t.1).by _) (λ q. (others y d.2 s.2 t.2).by _)) }
-  acts number site askable reach (While test body) d o s t = record { by = λ P. whiles G tokens _ _ (test_typed site reach test t.0) (tests site reach test o s.0 t.0) (typed_exec body t.1) (d.1.by s.1 t.1).by }
-  acts number site askable reach (Do body test) d o s t = record { by = λ P. dos G tokens _ _ (test_typed site reach test t.1) (tests site reach test o s.1 t.1) (typed_exec body t.0) (d.0.by s.0 t.0).by }
+  acts number site askable reach (Eval value) d o s t = record { by = λ P. then_bare G W (((keeps G W M L i value).by s t.0 t.1).by P) (λ v. bare.gives G W tt trivially) }
+  acts number site askable reach (Declare k) d o s t = record { by = λ P. plainly G W (plain_text.declares_local G W M k) }
+  acts number site askable reach (If test x y) d o s t = record { by = λ P. bind G W (test_typed site reach test t.0 P) (tests site reach test o s.0 t.0 P) (λ c. either G W c (λ q. (d.1.by s.1 t.1).by _) (λ q. (others y d.2 s.2 t.2).by _)) }
+  acts number site askable reach (While test body) d o s t = record { by = λ P. whiles G W _ _ (test_typed site reach test t.0) (tests site reach test o s.0 t.0) (typed_exec body t.1) (d.1.by s.1 t.1).by }
+  acts number site askable reach (Do body test) d o s t = record { by = λ P. dos G W _ _ (test_typed site reach test t.1) (tests site reach test o s.1 t.1) (typed_exec body t.0) (d.0.by s.0 t.0).by }
   acts number site askable reach (For inits test updates body) d o s t = record {
-    by = λ P. after G tokens (all_typed inits t.0 P) ((all_run inits d.0 s.0 t.0).by P) (λ P. whiles G tokens _ _ (for_typed site reach test t.1) (for_tests site reach test o s.1 t.1) (λ P. typed_rule.after G (typed_exec body t.3 P) (all_typed updates t.2 P)) (λ P. after G tokens (typed_exec body t.3 P) ((d.3.by s.3 t.3).by P) (all_run updates d.2 s.2 t.2).by));
+    by = λ P. after G W (all_typed inits t.0 P) ((all_run inits d.0 s.0 t.0).by P) (λ P. whiles G W _ _ (for_typed site reach test t.1) (for_tests site reach test o s.1 t.1) (λ P. typed_rule.after G (typed_exec body t.3 P) (all_typed updates t.2 P)) (λ P. after G W (typed_exec body t.3 P) ((d.3.by s.3 t.3).by P) (all_run updates d.2 s.2 t.2).by));
   }
   acts number site askable reach (Labelled body) d o s t = d.by s t
-  acts number site askable reach (Jump target) d o s t = record { by = λ P. plainly G tokens (plain_text.jumps G tokens M site target o) }
+  acts number site askable reach (Jump target) d o s t = record { by = λ P. plainly G W (plain_text.jumps G W M site target o) }
   acts number site askable reach (Return value) d o s t = returns site value o s t
   acts number site askable reach (Throw value) d o s (fitting {a = a} k f) = throws site value o s a k (λ P. (expression.given G M i value (class_type throwable_class) (expression.typed G M i value) (fitting k f)).by P)
   acts number site askable reach (Try main x last) d o s t = tries main x last d.0 d.1 d.2 s.0 s.1 s.2 t.0 t.1 t.2
@@ -302,7 +303,7 @@ module _ (G : Ground) (tokens : ℕ) (final : StringIsFinal (p G)) (M : Methods 
 
   act : (number site : ℕ) (askable : Bool) (reach : ℕ) (x : Act) → ActParts (λ e. Unit {1}) Keeps x → Keeps (Stmt number site askable reach x)
   unfolding exec
-  act number site askable reach x d = record { by = λ s t. record { by = λ P. numbered G tokens number (acts number site askable reach x d s.0 s.1 t.2).by } }
+  act number site askable reach x d = record { by = λ s t. record { by = λ P. numbered G W number (acts number site askable reach x d s.0 s.1 t.2).by } }
 
   -- so does every statement
   pub keeps_range : (x : Statement) → Keeps x

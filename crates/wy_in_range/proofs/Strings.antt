@@ -20,7 +20,7 @@ use Rattle.wy_typing.specs.Types as typing
 use Rattle.wy_typed_states.specs.Typed.{Is, MayStand, made_type}
 use Rattle.wy_typed_states.proofs.Library.{code_is}
 use Rattle.wy_typed_states.proofs.Rules.{Ground, A, p}
-use Rattle.wy_in_range.specs.InRange.{IsTypeOfObjects, WhatInRange, IsPrinted, InRange, StringIsFinal}
+use Rattle.wy_in_range.specs.InRange.{Text, IsTypeOfObjects, WhatInRange, IsPrinted, InRange, StringIsFinal}
 use Rattle.wy_in_range.proofs.Facts.{Moment, AllInRange, found_in_range}
 
 abbrev IsText : Ty → Type 0
@@ -54,7 +54,7 @@ module _ (classes : List Class) (final : (c : ℕ) → Contains (direct_supertyp
   below_text a b (to_object r) e = absurd (cc e)
   below_text a b (of_arrays r s h) e = absurd (cc e)
 
-module _ (G : Ground) (tokens : ℕ) (final : StringIsFinal (p G)) where
+module _ (G : Ground) (W : Text) (final : StringIsFinal (p G)) where
   stands_as : (found : Ty) → MayStand (p G) found text_type → found ≡ text_type
   stands_as found s = ⊎_elim (λ e. e) (λ e. absurd (not_null found s e)) (below_text (p G).classes final found text_type s.below refl)
     where
@@ -83,12 +83,12 @@ module _ (G : Ground) (tokens : ℕ) (final : StringIsFinal (p G)) where
   made_no_string Absent h e = h
   made_no_string (Some code) h e = no_string h.0 h.1 (sym (known_type h.0 h.1) ∙ ap type_of_code h.2 ∙ e)
 
-  new_no_string : (n : Moment G tokens) (r : Recorded) → r.kind ≡ kind.New → InRange tokens (p G) (event_in n) r → made_type r ≡ text_type → ⊥
+  new_no_string : (n : Moment G W) (r : Recorded) → r.kind ≡ kind.New → InRange W.tokens (p G) (event_in n) r → made_type r ≡ text_type → ⊥
   new_no_string n r k h e = made_no_string r.what (subst (λ z. WhatInRange (p G) z r.what) k h.what) e
 
   -- what is of type String is printed
-  pub text_printed : (n : Moment G tokens) → AllInRange G tokens n → (v : Value) → Is (p G) n text_type v → IsPrinted v
-  text_printed n h (val.Object k) i = absurd (new_no_string n i.event i.is_new (found_in_range G tokens n h k i.event i.there) (stands_as (made_type i.event) i.stands))
+  pub text_printed : (n : Moment G W) → AllInRange G W n → (v : Value) → Is (p G) n text_type v → IsPrinted v
+  text_printed n h (val.Object k) i = absurd (new_no_string n i.event i.is_new (found_in_range G W n h k i.event i.there) (stands_as (made_type i.event) i.stands))
   text_printed n h (val.Byte z) i = absurd (cc i)
   text_printed n h (val.Short z) i = absurd (cc i)
   text_printed n h (val.Bool z) i = tt

@@ -13,6 +13,7 @@ use Rattle.wy_kernel.specs.Program.{type_code, base_code, primitive_code, elemen
 use Rattle.wy_kernel.specs.Table.{IsTypeOf}
 use Rattle.wy_value.specs.declared.value.Value.{Value}
 use Rattle.wy_value.specs.declared.value.Value.TheVariants as val
+use Rattle.wy_value.specs.Encoding.{utf8_of}
 use Rattle.wy_event.specs.declared.record.Kind.TheVariants as kind
 use Rattle.wy_event.specs.declared.record.Slot.{Slot}
 use Rattle.wy_event.specs.declared.record.Slot.TheVariants as slot
@@ -30,74 +31,73 @@ use Rattle.wy_typed_states.proofs.Moments.{Later}
 use Rattle.wy_typed_states.proofs.Law.{event}
 use Rattle.wy_typed_states.proofs.Rules.{Ground, A, p, Known}
 use Rattle.wy_typed_states.proofs.Places.{Methods, world_of}
-use Rattle.wy_in_range.specs.InRange.{IsTypeOfObjects, arrays_from, IsArray, index_limit, IsByte, IsPrinted, FixedInRange}
+use Rattle.wy_in_range.specs.InRange.{Text, IsTypeOfObjects, arrays_from, IsArray, index_limit, IsByte, IsPrinted, FixedInRange}
 use Rattle.wy_in_range.proofs.Facts.{S, C, Moment, always, Fine, fine, all_fine, Spotted, spotted, fair, Drafted, drafted, array_up, constant_fine, with_value_fine, joined_fine, value_of_fine}
-use Rattle.wy_in_range.proofs.Bare.{IsByteIn, Bare, bind, next, after, weaker, gives_less, gives, leaves, stops, either, chooses, where_at, frames, looks, reads, declares, takes_elements, takes_units, has_room, writes_out, takes_byte, notes, writes, creates_new}
+use Rattle.wy_in_range.proofs.Bare.{IsByteIn, Bare, bind, next, after, weaker, gives_less, gives, leaves, stops, either, chooses, where_at, frames, looks, reads, declares, takes_elements, takes_units, takes_byte, BytesAre, line_bytes, prints, notes, writes, creates_new}
 use Rattle.wy_in_range.proofs.Forms.{Site, some, null_fails, size_fails, number_fails, place_fails, finds_type, finds_units, finds_object, measures_some, set_draft}
 
-module _ (G : Ground) (tokens : ℕ) (M : Methods G) where
+module _ (G : Ground) (W : Text) (M : Methods G) where
   abbrev w : World (A G)
   w = world_of G M
 
   abbrev B : Region → {X : Type 0} → Known G → Run (A G) X → (X → Known G) → Type 0
-  B r {X} P m Q = Bare G tokens r P m Q
+  B r {X} P m Q = Bare G W r P m Q
 
-  abbrev F : C G tokens → Known G
-  F c = fine G tokens c
+  abbrev F : C G W → Known G
+  F c = fine G W c
 
   abbrev Right : ℕ → Type 0
-  Right n = Site G tokens M n
+  Right n = Site G W M n
 
   -- ---- texts
 
-  pub makes_text : {r : Region} {P : Known G} (site : ℕ) (units : List ℕ) (c : C G tokens) → Right site → Entails P (F c) → B r P (make_text site units c) F
+  pub makes_text : {r : Region} {P : Known G} (site : ℕ) (units : List ℕ) (c : C G W) → Right site → Entails P (F c) → B r P (make_text site units c) F
   unfolding make_text spelling drafted
-  makes_text site units c s e = after G tokens (takes_units G tokens _) (bind G tokens (notes G tokens (spelling site units) c (record { by = λ n q. record { site = s; what = tt; slot = tt; value = tt; fixed = tt } }) (before _ _ e)) (λ x. gives G tokens _ (value_of_fine G tokens x _ tt)))
+  makes_text site units c s e = after G W (takes_units G W _) (bind G W (notes G W (spelling site units) c (record { by = λ n q. record { site = s; what = tt; slot = tt; value = tt; fixed = tt; quiet = tt } }) (before _ _ e)) (λ x. gives G W _ (value_of_fine G W x _ tt)))
 
   pub spells : {r : Region} {P : Known G} (v : Value) → B r P (spelled_as w v) (λ us. nothing)
   unfolding spelled_as
-  spells (val.Text n) = finds_units G tokens M (val.Text n)
-  spells (val.Fixed n) = finds_units G tokens M (val.Fixed n)
-  spells _ = gives G tokens _ trivially
+  spells (val.Text n) = finds_units G W M (val.Text n)
+  spells (val.Fixed n) = finds_units G W M (val.Fixed n)
+  spells _ = gives G W _ trivially
 
-  pub prints : {r : Region} {P : Known G} (site : ℕ) (bytes : List ℕ) (v : C G tokens) → Right site → Entails P (F v) → Entails P (always G tokens (IsPrinted v.value)) → B r P (print site bytes v) (λ t. nothing)
-  unfolding print plain drafted fine
-  prints site bytes v s e h = after G tokens (has_room G tokens bytes) (bind G tokens (notes G tokens (plain kind.Print site v.value) v (record { by = λ n q. record { site = s; what = tt; slot = tt; value = (before _ _ h).by n q; fixed = ((before _ _ e).by n q).0 } }) (before _ _ e)) (λ x. writes_out G tokens bytes))
+  no_bytes : (ends_line : Bool) (site : ℕ) (s : S G W) → W.ends_line site ≡ ends_line → BytesAre G W (line_end ends_line) site val.None s
+  no_bytes b site s e = line_bytes G W [] b ∙ ap (λ x. length (utf8_of []) + (if x then 1 else 0)) (sym e)
 
-  pub prints_nothing : {r : Region} {P : Known G} (ends_line : Bool) (site : ℕ) → Right site → B r P (print_nothing ends_line site) (λ t. nothing)
+  pub prints_nothing : {r : Region} {P : Known G} (ends_line : Bool) (site : ℕ) → Right site → W.ends_line site ≡ ends_line → B r P (print_nothing ends_line site) (λ t. nothing)
   unfolding print_nothing constant
-  prints_nothing ends_line site s = prints site _ _ s (constant_fine G tokens val.None tt) (record { by = λ n q. tt })
+  prints_nothing ends_line site s e = prints G W site _ _ s (constant_fine G W val.None tt) (record { by = λ n q. tt }) (λ x. no_bytes ends_line site x e)
 
   -- ---- the library
 
-  has_text : {r : Region} {P : Known G} (site : ℕ) (c : C G tokens) (v : Value) → Right site → Entails P (F c) → B r P (text_arg w site c v) (λ us. nothing)
+  has_text : {r : Region} {P : Known G} (site : ℕ) (c : C G W) (v : Value) → Right site → Entails P (F c) → B r P (text_arg w site c v) (λ us. nothing)
   unfolding text_arg
-  has_text site c (val.Text k) s e = finds_units G tokens M (val.Text k)
-  has_text site c (val.Fixed k) s e = finds_units G tokens M (val.Fixed k)
-  has_text site c _ s e = null_fails G tokens M site c s e
+  has_text site c (val.Text k) s e = finds_units G W M (val.Text k)
+  has_text site c (val.Fixed k) s e = finds_units G W M (val.Fixed k)
+  has_text site c _ s e = null_fails G W M site c s e
 
-  gives_unit : {r : Region} {P : Known G} (site : ℕ) (c : C G tokens) (o : Option ℕ) → Right site → Entails P (F c) → B r P (unit_or_fail w site c o) F
+  gives_unit : {r : Region} {P : Known G} (site : ℕ) (c : C G W) (o : Option ℕ) → Right site → Entails P (F c) → B r P (unit_or_fail w site c o) F
   unfolding unit_or_fail
-  gives_unit site c (Some u) s e = gives G tokens _ (with_value_fine G tokens _ c tt e)
-  gives_unit site c Absent s e = place_fails G tokens M site c s e
+  gives_unit site c (Some u) s e = gives G W _ (with_value_fine G W _ c tt e)
+  gives_unit site c Absent s e = place_fails G W M site c s e
 
-  gives_part : {r : Region} {P : Known G} (site : ℕ) (c : C G tokens) (o : Option (List ℕ)) → Right site → Entails P (F c) → B r P (part_or_fail w site c o) F
+  gives_part : {r : Region} {P : Known G} (site : ℕ) (c : C G W) (o : Option (List ℕ)) → Right site → Entails P (F c) → B r P (part_or_fail w site c o) F
   unfolding part_or_fail
   gives_part site c (Some us) s e = makes_text site us c s e
-  gives_part site c Absent s e = place_fails G tokens M site c s e
+  gives_part site c Absent s e = place_fails G W M site c s e
 
-  gives_int : {r : Region} {P : Known G} (site : ℕ) (c : C G tokens) (o : Option ℤ) → Right site → Entails P (F c) → B r P (int_or_fail w site c o) F
+  gives_int : {r : Region} {P : Known G} (site : ℕ) (c : C G W) (o : Option ℤ) → Right site → Entails P (F c) → B r P (int_or_fail w site c o) F
   unfolding int_or_fail
-  gives_int site c (Some z) s e = gives G tokens _ (with_value_fine G tokens _ c tt e)
-  gives_int site c Absent s e = number_fails G tokens M site c s e
+  gives_int site c (Some z) s e = gives G W _ (with_value_fine G W _ c tt e)
+  gives_int site c Absent s e = number_fails G W M site c s e
 
-  parses : {r : Region} {P : Known G} (site : ℕ) (c : C G tokens) (v : Value) → Right site → Entails P (F c) → B r P (parse w site c v) F
+  parses : {r : Region} {P : Known G} (site : ℕ) (c : C G W) (v : Value) → Right site → Entails P (F c) → B r P (parse w site c v) F
   unfolding parse
-  parses site c (val.Text k) s e = next G tokens (finds_units G tokens M (val.Text k)) (λ us. gives_int site c _ s e)
-  parses site c (val.Fixed k) s e = next G tokens (finds_units G tokens M (val.Fixed k)) (λ us. gives_int site c _ s e)
-  parses site c _ s e = number_fails G tokens M site c s e
+  parses site c (val.Text k) s e = next G W (finds_units G W M (val.Text k)) (λ us. gives_int site c _ s e)
+  parses site c (val.Fixed k) s e = next G W (finds_units G W M (val.Fixed k)) (λ us. gives_int site c _ s e)
+  parses site c _ s e = number_fails G W M site c s e
 
-  byte_in_range : (o : Option ℕ) → IsByteIn G tokens o → IsByte (byte_value o)
+  byte_in_range : (o : Option ℕ) → IsByteIn G W o → IsByte (byte_value o)
   unfolding byte_value
   byte_in_range Absent h = tt
   byte_in_range (Some b) h = h
@@ -109,7 +109,7 @@ module _ (G : Ground) (tokens : ℕ) (M : Methods G) where
 
   reads_byte : {r : Region} {P : Known G} (site : ℕ) → Right site → B r P (read_byte site) F
   unfolding read_byte plain drafted both
-  reads_byte site s = bind G tokens (takes_byte G tokens) (λ b. bind G tokens (notes G tokens (plain kind.Read site (byte_value b)) (constant val.None) (record { by = λ n q. record { site = s; what = tt; slot = tt; value = byte_in_range b q.1; fixed = byte_fixed b } }) (constant_fine G tokens val.None tt)) (λ x. gives G tokens _ (value_of_fine G tokens x _ (byte_fixed b))))
+  reads_byte site s = bind G W (takes_byte G W) (λ b. bind G W (notes G W (plain kind.Read site (byte_value b)) (constant val.None) (record { by = λ n q. record { site = s; what = tt; slot = tt; value = byte_in_range b q.1; fixed = byte_fixed b; quiet = tt } }) (constant_fine G W val.None tt)) (λ x. gives G W _ (value_of_fine G W x _ (byte_fixed b))))
 
   absolute_fixed : (v : Value) → FixedInRange (p G) v → FixedInRange (p G) (absolute v)
   unfolding absolute
@@ -129,92 +129,92 @@ module _ (G : Ground) (tokens : ℕ) (M : Methods G) where
   one_of true x y h k = h
   one_of false x y h k = k
 
-  with_fixed : {P : Known G} (v : Value) (c : C G tokens) → Entails P (always G tokens (FixedInRange (p G) v)) → Entails P (F c) → Entails P (F (with_value v c))
+  with_fixed : {P : Known G} (v : Value) (c : C G W) → Entails P (always G W (FixedInRange (p G) v)) → Entails P (F c) → Entails P (F (with_value v c))
   unfolding fine with_value
   with_fixed v c h e = record { by = λ n q. (h.by n q, (e.by n q).1) }
 
-  fixed_of : {P : Known G} (c : C G tokens) → Entails P (F c) → Entails P (always G tokens (FixedInRange (p G) c.value))
+  fixed_of : {P : Known G} (c : C G W) → Entails P (F c) → Entails P (always G W (FixedInRange (p G) c.value))
   unfolding fine
   fixed_of c e = record { by = λ n q. (e.by n q).0 }
 
-  absolute_of : {P : Known G} (c : C G tokens) → Entails P (F c) → Entails P (always G tokens (FixedInRange (p G) (absolute c.value)))
+  absolute_of : {P : Known G} (c : C G W) → Entails P (F c) → Entails P (always G W (FixedInRange (p G) (absolute c.value)))
   unfolding fine
   absolute_of c e = record { by = λ n q. absolute_fixed c.value (e.by n q).0 }
 
-  greater_of : {P : Known G} (x y : C G tokens) → Entails P (F x) → Entails P (F y) → Entails P (always G tokens (FixedInRange (p G) (greater x.value y.value)))
+  greater_of : {P : Known G} (x y : C G W) → Entails P (F x) → Entails P (F y) → Entails P (always G W (FixedInRange (p G) (greater x.value y.value)))
   unfolding fine greater
   greater_of x y e f = record { by = λ n q. one_of (int_lt (int_in x.value) (int_in y.value)) y.value x.value (f.by n q).0 (e.by n q).0 }
 
-  lesser_of : {P : Known G} (x y : C G tokens) → Entails P (F x) → Entails P (F y) → Entails P (always G tokens (FixedInRange (p G) (lesser x.value y.value)))
+  lesser_of : {P : Known G} (x y : C G W) → Entails P (F x) → Entails P (F y) → Entails P (always G W (FixedInRange (p G) (lesser x.value y.value)))
   unfolding fine lesser
   lesser_of x y e f = record { by = λ n q. one_of (int_lt (int_in y.value) (int_in x.value)) y.value x.value (f.by n q).0 (e.by n q).0 }
 
-  one : {r : Region} {P : Known G} (o : LibOp) (site : ℕ) (all a : C G tokens) → Right site → Entails P (F all) → Entails P (F a) → B r P (library_one w o site all a) F
+  one : {r : Region} {P : Known G} (o : LibOp) (site : ℕ) (all a : C G W) → Right site → Entails P (F all) → Entails P (F a) → B r P (library_one w o site all a) F
   unfolding library_one
-  one op.ArrayLength site all a s e f = next G tokens (gives_less G tokens (finds_object G tokens M site all a.value s e) (λ n. trivially)) (λ n. next G tokens (measures_some G tokens M n) (λ l. gives G tokens _ (with_value_fine G tokens _ all tt e)))
-  one op.Length site all a s e f = next G tokens (has_text site all a.value s e) (λ us. gives G tokens _ (with_value_fine G tokens _ all tt e))
-  one op.IsEmpty site all a s e f = next G tokens (has_text site all a.value s e) (λ us. gives G tokens _ (with_value_fine G tokens _ all tt e))
-  one op.Itself site all a s e f = next G tokens (has_text site all a.value s e) (λ us. gives G tokens _ (with_fixed a.value all (fixed_of a f) e))
+  one op.ArrayLength site all a s e f = next G W (gives_less G W (finds_object G W M site all a.value s e) (λ n. trivially)) (λ n. next G W (measures_some G W M n) (λ l. gives G W _ (with_value_fine G W _ all tt e)))
+  one op.Length site all a s e f = next G W (has_text site all a.value s e) (λ us. gives G W _ (with_value_fine G W _ all tt e))
+  one op.IsEmpty site all a s e f = next G W (has_text site all a.value s e) (λ us. gives G W _ (with_value_fine G W _ all tt e))
+  one op.Itself site all a s e f = next G W (has_text site all a.value s e) (λ us. gives G W _ (with_fixed a.value all (fixed_of a f) e))
   one op.ValueOf site all a s e f = makes_text site _ all s e
   one op.IntText site all a s e f = makes_text site _ all s e
   one op.ParseInt site all a s e f = parses site all a.value s e
-  one op.Abs site all a s e f = gives G tokens _ (with_fixed (absolute a.value) all (absolute_of a f) e)
-  one op.ClassText site all a s e f = next G tokens (finds_type G tokens M a.value) (λ t. makes_text site _ all s e)
-  one op.ObjectText site all a s e f = next G tokens (finds_type G tokens M a.value) (λ t. makes_text site _ all s e)
-  one _ site all a s e f = gives G tokens _ (constant_fine G tokens val.None tt)
+  one op.Abs site all a s e f = gives G W _ (with_fixed (absolute a.value) all (absolute_of a f) e)
+  one op.ClassText site all a s e f = next G W (finds_type G W M a.value) (λ t. makes_text site _ all s e)
+  one op.ObjectText site all a s e f = next G W (finds_type G W M a.value) (λ t. makes_text site _ all s e)
+  one _ site all a s e f = gives G W _ (constant_fine G W val.None tt)
 
-  two : {r : Region} {P : Known G} (o : LibOp) (site : ℕ) (all a b : C G tokens) → Right site → Entails P (F all) → Entails P (F a) → Entails P (F b) → B r P (library_two w o site all a b) F
+  two : {r : Region} {P : Known G} (o : LibOp) (site : ℕ) (all a b : C G W) → Right site → Entails P (F all) → Entails P (F a) → Entails P (F b) → B r P (library_two w o site all a b) F
   unfolding library_two
-  two op.CharAt site all a b s e f g = next G tokens (has_text site all a.value s e) (λ us. gives_unit site all _ s e)
-  two op.PartFrom site all a b s e f g = next G tokens (has_text site all a.value s e) (λ us. gives_part site all _ s e)
-  two op.Same site all a b s e f g = next G tokens (has_text site all a.value s e) (λ x. next G tokens (finds_units G tokens M b.value) (λ y. gives G tokens _ (with_value_fine G tokens _ all tt e)))
-  two op.Compare site all a b s e f g = next G tokens (has_text site all a.value s e) (λ x. next G tokens (has_text site all b.value s e) (λ y. gives G tokens _ (with_value_fine G tokens _ all tt e)))
-  two op.Max site all a b s e f g = gives G tokens _ (with_fixed _ all (greater_of a b f g) e)
-  two op.Min site all a b s e f g = gives G tokens _ (with_fixed _ all (lesser_of a b f g) e)
-  two _ site all a b s e f g = gives G tokens _ (constant_fine G tokens val.None tt)
+  two op.CharAt site all a b s e f g = next G W (has_text site all a.value s e) (λ us. gives_unit site all _ s e)
+  two op.PartFrom site all a b s e f g = next G W (has_text site all a.value s e) (λ us. gives_part site all _ s e)
+  two op.Same site all a b s e f g = next G W (has_text site all a.value s e) (λ x. next G W (finds_units G W M b.value) (λ y. gives G W _ (with_value_fine G W _ all tt e)))
+  two op.Compare site all a b s e f g = next G W (has_text site all a.value s e) (λ x. next G W (has_text site all b.value s e) (λ y. gives G W _ (with_value_fine G W _ all tt e)))
+  two op.Max site all a b s e f g = gives G W _ (with_fixed _ all (greater_of a b f g) e)
+  two op.Min site all a b s e f g = gives G W _ (with_fixed _ all (lesser_of a b f g) e)
+  two _ site all a b s e f g = gives G W _ (constant_fine G W val.None tt)
 
-  three : {r : Region} {P : Known G} (o : LibOp) (site : ℕ) (all a b c : C G tokens) → Right site → Entails P (F all) → B r P (library_three w o site all a b c) F
+  three : {r : Region} {P : Known G} (o : LibOp) (site : ℕ) (all a b c : C G W) → Right site → Entails P (F all) → B r P (library_three w o site all a b c) F
   unfolding library_three
-  three op.Part site all a b c s e = next G tokens (has_text site all a.value s e) (λ us. gives_part site all _ s e)
-  three _ site all a b c s e = gives G tokens _ (constant_fine G tokens val.None tt)
+  three op.Part site all a b c s e = next G W (has_text site all a.value s e) (λ us. gives_part site all _ s e)
+  three _ site all a b c s e = gives G W _ (constant_fine G W val.None tt)
 
-  pub first_fine : {P : Known G} (c : C G tokens) (cs : List (C G tokens)) → Entails P (all_fine G tokens (c ∷ cs)) → Entails P (F c)
+  pub first_fine : {P : Known G} (c : C G W) (cs : List (C G W)) → Entails P (all_fine G W (c ∷ cs)) → Entails P (F c)
   unfolding all_fine fine
   first_fine c cs e = record { by = λ n q. (e.by n q).0 }
 
-  pub rest_fine : {P : Known G} (c : C G tokens) (cs : List (C G tokens)) → Entails P (all_fine G tokens (c ∷ cs)) → Entails P (all_fine G tokens cs)
+  pub rest_fine : {P : Known G} (c : C G W) (cs : List (C G W)) → Entails P (all_fine G W (c ∷ cs)) → Entails P (all_fine G W cs)
   unfolding all_fine
   rest_fine c cs e = record { by = λ n q. (e.by n q).1 }
 
-  pub none_fine : {P : Known G} → Entails P (all_fine G tokens [])
+  pub none_fine : {P : Known G} → Entails P (all_fine G W [])
   unfolding all_fine
   none_fine = record { by = λ n q. tt }
 
-  pub more_fine : {P : Known G} (c : C G tokens) (cs : List (C G tokens)) → Entails P (F c) → Entails P (all_fine G tokens cs) → Entails P (all_fine G tokens (c ∷ cs))
+  pub more_fine : {P : Known G} (c : C G W) (cs : List (C G W)) → Entails P (F c) → Entails P (all_fine G W cs) → Entails P (all_fine G W (c ∷ cs))
   unfolding all_fine fine
   more_fine c cs e f = record { by = λ n q. (e.by n q, f.by n q) }
 
-  pub together_fine : {P : Known G} (cs : List (C G tokens)) → Entails P (all_fine G tokens cs) → Entails P (F (joined_all cs))
+  pub together_fine : {P : Known G} (cs : List (C G W)) → Entails P (all_fine G W cs) → Entails P (F (joined_all cs))
   unfolding joined_all
-  together_fine [] e = constant_fine G tokens val.None tt
-  together_fine (c ∷ cs) e = joined_fine G tokens val.None c (joined_all cs) tt (first_fine c cs e) (together_fine cs (rest_fine c cs e))
+  together_fine [] e = constant_fine G W val.None tt
+  together_fine (c ∷ cs) e = joined_fine G W val.None c (joined_all cs) tt (first_fine c cs e) (together_fine cs (rest_fine c cs e))
 
-  pub in_library : {r : Region} {P : Known G} (o : LibOp) (site : ℕ) (vs : List (C G tokens)) → Right site → Entails P (all_fine G tokens vs) → B r P (library w o site vs) F
+  pub in_library : {r : Region} {P : Known G} (o : LibOp) (site : ℕ) (vs : List (C G W)) → Right site → Entails P (all_fine G W vs) → B r P (library w o site vs) F
   unfolding library
   in_library o site [] s e = reads_byte site s
   in_library o site (a ∷ []) s e = one o site _ a s (together_fine (a ∷ []) e) (first_fine a [] e)
   in_library o site (a ∷ b ∷ []) s e = two o site _ a b s (together_fine (a ∷ b ∷ []) e) (first_fine a (b ∷ []) e) (first_fine b [] (rest_fine a (b ∷ []) e))
   in_library o site (a ∷ b ∷ c ∷ rest) s e = three o site _ a b c s (together_fine (a ∷ b ∷ c ∷ rest) e)
 
-  equal_texts : {r : Region} {P : Known G} (a b : C G tokens) → Entails P (F a) → Entails P (F b) → B r P (text_equals w a b) F
+  equal_texts : {r : Region} {P : Known G} (a b : C G W) → Entails P (F a) → Entails P (F b) → B r P (text_equals w a b) F
   unfolding text_equals
-  equal_texts a b e f = next G tokens (finds_units G tokens M a.value) (λ x. next G tokens (finds_units G tokens M b.value) (λ y. gives G tokens _ (joined_fine G tokens _ a b tt e f)))
+  equal_texts a b e f = next G W (finds_units G W M a.value) (λ x. next G W (finds_units G W M b.value) (λ y. gives G W _ (joined_fine G W _ a b tt e f)))
 
-  pub on_text : {r : Region} {P : Known G} (b : Bool) (x : C G tokens) (args : List (C G tokens)) → Entails P (F x) → Entails P (all_fine G tokens args) → B r P (call_on_text w b x args) F
+  pub on_text : {r : Region} {P : Known G} (b : Bool) (x : C G W) (args : List (C G W)) → Entails P (F x) → Entails P (all_fine G W args) → B r P (call_on_text w b x args) F
   unfolding call_on_text
   on_text true x (v ∷ vs) e f = equal_texts x v e (first_fine v vs f)
-  on_text true x [] e f = gives G tokens x e
-  on_text false x args e f = gives G tokens x e
+  on_text true x [] e f = gives G W x e
+  on_text false x args e f = gives G W x e
 
   -- ---- arrays
 
@@ -224,68 +224,68 @@ module _ (G : Ground) (tokens : ℕ) (M : Methods G) where
     pub array : arrays_from ≤ type_code ty
 
   -- so does one of each of so many types of elements
-  abbrev pub Nested : Ty → List (C G tokens) → Type 0
+  abbrev pub Nested : Ty → List (C G W) → Type 0
   Nested ty [] = Unit {0}
   Nested ty (d ∷ ds) = MakesArrays ty × Nested (element_type ty) ds
 
-  array_known_up : (m n : Moment G tokens) (k : ℕ) → Later m n → IsArray (event_in m) k → IsArray (event_in n) k
+  array_known_up : (m n : Moment G W) (k : ℕ) → Later m n → IsArray (event_in m) k → IsArray (event_in n) k
   array_known_up m n k le h = array_up (p G) (event_in m) (event_in n) le k h
 
   unfoldable pub array : ℕ → Known G
   unfolding array_known_up
   array k = record { holds = λ n. IsArray (event_in n) k; up = λ m n. array_known_up m n k }
 
-  pub makes_array : {r : Region} {P : Known G} (site : ℕ) (ty : Ty) (n : ℕ) (c : C G tokens) → Right site → MakesArrays ty → Entails P (F c) → B r P (make_array w site ty n c) (λ e. both (array e.number) (always G tokens (n ≤ element_limit)))
+  pub makes_array : {r : Region} {P : Known G} (site : ℕ) (ty : Ty) (n : ℕ) (c : C G W) → Right site → MakesArrays ty → Entails P (F c) → B r P (make_array w site ty n c) (λ e. both (array e.number) (always G W (n ≤ element_limit)))
   unfolding make_array about drafted array both event code_of
-  makes_array site ty n c s h e = after G tokens (takes_elements G tokens n) (gives_less G tokens
-      (creates_new G tokens (about kind.New site (type_code ty) (val.Int (pos n))) c (record { by = λ m q. record { site = s; what = (ty, h.objects, refl); slot = tt; value = inr (h.array, (n, refl, q.1)); fixed = tt } }) (before _ _ e))
+  makes_array site ty n c s h e = after G W (takes_elements G W n) (gives_less G W
+      (creates_new G W (about kind.New site (type_code ty) (val.Int (pos n))) c (record { by = λ m q. record { site = s; what = (ty, h.objects, refl); slot = tt; value = inr (h.array, (n, refl, q.1)); fixed = tt; quiet = tt } }) (before _ _ e))
       (λ x. record { by = λ m q. (record { event = q.1.event; there = q.1.there; is_new = q.1.kind; array = subst (λ o. arrays_from ≤ code_of o) (sym q.1.what) h.array }, q.0.1) }))
 
   repeats : {r : Region} {P : Known G} (n k : ℕ) (f : ℕ → Run (A G) Unit) → ((j : ℕ) → j < k + n → B r P (f j) (λ t. nothing)) → B r P (for_each k n f) (λ t. nothing)
   unfolding for_each
-  repeats zero k f h = gives G tokens tt trivially
-  repeats (suc n) k f h = after G tokens (h k (omega arith)) (weaker G tokens (repeats n (suc k) f (λ j lt. h j (omega (arith, lt)))) (before _ _ same))
+  repeats zero k f h = gives G W tt trivially
+  repeats (suc n) k f h = after G W (h k (omega arith)) (weaker G W (repeats n (suc k) f (λ j lt. h j (omega (arith, lt)))) (before _ _ same))
 
-  pub element_place : {P : Known G} (k j n : ℕ) → j < n → Entails P (array k) → Entails P (always G tokens (n ≤ element_limit)) → Entails P (spotted G tokens (slot.Elem k j))
+  pub element_place : {P : Known G} (k j n : ℕ) → j < n → Entails P (array k) → Entails P (always G W (n ≤ element_limit)) → Entails P (spotted G W (slot.Elem k j))
   unfolding spotted array
   element_place k j n lt e f = record { by = λ m q. (tt, (e.by m q, let few = f.by m q in omega (arith, lt, few))) }
 
-  fills : (ds : List (C G tokens)) {r : Region} (site : ℕ) (ty : Ty) (parent n : ℕ) (P : Known G) → Right site → Nested ty ds → Entails P (array parent) → Entails P (always G tokens (n ≤ element_limit)) → Entails P (all_fine G tokens ds) → B r P (subarrays w site ty ds parent n) (λ t. nothing)
+  fills : (ds : List (C G W)) {r : Region} (site : ℕ) (ty : Ty) (parent n : ℕ) (P : Known G) → Right site → Nested ty ds → Entails P (array parent) → Entails P (always G W (n ≤ element_limit)) → Entails P (all_fine G W ds) → B r P (subarrays w site ty ds parent n) (λ t. nothing)
   unfolding subarrays both value_of
-  fills [] site ty parent n P s h a few e = gives G tokens tt trivially
-  fills (d ∷ ds) site ty parent n P s h a few e = repeats n 0 _ (λ j lt. bind G tokens (makes_array site ty (natural_of d.value) d s h.0 (first_fine d ds e)) (λ sub.
-      bind G tokens (writes G tokens _ _ (set_draft G tokens M site (slot.Elem parent j) (value_of sub (val.Object sub.number)) s (element_place parent j n (omega (arith, lt)) (before _ _ a) (before _ _ few)) (value_of_fine G tokens sub _ tt) (record { by = λ m q. tt })) (value_of_fine G tokens sub _ tt)) (λ x.
+  fills [] site ty parent n P s h a few e = gives G W tt trivially
+  fills (d ∷ ds) site ty parent n P s h a few e = repeats n 0 _ (λ j lt. bind G W (makes_array site ty (natural_of d.value) d s h.0 (first_fine d ds e)) (λ sub.
+      bind G W (writes G W _ _ (set_draft G W M site (slot.Elem parent j) (value_of sub (val.Object sub.number)) s (element_place parent j n (omega (arith, lt)) (before _ _ a) (before _ _ few)) (value_of_fine G W sub _ tt) (record { by = λ m q. tt })) (value_of_fine G W sub _ tt)) (λ x.
       fills ds site (element_type ty) sub.number (natural_of d.value) _ s h.1 (before _ _ (record { by = λ m q. q.1.0 })) (before _ _ (record { by = λ m q. q.1.1 })) (before _ _ (before _ _ (rest_fine d ds e))))))
 
-  pub makes_arrays : {r : Region} {P : Known G} (site : ℕ) (ty : Ty) (ds : List (C G tokens)) → Right site → Nested ty ds → Entails P (all_fine G tokens ds) → B r P (make_arrays w site ty ds) F
+  pub makes_arrays : {r : Region} {P : Known G} (site : ℕ) (ty : Ty) (ds : List (C G W)) → Right site → Nested ty ds → Entails P (all_fine G W ds) → B r P (make_arrays w site ty ds) F
   unfolding make_arrays both
-  makes_arrays site ty [] s h e = gives G tokens _ (constant_fine G tokens val.None tt)
-  makes_arrays site ty (d ∷ ds) s h e = bind G tokens (makes_array site ty (natural_of d.value) d s h.0 (first_fine d ds e)) (λ x.
-      after G tokens (fills ds site (element_type ty) x.number (natural_of d.value) _ s h.1 (record { by = λ m q. q.1.0 }) (record { by = λ m q. q.1.1 }) (before _ _ (rest_fine d ds e))) (gives G tokens _ (value_of_fine G tokens x _ tt)))
+  makes_arrays site ty [] s h e = gives G W _ (constant_fine G W val.None tt)
+  makes_arrays site ty (d ∷ ds) s h e = bind G W (makes_array site ty (natural_of d.value) d s h.0 (first_fine d ds e)) (λ x.
+      after G W (fills ds site (element_type ty) x.number (natural_of d.value) _ s h.1 (record { by = λ m q. q.1.0 }) (record { by = λ m q. q.1.1 }) (before _ _ (rest_fine d ds e))) (gives G W _ (value_of_fine G W x _ tt)))
 
   -- ---- ends of bodies, and jumps
 
   pub ends_body : {r : Region} {P : Known G} (c : Bool) (site : ℕ) → Right site → B r P (end_body c site) F
   unfolding end_body plain drafted
-  ends_body false site s = stops G tokens FellOff
-  ends_body true site s = bind G tokens (notes G tokens (plain kind.Return site val.None) (constant val.None) (record { by = λ n q. record { site = s; what = tt; slot = tt; value = tt; fixed = tt } }) (constant_fine G tokens val.None tt)) (λ x. gives G tokens _ (value_of_fine G tokens x _ tt))
+  ends_body false site s = stops G W FellOff
+  ends_body true site s = bind G W (notes G W (plain kind.Return site val.None) (constant val.None) (record { by = λ n q. record { site = s; what = tt; slot = tt; value = tt; fixed = tt; quiet = tt } }) (constant_fine G W val.None tt)) (λ x. gives G W _ (value_of_fine G W x _ tt))
 
-  pub at_returns : {r : Region} {P : Known G} (why : Reason (A G)) → Entails P (fair G tokens why) → B r P (at_return why) F
+  pub at_returns : {r : Region} {P : Known G} (why : Reason (A G)) → Entails P (fair G W why) → B r P (at_return why) F
   unfolding at_return fair
-  at_returns (Jumped target e) h = leaves G tokens _ h
-  at_returns (Returned e v) h = gives G tokens v h
-  at_returns (Threw e v) h = leaves G tokens _ h
+  at_returns (Jumped target e) h = leaves G W _ h
+  at_returns (Returned e v) h = gives G W v h
+  at_returns (Threw e v) h = leaves G W _ h
 
-  pub at_failures : {r : Region} {P : Known G} (why : Reason (A G)) → Entails P (fair G tokens why) → B r P (at_failure why) (λ t. nothing)
+  pub at_failures : {r : Region} {P : Known G} (why : Reason (A G)) → Entails P (fair G W why) → B r P (at_failure why) (λ t. nothing)
   unfolding at_failure fair
-  at_failures (Jumped target e) h = leaves G tokens _ h
-  at_failures (Returned e v) h = leaves G tokens _ h
-  at_failures (Threw e v) h = stops G tokens (InitFailed e)
+  at_failures (Jumped target e) h = leaves G W _ h
+  at_failures (Returned e v) h = leaves G W _ h
+  at_failures (Threw e v) h = stops G W (InitFailed e)
 
   pub declares_local : {i : Frame} {P : Known G} (k : ℕ) → B (In i) P (declaration k) (λ t. nothing)
   unfolding declaration
-  declares_local k = bind G tokens (frames G tokens) (λ f. declares G tokens _)
+  declares_local k = bind G W (frames G W) (λ f. declares G W _)
 
   pub jumps : {r : Region} {P : Known G} (site target : ℕ) → Right site → B r P (jump site target) (λ t. nothing)
   unfolding jump plain drafted fair
-  jumps site target s = bind G tokens (notes G tokens (plain kind.Jump site val.None) (constant val.None) (record { by = λ n q. record { site = s; what = tt; slot = tt; value = tt; fixed = tt } }) (constant_fine G tokens val.None tt)) (λ x. leaves G tokens (Jumped target x.number) trivially)
+  jumps site target s = bind G W (notes G W (plain kind.Jump site val.None) (constant val.None) (record { by = λ n q. record { site = s; what = tt; slot = tt; value = tt; fixed = tt; quiet = tt } }) (constant_fine G W val.None tt)) (λ x. leaves G W (Jumped target x.number) trivially)

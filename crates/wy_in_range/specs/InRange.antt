@@ -1,16 +1,19 @@
 -- What is in the range of a program in a record of a run, by the events before it: its site, what it is of, its slot, its value and its uses.
-use Rattle.std.specs.Prelude.{◌≡◌, ◌⊎◌, ◌+◌, ◌<◌, ◌≤◌, ◌^◌, ℕ, zero, suc, pos, negsuc, true, false, List, [], ◌∷◌, length, Option, Some, slice_get, take}
+use Rattle.std.specs.Prelude.{◌≡◌, ◌⊎◌, ◌+◌, ◌<◌, ◌≤◌, ◌^◌, ℕ, zero, suc, pos, negsuc, Bool, true, false, if◌then◌else◌, List, [], ◌∷◌, ◌++◌, length, Option, Some, slice_get, take}
 use Rattle.std.specs.Prelude.{None as Absent}
 use Rattle.std.specs.List.{Contains}
 use Rattle.wy_kernel.specs.declared.types.Base.TheVariants.{Primitive as Basic, Class as Named}
 use Rattle.wy_kernel.specs.declared.types.Ty.{Ty}
 use Rattle.wy_kernel.specs.declared.types.Ty.TheVariants.{Of}
-use Rattle.wy_kernel.specs.Program.{Program, Body, Class, Field, Method, is_source, string_class, type_code}
+use Rattle.wy_kernel.specs.Form.{Statement, Stmt, Act, Block, If, While, Do, For, Labelled, Try, Print, Other, nothing, this, Statements, done, first, Catches, uncaught, catch}
+use Rattle.wy_kernel.specs.Program.{fixed_text, Program, Body, Class, Field, Method, is_source, string_class, type_code}
 use Rattle.wy_kernel.specs.Subtyping.{direct_supertypes}
 use Rattle.wy_kernel.specs.Builtin as builtin
 use Rattle.wy_kernel.specs.Builtin.{method_site}
 use Rattle.wy_value.specs.declared.value.Value.{Value}
 use Rattle.wy_value.specs.declared.value.Value.TheVariants as val
+use Rattle.wy_value.specs.Numeral.{text_of}
+use Rattle.wy_value.specs.Encoding.{utf8_of}
 use Rattle.wy_event.specs.declared.record.Kind.{Kind}
 use Rattle.wy_event.specs.declared.record.Kind.TheVariants as kind
 use Rattle.wy_event.specs.declared.record.Slot.{Slot}
@@ -20,11 +23,19 @@ use Rattle.wy_event.specs.declared.record.Use.TheVariants as use_of
 use Rattle.wy_event.specs.Record.{Recorded}
 use Rattle.wy_steps.specs.Sets.{Sets}
 use Rattle.wy_steps.specs.Steps.{code_of, element_limit}
+use Rattle.wy_meaning.specs.World.{units_in}
 use Rattle.wy_meaning.specs.Run.{events}
 use Rattle.wy_typing.specs.Expressions.{IsMethod, IsField}
 use Rattle.wy_induction.specs.Law.{Frame}
 use Rattle.wy_typed_states.specs.Typed.{running, local_types}
 use Rattle.wy_in_range.specs.Sites.{BodySited}
+
+-- ---- the text of a program
+
+-- how many tokens it has, and at which of them a `println` stands
+pub record Text : Type 0 where
+  pub tokens : ℕ
+  pub ends_line : ℕ → Bool
 
 -- ---- sites
 
@@ -178,6 +189,59 @@ UseInRange p at _ = Unit {0}
 abbrev pub UsesInRange : Program → Events → List Use → Type 0
 UsesInRange p at [] = Unit {0}
 UsesInRange p at (u ∷ us) = UseInRange p at u × UsesInRange p at us
+
+-- ---- output
+
+-- the units that a value spells, by the events that made its texts
+abbrev pub units_seen : Program → Events → Value → List ℕ
+units_seen p at (val.Text n) = units_in (at n)
+units_seen p at (val.Fixed n) = fixed_text p n
+units_seen p at v = text_of v
+
+-- the bytes that an event writes: those of a printed value, and the end of a line
+abbrev pub written_as : Program → (ends_line : ℕ → Bool) → Events → Kind → ℕ → Value → ℕ
+written_as p ends_line at kind.Print site v = length (utf8_of (units_seen p at v)) + (if ends_line site then 1 else 0)
+written_as p ends_line at _ site v = 0
+
+abbrev pub written_by : Program → (ends_line : ℕ → Bool) → Events → Recorded → ℕ
+written_by p ends_line at e = written_as p ends_line at e.kind e.site e.value
+
+abbrev pub IsNoPrint : Kind → Type 0
+IsNoPrint kind.Print = ⊥
+IsNoPrint _ = Unit {0}
+
+-- the bytes that the records write, behind those before them
+unfoldable pub written : Program → (ends_line : ℕ → Bool) → List Recorded → List Recorded → ℕ
+written p ends_line before [] = 0
+written p ends_line before (e ∷ rest) = written_by p ends_line (slice_get before) e + written p ends_line (before ++ e ∷ []) rest
+
+-- a `println` stands at each print of a statement that ends a line, and at no other
+abbrev mutual
+  pub Lined : (ends_line : ℕ → Bool) → Statement → Type 0
+  Lined ends_line (Stmt number site askable reach act) = ActLined ends_line act
+
+  pub ActLined : (ends_line : ℕ → Bool) → Act → Type 0
+  ActLined ends_line (Block parts) = AllLined ends_line parts
+  ActLined ends_line (If test if_true if_false) = Lined ends_line if_true × OtherLined ends_line if_false
+  ActLined ends_line (While test body) = Lined ends_line body
+  ActLined ends_line (Do body test) = Lined ends_line body
+  ActLined ends_line (For inits test updates body) = AllLined ends_line inits × AllLined ends_line updates × Lined ends_line body
+  ActLined ends_line (Labelled body) = Lined ends_line body
+  ActLined ends_line (Try main catches last) = Lined ends_line main × CatchesLined ends_line catches × OtherLined ends_line last
+  ActLined ends_line (Print operand ty ends site) = ends_line site ≡ ends
+  ActLined ends_line _ = Unit {0}
+
+  pub OtherLined : (ends_line : ℕ → Bool) → Other → Type 0
+  OtherLined ends_line nothing = Unit {0}
+  OtherLined ends_line (this s) = Lined ends_line s
+
+  pub AllLined : (ends_line : ℕ → Bool) → Statements → Type 0
+  AllLined ends_line done = Unit {0}
+  AllLined ends_line (first s rest) = Lined ends_line s × AllLined ends_line rest
+
+  pub CatchesLined : (ends_line : ℕ → Bool) → Catches → Type 0
+  CatchesLined ends_line uncaught = Unit {0}
+  CatchesLined ends_line (catch class local site block rest) = Lined ends_line block × CatchesLined ends_line rest
 
 -- ---- records
 
