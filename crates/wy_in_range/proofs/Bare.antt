@@ -31,15 +31,15 @@ use Rattle.wy_typed_states.proofs.Moments.{Later, later_one, newest_there, MadeA
 use Rattle.wy_typed_states.proofs.Law.{current, event, Standing, standing_up}
 use Rattle.wy_typed_states.proofs.Rules.{Ground, A, p, Known}
 use Rattle.wy_in_range.specs.InRange.{Text, Events, IsSite, FixedInRange, IsPrinted, InRange, IsByteOf, IsNoPrint, units_seen, written_as, written_by}
-use Rattle.wy_in_range.proofs.Facts.{S, C, Moment, always, Fine, fine, Spotted, spotted, fair, Drafted, drafted, AllInRange, StoreInRange, written_before, Inv}
+use Rattle.wy_in_range.proofs.Facts.{S, C, Moment, always, Fine, fine, Spotted, spotted, fair, Drafted, drafted, AllInRange, StoreInRange, written_before, written_one, Inv}
 
-module _ (G : Ground) (W : Text) where
+module _ (G : Ground) (W : Text) (J : ℕ → Type 0) where
   abbrev Ok : S G W → Type 0
   Ok s = Inv G W s
 
   abbrev pub Given : {X : Type 0} → (X → Known G) → Outcome (A G) X → Type 0
   Given Q (Done x t) = (Q x).holds t.noted
-  Given Q (Left why t) = (fair G W why).holds t.noted
+  Given Q (Left why t) = (fair G W J why).holds t.noted
   Given Q (Stopped why t) = Unit {0}
 
   -- from the state to an outcome in the same body, with all that is known in range
@@ -94,7 +94,7 @@ module _ (G : Ground) (W : Text) where
   unfolding return end
   gives x e = record { by = λ s st k i. here s _ _ refl i (e.by _ k) }
 
-  pub leaves : {r : Region} {X : Type 0} {P : Known G} {Q : X → Known G} (why : Reason (A G)) → Entails P (fair G W why) → Bare r P (leave why) Q
+  pub leaves : {r : Region} {X : Type 0} {P : Known G} {Q : X → Known G} (why : Reason (A G)) → Entails P (fair G W J why) → Bare r P (leave why) Q
   unfolding leave end
   leaves why e = record { by = λ s st k i. here s _ _ refl i (e.by _ k) }
 
@@ -117,8 +117,8 @@ module _ (G : Ground) (W : Text) where
   -- ---- steps
 
   -- a state with the same events, slots and input, in the same body
-  quietly : {X : Type 0} (s t : S G W) (Q : X → Known G) (o : Outcome (A G) X) → end o ≡ t → X → Given Q o → Comes s Q o
-  quietly s t Q o e n f st inp i g = record {
+  quietly : {X : Type 0} (s t : S G W) (Q : X → Known G) (o : Outcome (A G) X) → end o ≡ t → t.noted ≡ s.noted → t.frame ≡ s.frame → t.output ≡ s.output → StoreInRange G W t.store → AllByRecursion IsByteOf t.input → Ok s → Given Q o → Comes s Q o
+  quietly s t Q o e n f out st inp i g = record {
     later = subst (λ (u : S G W). Later s.noted u.noted) (sym e) (subst (λ (u : Moment G W). Later s.noted u) (sym n) (λ k r h. h));
     frame = ap (λ (u : S G W). u.frame) e ∙ f;
     inv = subst (λ (u : S G W). Inv G W u) (sym e) (record { noted = subst (λ (u : Moment G W). AllInRange G W u) (sym n) i.noted; store = st; input = inp; output = ap length out ∙ i.output ∙ ap (λ (u : Moment G W). written_before G W u) (sym n) });
@@ -301,7 +301,7 @@ module _ (G : Ground) (W : Text) where
   nothing_written d c s h = quiet_kind d.kind (event_in s.noted) d.site d.value h
 
   still_written : (d : Draft) (c : C G W) (s : S G W) → IsNoPrint d.kind → length s.output ≡ written_before G W s.noted → length s.output ≡ written_before G W (next_event d c s ∷ s.noted)
-  still_written d c s h e = let z = nothing_written d c s h in omega (arith, z, e)
+  still_written d c s h e = let z = nothing_written d c s h in let o = written_one G W (next_event d c s) s.noted in omega (arith, z, e, o)
 
   added : (d : Draft) (c : C G W) (s : S G W) (o : Outcome (A G) (Made (A G))) → Drafted G W s.noted d → Fine G W s.noted c → Ok s → Adds d c s o → Comes s (event (A G) (p G) d) o
   unfolding end event
@@ -352,7 +352,10 @@ module _ (G : Ground) (W : Text) where
   noted_prints d c bytes s true false = refl
   noted_prints d c bytes s false y = refl
 
-  room_prints : (d : Draft) (c : C G W) (bytes : List ℕ) (s : S G W) (x : Bool) → PrintsTo d c bytes s (go_on (choose x (return tt) (stop OutputLimit) s) (λ t. note d c >>= (λ e. write_out bytes)))
+  abbrev no_value_left : Unit {0}
+  no_value_left = tt
+
+  room_prints : (d : Draft) (c : C G W) (bytes : List ℕ) (s : S G W) (x : Bool) → PrintsTo d c bytes s (go_on (choose x (return no_value_left) (stop OutputLimit) s) (λ t. note d c >>= (λ e. write_out bytes)))
   unfolding go_on choose return stop ◌>>=◌ note room_for
   room_prints d c bytes s true = noted_prints d c bytes s (nat_lt (length s.noted) event_limit) (nat_le (s.uses + length c.uses) use_limit)
   room_prints d c bytes s false = refl
@@ -373,13 +376,20 @@ module _ (G : Ground) (W : Text) where
   unfolding next_event plain
   print_written site c s = refl
 
+  printed_count : (site : ℕ) (bytes : List ℕ) (c : C G W) (s : S G W) → BytesAre bytes site c.value s → length s.output ≡ written_before G W s.noted → length (s.output ++ bytes) ≡ written_before G W (next_event (plain kind.Print site c.value) c s ∷ s.noted)
+  printed_count site bytes c s b o =
+      let e = length-append s.output bytes in
+      let z = print_written site c s in
+      let n = written_one G W (next_event (plain kind.Print site c.value) c s) s.noted in
+      omega (arith, e, o, z, b, n)
+
   printed_inv : (site : ℕ) (bytes : List ℕ) (c : C G W) (s : S G W) → IsSite W.tokens site → IsPrinted c.value → Fine G W s.noted c → BytesAre bytes site c.value s → Ok s → Inv G W (after_print (plain kind.Print site c.value) c bytes s)
   unfolding with_event
   printed_inv site bytes c s h v f b i = record {
     noted = (print_in_range site c s h v f, i.noted);
     store = i.store;
     input = i.input;
-    output = let e = length-append s.output bytes in let o = i.output in let z = print_written site c s in omega (arith, e, o, z, b);
+    output = printed_count site bytes c s b i.output;
   }
 
   printed_later : (d : Draft) (c : C G W) (bytes : List ℕ) (s : S G W) → Later s.noted (after_print d c bytes s).noted

@@ -72,10 +72,10 @@ use Rattle.wy_in_range.proofs.Rules.{At, Full, bind, after, weaker, where_at, ei
 
 -- what calls and initializations keep
 pub record Inner (G : Ground) (W : Text) (M : Methods G) : Type 1 where
-  pub calls : (r : Region) (site m : ℕ) (receiver : Option (Carried (A G))) (args : List (Carried (A G))) (P : Known G) → Entails P (called G m receiver args) → IsSite W.tokens site → Entails P (all_fine G W (bound receiver args)) → Full G W r P (M.call site m receiver args) (fine G W)
-  pub enters : (r : Region) (site c : ℕ) (P : Known G) → is_source c ≡ true → IsSite W.tokens site → c < length (p G).classes → Full G W r P (M.enter site c) (λ t. nothing)
+  pub calls : (J : ℕ → Type 0) (r : Region) (site m : ℕ) (receiver : Option (Carried (A G))) (args : List (Carried (A G))) (P : Known G) → Entails P (called G m receiver args) → IsSite W.tokens site → Entails P (all_fine G W (bound receiver args)) → Full G W J r P (M.call site m receiver args) (fine G W)
+  pub enters : (J : ℕ → Type 0) (r : Region) (site c : ℕ) (P : Known G) → is_source c ≡ true → IsSite W.tokens site → c < length (p G).classes → Full G W J r P (M.enter site c) (λ t. nothing)
 
-module _ (G : Ground) (W : Text) (M : Methods G) (L : Inner G W M) where
+module _ (G : Ground) (W : Text) (J : ℕ → Type 0) (M : Methods G) (L : Inner G W M) where
   abbrev w : World (A G)
   w = world_of G M
 
@@ -90,13 +90,13 @@ module _ (G : Ground) (W : Text) (M : Methods G) (L : Inner G W M) where
 
   -- ---- classes
 
-  starts : {r : Region} {P : Known G} (site c : ℕ) (source : Bool) → is_source c ≡ source → (source ≡ true → Ok site) → c < length (p G).classes → Full G W r P (initialize_source w site c source) (λ t. nothing)
+  starts : {r : Region} {P : Known G} (site c : ℕ) (source : Bool) → is_source c ≡ source → (source ≡ true → Ok site) → c < length (p G).classes → Full G W J r P (initialize_source w site c source) (λ t. nothing)
   unfolding initialize_source
-  starts site c false e s lt = plainly G W (bare.gives G W tt trivially)
-  starts {r = r} site c true e s lt = bare_first G W (asks G c) (bare.asks G W c) (λ going. either G W going (λ q. plainly G W (bare.gives G W tt trivially)) (λ q. L.enters r site c _ e (s refl) lt))
+  starts site c false e s lt = plainly G W J (bare.gives G W J tt trivially)
+  starts {r = r} site c true e s lt = bare_first G W J (asks G c) (bare.asks G W J c) (λ going. either G W J going (λ q. plainly G W J (bare.gives G W J tt trivially)) (λ q. L.enters J r site c _ e (s refl) lt))
 
   -- the site is in range, where the class is one of the text
-  pub initializes : {r : Region} {P : Known G} (site c : ℕ) → (is_source c ≡ true → Ok site) → c < length (p G).classes → Full G W r P (initialize w site c) (λ t. nothing)
+  pub initializes : {r : Region} {P : Known G} (site c : ℕ) → (is_source c ≡ true → Ok site) → c < length (p G).classes → Full G W J r P (initialize w site c) (λ t. nothing)
   unfolding initialize
   initializes site c s lt = starts site c (is_source c) refl s lt
 
@@ -105,10 +105,10 @@ module _ (G : Ground) (W : Text) (M : Methods G) (L : Inner G W M) where
     Has e ty = HasType (p G) (local_types (p G) i) e ty
 
     abbrev O : {X : Type 0} → Known G → Run (A G) X → (X → Known G) → Type 0
-    O P m Q = Full G W (In i) P m Q
+    O P m Q = Full G W J (In i) P m Q
 
     abbrev B : {X : Type 0} → Known G → Run (A G) X → (X → Known G) → Type 0
-    B P m Q = Bare G W (In i) P m Q
+    B P m Q = Bare G W J (In i) P m Q
 
     abbrev F : K → Known G
     F c = fine G W c
@@ -123,15 +123,15 @@ module _ (G : Ground) (W : Text) (M : Methods G) (L : Inner G W M) where
 
     all_good : (ms : List (Run (A G) K)) (ts : List Ty) (P : Known G) → AllTypes G M i ms ts → AllGood ms → O P (all_of ms) (all_fine G W)
     unfolding all_of
-    all_good [] ts P d f = plainly G W (bare.gives G W [] (plain_text.none_fine G W M))
-    all_good (m ∷ ms) (t ∷ ts) P d f = bind G W (d.0.by P) (f.0.by P) (λ v. then_bare G W (all_good ms ts _ d.1 f.1) (λ vs. bare.gives G W _ (plain_text.more_fine G W M v vs (before _ _ (newest _ _)) (newest _ _))))
+    all_good [] ts P d f = plainly G W J (bare.gives G W J [] (plain_text.none_fine G W J M))
+    all_good (m ∷ ms) (t ∷ ts) P d f = bind G W J (d.0.by P) (f.0.by P) (λ v. then_bare G W J (all_good ms ts _ d.1 f.1) (λ vs. bare.gives G W J _ (plain_text.more_fine G W J M v vs (before _ _ (newest _ _)) (newest _ _))))
     all_good (m ∷ ms) [] P d f = absurd d.0
 
     fitted : {P : Known G} (a c : Ty) (v : Value) → Fits (p G).classes a c → Entails P (of_type G a v) → Entails P (of_type G c v)
     unfolding is
     fitted a c v f e = record { by = λ n h. fits_is (p G) n a c v f (e.by n h) }
 
-    is_some : {P : Known G} (ty : Ty) (v : Value) → (ty ≡ Void → ⊥) → Entails P (of_type G ty v) → Entails P (some G W M v)
+    is_some : {P : Known G} (ty : Ty) (v : Value) → (ty ≡ Void → ⊥) → Entails P (of_type G ty v) → Entails P (some G W J M v)
     unfolding is
     is_some ty v n e = record { by = λ m h. some_value G m ty v n (e.by m h) }
 
@@ -143,29 +143,29 @@ module _ (G : Ground) (W : Text) (M : Methods G) (L : Inner G W M) where
     LocatedGood (AtField object k site) = Ok site × ((f : part.Field) × IsField (p G) k f × (f.is_static ≡ false) × T G M i object (class_type f.class)) × Good object
     LocatedGood (AtElem array index site) = Ok site × Good array × Good index
 
-    static_good : {P : Known G} (k site : ℕ) (f : part.Field) → Ok site → IsField (p G) k f → f.is_static ≡ true → O P (static_spot w k site) (spot_fine G W M)
+    static_good : {P : Known G} (k site : ℕ) (f : part.Field) → Ok site → IsField (p G) k f → f.is_static ≡ true → O P (static_spot w k site) (spot_fine G W J M)
     unfolding static_spot ◌>>◌ both spot_fine spotted fine constant
-    static_good k site f s e h = then_bare G W (initializes site (field (p G) k).class (λ q. s) (field_class G k f e)) (λ t. bare.gives G W _ (record { by = λ n q. ((tt, (f, e, h)), (tt, tt)) }))
+    static_good k site f s e h = then_bare G W J (initializes site (field (p G) k).class (λ q. s) (field_class G k f e)) (λ t. bare.gives G W J _ (record { by = λ n q. ((tt, (f, e, h)), (tt, tt)) }))
 
-    finds_good : {P : Known G} (x : Located (A G)) (ty : Ty) → Locates G M i x ty → LocatedGood x → O P (find w x) (spot_fine G W M)
+    finds_good : {P : Known G} (x : Located (A G)) (ty : Ty) → Locates G M i x ty → LocatedGood x → O P (find w x) (spot_fine G W J M)
     unfolding find
-    finds_good (AtLocal k) ty d f = plainly G W (plain_form.local_found G W M i k f.0)
+    finds_good (AtLocal k) ty d f = plainly G W J (plain_form.local_found G W J M i k f.0)
     finds_good (AtStatic k site) ty d f = static_good k site f.1.0 f.0 f.1.1 f.1.2
-    finds_good {P = P} (AtField object k site) ty d f = then_plainly G W (f.1.3.by P) (f.2.by P) (λ v. plain_form.field_found G W M k site v f.1.0 f.0 f.1.1 f.1.2 (newest _ _) (before _ _ (newest _ _)))
-    finds_good {P = P} (AtElem array index site) ty d f = bind G W (d.3.by P) (f.1.by P) (λ a. then_bare G W (f.2.by _) (λ k. plain_form.element_found G W M site a k _ f.0 (before _ _ (newest _ _)) (newest _ _) (before _ _ (before _ _ (newest _ _)))))
+    finds_good {P = P} (AtField object k site) ty d f = then_plainly G W J (f.1.3.by P) (f.2.by P) (λ v. plain_form.field_found G W J M k site v f.1.0 f.0 f.1.1 f.1.2 (newest _ _) (before _ _ (newest _ _)))
+    finds_good {P = P} (AtElem array index site) ty d f = bind G W J (d.3.by P) (f.1.by P) (λ a. then_bare G W J (f.2.by _) (λ k. plain_form.element_found G W J M site a k _ f.0 (before _ _ (newest _ _)) (newest _ _) (before _ _ (before _ _ (newest _ _)))))
 
     reads_good : {P : Known G} (x : Located (A G)) (ty : Ty) → Locates G M i x ty → LocatedGood x → O P (read_place w x) F
     unfolding read_place
-    reads_good x ty d f = then_bare G W (finds_good x ty d f) (λ s. plain_form.fetches G W M s (newest _ _))
+    reads_good x ty d f = then_bare G W J (finds_good x ty d f) (λ s. plain_form.fetches G W J M s (newest _ _))
 
     sets_good : {P : Known G} (x : Located (A G)) (m : Run (A G) K) (site : ℕ) (ty : Ty) → Ok site → (ty ≡ Void → ⊥) → Locates G M i x ty → T G M i m ty → LocatedGood x → Good m → O P (set_place w x m site) F
     unfolding set_place
-    sets_good {P = P} (AtLocal k) m site ty s n d dm f g = then_plainly G W (dm.by P) (g.by P) (λ v. bare.bind G W (plain_form.local_found G W M i k f.0) (λ x. plain_form.stores G W M site x v s (newest _ _) (before _ _ (newest _ _)) (before _ _ (before _ _ (is_some ty v.value n (newest _ _))))))
-    sets_good {P = P} (AtStatic k at) m site ty s n d dm f g = bind G W (dm.by P) (g.by P) (λ v. then_bare G W (static_good k at f.1.0 f.0 f.1.1 f.1.2) (λ x. plain_form.stores G W M site x v s (newest _ _) (before _ _ (newest _ _)) (before _ _ (before _ _ (is_some ty v.value n (newest _ _))))))
-    sets_good {P = P} (AtField object k at) m site ty s n d dm f g = bind G W (f.1.3.by P) (f.2.by P) (λ u. then_plainly G W (dm.by _) (g.by _) (λ v.
-        bare.bind G W (plain_form.field_found G W M k at u f.1.0 f.0 f.1.1 f.1.2 (before _ _ (before _ _ (newest _ _))) (before _ _ (before _ _ (before _ _ (newest _ _))))) (λ x. plain_form.stores G W M site x v s (newest _ _) (before _ _ (newest _ _)) (before _ _ (before _ _ (is_some ty v.value n (newest _ _)))))))
-    sets_good {P = P} (AtElem array index at) m site ty s n d dm f g = bind G W (d.3.by P) (f.1.by P) (λ a. bind G W (d.4.by _) (f.2.by _) (λ k. then_plainly G W (dm.by _) (g.by _) (λ v.
-        bare.bind G W (plain_form.element_found G W M at a k _ f.0 (before _ _ (before _ _ (before _ _ (before _ _ (newest _ _))))) (before _ _ (before _ _ (newest _ _))) (before _ _ (before _ _ (before _ _ (before _ _ (before _ _ (newest _ _))))))) (λ x. plain_form.stores G W M site x v s (newest _ _) (before _ _ (newest _ _)) (before _ _ (before _ _ (is_some ty v.value n (newest _ _))))))))
+    sets_good {P = P} (AtLocal k) m site ty s n d dm f g = then_plainly G W J (dm.by P) (g.by P) (λ v. bare.bind G W J (plain_form.local_found G W J M i k f.0) (λ x. plain_form.stores G W J M site x v s (newest _ _) (before _ _ (newest _ _)) (before _ _ (before _ _ (is_some ty v.value n (newest _ _))))))
+    sets_good {P = P} (AtStatic k at) m site ty s n d dm f g = bind G W J (dm.by P) (g.by P) (λ v. then_bare G W J (static_good k at f.1.0 f.0 f.1.1 f.1.2) (λ x. plain_form.stores G W J M site x v s (newest _ _) (before _ _ (newest _ _)) (before _ _ (before _ _ (is_some ty v.value n (newest _ _))))))
+    sets_good {P = P} (AtField object k at) m site ty s n d dm f g = bind G W J (f.1.3.by P) (f.2.by P) (λ u. then_plainly G W J (dm.by _) (g.by _) (λ v.
+        bare.bind G W J (plain_form.field_found G W J M k at u f.1.0 f.0 f.1.1 f.1.2 (before _ _ (before _ _ (newest _ _))) (before _ _ (before _ _ (before _ _ (newest _ _))))) (λ x. plain_form.stores G W J M site x v s (newest _ _) (before _ _ (newest _ _)) (before _ _ (before _ _ (is_some ty v.value n (newest _ _)))))))
+    sets_good {P = P} (AtElem array index at) m site ty s n d dm f g = bind G W J (d.3.by P) (f.1.by P) (λ a. bind G W J (d.4.by _) (f.2.by _) (λ k. then_plainly G W J (dm.by _) (g.by _) (λ v.
+        bare.bind G W J (plain_form.element_found G W J M at a k _ f.0 (before _ _ (before _ _ (before _ _ (before _ _ (newest _ _))))) (before _ _ (before _ _ (newest _ _))) (before _ _ (before _ _ (before _ _ (before _ _ (before _ _ (newest _ _))))))) (λ x. plain_form.stores G W J M site x v s (newest _ _) (before _ _ (newest _ _)) (before _ _ (before _ _ (is_some ty v.value n (newest _ _))))))))
 
     if_good : {P : Known G} (b : Bool) (x y : K) → Entails P (F x) → Entails P (F y) → Entails P (F (if b then x else y))
     if_good true x y e f = e
@@ -173,25 +173,25 @@ module _ (G : Ground) (W : Text) (M : Methods G) (L : Inner G W M) where
 
     updates_good : {P : Known G} (x : Located (A G)) (op : BinOp) (m : Run (A G) K) (to : Ty) (wide : Primitive) (gives_old : Bool) (site : ℕ) → Ok site → Locates G M i x to → LocatedGood x → Good m → O P (update_place w x op m to wide gives_old site) F
     unfolding update_place with_value
-    updates_good x op m to wide gives_old site s d f g = bind G W (finds G M i x to d) (finds_good x to d f) (λ at. bind G W (fetches G M i at to (before _ _ (newest _ _))) (plainly G W (plain_form.fetches G W M at (newest _ _))) (λ old. then_bare G W (g.by _) (λ v.
-        bare.bind G W (plain_form.divides G W M site (joined val.None old v) (operated op wide old.value v.value) s (joined_fine G W val.None old v tt (before _ _ (newest _ _)) (newest _ _)) (λ x q. operated_gives (p G) op wide old.value v.value x q)) (λ new.
-        bare.bind G W (plain_form.assigns G W M site at (with_value (primitive_of to new.value) new) s (before _ _ (before _ _ (before _ _ (before _ _ (newest _ _))))) (plain_form.brought G W M to new (newest _ _)) (plain_form.brought_some G W M to new (newest _ _))) (λ set.
-        bare.gives G W _ (if_good gives_old old set (before _ _ (before _ _ (before _ _ (newest _ _)))) (newest _ _)))))))
+    updates_good x op m to wide gives_old site s d f g = bind G W J (finds G M i x to d) (finds_good x to d f) (λ at. bind G W J (fetches G M i at to (before _ _ (newest _ _))) (plainly G W J (plain_form.fetches G W J M at (newest _ _))) (λ old. then_bare G W J (g.by _) (λ v.
+        bare.bind G W J (plain_form.divides G W J M site (joined val.None old v) (operated op wide old.value v.value) s (joined_fine G W val.None old v tt (before _ _ (newest _ _)) (newest _ _)) (λ x q. operated_gives (p G) op wide old.value v.value x q)) (λ new.
+        bare.bind G W J (plain_form.assigns G W J M site at (with_value (primitive_of to new.value) new) s (before _ _ (before _ _ (before _ _ (before _ _ (newest _ _))))) (plain_form.brought G W J M to new (newest _ _)) (plain_form.brought_some G W J M to new (newest _ _))) (λ set.
+        bare.gives G W J _ (if_good gives_old old set (before _ _ (before _ _ (before _ _ (newest _ _)))) (newest _ _)))))))
 
     -- ---- calls that the class of the receiver decides
 
     pub chosen_good : {P : Known G} (k : ℕ) (md : Method) → IsMethod (p G) k md → md.form ≡ kinds.Instance → md.is_private ≡ false → (site : ℕ) (v : K) (args : List K) (n : ℕ) → Ok site → v.value ≡ val.Object n → Entails P (of_type G (class_type md.class) v.value) → Entails P (all_are G md.params args) → Entails P (F v) → Entails P (all_fine G W args) → O P (call_chosen w site k v args) F
     unfolding call_chosen called found_as all_are is both bound
-    chosen_good k md m f public site v args n s e h a fv fa = bare_first G W (finds_type G M (class_type md.class) v.value h) (plain_form.finds_type G W M v.value) (λ found.
-        L.calls (In i) site (dispatch (p G) k (class_of_type found)) (Some v) args _ (record { by = λ n1 q. chosen_calls_at G M i k md m f public n1 v args n found e (h.by n1 q.0.0) q.0.1 (a.by n1 q.0.0) }) s (before _ _ (before _ _ (plain_text.more_fine G W M v args fv fa))))
+    chosen_good k md m f public site v args n s e h a fv fa = bare_first G W J (finds_type G M (class_type md.class) v.value h) (plain_form.finds_type G W J M v.value) (λ found.
+        L.calls J (In i) site (dispatch (p G) k (class_of_type found)) (Some v) args _ (record { by = λ n1 q. chosen_calls_at G M i k md m f public n1 v args n found e (h.by n1 q.0.0) q.0.1 (a.by n1 q.0.0) }) s (before _ _ (before _ _ (plain_text.more_fine G W J M v args fv fa))))
 
     -- ---- texts
 
     shows_as_good : {P : Known G} (site : ℕ) (v : K) (x : Value) (ty : Ty) → Ok site → v.value ≡ x → Entails P (of_type G ty v.value) → Entails P (F v) → O P (shown_as w site v x) F
     unfolding shown_as is all_are
     shows_as_good site v (val.Object n) ty s e h f = chosen_good to_string to_string_method (to_string_is (p G) G.fits.declarations.library_methods) refl refl site v [] n s e
-        (record { by = λ n1 q. subst (λ u. Is (p G) n1 object_type u) (sym e) (object_is_object G M i n1 ty n (subst (λ u. Is (p G) n1 ty u) e (h.by n1 q))) }) (record { by = λ n1 q. tt }) f (plain_text.none_fine G W M)
-    shows_as_good site v _ ty s e h f = plainly G W (bare.gives G W v f)
+        (record { by = λ n1 q. subst (λ u. Is (p G) n1 object_type u) (sym e) (object_is_object G M i n1 ty n (subst (λ u. Is (p G) n1 ty u) e (h.by n1 q))) }) (record { by = λ n1 q. tt }) f (plain_text.none_fine G W J M)
+    shows_as_good site v _ ty s e h f = plainly G W J (bare.gives G W J v f)
 
     pub shows_good : {P : Known G} (site : ℕ) (v : K) (ty : Ty) → Ok site → Entails P (of_type G ty v.value) → Entails P (F v) → O P (shown w site v) F
     unfolding shown
@@ -199,20 +199,20 @@ module _ (G : Ground) (W : Text) (M : Methods G) (L : Inner G W M) where
 
     concatenates_good : {P : Known G} (site : ℕ) (x y : K) (a c : Ty) → Ok site → Entails P (of_type G a x.value) → Entails P (of_type G c y.value) → Entails P (F x) → Entails P (F y) → O P (concatenated w site x y) F
     unfolding concatenated
-    concatenates_good site x y a c s e f fx fy = bind G W (shows G M i site x a e) (shows_good site x a s e fx) (λ l. then_bare G W (shows_good site y c s (before _ _ (before _ _ f)) (before _ _ (before _ _ fy))) (λ r.
-        bare.next G W (plain_text.spells G W M l.value) (λ us. bare.next G W (plain_text.spells G W M r.value) (λ vs. plain_text.makes_text G W M site _ _ s (joined_fine G W val.None l r tt (before _ _ (newest _ _)) (newest _ _))))))
+    concatenates_good site x y a c s e f fx fy = bind G W J (shows G M i site x a e) (shows_good site x a s e fx) (λ l. then_bare G W J (shows_good site y c s (before _ _ (before _ _ f)) (before _ _ (before _ _ fy))) (λ r.
+        bare.next G W J (plain_text.spells G W J M l.value) (λ us. bare.next G W J (plain_text.spells G W J M r.value) (λ vs. plain_text.makes_text G W J M site _ _ s (joined_fine G W val.None l r tt (before _ _ (newest _ _)) (newest _ _))))))
 
     cat_good : (l r : Run (A G) K) (site : ℕ) (a c : Ty) → Ok site → T G M i l a → T G M i r c → Good l → Good r → Good (cat w l r site)
     unfolding cat
-    cat_good l r site a c s dl dr fl fr = record { by = λ P. bind G W (dl.by P) (fl.by P) (λ x. bind G W (dr.by _) (fr.by _) (λ y. concatenates_good site x y a c s (before _ _ (before _ _ (before _ _ (newest _ _)))) (before _ _ (newest _ _)) (before _ _ (before _ _ (newest _ _))) (newest _ _))) }
+    cat_good l r site a c s dl dr fl fr = record { by = λ P. bind G W J (dl.by P) (fl.by P) (λ x. bind G W J (dr.by _) (fr.by _) (λ y. concatenates_good site x y a c s (before _ _ (before _ _ (before _ _ (newest _ _)))) (before _ _ (newest _ _)) (before _ _ (before _ _ (newest _ _))) (newest _ _))) }
 
     append_good : (x : Located (A G)) (m : Run (A G) K) (site : ℕ) (ty from : Ty) → Ok site → Locates G M i x ty → T G M i m from → LocatedGood x → Good m → Good (append_place w x m site)
     unfolding append_place
     append_good x m site ty from s d dm f g = record {
-      by = λ P. bind G W (finds G M i x ty d) (finds_good x ty d f) (λ at. bind G W (fetches G M i at ty (before _ _ (newest _ _))) (plainly G W (plain_form.fetches G W M at (newest _ _))) (λ old. bind G W (dm.by _) (g.by _) (λ v.
-          then_plainly G W (concatenates G M i site old v ty from (before _ _ (before _ _ (before _ _ (newest _ _)))) (before _ _ (newest _ _)))
+      by = λ P. bind G W J (finds G M i x ty d) (finds_good x ty d f) (λ at. bind G W J (fetches G M i at ty (before _ _ (newest _ _))) (plainly G W J (plain_form.fetches G W J M at (newest _ _))) (λ old. bind G W J (dm.by _) (g.by _) (λ v.
+          then_plainly G W J (concatenates G M i site old v ty from (before _ _ (before _ _ (before _ _ (newest _ _)))) (before _ _ (newest _ _)))
           (concatenates_good site old v ty from s (before _ _ (before _ _ (before _ _ (newest _ _)))) (before _ _ (newest _ _)) (before _ _ (before _ _ (newest _ _))) (newest _ _))
-          (λ t. plain_form.stores G W M site at t s (before _ _ (before _ _ (before _ _ (before _ _ (before _ _ (before _ _ (newest _ _))))))) (newest _ _) (before _ _ (is_some text_type t.value (λ e. cc e) (newest _ _)))))));
+          (λ t. plain_form.stores G W J M site at t s (before _ _ (before _ _ (before _ _ (before _ _ (before _ _ (before _ _ (newest _ _))))))) (newest _ _) (before _ _ (is_some text_type t.value (λ e. cc e) (newest _ _)))))));
     }
 
     -- ---- calls
@@ -223,44 +223,44 @@ module _ (G : Ground) (W : Text) (M : Methods G) (L : Inner G W M) where
     object_good k md site r (val.Text n) vs s m f public e t u h a fr fa = absurd (cc t)
     object_good k md site r (val.Fixed n) vs s m f public e t u h a fr fa = absurd (cc t)
     object_good k md site r val.Null vs s m f public e t u h a fr fa = absurd (cc u)
-    object_good k md site r val.None vs s m f public e t u h a fr fa = where_at G W (λ z at. absurd (let y = subst (λ (u : Value). Is (p G) z.noted (class_type md.class) u) e (h.by z.noted at.known) in cc y))
-    object_good k md site r (val.Bool x) vs s m f public e t u h a fr fa = where_at G W (λ z at. absurd (let y = subst (λ (u : Value). Is (p G) z.noted (class_type md.class) u) e (h.by z.noted at.known) in cc y))
-    object_good k md site r (val.Byte x) vs s m f public e t u h a fr fa = where_at G W (λ z at. absurd (let y = subst (λ (u : Value). Is (p G) z.noted (class_type md.class) u) e (h.by z.noted at.known) in cc y))
-    object_good k md site r (val.Short x) vs s m f public e t u h a fr fa = where_at G W (λ z at. absurd (let y = subst (λ (u : Value). Is (p G) z.noted (class_type md.class) u) e (h.by z.noted at.known) in cc y))
-    object_good k md site r (val.Char x) vs s m f public e t u h a fr fa = where_at G W (λ z at. absurd (let y = subst (λ (u : Value). Is (p G) z.noted (class_type md.class) u) e (h.by z.noted at.known) in cc y))
-    object_good k md site r (val.Int x) vs s m f public e t u h a fr fa = where_at G W (λ z at. absurd (let y = subst (λ (u : Value). Is (p G) z.noted (class_type md.class) u) e (h.by z.noted at.known) in cc y))
-    object_good k md site r (val.Long x) vs s m f public e t u h a fr fa = where_at G W (λ z at. absurd (let y = subst (λ (u : Value). Is (p G) z.noted (class_type md.class) u) e (h.by z.noted at.known) in cc y))
+    object_good k md site r val.None vs s m f public e t u h a fr fa = where_at G W J (λ z at. absurd (let y = subst (λ (u : Value). Is (p G) z.noted (class_type md.class) u) e (h.by z.noted at.known) in cc y))
+    object_good k md site r (val.Bool x) vs s m f public e t u h a fr fa = where_at G W J (λ z at. absurd (let y = subst (λ (u : Value). Is (p G) z.noted (class_type md.class) u) e (h.by z.noted at.known) in cc y))
+    object_good k md site r (val.Byte x) vs s m f public e t u h a fr fa = where_at G W J (λ z at. absurd (let y = subst (λ (u : Value). Is (p G) z.noted (class_type md.class) u) e (h.by z.noted at.known) in cc y))
+    object_good k md site r (val.Short x) vs s m f public e t u h a fr fa = where_at G W J (λ z at. absurd (let y = subst (λ (u : Value). Is (p G) z.noted (class_type md.class) u) e (h.by z.noted at.known) in cc y))
+    object_good k md site r (val.Char x) vs s m f public e t u h a fr fa = where_at G W J (λ z at. absurd (let y = subst (λ (u : Value). Is (p G) z.noted (class_type md.class) u) e (h.by z.noted at.known) in cc y))
+    object_good k md site r (val.Int x) vs s m f public e t u h a fr fa = where_at G W J (λ z at. absurd (let y = subst (λ (u : Value). Is (p G) z.noted (class_type md.class) u) e (h.by z.noted at.known) in cc y))
+    object_good k md site r (val.Long x) vs s m f public e t u h a fr fa = where_at G W J (λ z at. absurd (let y = subst (λ (u : Value). Is (p G) z.noted (class_type md.class) u) e (h.by z.noted at.known) in cc y))
 
     chosen_call_good : (k : ℕ) (md : Method) (receiver : Run (A G) K) (args : List (Run (A G) K)) (site : ℕ) (ty : Ty) → Ok site → IsMethod (p G) k md → md.form ≡ kinds.Instance → md.is_private ≡ false → T G M i receiver ty → Fits (p G).classes ty (class_type md.class) → AllTypes G M i args md.params → Good receiver → AllGood args → Good (call_on w call.Chosen k receiver args site)
     unfolding call_on call_form
     chosen_call_good k md receiver args site ty s m f public d fits da g ga = record {
-      by = λ P. bind G W (d.by P) (g.by P) (λ r. bind G W (gives_all G M i args md.params _ da) (all_good args md.params _ da ga) (λ vs.
-          either G W (is_null r.value) (λ e. plainly G W (plain_form.null_fails G W M site r s (before _ _ (before _ _ (newest _ _))))) (λ e.
-          either G W (is_text r.value) (λ t. plainly G W (plain_text.on_text G W M (k == equals) r vs (before _ _ (before _ _ (newest _ _))) (newest _ _)))
+      by = λ P. bind G W J (d.by P) (g.by P) (λ r. bind G W J (gives_all G M i args md.params _ da) (all_good args md.params _ da ga) (λ vs.
+          either G W J (is_null r.value) (λ e. plainly G W J (plain_form.null_fails G W J M site r s (before _ _ (before _ _ (newest _ _))))) (λ e.
+          either G W J (is_text r.value) (λ t. plainly G W J (plain_text.on_text G W J M (k == equals) r vs (before _ _ (before _ _ (newest _ _))) (newest _ _)))
           (λ t. object_good k md site r r.value vs s m f public refl t e (fitted ty (class_type md.class) r.value fits (before _ _ (before _ _ (before _ _ (newest _ _))))) (before _ _ (newest _ _)) (before _ _ (before _ _ (newest _ _))) (newest _ _)))));
     }
 
     direct_good : (k : ℕ) (md : Method) (receiver : Run (A G) K) (args : List (Run (A G) K)) (site : ℕ) → Ok site → IsMethod (p G) k md → this_types md.form md.class ≡ class_type md.class ∷ [] → T G M i receiver (class_type md.class) → AllTypes G M i args md.params → Good receiver → AllGood args → Good (call_on w call.Direct k receiver args site)
     unfolding call_on call_form called all_are is both bound
     direct_good k md receiver args site s m t d da g ga = record {
-      by = λ P. bind G W (d.by P) (g.by P) (λ r. bind G W (gives_all G M i args md.params _ da) (all_good args md.params _ da ga) (λ vs.
-          either G W (is_null r.value) (λ q. plainly G W (plain_form.null_fails G W M site r s (before _ _ (before _ _ (newest _ _))))) (λ q.
-          L.calls (In i) site k (Some r) vs _ (record { by = λ n h. calls_with G M i n k md r vs m t h.0.0.0.1 h.0.1 }) s (plain_text.more_fine G W M r vs (before _ _ (before _ _ (newest _ _))) (newest _ _)))));
+      by = λ P. bind G W J (d.by P) (g.by P) (λ r. bind G W J (gives_all G M i args md.params _ da) (all_good args md.params _ da ga) (λ vs.
+          either G W J (is_null r.value) (λ q. plainly G W J (plain_form.null_fails G W J M site r s (before _ _ (before _ _ (newest _ _))))) (λ q.
+          L.calls J (In i) site k (Some r) vs _ (record { by = λ n h. calls_with G M i n k md r vs m t h.0.0.0.1 h.0.1 }) s (plain_text.more_fine G W J M r vs (before _ _ (before _ _ (newest _ _))) (newest _ _)))));
     }
 
     static_call_good : (k : ℕ) (md : Method) (args : List (Run (A G) K)) (site : ℕ) → Ok site → IsMethod (p G) k md → md.form ≡ kinds.Static → AllTypes G M i args md.params → AllGood args → Good (call_static w k args site)
     unfolding call_static called all_are both bound ◌>>◌
     static_call_good k md args site s m f da ga = record {
-      by = λ P. bind G W (gives_all G M i args md.params _ da) (all_good args md.params _ da ga) (λ vs. bind G W (may_initialize G M site (method (p G) k).class) (initializes site (method (p G) k).class (λ q. s) (method_class G k md m)) (λ u.
-          L.calls (In i) site k Absent vs _ (record { by = λ n h. static_calls G M i n k md vs m f h.0.0.0.1 }) s (before _ _ (before _ _ (newest _ _)))));
+      by = λ P. bind G W J (gives_all G M i args md.params _ da) (all_good args md.params _ da ga) (λ vs. bind G W J (may_initialize G M site (method (p G) k).class) (initializes site (method (p G) k).class (λ q. s) (method_class G k md m)) (λ u.
+          L.calls J (In i) site k Absent vs _ (record { by = λ n h. static_calls G M i n k md vs m f h.0.0.0.1 }) s (before _ _ (before _ _ (newest _ _)))));
     }
 
     -- ---- creation
 
     constructs_good : {P : Known G} (site c : ℕ) (k : Option ℕ) (params : List Ty) (v : K) (args : List K) → Ok site → Constructs G M i c k params → Entails P (of_type G (class_type c) v.value) → Entails P (all_are G params args) → Entails P (F v) → Entails P (all_fine G W args) → O P (construct w site k v args) (λ t. nothing)
     unfolding construct called is all_are bound
-    constructs_good site c Absent params v args s h e a fv fa = plainly G W (bare.gives G W tt trivially)
-    constructs_good site c (Some k) params v args s h e a fv fa = then_bare G W (L.calls (In i) site k (Some v) args _ (record { by = λ n q. constructor_calls G M i n c k h.0 params v args h.1 h.2 h.3 (e.by n q) (a.by n q) }) s (plain_text.more_fine G W M v args fv fa)) (λ u. bare.gives G W tt trivially)
+    constructs_good site c Absent params v args s h e a fv fa = plainly G W J (bare.gives G W J tt trivially)
+    constructs_good site c (Some k) params v args s h e a fv fa = then_bare G W J (L.calls J (In i) site k (Some v) args _ (record { by = λ n q. constructor_calls G M i n c k h.0 params v args h.1 h.2 h.3 (e.by n q) (a.by n q) }) s (plain_text.more_fine G W J M v args fv fa)) (λ u. bare.gives G W J tt trivially)
 
     create_good : (c : ℕ) (k : Option ℕ) (params : List Ty) (args : List (Run (A G) K)) (site : ℕ) → Ok site → IsMade (p G) c → (c ≡ string_class → ⊥) → Constructs G M i c k params → AllTypes G M i args params → AllGood args → Good (create w c k args site)
     unfolding create value_of ◌>>◌
@@ -268,43 +268,43 @@ module _ (G : Ground) (W : Text) (M : Methods G) (L : Inner G W M) where
         let lt = slice_get_within (p G).classes c m.0 m.1 in
         let code = class_code_is (length (p G).classes) c G.library.few lt in
         record {
-          by = λ P. bind G W (may_initialize G M site c) (initializes site c (λ q. s) lt) (λ t. bind G W (notes_object G site (class_code c) (constant val.None)) (plainly G W (bare.creates_new G W (about kind.New site (class_code c) val.None) (constant val.None) (plain_form.object_draft G W M site c s lt n) (constant_fine G W val.None tt))) (λ e.
-              bind G W (gives_all G M i args params _ da) (all_good args params _ da ga) (λ vs. then_bare G W (constructs_good site c k params (value_of e (val.Object e.number)) vs s h
+          by = λ P. bind G W J (may_initialize G M site c) (initializes site c (λ q. s) lt) (λ t. bind G W J (notes_object G site (class_code c) (constant val.None)) (plainly G W J (bare.creates_new G W J (about kind.New site (class_code c) val.None) (constant val.None) (plain_form.object_draft G W J M site c s lt n) (constant_fine G W val.None tt))) (λ e.
+              bind G W J (gives_all G M i args params _ da) (all_good args params _ da ga) (λ vs. then_bare G W J (constructs_good site c k params (value_of e (val.Object e.number)) vs s h
               (before _ _ (before _ _ (before _ _ (new_is G e site (class_code c) val.None (class_type c) (class_type c) (newest _ _) code (record { reference = tt; concrete = m; below = same }))))) (before _ _ (newest _ _)) (value_of_fine G W e _ tt) (newest _ _))
-              (λ t. bare.gives G W _ (value_of_fine G W e _ tt)))));
+              (λ t. bare.gives G W J _ (value_of_fine G W e _ tt)))));
         }
 
     -- ---- arrays
 
-    objects_of : (base : Base) (n m : ℕ) → IsTypeOf (length (p G).classes) (Of base m) → MakesArrays G W M (Of base (suc n))
+    objects_of : (base : Base) (n m : ℕ) → IsTypeOf (length (p G).classes) (Of base m) → MakesArrays G W J M (Of base (suc n))
     unfolding type_code base_code
     objects_of (Named c) n m known = record { objects = known; array = omega arith }
     objects_of (Basic q) n m known = record { objects = tt; array = omega arith }
 
-    nested_from : (n : List (Noted (A G))) (base : Base) (m brackets k : ℕ) (ds : List K) → IsTypeOf (length (p G).classes) (Of base k) → m ≤ brackets → AllAre G n (replicate m int_type) ds → Nested G W M (Of base brackets) ds
+    nested_from : (n : List (Noted (A G))) (base : Base) (m brackets k : ℕ) (ds : List K) → IsTypeOf (length (p G).classes) (Of base k) → m ≤ brackets → AllAre G n (replicate m int_type) ds → Nested G W J M (Of base brackets) ds
     nested_from n base m brackets k [] known le h = tt
     nested_from n base zero brackets k (d ∷ ds) known le h = absurd h
     nested_from n base (suc m) zero k (d ∷ ds) known le h = absurd (omega (arith, le))
-    nested_from n base (suc m) (suc brackets) k (d ∷ ds) known le h = (objects_of base brackets k known, subst (λ t. Nested G W M t ds) (sym (one_less G M base brackets)) (nested_from n base m brackets k ds known (omega (arith, le)) h.1))
+    nested_from n base (suc m) (suc brackets) k (d ∷ ds) known le h = (objects_of base brackets k known, subst (λ t. Nested G W J M t ds) (sym (one_less G M base brackets)) (nested_from n base m brackets k ds known (omega (arith, le)) h.1))
 
     array_good : (base : Base) (brackets n : ℕ) (dims : List (Run (A G) K)) (site : ℕ) → Ok site → n < brackets → IsTypeOf (length (p G).classes) (Of base brackets) → AllTypes G M i dims (replicate (suc n) int_type) → AllGood dims → Good (create_array w (Of base brackets) dims site)
     unfolding create_array all_are both
     array_good base brackets n dims site s lt known d f = record {
-      by = λ P. bind G W (gives_all G M i dims _ _ d) (all_good dims _ _ d f) (λ ds. either G W (any_negative ds) (λ e. plainly G W (plain_form.size_fails G W M site _ s (plain_text.together_fine G W M ds (newest _ _)))) (λ e.
-          where_at G W (λ z at. plainly G W (plain_text.makes_arrays G W M site (Of base brackets) ds s (nested_from z.noted base (suc n) brackets brackets ds known (omega (arith, lt)) at.known.0.1) (newest _ _)))));
+      by = λ P. bind G W J (gives_all G M i dims _ _ d) (all_good dims _ _ d f) (λ ds. either G W J (any_negative ds) (λ e. plainly G W J (plain_form.size_fails G W J M site _ s (plain_text.together_fine G W J M ds (newest _ _)))) (λ e.
+          where_at G W J (λ z at. plainly G W J (plain_text.makes_arrays G W J M site (Of base brackets) ds s (nested_from z.noted base (suc n) brackets brackets ds known (omega (arith, lt)) at.known.0.1) (newest _ _)))));
     }
 
     set_value : {P : Known G} (e : Made (A G)) (v : K) → Entails P (F v) → Entails P (F (joined v.value (value_of e (val.Object e.number)) v))
     unfolding fine joined value_of
     set_value e v f = record { by = λ n q. ((f.by n q).0, (tt, (f.by n q).1)) }
 
-    elements_good : (ms : List (Run (A G) K)) (sites : List ℕ) (e : Made (A G)) (k count : ℕ) (base : Base) (brackets : ℕ) (P : Known G) → AllByRecursion Ok sites → k + length ms ≤ count → Entails P (elements_are G M e.number (Of base brackets)) → Entails P (array G W M e.number) → Entails P (always G W (count ≤ element_limit)) → AllTypes G M i ms (replicate (length sites) (Of base brackets)) → AllGood ms → O P (set_elements e k sites ms) (λ t. nothing)
+    elements_good : (ms : List (Run (A G) K)) (sites : List ℕ) (e : Made (A G)) (k count : ℕ) (base : Base) (brackets : ℕ) (P : Known G) → AllByRecursion Ok sites → k + length ms ≤ count → Entails P (elements_are G M e.number (Of base brackets)) → Entails P (array G W J M e.number) → Entails P (always G W (count ≤ element_limit)) → AllTypes G M i ms (replicate (length sites) (Of base brackets)) → AllGood ms → O P (set_elements e k sites ms) (λ t. nothing)
     unfolding set_elements first_site rest_sites
-    elements_good [] sites e k count base brackets P s lt r a few d f = plainly G W (bare.gives G W tt trivially)
+    elements_good [] sites e k count base brackets P s lt r a few d f = plainly G W J (bare.gives G W J tt trivially)
     elements_good (m ∷ ms) [] e k count base brackets P s lt r a few d f = absurd d.0
-    elements_good (m ∷ ms) (site ∷ sites) e k count base brackets P s lt r a few d f = bind G W (d.0.by P) (f.0.by P) (λ v. bind G W
+    elements_good (m ∷ ms) (site ∷ sites) e k count base brackets P s lt r a few d f = bind G W J (d.0.by P) (f.0.by P) (λ v. bind G W J
         (sets_slot G site (slot.Elem e.number k) v.value _ (element_place G M e.number k (Of base brackets) (before _ _ (before _ _ r))) (element_stores G M e.number k (Of base brackets) v.value (before _ _ (before _ _ r)) (before _ _ (newest _ _))))
-        (plainly G W (bare.writes G W _ _ (plain_form.set_draft G W M site (slot.Elem e.number k) v s.0 (plain_text.element_place G W M e.number k count (omega (arith, lt)) (before _ _ (before _ _ a)) (before _ _ (before _ _ few))) (newest _ _) (is_some (Of base brackets) v.value (λ q. cc q) (before _ _ (newest _ _)))) (set_value e v (newest _ _))))
+        (plainly G W J (bare.writes G W J _ _ (plain_form.set_draft G W J M site (slot.Elem e.number k) v s.0 (plain_text.element_place G W J M e.number k count (omega (arith, lt)) (before _ _ (before _ _ a)) (before _ _ (before _ _ few))) (newest _ _) (is_some (Of base brackets) v.value (λ q. cc q) (before _ _ (newest _ _)))) (set_value e v (newest _ _))))
         (λ set. elements_good ms sites e (suc k) count base brackets _ s.1 (omega (arith, lt)) (before _ _ (before _ _ (before _ _ (before _ _ r)))) (before _ _ (before _ _ (before _ _ (before _ _ a)))) (before _ _ (before _ _ (before _ _ (before _ _ few)))) d.1 f.1))
 
     filled_good : (base : Base) (brackets : ℕ) (ms : List (Run (A G) K)) (sites : List ℕ) (site : ℕ) → Ok site → AllByRecursion Ok sites → IsTypeOf (length (p G).classes) (Of base brackets) → AllTypes G M i ms (replicate (length sites) (Of base brackets)) → AllGood ms → Good (create_filled w (Of base (suc brackets)) ms sites site)
@@ -312,8 +312,8 @@ module _ (G : Ground) (W : Text) (M : Methods G) (L : Inner G W M) where
     filled_good base brackets ms sites site s ss known d f =
         let made = array_made G M base brackets brackets known in
         record {
-          by = λ P. bind G W (makes_array G M site (Of base (suc brackets)) (length ms) (constant val.None)) (plainly G W (plain_text.makes_array G W M site (Of base (suc brackets)) (length ms) (constant val.None) s (objects_of base brackets brackets known) (constant_fine G W val.None tt))) (λ e.
-              then_bare G W (elements_good ms sites e 0 (length ms) base brackets _ ss (omega arith) (before _ _ (made_elements G M e site (Of base (suc brackets)) (length ms) (Of base brackets) (newest _ _) (λ m q. (made.code, one_less G M base brackets)))) (record { by = λ n q. q.1.0 }) (record { by = λ n q. q.1.1 }) d f) (λ t. bare.gives G W _ (value_of_fine G W e _ tt)));
+          by = λ P. bind G W J (makes_array G M site (Of base (suc brackets)) (length ms) (constant val.None)) (plainly G W J (plain_text.makes_array G W J M site (Of base (suc brackets)) (length ms) (constant val.None) s (objects_of base brackets brackets known) (constant_fine G W val.None tt))) (λ e.
+              then_bare G W J (elements_good ms sites e 0 (length ms) base brackets _ ss (omega arith) (before _ _ (made_elements G M e site (Of base (suc brackets)) (length ms) (Of base brackets) (newest _ _) (λ m q. (made.code, one_less G M base brackets)))) (record { by = λ n q. q.1.0 }) (record { by = λ n q. q.1.1 }) d f) (λ t. bare.gives G W J _ (value_of_fine G W e _ tt)));
         }
 
     -- ---- conditions
@@ -328,8 +328,8 @@ module _ (G : Ground) (W : Text) (M : Methods G) (L : Inner G W M) where
 
     arm_good : {P : Known G} (e : Made (A G)) (v : K) (m : Option (Run (A G) K)) → Entails P (F v) → ArmGood m → O P (arm e v.value m) F
     unfolding arm
-    arm_good e v Absent f h = plainly G W (bare.gives G W _ (arm_value e v f))
-    arm_good {P = P} e v (Some m) f h = then_bare G W (h.by P) (λ c. bare.gives G W _ (chosen_fine G W e c (newest _ _)))
+    arm_good e v Absent f h = plainly G W J (bare.gives G W J _ (arm_value e v f))
+    arm_good {P = P} e v (Some m) f h = then_bare G W J (h.by P) (λ c. bare.gives G W J _ (chosen_fine G W e c (newest _ _)))
 
     pub test_draft : {P : Known G} (site : ℕ) (v : Value) → Ok site → Entails P (of_type G boolean_type v) → Entails P (drafted G W (plain kind.Test site v))
     unfolding drafted plain is
@@ -338,9 +338,9 @@ module _ (G : Ground) (W : Text) (M : Methods G) (L : Inner G W M) where
     conditional_good : (test : Run (A G) K) (a d : Option (Run (A G) K)) (site : ℕ) → Ok site → T G M i test boolean_type → Good test → ArmGood a → ArmGood d → Good (conditional test a d site)
     unfolding conditional
     conditional_good test a d site s dt ft fa fd = record {
-      by = λ P. scopes G W (bind G W (dt.by P) (ft.by P) (λ v.
-          bind G W (notes_test G Around site v.value v) (plainly G W (bare.enters G W (note (plain kind.Test site v.value) v) Around (plain kind.Test site v.value) v (bare.note_adds G W (plain kind.Test site v.value) v) (test_draft site v.value s (before _ _ (newest _ _))) (newest _ _))) (λ e.
-          either G W (is_true v.value) (λ q. arm_good e v a (before _ _ (before _ _ (newest _ _))) fa) (λ q. arm_good e v d (before _ _ (before _ _ (newest _ _))) fd))));
+      by = λ P. scopes G W J (bind G W J (dt.by P) (ft.by P) (λ v.
+          bind G W J (notes_test G Around site v.value v) (plainly G W J (bare.enters G W J (note (plain kind.Test site v.value) v) Around (plain kind.Test site v.value) v (bare.note_adds G W J (plain kind.Test site v.value) v) (test_draft site v.value s (before _ _ (newest _ _))) (newest _ _))) (λ e.
+          either G W J (is_true v.value) (λ q. arm_good e v a (before _ _ (before _ _ (newest _ _))) fa) (λ q. arm_good e v d (before _ _ (before _ _ (newest _ _))) fd))));
     }
 
     -- ---- each form
@@ -353,7 +353,7 @@ module _ (G : Ground) (W : Text) (M : Methods G) (L : Inner G W M) where
     typed_as e ty h = (expression.typed G M i e).by ty h
 
     ticked : (m : Run (A G) K) → Good m → Good (tick >> m)
-    ticked m h = record { by = λ P. after G W (ticks G) (plainly G W (bare.ticks G W)) (λ P. h.by P) }
+    ticked m h = record { by = λ P. after G W J (ticks G) (plainly G W J (bare.ticks G W J)) (λ P. h.by P) }
 
     given_good : (e : Expression) (ty : Ty) → Keeps e → Sited Ok e → Gives (p G) (local_types (p G) i) e ty → Good (eval w e)
     given_good e ty d s (fitting {a = a} g f) = d.by s a g
@@ -398,7 +398,7 @@ module _ (G : Ground) (W : Text) (M : Methods G) (L : Inner G W M) where
     place_known (Elem array index site) ty (typing.element {base = c} {brackets = n} g k) q = cc q
 
     then_good : (m : Run (A G) K) (f : K → Run (A G) K) → Good m → ((v : K) (P : Known G) → Entails P (F v) → B P (f v) F) → Good (m >>= f)
-    then_good m f h q = record { by = λ P. then_bare G W (h.by P) (λ v. q v _ (newest _ _)) }
+    then_good m f h q = record { by = λ P. then_bare G W J (h.by P) (λ v. q v _ (newest _ _)) }
 
     of_read : (x : Place) (ty : Ty) → OfPlace Keeps x → PlaceSited Ok x → Has (Read x) ty → Good (eval w (Read x))
     unfolding eval
@@ -409,7 +409,7 @@ module _ (G : Ground) (W : Text) (M : Methods G) (L : Inner G W M) where
     of_set x e site ty d de s (typing.assigned g k) = ticked _ (record { by = λ P. sets_good (locate w x) (eval w e) site ty s.0 (place_known x ty g) (located_typed x ty g) (given_typed e ty k) (located_good x ty d s.1 g) (given_good e ty de s.2 k) })
 
     one_good : Good (return (constant (val.Int (pos 1))))
-    one_good = record { by = λ P. plainly G W (bare.gives G W _ (constant_fine G W (val.Int (pos 1)) tt)) }
+    one_good = record { by = λ P. plainly G W J (bare.gives G W J _ (constant_fine G W (val.Int (pos 1)) tt)) }
 
     of_update : (x : Place) (op : BinOp) (value : Part) (value_ty place_ty : Ty) (wide : Option Primitive) (gives_old : Bool) (site : ℕ) (ty : Ty) → OfPlace Keeps x → OfPart Keeps value → Sited Ok (Upd x op value value_ty place_ty wide gives_old site) → Has (Upd x op value value_ty place_ty wide gives_old site) ty → Good (eval w (Upd x op value value_ty place_ty wide gives_old site))
     unfolding eval eval_part part_or update
@@ -427,28 +427,28 @@ module _ (G : Ground) (W : Text) (M : Methods G) (L : Inner G W M) where
 
     of_unary : (op : UnOp) (e : Expression) (ty : Ty) → Keeps e → Sited Ok e → Has (Un op e) ty → Good (eval w (Un op e))
     unfolding eval unary
-    of_unary op e ty d s (typing.signed n q g) = ticked _ (then_good _ _ (d.by s _ g) (λ v P f. bare.gives G W _ (unary_fine op v f)))
-    of_unary op e ty d s (typing.negated g) = ticked _ (then_good _ _ (d.by s _ g) (λ v P f. bare.gives G W _ (unary_fine op v f)))
+    of_unary op e ty d s (typing.signed n q g) = ticked _ (then_good _ _ (d.by s _ g) (λ v P f. bare.gives G W J _ (unary_fine op v f)))
+    of_unary op e ty d s (typing.negated g) = ticked _ (then_good _ _ (d.by s _ g) (λ v P f. bare.gives G W J _ (unary_fine op v f)))
 
     of_binary : (op : BinOp) (l r : Expression) (site : ℕ) (ty : Ty) → Keeps l → Keeps r → Sited Ok (Bin op l r site) → Has (Bin op l r site) ty → Good (eval w (Bin op l r site))
     unfolding eval binary
     of_binary op l r site ty dl dr s (typing.operated {a = a} {b = c} g k u) =
         ticked _ (record {
-          by = λ P. bind G W ((typed_as l a g).by P) ((dl.by s.1 _ g).by P) (λ x. then_bare G W ((dr.by s.2 _ k).by _) (λ y.
-              bare.gives_less G W (plain_form.divides G W M site _ (binary_of op x.value y.value) s.0 (joined_fine G W val.None x y tt (before _ _ (newest _ _)) (newest _ _)) (λ v q. binary_gives (p G) op x.value y.value v q)) (λ u. plain_form.worked_fine G W M u (newest _ _))));
+          by = λ P. bind G W J ((typed_as l a g).by P) ((dl.by s.1 _ g).by P) (λ x. then_bare G W J ((dr.by s.2 _ k).by _) (λ y.
+              bare.gives_less G W J (plain_form.divides G W J M site _ (binary_of op x.value y.value) s.0 (joined_fine G W val.None x y tt (before _ _ (newest _ _)) (newest _ _)) (λ v q. binary_gives (p G) op x.value y.value v q)) (λ u. plain_form.worked_fine G W J M u (newest _ _))));
         })
 
     of_conversion : (to : Primitive) (e : Expression) (ty : Ty) → Keeps e → Sited Ok e → Has (Conv to e) ty → Good (eval w (Conv to e))
     unfolding eval convert
-    of_conversion to e ty d s (typing.converted t f g) = ticked _ (then_good _ _ (d.by s _ g) (λ v P f. bare.gives G W _ (converted_fine to v f)))
+    of_conversion to e ty d s (typing.converted t f g) = ticked _ (then_good _ _ (d.by s _ g) (λ v P f. bare.gives G W J _ (converted_fine to v f)))
 
     of_cast : (to : Ty) (e : Expression) (site : ℕ) (ty : Ty) → Keeps e → Sited Ok (Cast to e site) → Has (Cast to e site) ty → Good (eval w (Cast to e site))
     unfolding eval cast
-    of_cast to e site ty d s (typing.cast r g c) = ticked _ (then_good _ _ (d.by s.1 _ g) (λ v P f. bare.next G W (plain_form.finds_type G W M v.value) (λ found. bare.chooses G W (is_null v.value) (bare.gives G W v f) (bare.chooses G W (is_below (p G) found to) (bare.gives G W v f) (plain_form.cast_fails G W M site v s.0 f)))))
+    of_cast to e site ty d s (typing.cast r g c) = ticked _ (then_good _ _ (d.by s.1 _ g) (λ v P f. bare.next G W J (plain_form.finds_type G W J M v.value) (λ found. bare.chooses G W J (is_null v.value) (bare.gives G W J v f) (bare.chooses G W J (is_below (p G) found to) (bare.gives G W J v f) (plain_form.cast_fails G W J M site v s.0 f)))))
 
     of_instance_of : (of : Ty) (e : Expression) (ty : Ty) → Keeps e → Sited Ok e → Has (InstanceOf of e) ty → Good (eval w (InstanceOf of e))
     unfolding eval instance_of
-    of_instance_of of e ty d s (typing.tested r g c) = ticked _ (then_good _ _ (d.by s _ g) (λ v P f. bare.next G W (plain_form.finds_type G W M v.value) (λ found. bare.gives G W _ (with_value_fine G W _ v tt f))))
+    of_instance_of of e ty d s (typing.tested r g c) = ticked _ (then_good _ _ (d.by s _ g) (λ v P f. bare.next G W J (plain_form.finds_type G W J M v.value) (λ found. bare.gives G W J _ (with_value_fine G W _ v tt f))))
 
     of_conditional : (f : CondForm) (t : Expression) (x y : Part) (site : ℕ) (ty : Ty) → Keeps t → OfPart Keeps x → OfPart Keeps y → Sited Ok (Cond f t x y site) → Has (Cond f t x y site) ty → Good (eval w (Cond f t x y site))
     unfolding eval eval_part
@@ -493,7 +493,7 @@ module _ (G : Ground) (W : Text) (M : Methods G) (L : Inner G W M) where
 
     of_library : (op : LibOp) (args : Row) (site : ℕ) (ty : Ty) → OfRow Keeps args → Sited Ok (Lib op args site) → Has (Lib op args site) ty → Good (eval w (Lib op args site))
     unfolding eval library_form
-    of_library op args site ty d s (typing.offered {params = ts} f a) = ticked _ (record { by = λ P. then_bare G W (all_good (eval_row w args) ts P (rows_typed args ts a) (rows_good args ts d s.1 a)) (λ vs. plain_text.in_library G W M op site vs s.0 (newest _ _)) })
+    of_library op args site ty d s (typing.offered {params = ts} f a) = ticked _ (record { by = λ P. then_bare G W J (all_good (eval_row w args) ts P (rows_typed args ts a) (rows_good args ts d s.1 a)) (λ vs. plain_text.in_library G W J M op site vs s.0 (newest _ _)) })
 
     constant_plain : (v : Constant) → FixedInRange (p G) (constant_value v)
     unfolding constant_value
@@ -507,11 +507,11 @@ module _ (G : Ground) (W : Text) (M : Methods G) (L : Inner G W M) where
 
     of_constant : (v : Constant) → Good (eval w (Const v))
     unfolding eval
-    of_constant v = ticked _ (record { by = λ P. plainly G W (bare.gives G W _ (constant_fine G W (constant_value v) (constant_plain v))) })
+    of_constant v = ticked _ (record { by = λ P. plainly G W J (bare.gives G W J _ (constant_fine G W (constant_value v) (constant_plain v))) })
 
     of_str : (k : ℕ) (ty : Ty) → Has (Str k) ty → Good (eval w (Str k))
     unfolding eval
-    of_str k ty (typing.text lt) = ticked _ (record { by = λ P. plainly G W (bare.gives G W _ (constant_fine G W (val.Fixed k) lt)) })
+    of_str k ty (typing.text lt) = ticked _ (record { by = λ P. plainly G W J (bare.gives G W J _ (constant_fine G W (val.Fixed k) lt)) })
 
     step : (e : Expression) → Parts Keeps e → Keeps e
     step (Const v) d = record { by = λ s ty g. of_constant v }

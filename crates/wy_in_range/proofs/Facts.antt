@@ -124,11 +124,11 @@ module _ (G : Ground) (W : Text) where
   unfolding thrown_known_up
   thrown v = record { holds = λ n. IsThrown (event_in n) v; up = λ m n. thrown_known_up m n v }
 
-  -- why a part of a run is left
-  unfoldable pub fair : Reason (A G) → Known G
-  fair (Jumped target e) = nothing
-  fair (Returned e v) = fine v
-  fair (Threw e v) = both (fine v) (thrown v.value)
+  -- why a part of a run is left, where a jump may go to these statements
+  unfoldable pub fair : (ℕ → Type 0) → Reason (A G) → Known G
+  fair J (Jumped target e) = always (J target)
+  fair J (Returned e v) = fine v
+  fair J (Threw e v) = both (fine v) (thrown v.value)
 
   -- ---- drafts
 
@@ -169,6 +169,10 @@ module _ (G : Ground) (W : Text) where
   pub written_before : Moment → ℕ
   written_before [] = 0
   written_before (x ∷ rest) = written_by (p G) W.ends_line (event_in rest) x.event + written_before rest
+
+  pub written_one : (x : Noted (A G)) (rest : Moment) → written_before (x ∷ rest) ≡ written_by (p G) W.ends_line (event_in rest) x.event + written_before rest
+  unfolding written_before
+  written_one x rest = refl
 
   pub record Inv (s : S) : Type 0 where
     pub noted : AllInRange s.noted

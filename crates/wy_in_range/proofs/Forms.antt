@@ -41,7 +41,7 @@ code_of_class : (c : ℕ) → type_code (class_type c) ≡ class_code c
 unfolding type_code base_code class_code
 code_of_class c = omega arith
 
-module _ (G : Ground) (W : Text) (M : Methods G) where
+module _ (G : Ground) (W : Text) (J : ℕ → Type 0) (M : Methods G) where
   abbrev w : World (A G)
   w = world_of G M
 
@@ -49,7 +49,7 @@ module _ (G : Ground) (W : Text) (M : Methods G) where
   Site n = IsSite W.tokens n
 
   abbrev B : Region → {X : Type 0} → Known G → Run (A G) X → (X → Known G) → Type 0
-  B r {X} P m Q = Bare G W r P m Q
+  B r {X} P m Q = Bare G W J r P m Q
 
   abbrev F : C G W → Known G
   F c = fine G W c
@@ -73,14 +73,14 @@ module _ (G : Ground) (W : Text) (M : Methods G) where
 
   pub throws : {r : Region} {X : Type 0} {P : Known G} {Q : X → Known G} (site : ℕ) (v : C G W) → Site site → Entails P (F v) → Entails P (thrown G W v.value) → B r P (throwing site v) Q
   unfolding throwing plain drafted fine thrown fair both value_of
-  throws site v s f t = bind G W (notes G W (plain kind.Throw site v.value) v (record { by = λ n q. record { site = s; what = tt; slot = tt; value = t.by n q; fixed = (f.by n q).0; quiet = tt } }) f)
-      (λ e. leaves G W (Threw e.number (value_of e v.value)) (record { by = λ n q. (((f.by n q.0).0, (tt, tt)), t.by n q.0) }))
+  throws site v s f t = bind G W J (notes G W J (plain kind.Throw site v.value) v (record { by = λ n q. record { site = s; what = tt; slot = tt; value = t.by n q; fixed = (f.by n q).0; quiet = tt } }) f)
+      (λ e. leaves G W J (Threw e.number (value_of e v.value)) (record { by = λ n q. (((f.by n q.0).0, (tt, tt)), t.by n q.0) }))
 
   fails : {r : Region} {X : Type 0} {P : Known G} {Q : X → Known G} (c site : ℕ) (v : C G W) → Fails (p G) c → (c ≡ string_class → ⊥) → Site site → Entails P (F v) → B r P (fail w c site v) Q
   unfolding fail value_of
   fails c site v f n s e =
       let lt = slice_get_within (p G).classes c f.made.0 f.made.1 in
-      bind G W (creates_new G W (about kind.New site (class_code c) val.None) v (object_draft site c s lt n) e) (λ x. throws site (value_of x (val.Object x.number)) s (value_of_fine G W x _ tt) (new_thrown x site c lt (newest _ _)))
+      bind G W J (creates_new G W J (about kind.New site (class_code c) val.None) v (object_draft site c s lt n) e) (λ x. throws site (value_of x (val.Object x.number)) s (value_of_fine G W x _ tt) (new_thrown x site c lt (newest _ _)))
 
   pub null_fails : {r : Region} {X : Type 0} {P : Known G} {Q : X → Known G} (site : ℕ) (v : C G W) → Site site → Entails P (F v) → B r P (fail w null_pointer site v) Q
   null_fails site v = fails null_pointer site v (null_pointer_fails (p G) G.fits.declarations.library_classes) (λ e. cc e)
@@ -110,24 +110,24 @@ module _ (G : Ground) (W : Text) (M : Methods G) where
 
   looks_up : {r : Region} {P : Known G} (n : ℕ) → B r P (event_at n) (λ o. nothing)
 
-  looks_up n = looks G W n (λ o. nothing) (λ s o k i e. tt)
+  looks_up n = looks G W J n (λ o. nothing) (λ s o k i e. tt)
 
   pub finds_type : {r : Region} {P : Known G} (v : Value) → B r P (type_of v) (λ t. nothing)
   unfolding type_of
-  finds_type (val.Object k) = next G W (looks_up k) (λ o. gives G W _ trivially)
-  finds_type (val.Text k) = gives G W _ trivially
-  finds_type (val.Fixed k) = gives G W _ trivially
-  finds_type _ = gives G W _ trivially
+  finds_type (val.Object k) = next G W J (looks_up k) (λ o. gives G W J _ trivially)
+  finds_type (val.Text k) = gives G W J _ trivially
+  finds_type (val.Fixed k) = gives G W J _ trivially
+  finds_type _ = gives G W J _ trivially
 
   pub finds_units : {r : Region} {P : Known G} (v : Value) → B r P (units_of w v) (λ us. nothing)
   unfolding units_of
-  finds_units (val.Text k) = next G W (looks_up k) (λ o. gives G W _ trivially)
-  finds_units (val.Fixed k) = gives G W _ trivially
-  finds_units _ = gives G W _ trivially
+  finds_units (val.Text k) = next G W J (looks_up k) (λ o. gives G W J _ trivially)
+  finds_units (val.Fixed k) = gives G W J _ trivially
+  finds_units _ = gives G W J _ trivially
 
   pub finds_object : {r : Region} {P : Known G} (site : ℕ) (c : C G W) (v : Value) → Site site → Entails P (F c) → B r P (object_of w site c v) (λ n. always G W (v ≡ val.Object n))
   unfolding object_of
-  finds_object site c (val.Object n) s e = gives G W n (record { by = λ m q. refl })
+  finds_object site c (val.Object n) s e = gives G W J n (record { by = λ m q. refl })
   finds_object site c _ s e = null_fails site c s e
 
   -- ---- places
@@ -145,14 +145,14 @@ module _ (G : Ground) (W : Text) (M : Methods G) where
 
   pub local_found : {P : Known G} (i : Frame) (k : ℕ) → k < length (local_types (p G) i) → B (In i) P (local_spot k) spot_fine
   unfolding local_spot current both spot_fine spotted fine constant code_of
-  local_found i k lt = bind G W (frames G W) (λ o. gives G W _ (record { by = λ n q. let c = q.1 in ((tt, subst (λ f. LocalAt n f) (sym (ap code_of c.1)) (record { event = c.2.event; there = c.2.there; body = i; runs = c.2.runs; within = lt })), (tt, tt)) }))
+  local_found i k lt = bind G W J (frames G W J) (λ o. gives G W J _ (record { by = λ n q. let c = q.1 in ((tt, subst (λ f. LocalAt n f) (sym (ap code_of c.1)) (record { event = c.2.event; there = c.2.there; body = i; runs = c.2.runs; within = lt })), (tt, tt)) }))
     where
       LocalAt : Moment G W → ℕ → Type 0
       LocalAt n f = HasLocal (p G) (event_in n) f k
 
   pub field_found : {r : Region} {P : Known G} (k site : ℕ) (o : C G W) (f : Field) → Site site → IsField (p G) k f → f.is_static ≡ false → Entails P (F o) → Entails P (of_type G (class_type f.class) o.value) → B r P (field_spot w k site o) spot_fine
   unfolding field_spot both spot_fine spotted is
-  field_found k site o f s e plain_field h t = bind G W (finds_object site o o.value s h) (λ n. gives G W _ (record { by = λ m q. ((tt, (object_at G m n f.class (field_of_source G k f e) (subst (λ v. Is (p G) m (class_type f.class) v) q.1 (t.by m q.0)), (f, e, plain_field))), h.by m q.0) }))
+  field_found k site o f s e plain_field h t = bind G W J (finds_object site o o.value s h) (λ n. gives G W J _ (record { by = λ m q. ((tt, (object_at G m n f.class (field_of_source G k f e) (subst (λ v. Is (p G) m (class_type f.class) v) q.1 (t.by m q.0)), (f, e, plain_field))), h.by m q.0) }))
 
   -- an array of that length
   record Measured (n : Moment G W) (a l : ℕ) : Type 0 where
@@ -174,7 +174,7 @@ module _ (G : Ground) (W : Text) (M : Methods G) where
 
   looked_up : {r : Region} {P : Known G} (a : ℕ) (ty : Ty) → Entails P (of_type G ty (val.Object a)) → B r P (event_at a) (λ o. measured a (length_in o))
   unfolding is measured length_in
-  looked_up a ty h = looks G W a _ (λ s o k i e. let r = h.by _ k in record {
+  looked_up a ty h = looks G W J a _ (λ s o k i e. let r = h.by _ k in record {
     event = r.event;
     there = r.there;
     is_new = r.is_new;
@@ -184,11 +184,11 @@ module _ (G : Ground) (W : Text) (M : Methods G) where
 
   measures : {r : Region} {P : Known G} (a : ℕ) (ty : Ty) → Entails P (of_type G ty (val.Object a)) → B r P (length_of a) (measured a)
   unfolding length_of
-  measures a ty h = bind G W (looked_up a ty h) (λ o. gives G W _ (newest _ _))
+  measures a ty h = bind G W J (looked_up a ty h) (λ o. gives G W J _ (newest _ _))
 
   pub measures_some : {r : Region} {P : Known G} (a : ℕ) → B r P (length_of a) (λ l. nothing)
   unfolding length_of
-  measures_some a = next G W (looks_up a) (λ o. gives G W _ trivially)
+  measures_some a = next G W J (looks_up a) (λ o. gives G W J _ trivially)
 
   indexed : (l : ℕ) (v : Value) (j : ℕ) → index_in l v ≡ Some j → j < l
   unfolding index_in
@@ -227,16 +227,16 @@ module _ (G : Ground) (W : Text) (M : Methods G) where
 
   checks_index : {r : Region} {P : Known G} (site : ℕ) (c : C G W) (o : Option ℕ) → Site site → Entails P (F c) → B r P (checked_index w site c o) (λ j. always G W (o ≡ Some j))
   unfolding checked_index
-  checks_index site c (Some k) s e = gives G W k (record { by = λ n q. refl })
+  checks_index site c (Some k) s e = gives G W J k (record { by = λ n q. refl })
   checks_index site c Absent s e = index_fails site c s e
 
   pub element_found : {r : Region} {P : Known G} (site : ℕ) (a k : C G W) (ty : Ty) → Site site → Entails P (F a) → Entails P (F k) → Entails P (of_type G ty a.value) → B r P (element_spot w site a k) spot_fine
   unfolding element_spot both spot_fine spotted is measured
   element_found site a k ty s fa fk t =
-      bind G W (finds_object site _ a.value s (joined_fine G W val.None a k tt fa fk)) (λ n.
-      bind G W (measures n ty (record { by = λ m q. subst (λ v. Is (p G) m ty v) q.1 (t.by m q.0) })) (λ l.
-      bind G W (checks_index site _ (index_in l k.value) s (before _ _ (before _ _ (joined_fine G W val.None a k tt fa fk)))) (λ j.
-      gives G W _ (record { by = λ m q. ((tt, array_at m n l j q.0.1 (indexed l k.value j q.1)), (joined_fine G W val.None a k tt fa fk).by m q.0.0.0) }))))
+      bind G W J (finds_object site _ a.value s (joined_fine G W val.None a k tt fa fk)) (λ n.
+      bind G W J (measures n ty (record { by = λ m q. subst (λ v. Is (p G) m ty v) q.1 (t.by m q.0) })) (λ l.
+      bind G W J (checks_index site _ (index_in l k.value) s (before _ _ (before _ _ (joined_fine G W val.None a k tt fa fk)))) (λ j.
+      gives G W J _ (record { by = λ m q. ((tt, array_at m n l j q.0.1 (indexed l k.value j q.1)), (joined_fine G W val.None a k tt fa fk).by m q.0.0.0) }))))
 
   -- ---- reading and assigning
 
@@ -246,8 +246,8 @@ module _ (G : Ground) (W : Text) (M : Methods G) where
 
   pub fetches : {r : Region} {P : Known G} (x : Spot (A G)) → Entails P (spot_fine x) → B r P (fetch x) F
   unfolding fetch
-  fetches x e = bind G W (reads G W x.slot (spot_slot x e)) (λ v. either G W (lacks_value x.slot v.value) (λ l. stops G W _) (λ l.
-      gives G W _ (fetched x.parts v (newest _ _) (before _ _ (spot_parts x e)))))
+  fetches x e = bind G W J (reads G W J x.slot (spot_slot x e)) (λ v. either G W J (lacks_value x.slot v.value) (λ l. stops G W J _) (λ l.
+      gives G W J _ (fetched x.parts v (newest _ _) (before _ _ (spot_parts x e)))))
 
   joined_as : {P : Known G} (v : Value) (x y : C G W) → Entails P (F x) → Entails P (F y) → v ≡ y.value → Entails P (F (joined v x y))
   unfolding fine joined
@@ -263,19 +263,19 @@ module _ (G : Ground) (W : Text) (M : Methods G) where
 
   pub assigns : {r : Region} {P : Known G} (site : ℕ) (x : Spot (A G)) (v : C G W) → Site site → Entails P (spot_fine x) → Entails P (F v) → Entails P (some v.value) → B r P (assign site x v) F
   unfolding assign
-  assigns site x v s e f g = bind G W (writes G W _ _ (set_draft site x.slot v s (spot_slot x e) f g) (joined_as v.value x.parts v (spot_parts x e) f refl)) (λ m. gives G W _ (as_value m v (before _ _ f)))
+  assigns site x v s e f g = bind G W J (writes G W J _ _ (set_draft site x.slot v s (spot_slot x e) f g) (joined_as v.value x.parts v (spot_parts x e) f refl)) (λ m. gives G W J _ (as_value m v (before _ _ f)))
 
   checks : {r : Region} {P : Known G} (site : ℕ) (x : Spot (A G)) (v : C G W) (y : Slot) → Site site → Entails P (spot_fine x) → Entails P (F v) → B r P (check_store w site x v y) (λ t. nothing)
   unfolding check_store
-  checks site x v (slot.Elem a j) s e f = next G W (finds_type (val.Object a)) (λ t. next G W (finds_type v.value) (λ u. either G W _ (λ q. gives G W tt trivially) (λ q. element_fails site _ s (joined_fine G W val.None x.parts v tt (spot_parts x e) f))))
-  checks site x v (slot.Local g k) s e f = gives G W tt trivially
-  checks site x v (slot.Static k) s e f = gives G W tt trivially
-  checks site x v (slot.Field o k) s e f = gives G W tt trivially
-  checks site x v slot.None s e f = gives G W tt trivially
+  checks site x v (slot.Elem a j) s e f = next G W J (finds_type (val.Object a)) (λ t. next G W J (finds_type v.value) (λ u. either G W J _ (λ q. gives G W J tt trivially) (λ q. element_fails site _ s (joined_fine G W val.None x.parts v tt (spot_parts x e) f))))
+  checks site x v (slot.Local g k) s e f = gives G W J tt trivially
+  checks site x v (slot.Static k) s e f = gives G W J tt trivially
+  checks site x v (slot.Field o k) s e f = gives G W J tt trivially
+  checks site x v slot.None s e f = gives G W J tt trivially
 
   pub stores : {r : Region} {P : Known G} (site : ℕ) (x : Spot (A G)) (v : C G W) → Site site → Entails P (spot_fine x) → Entails P (F v) → Entails P (some v.value) → B r P (store w site x v) F
   unfolding store
-  stores site x v s e f g = after G W (checks site x v x.slot s e f) (assigns site x v s (before _ _ e) (before _ _ f) (before _ _ g))
+  stores site x v s e f g = after G W J (checks site x v x.slot s e f) (assigns site x v s (before _ _ e) (before _ _ f) (before _ _ g))
 
   -- what an operation gave
   unfoldable pub worked : Value → Known G
@@ -287,7 +287,7 @@ module _ (G : Ground) (W : Text) (M : Methods G) where
 
   pub divides : {r : Region} {P : Known G} (site : ℕ) (c : C G W) (o : Option Value) → Site site → Entails P (F c) → ((v : Value) → o ≡ Some v → Plain (p G) v) → B r P (divided w site c o) (λ u. both (F u) (worked u.value))
   unfolding divided
-  divides site c (Some v) s e h = gives G W _ (done v c (h v refl) e)
+  divides site c (Some v) s e h = gives G W J _ (done v c (h v refl) e)
   divides site c Absent s e h = zero_fails site c s e
 
   pub brought : {P : Known G} (ty : Ty) (c : C G W) → Entails P (both (F c) (worked c.value)) → Entails P (F (with_value (primitive_of ty c.value) c))

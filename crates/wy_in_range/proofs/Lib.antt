@@ -7,6 +7,3 @@ mod Forms
 mod Texts
 mod Expressions
 mod Statements
-mod Bodies
-mod Runs
-mod Sited

@@ -38,7 +38,7 @@ use Rattle.wy_typed_states.proofs.Statements as typed_statement
 use Rattle.wy_typed_states.proofs.Statements.{GivesBack, leaves_typed, place}
 use Rattle.wy_typed_states.proofs.Expressions as expression
 use Rattle.wy_in_range.specs.Sites.{Sited, PartSited, StatementSited, ActSited, OtherSited, AllSited, CatchesSited}
-use Rattle.wy_in_range.specs.InRange.{Text, IsSite, HasLocal, IsThrown, IsPrinted, FixedInRange, StringIsFinal}
+use Rattle.wy_in_range.specs.InRange.{Text, IsSite, HasLocal, IsThrown, IsPrinted, FixedInRange, StringIsFinal, Lined, ActLined, OtherLined, AllLined, CatchesLined, JumpsTo, ActJumpsTo, OtherJumpsTo, AllJumpTo, CatchesJumpTo}
 use Rattle.wy_in_range.proofs.Facts.{S, C, Moment, always, Fine, fine, thrown, fair, drafted, Inv, constant_fine}
 use Rattle.wy_in_range.proofs.Values.{throwable}
 use Rattle.wy_in_range.proofs.Strings.{text_printed}
@@ -47,7 +47,7 @@ use Rattle.wy_in_range.proofs.Bare.{Bare}
 use Rattle.wy_in_range.proofs.Forms as plain_form
 use Rattle.wy_in_range.proofs.Texts as plain_text
 use Rattle.wy_in_range.proofs.Expressions.{Inner, Good, keeps, shows_good, chosen_good, test_draft}
-use Rattle.wy_in_range.proofs.Rules.{At, Full, bind, after, weaker, where_at, with_end, either, plainly, then_plainly, then_bare, bare_first, forgets, catches, numbered, whiles, dos}
+use Rattle.wy_in_range.proofs.Rules.{At, Full, bind, after, weaker, where_at, with_end, either, plainly, then_plainly, then_bare, bare_first, forgets, catches, numbered, OrTo, whiles, dos}
 
 module _ (G : Ground) (W : Text) (final : StringIsFinal (p G)) (M : Methods G) (L : Inner G W M) (i : Frame) (result : Option Ty) (back : GivesBack G M i result) where
   abbrev w : World (A G)
@@ -65,12 +65,9 @@ module _ (G : Ground) (W : Text) (final : StringIsFinal (p G)) (M : Methods G) (
   abbrev F : K → Known G
   F c = fine G W c
 
-  abbrev O : {X : Type 0} → Known G → Run (A G) X → (X → Known G) → Type 0
-  O P m Q = Full G W (In i) P m Q
-
-  -- a run of statements
-  pub record Runs (m : Run (A G) Unit) : Type 1 where
-    pub by : (P : Known G) → O P m (λ u. nothing)
+  -- a run of statements, of which a jump may go to these
+  pub record RunsTo (J : ℕ → Type 0) (m : Run (A G) Unit) : Type 1 where
+    pub by : (P : Known G) → Full G W J (In i) P m (λ u. nothing)
 
   abbrev Typed : {X : Type 0} → Run (A G) X → Type 1
   Typed m = (P : Known G) → Does G (In i) P m (λ x. nothing)
@@ -80,230 +77,237 @@ module _ (G : Ground) (W : Text) (final : StringIsFinal (p G)) (M : Methods G) (
 
   -- the statement, where its sites are in range and its forms fit their types
   pub record Keeps (x : Statement) : Type 1 where
-    pub by : StatementSited Ok x → Lined W.ends_line x → IsTyped here x → Runs (exec w x)
+    pub by : (J : ℕ → Type 0) → StatementSited Ok x → Lined W.ends_line x → JumpsTo J x → IsTyped here x → RunsTo J (exec w x)
 
-  -- ---- statements in order
+  module _ (J : ℕ → Type 0) where
+    abbrev O : {X : Type 0} → Known G → Run (A G) X → (X → Known G) → Type 0
+    O P m Q = Full G W J (In i) P m Q
 
-  all_typed : (x : Statements) → AllTyped here x → Typed (exec_all w x)
-  unfolding exec_all
-  all_typed done h P = typed_rule.gives G tt trivially
-  all_typed (first s rest) h P = typed_rule.after G (typed_exec s h.0 P) (all_typed rest h.1 P)
+    abbrev Runs : Run (A G) Unit → Type 1
+    Runs m = RunsTo J m
 
-  all_run : (x : Statements) → OfStatements Keeps x → AllSited Ok x → AllTyped here x → Runs (exec_all w x)
-  unfolding exec_all
-  all_run done d s t = record { by = λ P. plainly G W (bare.gives G W tt trivially) }
-  all_run (first x rest) d s t = record { by = λ P. after G W (typed_exec x t.0 P) ((d.0.by s.0 t.0).by P) (all_run rest d.1 s.1 t.1).by }
+    -- ---- statements in order
 
-  -- ---- tests
+    all_typed : (x : Statements) → AllTyped here x → Typed (exec_all w x)
+    unfolding exec_all
+    all_typed done h P = typed_rule.gives G tt trivially
+    all_typed (first s rest) h P = typed_rule.after G (typed_exec s h.0 P) (all_typed rest h.1 P)
 
-  tests : (site reach : ℕ) (e : Expression) → Ok site → Sited Ok e → HasType (p G) (local_types (p G) i) e boolean_type → (P : Known G) → O P (tested site reach (eval w e)) (λ c. nothing)
-  unfolding tested
-  tests site reach e s se t P = then_plainly G W (((expression.typed G M i e).by boolean_type t).by P) (((keeps G W M L i e).by se boolean_type t).by P) (λ v. bare.bind G W (bare.frames G W) (λ f.
-      bare.bind G W (bare.enters G W (note (plain kind.Test site v.value) v) (Through f reach) (plain kind.Test site v.value) v (bare.note_adds G W (plain kind.Test site v.value) v) (test_draft G W M L i site v.value s (before _ _ (before _ _ (newest _ _)))) (before _ _ (newest _ _))) (λ e. bare.gives G W _ trivially)))
+    all_run : (x : Statements) → OfStatements Keeps x → AllSited Ok x → AllLined W.ends_line x → AllJumpTo J x → AllTyped here x → Runs (exec_all w x)
+    unfolding exec_all
+    all_run done d s l j t = record { by = λ P. plainly G W J (bare.gives G W J tt trivially) }
+    all_run (first x rest) d s l j t = record { by = λ P. after G W J (typed_exec x t.0 P) ((d.0.by J s.0 l.0 j.0 t.0).by P) (all_run rest d.1 s.1 l.1 j.1 t.1).by }
 
-  test_typed : (site reach : ℕ) (e : Expression) → HasType (p G) (local_types (p G) i) e boolean_type → Typed (tested site reach (eval w e))
-  test_typed site reach e t P = (typed_statement.tests G M i result back site reach (eval w e) ((expression.typed G M i e).by boolean_type t)).by P
+    -- ---- tests
 
-  -- ---- try
+    tests : (site reach : ℕ) (e : Expression) → Ok site → Sited Ok e → HasType (p G) (local_types (p G) i) e boolean_type → (P : Known G) → O P (tested site reach (eval w e)) (λ c. nothing)
+    unfolding tested
+    tests site reach e s se t P = then_plainly G W J (((expression.typed G M i e).by boolean_type t).by P) (((keeps G W J M L i e).by se boolean_type t).by P) (λ v. bare.bind G W J (bare.frames G W J) (λ f.
+        bare.bind G W J (bare.enters G W J (note (plain kind.Test site v.value) v) (Through f reach) (plain kind.Test site v.value) v (bare.note_adds G W J (plain kind.Test site v.value) v) (test_draft G W J M L i site v.value s (before _ _ (before _ _ (newest _ _)))) (before _ _ (newest _ _))) (λ e. bare.gives G W J _ trivially)))
 
-  catch_draft : {P : Known G} (site k : ℕ) (ty : Ty) (f : Option ℕ) (v : K) → Ok site → slice_get (local_types (p G) i) k ≡ Some ty → Entails P (current (A G) (p G) i f) → Entails P (F v) → Entails P (thrown G W v.value) → Entails P (drafted G W (into kind.Catch site (slot.Local (code_of f) k) v.value))
-  unfolding drafted into current fine thrown code_of
-  catch_draft site k ty f v s e c h t = record {
-    by = λ n q.
-        let r = c.by n q in
-        record {
-          site = s;
-          what = tt;
-          slot = subst (λ z. HasLocal (p G) (event_in n) z k) (sym (ap code_of r.1)) (record { event = r.2.event; there = r.2.there; body = i; runs = r.2.runs; within = slice_get_within (local_types (p G) i) k ty e });
-          value = t.by n q;
-          fixed = (h.by n q).0;
-          quiet = tt;
-        };
-  }
+    test_typed : (site reach : ℕ) (e : Expression) → HasType (p G) (local_types (p G) i) e boolean_type → Typed (tested site reach (eval w e))
+    test_typed site reach e t P = (typed_statement.tests G M i result back site reach (eval w e) ((expression.typed G M i e).by boolean_type t)).by P
 
-  takes : {P : Known G} (c k site : ℕ) (block : Statement) (number : ℕ) (v : K) → Keeps block → Ok site → StatementSited Ok block → IsTyped here block → slice_get (local_types (p G) i) k ≡ Some (class_type c) → Entails P (of_type G (class_type c) v.value) → Entails P (F v) → Entails P (thrown G W v.value) → O P (caught (record { class = c; local = k; site = site; number = number; block = exec w block }) v) (λ u. nothing)
-  unfolding caught current stores is both code_of
-  takes {P = P} c k site block number v d s sb t e q fv tv = bare_first G W (frames G) (bare.frames G W) (λ f. bind G W
-      (catches_local G (Through f number) site (code_of f) k v.value v (record { by = λ n y. let r = y.1 in typed_statement.binds G M i result back n (code_of f) k v.value (class_type c) e (subst (λ z. HasFrame n z i) (sym (ap code_of r.1)) r.2) (q.by n y.0.0) }))
-      (plainly G W (bare.enters G W (note_write (into kind.Catch site (slot.Local (code_of f) k) v.value) v) (Through f number) (into kind.Catch site (slot.Local (code_of f) k) v.value) v (bare.write_adds G W (into kind.Catch site (slot.Local (code_of f) k) v.value) v) (catch_draft site k (class_type c) f v s e (newest _ _) (before _ _ (before _ _ fv)) (before _ _ (before _ _ tv))) (before _ _ (before _ _ fv))))
-      (λ x. (d.by sb t).by _))
+    -- ---- try
 
-  threw_fair : {P : Known G} (e : ℕ) (v : K) → Entails P (F v) → Entails P (thrown G W v.value) → Entails P (fair G W (Threw e v))
-  unfolding fair both
-  threw_fair e v f t = record { by = λ n q. (f.by n q, t.by n q) }
+    catch_draft : {P : Known G} (site k : ℕ) (ty : Ty) (f : Option ℕ) (v : K) → Ok site → slice_get (local_types (p G) i) k ≡ Some ty → Entails P (current (A G) (p G) i f) → Entails P (F v) → Entails P (thrown G W v.value) → Entails P (drafted G W (into kind.Catch site (slot.Local (code_of f) k) v.value))
+    unfolding drafted into current fine thrown code_of
+    catch_draft site k ty f v s e c h t = record {
+      by = λ n q.
+          let r = c.by n q in
+          record {
+            site = s;
+            what = tt;
+            slot = subst (λ z. HasLocal (p G) (event_in n) z k) (sym (ap code_of r.1)) (record { event = r.2.event; there = r.2.there; body = i; runs = r.2.runs; within = slice_get_within (local_types (p G) i) k ty e });
+            value = t.by n q;
+            fixed = (h.by n q).0;
+            quiet = tt;
+          };
+    }
 
-  handles : {P : Known G} (x : Catches) (found : Ty) (e : ℕ) (v : K) → OfCatches Keeps x → CatchesSited Ok x → CatchesTyped here x → Entails P (of_type G (class_type throwable_class) v.value) → Entails P (found_as G v.value found) → Entails P (F v) → Entails P (thrown G W v.value) → O P (handle (p G) (exec_catches w x) (class_of_type found) e v) (λ u. nothing)
-  unfolding handle exec_catches is found_as
-  handles uncaught found e v d s t q f fv tv = plainly G W (bare.leaves G W (Threw e v) (threw_fair e v fv tv))
-  handles (catch c k site block rest) found e v d s t q f fv tv = either G W (is_subclass (p G) (class_of_type found) c)
-      (λ b. takes c k site block _ v d.0 s.0 s.1 t.1 t.0.bound (record { by = λ n y. caught_is G n v.value found c (q.by n y) (f.by n y) b }) fv tv)
-      (λ b. handles rest found e v d.1 s.2 t.2 q f fv tv)
+    takes : {P : Known G} (c k site : ℕ) (block : Statement) (number : ℕ) (v : K) → Keeps block → Ok site → StatementSited Ok block → Lined W.ends_line block → JumpsTo J block → IsTyped here block → slice_get (local_types (p G) i) k ≡ Some (class_type c) → Entails P (of_type G (class_type c) v.value) → Entails P (F v) → Entails P (thrown G W v.value) → O P (caught (record { class = c; local = k; site = site; number = number; block = exec w block }) v) (λ u. nothing)
+    unfolding caught current stores is both code_of
+    takes {P = P} c k site block number v d s sb l j t e q fv tv = bare_first G W J (frames G) (bare.frames G W J) (λ f. bind G W J
+        (catches_local G (Through f number) site (code_of f) k v.value v (record { by = λ n y. let r = y.1 in typed_statement.binds G M i result back n (code_of f) k v.value (class_type c) e (subst (λ z. HasFrame n z i) (sym (ap code_of r.1)) r.2) (q.by n y.0.0) }))
+        (plainly G W J (bare.enters G W J (note_write (into kind.Catch site (slot.Local (code_of f) k) v.value) v) (Through f number) (into kind.Catch site (slot.Local (code_of f) k) v.value) v (bare.write_adds G W J (into kind.Catch site (slot.Local (code_of f) k) v.value) v) (catch_draft site k (class_type c) f v s e (newest _ _) (before _ _ (before _ _ fv)) (before _ _ (before _ _ tv))) (before _ _ (before _ _ fv))))
+        (λ x. (d.by J sb l j t).by _))
 
-  typed_thrown : {P : Known G} (e : ℕ) (v : K) → Entails P (reason (A G) (p G) (In i) (Threw e v)) → Entails P (of_type G (class_type throwable_class) v.value)
-  unfolding reason
-  typed_thrown e v q = q
+    threw_fair : {P : Known G} (e : ℕ) (v : K) → Entails P (F v) → Entails P (thrown G W v.value) → Entails P (fair G W J (Threw e v))
+    unfolding fair both
+    threw_fair e v f t = record { by = λ n q. (f.by n q, t.by n q) }
 
-  fair_value : {P : Known G} (e : ℕ) (v : K) → Entails P (fair G W (Threw e v)) → Entails P (F v)
-  unfolding fair both
-  fair_value e v q = record { by = λ n h. (q.by n h).0 }
+    handles : {P : Known G} (x : Catches) (found : Ty) (e : ℕ) (v : K) → OfCatches Keeps x → CatchesSited Ok x → CatchesLined W.ends_line x → CatchesJumpTo J x → CatchesTyped here x → Entails P (of_type G (class_type throwable_class) v.value) → Entails P (found_as G v.value found) → Entails P (F v) → Entails P (thrown G W v.value) → O P (handle (p G) (exec_catches w x) (class_of_type found) e v) (λ u. nothing)
+    unfolding handle exec_catches is found_as
+    handles uncaught found e v d s l j t q f fv tv = plainly G W J (bare.leaves G W J (Threw e v) (threw_fair e v fv tv))
+    handles (catch c k site block rest) found e v d s l j t q f fv tv = either G W J (is_subclass (p G) (class_of_type found) c)
+        (λ b. takes c k site block _ v d.0 s.0 s.1 l.0 j.0 t.1 t.0.bound (record { by = λ n y. caught_is G n v.value found c (q.by n y) (f.by n y) b }) fv tv)
+        (λ b. handles rest found e v d.1 s.2 l.1 j.1 t.2 q f fv tv)
 
-  fair_thrown : {P : Known G} (e : ℕ) (v : K) → Entails P (fair G W (Threw e v)) → Entails P (thrown G W v.value)
-  unfolding fair both
-  fair_thrown e v q = record { by = λ n h. (q.by n h).1 }
+    typed_thrown : {P : Known G} (e : ℕ) (v : K) → Entails P (reason (A G) (p G) (In i) (Threw e v)) → Entails P (of_type G (class_type throwable_class) v.value)
+    unfolding reason
+    typed_thrown e v q = q
 
-  at_throws : {P : Known G} (x : Catches) (why : Reason (A G)) → OfCatches Keeps x → CatchesSited Ok x → CatchesTyped here x → Entails P (reason (A G) (p G) (In i) why) → Entails P (fair G W why) → O P (at_throw w (exec_catches w x) why) (λ u. nothing)
-  unfolding at_throw
-  at_throws x (Jumped target e) d s t q f = plainly G W (bare.leaves G W _ f)
-  at_throws x (Returned e v) d s t q f = plainly G W (bare.leaves G W _ f)
-  at_throws x (Threw e v) d s t q f = bare_first G W (finds_type G M (class_type throwable_class) v.value (typed_thrown e v q)) (plain_form.finds_type G W M v.value) (λ found. handles x found e v d s t (before _ _ (before _ _ (typed_thrown e v q))) (before _ _ (newest _ _)) (before _ _ (before _ _ (fair_value e v f))) (before _ _ (before _ _ (fair_thrown e v f))))
+    fair_value : {P : Known G} (e : ℕ) (v : K) → Entails P (fair G W J (Threw e v)) → Entails P (F v)
+    unfolding fair both
+    fair_value e v q = record { by = λ n h. (q.by n h).0 }
 
-  -- the typed parts of a `try`
-  module _ (main : Statement) (x : Catches) (tm : IsTyped here main) (tc : CatchesTyped here x) where
-    clauses_leave : (x : Catches) → CatchesTyped here x → typed_statement.ClausesLeave G M i result back (exec_catches w x)
-    unfolding exec_catches
-    clauses_leave uncaught t = tt
-    clauses_leave (catch c k site block rest) t = (t.0.bound, leaves_typed G M i result back block t.1, clauses_leave rest t.2)
+    fair_thrown : {P : Known G} (e : ℕ) (v : K) → Entails P (fair G W J (Threw e v)) → Entails P (thrown G W v.value)
+    unfolding fair both
+    fair_thrown e v q = record { by = λ n h. (q.by n h).1 }
 
-    guarded_typed : Typed (catching (exec w main) (at_throw w (exec_catches w x)))
-    guarded_typed P = (typed_statement.tries G M i result back (exec w main) (exec_catches w x) (leaves_typed G M i result back main tm) (clauses_leave x tc)).by P
+    at_throws : {P : Known G} (x : Catches) (why : Reason (A G)) → OfCatches Keeps x → CatchesSited Ok x → CatchesLined W.ends_line x → CatchesJumpTo J x → CatchesTyped here x → Entails P (reason (A G) (p G) (In i) why) → Entails P (fair G W J why) → O P (at_throw w (exec_catches w x) why) (λ u. nothing)
+    unfolding at_throw
+    at_throws x (Jumped target e) d s l j t q f = plainly G W J (bare.leaves G W J _ f)
+    at_throws x (Returned e v) d s l j t q f = plainly G W J (bare.leaves G W J _ f)
+    at_throws x (Threw e v) d s l j t q f = bare_first G W J (finds_type G M (class_type throwable_class) v.value (typed_thrown e v q)) (plain_form.finds_type G W J M v.value) (λ found. handles x found e v d s l j t (before _ _ (before _ _ (typed_thrown e v q))) (before _ _ (newest _ _)) (before _ _ (before _ _ (fair_value e v f))) (before _ _ (before _ _ (fair_thrown e v f))))
 
-  guarded : (main : Statement) (x : Catches) → Keeps main → OfCatches Keeps x → StatementSited Ok main → CatchesSited Ok x → IsTyped here main → CatchesTyped here x → Runs (catching (exec w main) (at_throw w (exec_catches w x)))
-  guarded main x d dc s sc t tc = record { by = λ P. catches G W (typed_exec main t P) ((d.by s t).by P) (λ why. at_throws x why dc sc tc (before _ _ (newest _ _)) (newest _ _)) }
+    -- the typed parts of a `try`
+    module _ (main : Statement) (x : Catches) (tm : IsTyped here main) (tc : CatchesTyped here x) where
+      clauses_leave : (x : Catches) → CatchesTyped here x → typed_statement.ClausesLeave G M i result back (exec_catches w x)
+      unfolding exec_catches
+      clauses_leave uncaught t = tt
+      clauses_leave (catch c k site block rest) t = (t.0.bound, leaves_typed G M i result back block t.1, clauses_leave rest t.2)
 
-  then_leave : {P : Known G} (last : Run (A G) Unit) (why : Reason (A G)) → Runs last → Entails P (fair G W why) → O {X = Unit {0}} P (last >> leave why) (λ u. nothing)
-  unfolding ◌>>◌
-  then_leave {P = P} last why h f = then_bare G W (h.by P) (λ t. bare.leaves G W why (before _ _ f))
+      guarded_typed : Typed (catching (exec w main) (at_throw w (exec_catches w x)))
+      guarded_typed P = (typed_statement.tries G M i result back (exec w main) (exec_catches w x) (leaves_typed G M i result back main tm) (clauses_leave x tc)).by P
 
-  lasts : (m last : Run (A G) Unit) → Typed m → Runs m → Typed last → Runs last → Runs (finally m last)
-  unfolding finally
-  lasts m last tm rm tl rl = record {
-    by = λ P. after G W (typed_rule.catches G (tm P) (λ why. typed_rule.after G (tl _) (typed_rule.leaves G why (newest _ _))))
-        (catches G W (tm P) (rm.by P) (λ why. then_leave last why rl (newest _ _)))
-        (λ P. rl.by P);
-  }
+    guarded : (main : Statement) (x : Catches) → Keeps main → OfCatches Keeps x → StatementSited Ok main → CatchesSited Ok x → Lined W.ends_line main → CatchesLined W.ends_line x → JumpsTo J main → CatchesJumpTo J x → IsTyped here main → CatchesTyped here x → Runs (catching (exec w main) (at_throw w (exec_catches w x)))
+    guarded main x d dc s sc l lc j jc t tc = record { by = λ P. catches G W J (typed_exec main t P) ((d.by J s l j t).by P) (λ why. at_throws x why dc sc lc jc tc (before _ _ (newest _ _)) (newest _ _)) }
 
-  tries : (main : Statement) (x : Catches) (last : Other) → Keeps main → OfCatches Keeps x → OfOther Keeps last → StatementSited Ok main → CatchesSited Ok x → OtherSited Ok last → IsTyped here main → CatchesTyped here x → OtherTyped here last → Runs (try_form w (exec w main) (exec_catches w x) (exec_other w last))
-  unfolding try_form exec_other
-  tries main x no_statement d dc dl s sc sl t tc tl = guarded main x d dc s sc t tc
-  tries main x (this y) d dc dl s sc sl t tc tl = lasts _ (exec w y) (guarded_typed main x t tc) (guarded main x d dc s sc t tc) (typed_exec y tl) (dl.by sl tl)
+    then_leave : {P : Known G} (last : Run (A G) Unit) (why : Reason (A G)) → Runs last → Entails P (fair G W J why) → O {X = Unit {0}} P (last >> leave why) (λ u. nothing)
+    unfolding ◌>>◌
+    then_leave {P = P} last why h f = then_bare G W J (h.by P) (λ t. bare.leaves G W J why (before _ _ f))
 
-  -- ---- prints
+    lasts : (m last : Run (A G) Unit) → Typed m → Runs m → Typed last → Runs last → Runs (finally m last)
+    unfolding finally
+    lasts m last tm rm tl rl = record {
+      by = λ P. after G W J (typed_rule.catches G (tm P) (λ why. typed_rule.after G (tl _) (typed_rule.leaves G why (newest _ _))))
+          (catches G W J (tm P) (rm.by P) (λ why. then_leave last why rl (newest _ _)))
+          (λ P. rl.by P);
+    }
 
-  abbrev printed : Value → Known G
-  printed v = always G W (IsPrinted v)
+    tries : (main : Statement) (x : Catches) (last : Other) → Keeps main → OfCatches Keeps x → OfOther Keeps last → StatementSited Ok main → CatchesSited Ok x → OtherSited Ok last → Lined W.ends_line main → CatchesLined W.ends_line x → OtherLined W.ends_line last → JumpsTo J main → CatchesJumpTo J x → OtherJumpsTo J last → IsTyped here main → CatchesTyped here x → OtherTyped here last → Runs (try_form w (exec w main) (exec_catches w x) (exec_other w last))
+    unfolding try_form exec_other
+    tries main x no_statement d dc dl s sc sl l lc ll j jc jl t tc tl = guarded main x d dc s sc l lc j jc t tc
+    tries main x (this y) d dc dl s sc sl l lc ll j jc jl t tc tl = lasts _ (exec w y) (guarded_typed main x t tc) (guarded main x d dc s sc l lc j jc t tc) (typed_exec y tl) (dl.by J sl ll jl tl)
 
-  printed_as : {P : Known G} (v : K) (x : Value) → v.value ≡ x → IsPrinted x → Entails P (F v) → Entails P (both (F v) (printed v.value))
-  unfolding both fine
-  printed_as v x e h f = record { by = λ n q. (f.by n q, subst IsPrinted (sym e) h) }
+    -- ---- prints
 
-  abbrev IsNarrow : Value → Type 0
-  IsNarrow (val.Byte z) = Unit {0}
-  IsNarrow (val.Short z) = Unit {0}
-  IsNarrow _ = ⊥
+    abbrev printed : Value → Known G
+    printed v = always G W (IsPrinted v)
 
-  no_byte : (ty : Ty) (x : Value) (n : Moment G W) → IsPrintedType ty → Is (p G) n ty x → (z : Value) → x ≡ z → IsNarrow z → ⊥
-  no_byte ty x n h is (val.Byte z) e k = subst IsPrintedType (subst (λ u. Is (p G) n ty u) e is) h
-  no_byte ty x n h is (val.Short z) e k = subst IsPrintedType (subst (λ u. Is (p G) n ty u) e is) h
-  no_byte ty x n h is _ e k = k
+    printed_as : {P : Known G} (v : K) (x : Value) → v.value ≡ x → IsPrinted x → Entails P (F v) → Entails P (both (F v) (printed v.value))
+    unfolding both fine
+    printed_as v x e h f = record { by = λ n q. (f.by n q, subst IsPrinted (sym e) h) }
 
-  shows_as_printed : {P : Known G} (site : ℕ) (v : K) (x : Value) (ty : Ty) → Ok site → IsPrintedType ty → v.value ≡ x → Entails P (of_type G ty v.value) → Entails P (F v) → O P (shown_as w site v x) (λ u. both (F u) (printed u.value))
-  unfolding shown_as is all_are both
-  shows_as_printed site v (val.Object n) ty s pt e h f = with_end G W
-      (chosen_gives G M i to_string to_string_method (to_string_is (p G) G.fits.declarations.library_methods) refl refl site v [] n e
-      (record { by = λ n1 q. subst (λ u. Is (p G) n1 object_type u) (sym e) (object_is_object G M i n1 ty n (subst (λ u. Is (p G) n1 ty u) e (h.by n1 q))) }) (record { by = λ n1 q. tt }))
-      (chosen_good G W M L i to_string to_string_method (to_string_is (p G) G.fits.declarations.library_methods) refl refl site v [] n s e
-      (record { by = λ n1 q. subst (λ u. Is (p G) n1 object_type u) (sym e) (object_is_object G M i n1 ty n (subst (λ u. Is (p G) n1 ty u) e (h.by n1 q))) }) (record { by = λ n1 q. tt }) f (plain_text.none_fine G W M))
-      (λ u t inv q fu. (fu, text_printed G W final t.noted inv.noted u.value q))
-  shows_as_printed site v (val.Byte z) ty s pt e h f = where_at G W (λ y at. absurd (no_byte ty v.value y.noted pt (h.by y.noted at.known) (val.Byte z) e tt))
-  shows_as_printed site v (val.Short z) ty s pt e h f = where_at G W (λ y at. absurd (no_byte ty v.value y.noted pt (h.by y.noted at.known) (val.Short z) e tt))
-  shows_as_printed site v (val.Bool z) ty s pt e h f = plainly G W (bare.gives G W v (printed_as v _ e tt f))
-  shows_as_printed site v (val.Char z) ty s pt e h f = plainly G W (bare.gives G W v (printed_as v _ e tt f))
-  shows_as_printed site v (val.Int z) ty s pt e h f = plainly G W (bare.gives G W v (printed_as v _ e tt f))
-  shows_as_printed site v (val.Long z) ty s pt e h f = plainly G W (bare.gives G W v (printed_as v _ e tt f))
-  shows_as_printed site v val.Null ty s pt e h f = plainly G W (bare.gives G W v (printed_as v _ e tt f))
-  shows_as_printed site v (val.Text z) ty s pt e h f = plainly G W (bare.gives G W v (printed_as v _ e tt f))
-  shows_as_printed site v (val.Fixed z) ty s pt e h f = plainly G W (bare.gives G W v (printed_as v _ e tt f))
-  shows_as_printed site v val.None ty s pt e h f = plainly G W (bare.gives G W v (printed_as v _ e tt f))
+    abbrev IsNarrow : Value → Type 0
+    IsNarrow (val.Byte z) = Unit {0}
+    IsNarrow (val.Short z) = Unit {0}
+    IsNarrow _ = ⊥
 
-  shows_printed : {P : Known G} (site : ℕ) (v : K) (ty : Ty) → Ok site → IsPrintedType ty → Entails P (of_type G ty v.value) → Entails P (F v) → O P (shown w site v) (λ u. both (F u) (printed u.value))
-  unfolding shown
-  shows_printed site v ty s pt h f = shows_as_printed site v v.value ty s pt refl h f
+    no_byte : (ty : Ty) (x : Value) (n : Moment G W) → IsPrintedType ty → Is (p G) n ty x → (z : Value) → x ≡ z → IsNarrow z → ⊥
+    no_byte ty x n h is (val.Byte z) e k = subst IsPrintedType (subst (λ u. Is (p G) n ty u) e is) h
+    no_byte ty x n h is (val.Short z) e k = subst IsPrintedType (subst (λ u. Is (p G) n ty u) e is) h
+    no_byte ty x n h is _ e k = k
 
-  print_fine : {P : Known G} (v : K) → Entails P (both (F v) (printed v.value)) → Entails P (F v)
-  unfolding both
-  print_fine v e = record { by = λ n q. (e.by n q).0 }
+    shows_as_printed : {P : Known G} (site : ℕ) (v : K) (x : Value) (ty : Ty) → Ok site → IsPrintedType ty → v.value ≡ x → Entails P (of_type G ty v.value) → Entails P (F v) → O P (shown_as w site v x) (λ u. both (F u) (printed u.value))
+    unfolding shown_as is all_are both
+    shows_as_printed site v (val.Object n) ty s pt e h f = with_end G W J
+        (chosen_gives G M i to_string to_string_method (to_string_is (p G) G.fits.declarations.library_methods) refl refl site v [] n e
+        (record { by = λ n1 q. subst (λ u. Is (p G) n1 object_type u) (sym e) (object_is_object G M i n1 ty n (subst (λ u. Is (p G) n1 ty u) e (h.by n1 q))) }) (record { by = λ n1 q. tt }))
+        (chosen_good G W J M L i to_string to_string_method (to_string_is (p G) G.fits.declarations.library_methods) refl refl site v [] n s e
+        (record { by = λ n1 q. subst (λ u. Is (p G) n1 object_type u) (sym e) (object_is_object G M i n1 ty n (subst (λ u. Is (p G) n1 ty u) e (h.by n1 q))) }) (record { by = λ n1 q. tt }) f (plain_text.none_fine G W J M))
+        (λ u t inv q fu. (fu, text_printed G W final t.noted inv.noted u.value q))
+    shows_as_printed site v (val.Byte z) ty s pt e h f = where_at G W J (λ y at. absurd (no_byte ty v.value y.noted pt (h.by y.noted at.known) (val.Byte z) e tt))
+    shows_as_printed site v (val.Short z) ty s pt e h f = where_at G W J (λ y at. absurd (no_byte ty v.value y.noted pt (h.by y.noted at.known) (val.Short z) e tt))
+    shows_as_printed site v (val.Bool z) ty s pt e h f = plainly G W J (bare.gives G W J v (printed_as v _ e tt f))
+    shows_as_printed site v (val.Char z) ty s pt e h f = plainly G W J (bare.gives G W J v (printed_as v _ e tt f))
+    shows_as_printed site v (val.Int z) ty s pt e h f = plainly G W J (bare.gives G W J v (printed_as v _ e tt f))
+    shows_as_printed site v (val.Long z) ty s pt e h f = plainly G W J (bare.gives G W J v (printed_as v _ e tt f))
+    shows_as_printed site v val.Null ty s pt e h f = plainly G W J (bare.gives G W J v (printed_as v _ e tt f))
+    shows_as_printed site v (val.Text z) ty s pt e h f = plainly G W J (bare.gives G W J v (printed_as v _ e tt f))
+    shows_as_printed site v (val.Fixed z) ty s pt e h f = plainly G W J (bare.gives G W J v (printed_as v _ e tt f))
+    shows_as_printed site v val.None ty s pt e h f = plainly G W J (bare.gives G W J v (printed_as v _ e tt f))
 
-  print_value_known : {P : Known G} (v : K) → Entails P (both (F v) (printed v.value)) → Entails P (printed v.value)
-  unfolding both
-  print_value_known v e = record { by = λ n q. (e.by n q).1 }
+    shows_printed : {P : Known G} (site : ℕ) (v : K) (ty : Ty) → Ok site → IsPrintedType ty → Entails P (of_type G ty v.value) → Entails P (F v) → O P (shown w site v) (λ u. both (F u) (printed u.value))
+    unfolding shown
+    shows_printed site v ty s pt h f = shows_as_printed site v v.value ty s pt refl h f
 
-  prints_value : (e : Expression) (ty : Ty) (ends_line : Bool) (site : ℕ) → Ok site → Sited Ok e → IsPrintedType ty → HasType (p G) (local_types (p G) i) e ty → Runs (print_value w (eval w e) ends_line site)
-  unfolding print_value
-  prints_value e ty ends_line site s se pt t = record {
-    by = λ P. bind G W (((expression.typed G M i e).by ty t).by P) (((keeps G W M L i e).by se ty t).by P) (λ v. then_bare G W (shows_printed site v ty s pt (before _ _ (newest _ _)) (newest _ _)) (λ x.
-        bare.next G W (plain_text.spells G W M x.value) (λ us. plain_text.prints G W M site _ x s (print_fine x (newest _ _)) (print_value_known x (newest _ _)))));
-  }
+    print_fine : {P : Known G} (v : K) → Entails P (both (F v) (printed v.value)) → Entails P (F v)
+    unfolding both
+    print_fine v e = record { by = λ n q. (e.by n q).0 }
 
-  prints : (x : Part) (ty : Ty) (ends_line : Bool) (site : ℕ) → Ok site → PartSited Ok x → IsOperand here x ty ends_line → Runs (print_form w (eval_part w x) ends_line site)
-  unfolding print_form eval_part
-  prints absent ty ends_line site s sx t = record { by = λ P. plainly G W (plain_text.prints_nothing G W M ends_line site s) }
-  prints (the e) ty ends_line site s sx t = prints_value e ty ends_line site s sx t.0 t.1
+    print_value_known : {P : Known G} (v : K) → Entails P (both (F v) (printed v.value)) → Entails P (printed v.value)
+    unfolding both
+    print_value_known v e = record { by = λ n q. (e.by n q).1 }
 
-  -- ---- each statement
+    prints_value : (e : Expression) (ty : Ty) (ends_line : Bool) (site : ℕ) → Ok site → W.ends_line site ≡ ends_line → Sited Ok e → IsPrintedType ty → HasType (p G) (local_types (p G) i) e ty → Runs (print_value w (eval w e) ends_line site)
+    unfolding print_value
+    prints_value e ty ends_line site s l se pt t = record {
+      by = λ P. bind G W J (((expression.typed G M i e).by ty t).by P) (((keeps G W J M L i e).by se ty t).by P) (λ v. then_bare G W J (shows_printed site v ty s pt (before _ _ (newest _ _)) (newest _ _)) (λ x.
+          bare.spells_and_prints G W J w site ends_line x refl s l (print_fine x (newest _ _)) (print_value_known x (newest _ _))));
+    }
 
-  others : (x : Other) → OfOther Keeps x → OtherSited Ok x → OtherTyped here x → Runs (other_or (exec_other w x))
-  unfolding other_or exec_other
-  others no_statement d s t = record { by = λ P. plainly G W (bare.gives G W tt trivially) }
-  others (this x) d s t = d.by s t
+    prints : (x : Part) (ty : Ty) (ends_line : Bool) (site : ℕ) → Ok site → W.ends_line site ≡ ends_line → PartSited Ok x → IsOperand here x ty ends_line → Runs (print_form w (eval_part w x) ends_line site)
+    unfolding print_form eval_part
+    prints absent ty ends_line site s l sx t = record { by = λ P. plainly G W J (plain_text.prints_nothing G W J M ends_line site s l) }
+    prints (the e) ty ends_line site s l sx t = prints_value e ty ends_line site s l sx t.0 t.1
 
-  returns_value : {P : Known G} (site : ℕ) (v : K) → Ok site → Entails P (F v) → Bare G W (In i) {X = Unit {0}} P (note (plain kind.Return site v.value) v >>= (λ e. leave (Returned e.number (carried_of e v.value)))) (λ u. nothing)
-  unfolding plain drafted fine fair carried_of both
-  returns_value site v s f = bare.bind G W (bare.notes G W (plain kind.Return site v.value) v (record { by = λ n q. record { site = s; what = tt; slot = tt; value = tt; fixed = (f.by n q).0; quiet = tt } }) f) (λ e. bare.leaves G W _ (record { by = λ n q. ((f.by n q.0).0, (tt, tt)) }))
+    -- ---- each statement
 
-  returns : (site : ℕ) (x : Part) → Ok site → PartSited Ok x → IsResult here x → Runs (return_form site (part_or val.None (eval_part w x)))
-  unfolding return_form part_or eval_part
-  returns site absent s sx t = record { by = λ P. plainly G W (bare.bind G W (bare.gives G W _ (constant_fine G W val.None tt)) (λ v. returns_value site v s (newest _ _))) }
-  returns site (the e) s sx (ty, r, vt, fitting {a = a} h f) = record { by = λ P. then_bare G W (((keeps G W M L i e).by sx a h).by P) (λ v. returns_value site v s (newest _ _)) }
+    others : (x : Other) → OfOther Keeps x → OtherSited Ok x → OtherLined W.ends_line x → OtherJumpsTo J x → OtherTyped here x → Runs (other_or (exec_other w x))
+    unfolding other_or exec_other
+    others no_statement d s l j t = record { by = λ P. plainly G W J (bare.gives G W J tt trivially) }
+    others (this x) d s l j t = d.by J s l j t
 
-  is_thrown : {P : Known G} (v : K) → is_null v.value ≡ false → Entails P (of_type G (class_type throwable_class) v.value) → Entails P (thrown G W v.value)
-  unfolding is thrown
-  is_thrown v e h = record { by = λ n q. throwable G n v.value e (h.by n q) }
+    returns_value : {P : Known G} (site : ℕ) (v : K) → Ok site → Entails P (F v) → Bare G W J (In i) {X = Unit {0}} P (note (plain kind.Return site v.value) v >>= (λ e. leave (Returned e.number (carried_of e v.value)))) (λ u. nothing)
+    unfolding plain drafted fine fair carried_of both
+    returns_value site v s f = bare.bind G W J (bare.notes G W J (plain kind.Return site v.value) v (record { by = λ n q. record { site = s; what = tt; slot = tt; value = tt; fixed = (f.by n q).0; quiet = tt } }) f) (λ e. bare.leaves G W J _ (record { by = λ n q. ((f.by n q.0).0, (tt, tt)) }))
 
-  throws : (site : ℕ) (e : Expression) → Ok site → Sited Ok e → (a : Ty) → HasType (p G) (local_types (p G) i) e a → ((P : Known G) → Does G (In i) P (eval w e) (λ v. of_type G (class_type throwable_class) v.value)) → Runs (throw_form w site (eval w e))
-  unfolding throw_form
-  throws site e s se a h d = record { by = λ P. then_plainly G W (d P) (((keeps G W M L i e).by se a h).by P) (λ v. bare.either G W (is_null v.value) (λ q. plain_form.null_fails G W M site v s (newest _ _)) (λ q. plain_form.throws G W M site v s (newest _ _) (is_thrown v q (before _ _ (newest _ _))))) }
+    returns : (site : ℕ) (x : Part) → Ok site → PartSited Ok x → IsResult here x → Runs (return_form site (part_or val.None (eval_part w x)))
+    unfolding return_form part_or eval_part
+    returns site absent s sx t = record { by = λ P. plainly G W J (bare.bind G W J (bare.gives G W J _ (constant_fine G W val.None tt)) (λ v. returns_value site v s (newest _ _))) }
+    returns site (the e) s sx (ty, r, vt, fitting {a = a} h f) = record { by = λ P. then_bare G W J (((keeps G W J M L i e).by sx a h).by P) (λ v. returns_value site v s (newest _ _)) }
 
-  for_tests : (site reach : ℕ) (x : Part) → Ok site → PartSited Ok x → IsTest here x → (P : Known G) → O P (for_test site reach (eval_part w x)) (λ c. nothing)
-  unfolding for_test eval_part
-  for_tests site reach absent s sx t P = plainly G W (bare.gives G W true trivially)
-  for_tests site reach (the e) s sx t P = tests site reach e s sx t P
+    is_thrown : {P : Known G} (v : K) → is_null v.value ≡ false → Entails P (of_type G (class_type throwable_class) v.value) → Entails P (thrown G W v.value)
+    unfolding is thrown
+    is_thrown v e h = record { by = λ n q. throwable G n v.value e (h.by n q) }
 
-  for_typed : (site reach : ℕ) (x : Part) → IsTest here x → Typed (for_test site reach (eval_part w x))
-  unfolding for_test eval_part
-  for_typed site reach absent t P = typed_rule.gives G true trivially
-  for_typed site reach (the e) t P = test_typed site reach e t P
+    throws : (site : ℕ) (e : Expression) → Ok site → Sited Ok e → (a : Ty) → HasType (p G) (local_types (p G) i) e a → ((P : Known G) → Does G (In i) P (eval w e) (λ v. of_type G (class_type throwable_class) v.value)) → Runs (throw_form w site (eval w e))
+    unfolding throw_form
+    throws site e s se a h d = record { by = λ P. then_plainly G W J (d P) (((keeps G W J M L i e).by se a h).by P) (λ v. bare.either G W J (is_null v.value) (λ q. plain_form.null_fails G W J M site v s (newest _ _)) (λ q. plain_form.throws G W J M site v s (newest _ _) (is_thrown v q (before _ _ (newest _ _))))) }
 
-  acts : (number site : ℕ) (askable : Bool) (reach : ℕ) (x : Act) → ActParts (λ e. Unit {1}) Keeps x → Ok site → ActSited Ok x → Acts here x → Runs (exec_act w site reach x)
-  unfolding exec_act evaluated if_form for_form
-  acts number site askable reach (Block parts) d o s t = all_run parts d s t
-  acts number site askable reach (Eval value) d o s t = record { by = λ P. then_bare G W (((keeps G W M L i value).by s t.0 t.1).by P) (λ v. bare.gives G W tt trivially) }
-  acts number site askable reach (Declare k) d o s t = record { by = λ P. plainly G W (plain_text.declares_local G W M k) }
-  acts number site askable reach (If test x y) d o s t = record { by = λ P. bind G W (test_typed site reach test t.0 P) (tests site reach test o s.0 t.0 P) (λ c. either G W c (λ q. (d.1.by s.1 t.1).by _) (λ q. (others y d.2 s.2 t.2).by _)) }
-  acts number site askable reach (While test body) d o s t = record { by = λ P. whiles G W _ _ (test_typed site reach test t.0) (tests site reach test o s.0 t.0) (typed_exec body t.1) (d.1.by s.1 t.1).by }
-  acts number site askable reach (Do body test) d o s t = record { by = λ P. dos G W _ _ (test_typed site reach test t.1) (tests site reach test o s.1 t.1) (typed_exec body t.0) (d.0.by s.0 t.0).by }
-  acts number site askable reach (For inits test updates body) d o s t = record {
-    by = λ P. after G W (all_typed inits t.0 P) ((all_run inits d.0 s.0 t.0).by P) (λ P. whiles G W _ _ (for_typed site reach test t.1) (for_tests site reach test o s.1 t.1) (λ P. typed_rule.after G (typed_exec body t.3 P) (all_typed updates t.2 P)) (λ P. after G W (typed_exec body t.3 P) ((d.3.by s.3 t.3).by P) (all_run updates d.2 s.2 t.2).by));
-  }
-  acts number site askable reach (Labelled body) d o s t = d.by s t
-  acts number site askable reach (Jump target) d o s t = record { by = λ P. plainly G W (plain_text.jumps G W M site target o) }
-  acts number site askable reach (Return value) d o s t = returns site value o s t
-  acts number site askable reach (Throw value) d o s (fitting {a = a} k f) = throws site value o s a k (λ P. (expression.given G M i value (class_type throwable_class) (expression.typed G M i value) (fitting k f)).by P)
-  acts number site askable reach (Try main x last) d o s t = tries main x last d.0 d.1 d.2 s.0 s.1 s.2 t.0 t.1 t.2
-  acts number site askable reach (Print operand ty ends_line at) d o s t = prints operand ty ends_line at s.0 s.1 t
+    for_tests : (site reach : ℕ) (x : Part) → Ok site → PartSited Ok x → IsTest here x → (P : Known G) → O P (for_test site reach (eval_part w x)) (λ c. nothing)
+    unfolding for_test eval_part
+    for_tests site reach absent s sx t P = plainly G W J (bare.gives G W J true trivially)
+    for_tests site reach (the e) s sx t P = tests site reach e s sx t P
+
+    for_typed : (site reach : ℕ) (x : Part) → IsTest here x → Typed (for_test site reach (eval_part w x))
+    unfolding for_test eval_part
+    for_typed site reach absent t P = typed_rule.gives G true trivially
+    for_typed site reach (the e) t P = test_typed site reach e t P
+
+    acts : (number site : ℕ) (askable : Bool) (reach : ℕ) (x : Act) → ActParts (λ e. Unit {1}) Keeps x → Ok site → ActSited Ok x → ActLined W.ends_line x → ActJumpsTo J x → Acts here x → Runs (exec_act w site reach x)
+    unfolding exec_act evaluated if_form for_form
+    acts number site askable reach (Block parts) d o s l j t = all_run parts d s l j t
+    acts number site askable reach (Eval value) d o s l j t = record { by = λ P. then_bare G W J (((keeps G W J M L i value).by s t.0 t.1).by P) (λ v. bare.gives G W J tt trivially) }
+    acts number site askable reach (Declare k) d o s l j t = record { by = λ P. plainly G W J (plain_text.declares_local G W J M k) }
+    acts number site askable reach (If test x y) d o s l j t = record { by = λ P. bind G W J (test_typed site reach test t.0 P) (tests site reach test o s.0 t.0 P) (λ c. either G W J c (λ q. (d.1.by J s.1 l.0 j.0 t.1).by _) (λ q. (others y d.2 s.2 l.1 j.1 t.2).by _)) }
+    acts number site askable reach (While test body) d o s l j t = record { by = λ P. whiles G W J _ _ (test_typed site reach test t.0) (tests site reach test o s.0 t.0) (typed_exec body t.1) (d.1.by J s.1 l j t.1).by }
+    acts number site askable reach (Do body test) d o s l j t = record { by = λ P. dos G W J _ _ (test_typed site reach test t.1) (tests site reach test o s.1 t.1) (typed_exec body t.0) (d.0.by J s.0 l j t.0).by }
+    acts number site askable reach (For inits test updates body) d o s l j t = record {
+      by = λ P. after G W J (all_typed inits t.0 P) ((all_run inits d.0 s.0 l.0 j.0 t.0).by P) (λ P. whiles G W J _ _ (for_typed site reach test t.1) (for_tests site reach test o s.1 t.1) (λ P. typed_rule.after G (typed_exec body t.3 P) (all_typed updates t.2 P)) (λ P. after G W J (typed_exec body t.3 P) ((d.3.by J s.3 l.2 j.2 t.3).by P) (all_run updates d.2 s.2 l.1 j.1 t.2).by));
+    }
+    acts number site askable reach (Labelled body) d o s l j t = d.by J s l j t
+    acts number site askable reach (Jump target) d o s l j t = record { by = λ P. plainly G W J (plain_text.jumps G W J M site target o j) }
+    acts number site askable reach (Return value) d o s l j t = returns site value o s t
+    acts number site askable reach (Throw value) d o s l j (fitting {a = a} k f) = throws site value o s a k (λ P. (expression.given G M i value (class_type throwable_class) (expression.typed G M i value) (fitting k f)).by P)
+    acts number site askable reach (Try main x last) d o s l j t = tries main x last d.0 d.1 d.2 s.0 s.1 s.2 l.0 l.1 l.2 j.0 j.1 j.2 t.0 t.1 t.2
+    acts number site askable reach (Print operand ty ends_line at) d o s l j t = prints operand ty ends_line at s.0 l s.1 t
 
   act : (number site : ℕ) (askable : Bool) (reach : ℕ) (x : Act) → ActParts (λ e. Unit {1}) Keeps x → Keeps (Stmt number site askable reach x)
   unfolding exec
-  act number site askable reach x d = record { by = λ s t. record { by = λ P. numbered G W number (acts number site askable reach x d s.0 s.1 t.2).by } }
+  act number site askable reach x d = record { by = λ J s l j t. record { by = λ P. numbered G W J number (acts (OrTo J number) number site askable reach x d s.0 s.1 l j t.2).by } }
 
   -- so does every statement
   pub keeps_range : (x : Statement) → Keeps x

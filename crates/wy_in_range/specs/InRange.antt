@@ -5,7 +5,7 @@ use Rattle.std.specs.List.{Contains}
 use Rattle.wy_kernel.specs.declared.types.Base.TheVariants.{Primitive as Basic, Class as Named}
 use Rattle.wy_kernel.specs.declared.types.Ty.{Ty}
 use Rattle.wy_kernel.specs.declared.types.Ty.TheVariants.{Of}
-use Rattle.wy_kernel.specs.Form.{Statement, Stmt, Act, Block, If, While, Do, For, Labelled, Try, Print, Other, nothing, this, Statements, done, first, Catches, uncaught, catch}
+use Rattle.wy_kernel.specs.Form.{Statement, Stmt, Act, Block, If, While, Do, For, Labelled, Jump, Try, Print, Other, nothing, this, Statements, done, first, Catches, uncaught, catch}
 use Rattle.wy_kernel.specs.Program.{fixed_text, Program, Body, Class, Field, Method, is_source, string_class, type_code}
 use Rattle.wy_kernel.specs.Subtyping.{direct_supertypes}
 use Rattle.wy_kernel.specs.Builtin as builtin
@@ -242,6 +242,44 @@ abbrev mutual
   pub CatchesLined : (ends_line : ℕ → Bool) → Catches → Type 0
   CatchesLined ends_line uncaught = Unit {0}
   CatchesLined ends_line (catch class local site block rest) = Lined ends_line block × CatchesLined ends_line rest
+
+-- ---- jumps
+
+-- a jump goes to the end of a statement that it stands in, or to one of these
+abbrev mutual
+  pub JumpsTo : (ℕ → Type 0) → Statement → Type 0
+  JumpsTo J (Stmt number site askable reach act) = ActJumpsTo (λ target. J target ⊎ (target ≡ number)) act
+
+  pub ActJumpsTo : (ℕ → Type 0) → Act → Type 0
+  ActJumpsTo J (Block parts) = AllJumpTo J parts
+  ActJumpsTo J (If test if_true if_false) = JumpsTo J if_true × OtherJumpsTo J if_false
+  ActJumpsTo J (While test body) = JumpsTo J body
+  ActJumpsTo J (Do body test) = JumpsTo J body
+  ActJumpsTo J (For inits test updates body) = AllJumpTo J inits × AllJumpTo J updates × JumpsTo J body
+  ActJumpsTo J (Labelled body) = JumpsTo J body
+  ActJumpsTo J (Jump target) = J target
+  ActJumpsTo J (Try main catches last) = JumpsTo J main × CatchesJumpTo J catches × OtherJumpsTo J last
+  ActJumpsTo J _ = Unit {0}
+
+  pub OtherJumpsTo : (ℕ → Type 0) → Other → Type 0
+  OtherJumpsTo J nothing = Unit {0}
+  OtherJumpsTo J (this s) = JumpsTo J s
+
+  pub AllJumpTo : (ℕ → Type 0) → Statements → Type 0
+  AllJumpTo J done = Unit {0}
+  AllJumpTo J (first s rest) = JumpsTo J s × AllJumpTo J rest
+
+  pub CatchesJumpTo : (ℕ → Type 0) → Catches → Type 0
+  CatchesJumpTo J uncaught = Unit {0}
+  CatchesJumpTo J (catch class local site block rest) = JumpsTo J block × CatchesJumpTo J rest
+
+-- no jump leaves a body
+abbrev pub NoJumpLeaves : Program → Type 0
+NoJumpLeaves p = (b : Body) → Contains (p.bodies ++ p.init_bodies) (Some b) → JumpsTo (λ target. ⊥) b.block
+
+-- a `println` stands where a print of a body ends a line, and at no other print
+abbrev pub LinesEnd : (ends_line : ℕ → Bool) → Program → Type 0
+LinesEnd ends_line p = (b : Body) → Contains (p.bodies ++ p.init_bodies) (Some b) → Lined ends_line b.block
 
 -- ---- records
 
