@@ -174,6 +174,10 @@ module _ (G : Ground) (W : Text) where
   unfolding written_before
   written_one x rest = refl
 
+  pub nothing_before_is : written_before [] ≡ 0
+  unfolding written_before
+  nothing_before_is = refl
+
   pub record Inv (s : S) : Type 0 where
     pub noted : AllInRange s.noted
     pub store : StoreInRange s.store

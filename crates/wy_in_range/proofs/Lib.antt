@@ -7,3 +7,5 @@ mod Forms
 mod Texts
 mod Expressions
 mod Statements
+mod Bodies
+mod Runs

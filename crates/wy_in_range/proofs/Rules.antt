@@ -35,7 +35,7 @@ module _ (G : Ground) (W : Text) (J : ℕ → Type 0) where
 
   -- ---- what types tell
 
-  abbrev TypedGiven : {X : Type 0} → Region → (X → Known G) → Outcome (A G) X → Type 0
+  abbrev pub TypedGiven : {X : Type 0} → Region → (X → Known G) → Outcome (A G) X → Type 0
   TypedGiven r Q (Done x t) = (Q x).holds t.noted
   TypedGiven r Q (Left why t) = (reason (A G) (p G) r why).holds t.noted
   TypedGiven r Q (Stopped why t) = Unit {0}
@@ -50,10 +50,10 @@ module _ (G : Ground) (W : Text) (J : ℕ → Type 0) where
   typed_given r Q (Left why t) h = h
   typed_given r Q (Stopped why t) h = tt
 
-  abbrev TypedEnd : {X : Type 0} → Region → (X → Known G) → Outcome (A G) X → Type 0
+  abbrev pub TypedEnd : {X : Type 0} → Region → (X → Known G) → Outcome (A G) X → Type 0
   TypedEnd r Q o = (IsTypedState (p G) (end o) × Standing (A G) (p G) r (end o)) × TypedGiven r Q o
 
-  ends : {r : Region} {X : Type 0} {P : Known G} {m : Run (A G) X} {Q : X → Known G} → Does G r P m Q → (s : S G W) → IsTypedState (p G) s → Standing (A G) (p G) r s → P.holds s.noted → TypedEnd r Q (m s)
+  pub ends : {r : Region} {X : Type 0} {P : Known G} {m : Run (A G) X} {Q : X → Known G} → Does G r P m Q → (s : S G W) → IsTypedState (p G) s → Standing (A G) (p G) r s → P.holds s.noted → TypedEnd r Q (m s)
   unfolding Kept typed law_of counted steps_of law GivenByLaw
   ends {r = r} {m = m} {Q = Q} d s i t k = let h = (d.by.by.by s).kept tt (i, t) k in (h.0, typed_given r Q (m s) h.1)
 
@@ -313,3 +313,20 @@ module _ (G : Ground) (W : Text) (J : ℕ → Type 0) where
   pub numbered : {r : Region} {P : Known G} {Q : Unit {0} → Known G} {m : Run (A G) Unit} (n : ℕ) → ((P : Known G) → Full G W (OrTo J n) r P m Q) → Full G W J r P (statement n m) (λ u. nothing)
   unfolding statement
   numbered n h = after G W J (ticks_typed G) (plainly G W J (bare.ticks G W J)) (λ P. reaches G W J n (covers n (h P)))
+
+-- where jumps may go to more statements
+module _ (G : Ground) (W : Text) (J K : ℕ → Type 0) (more : (t : ℕ) → J t → K t) where
+  wider : (why : Reason (A G)) (m : Moment G W) → (fair G W J why).holds m → (fair G W K why).holds m
+  unfolding fair
+  wider (Jumped target e) m h = more target h
+  wider (Returned e v) m h = h
+  wider (Threw e v) m h = h
+
+  wider_comes : {X : Type 0} {Q : X → Known G} (s : S G W) (out : Outcome (A G) X) → Comes G W J s Q out → Comes G W K s Q out
+  unfolding end
+  wider_comes s (Done x t) c = record { later = c.later; frame = c.frame; inv = c.inv; given = c.given }
+  wider_comes s (Left why t) c = record { later = c.later; frame = c.frame; inv = c.inv; given = wider why t.noted c.given }
+  wider_comes s (Stopped why t) c = record { later = c.later; frame = c.frame; inv = c.inv; given = tt }
+
+  pub widens : {r : Region} {X : Type 0} {P : Known G} {Q : X → Known G} {m : Run (A G) X} → Full G W J r P m Q → Full G W K r P m Q
+  widens {m = m} h = record { by = λ s at. wider_comes s (m s) (h.by s (record { typed = at.typed; stands = at.stands; known = at.known; inv = at.inv })) }

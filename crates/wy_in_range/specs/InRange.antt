@@ -1,7 +1,7 @@
 -- What is in the range of a program in a record of a run, by the events before it: its site, what it is of, its slot, its value and its uses.
 use Rattle.std.specs.Prelude.{◌≡◌, ◌⊎◌, ◌+◌, ◌<◌, ◌≤◌, ◌^◌, ℕ, zero, suc, pos, negsuc, Bool, true, false, if◌then◌else◌, List, [], ◌∷◌, ◌++◌, length, Option, Some, slice_get, take}
 use Rattle.std.specs.Prelude.{None as Absent}
-use Rattle.std.specs.List.{Contains}
+use Rattle.std.specs.List.{AllByRecursion, Contains}
 use Rattle.wy_kernel.specs.declared.types.Base.TheVariants.{Primitive as Basic, Class as Named}
 use Rattle.wy_kernel.specs.declared.types.Ty.{Ty}
 use Rattle.wy_kernel.specs.declared.types.Ty.TheVariants.{Of}
@@ -24,7 +24,7 @@ use Rattle.wy_event.specs.Record.{Recorded}
 use Rattle.wy_steps.specs.Sets.{Sets}
 use Rattle.wy_steps.specs.Steps.{code_of, element_limit}
 use Rattle.wy_meaning.specs.World.{units_in}
-use Rattle.wy_meaning.specs.Run.{events}
+use Rattle.wy_meaning.specs.Run.{Tail, events, output, tail}
 use Rattle.wy_typing.specs.Expressions.{IsMethod, IsField}
 use Rattle.wy_induction.specs.Law.{Frame}
 use Rattle.wy_typed_states.specs.Typed.{running, local_types}
@@ -273,13 +273,24 @@ abbrev mutual
   CatchesJumpTo J uncaught = Unit {0}
   CatchesJumpTo J (catch class local site block rest) = JumpsTo J block × CatchesJumpTo J rest
 
+-- it holds of the body of each method, and of each initializer
+abbrev pub OfBodies : (Body → Type 0) → Program → Type 0
+OfBodies Q p = ((k : ℕ) (b : Body) → slice_get p.bodies k ≡ Some (Some b) → Q b) × ((c : ℕ) (b : Body) → slice_get p.init_bodies c ≡ Some (Some b) → Q b)
+
 -- no jump leaves a body
 abbrev pub NoJumpLeaves : Program → Type 0
-NoJumpLeaves p = (b : Body) → Contains (p.bodies ++ p.init_bodies) (Some b) → JumpsTo (λ target. ⊥) b.block
+NoJumpLeaves p = OfBodies (λ (b : Body). JumpsTo (λ target. ⊥) b.block) p
 
 -- a `println` stands where a print of a body ends a line, and at no other print
 abbrev pub LinesEnd : (ends_line : ℕ → Bool) → Program → Type 0
-LinesEnd ends_line p = (b : Body) → Contains (p.bodies ++ p.init_bodies) (Some b) → Lined ends_line b.block
+LinesEnd ends_line p = OfBodies (λ (b : Body). Lined ends_line b.block) p
+
+-- what is asked of a program of a text
+pub record FitsText (text : Text) (p : Program) : Type 0 where
+  pub sites : SitesInRange text.tokens p
+  pub final : StringIsFinal p
+  pub jumps : NoJumpLeaves p
+  pub lines : LinesEnd text.ends_line p
 
 -- ---- records
 
@@ -299,3 +310,30 @@ IsByteOf b = b < 256
 abbrev pub RecordsAreInRange : Sets → ℕ → Program → List ℕ → ℕ → Type 0
 RecordsAreInRange A tokens p input budget =
     (n : ℕ) (e : Recorded) → slice_get (events A p input budget) n ≡ Some e → InRange tokens p (slice_get (take n (events A p input budget))) e
+
+-- ---- the end of a run
+
+-- the output is what the records write
+abbrev pub OutputIsWritten : Sets → (ends_line : ℕ → Bool) → Program → List ℕ → ℕ → Type 0
+OutputIsWritten A ends_line p input budget = length (output A p input budget) ≡ written p ends_line [] (events A p input budget)
+
+-- a run that ended by a throw, here or in an initializer, has the Throw
+abbrev pub LastFits : ℕ → Option ℕ → Type 0
+LastFits stop last = (((stop ≡ 1) ⊎ (stop ≡ 11)) × ((e : ℕ) × (last ≡ Some e))) ⊎ (((stop ≡ 1) ⊎ (stop ≡ 11) → ⊥) × (last ≡ Absent))
+
+pub record EndInRange (p : Program) (budget : ℕ) (end : Tail) : Type 0 where
+  pub stop : end.stop ≤ 11
+  pub last : LastFits end.stop end.last
+  pub steps : end.steps ≤ budget
+  pub covers : length end.coverage ≡ p.statements
+
+abbrev pub EndIsInRange : Sets → Program → List ℕ → ℕ → Type 0
+EndIsInRange A p input budget = EndInRange p budget (tail A p input budget)
+
+-- ---- runs
+
+-- whatever the bytes of its input and its budget are
+pub record RunsAreInRange (A : Sets) (text : Text) (p : Program) : Type 0 where
+  pub records : (input : List ℕ) (budget : ℕ) → AllByRecursion IsByteOf input → RecordsAreInRange A text.tokens p input budget
+  pub output : (input : List ℕ) (budget : ℕ) → AllByRecursion IsByteOf input → OutputIsWritten A text.ends_line p input budget
+  pub end : (input : List ℕ) (budget : ℕ) → AllByRecursion IsByteOf input → EndIsInRange A p input budget
