@@ -1,5 +1,5 @@
 -- What parts of a run that evaluate nothing do to what is in range, as rules that a goal determines.
-use Rattle.std.proofs.Common.{◌≡◌, ◌<◌, ◌≤◌, ◌⊎◌, inl, inr, ⊎_elim, arith, ℕ, zero, suc, Bool, true, false, List, [], ◌∷◌, ◌++◌, length, Option, Some, refl, sym, ap, ◌∙◌, subst}
+use Rattle.std.proofs.Common.{◌≡◌, ◌<◌, ◌≤◌, arith, ℕ, zero, suc, Bool, true, false, List, [], ◌∷◌, ◌++◌, length, Option, Some, refl, sym, ap, ◌∙◌, subst}
 use Rattle.std.specs.Prelude.{None as Absent}
 use Rattle.std.specs.Prelude.{◌+◌, nat_lt, nat_le, if◌then◌else◌}
 use Rattle.std.specs.List.{AllByRecursion}
@@ -20,18 +20,18 @@ use Rattle.wy_event.specs.declared.record.Slot.{Slot}
 use Rattle.wy_event.specs.declared.record.Slot.TheVariants as slot
 use Rattle.wy_event.specs.Record.{Recorded, same_slot}
 use Rattle.wy_event.specs.Sources.{creates}
-use Rattle.wy_steps.specs.State.{Carried, Held, Store, Noted, Reach, State, Stop, EventLimit, UseLimit, OutputLimit, Reason, Outcome, Done, Left, Stopped, Run, go_on, ◌>>=◌, ◌>>◌, return, leave, stop, choose}
+use Rattle.wy_steps.specs.State.{Held, Store, Noted, Reach, Stop, EventLimit, UseLimit, OutputLimit, Reason, Outcome, Done, Left, Stopped, Run, go_on, ◌>>=◌, ◌>>◌, return, leave, stop, choose}
 use Rattle.wy_steps.specs.Steps.{event_limit, use_limit, element_limit, unit_limit, output_limit, Draft, Made, made, pay, tick, steps_left, frame, event_at, is_begun, held_of, no_value, read, declare, code_of, event_in, next_event, with_event, held_by, slot_with, with_stored, default_primitive, default_value, default_in, owner_in, if_empty, with_created, room_for, noting, note, writing, note_write, creating, note_new, with_active, entered, go_in, activating, with_elements, take_elements, with_units, take_units, room_for_output, write_out, take_byte, next_byte}
 use Rattle.wy_meaning.specs.World.{World, plain, units_of}
 use Rattle.wy_meaning.specs.Text.{spelled_as, line_end, print}
 use Rattle.wy_meaning.specs.Run.{end}
-use Rattle.wy_induction.specs.Law.{nothing, both, Entails, Frame, Region, Outside, In, Ends}
-use Rattle.wy_induction.proofs.Rules.{newest, before, same, trivially}
+use Rattle.wy_induction.specs.Law.{nothing, both, Entails, Frame, Region, In}
+use Rattle.wy_induction.proofs.Rules.{before, same}
 use Rattle.wy_typed_states.proofs.Moments.{Later, later_one, newest_there, MadeAs}
 use Rattle.wy_typed_states.proofs.Law.{current, event, Standing, standing_up}
 use Rattle.wy_typed_states.proofs.Rules.{Ground, A, p, Known}
 use Rattle.wy_in_range.specs.InRange.{Text, Events, IsSite, FixedInRange, IsPrinted, InRange, IsByteOf, IsNoPrint, units_seen, written_as, written_by}
-use Rattle.wy_in_range.proofs.Facts.{S, C, Moment, always, Fine, fine, Spotted, spotted, fair, Drafted, drafted, AllInRange, StoreInRange, written_before, written_one, Inv}
+use Rattle.wy_in_range.proofs.Facts.{S, C, Moment, always, Fine, fine, spotted, fair, Drafted, drafted, AllInRange, StoreInRange, written_before, written_one, Inv}
 
 module _ (G : Ground) (W : Text) (J : ℕ → Type 0) where
   abbrev Ok : S G W → Type 0

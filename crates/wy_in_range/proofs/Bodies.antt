@@ -1,10 +1,10 @@
 -- Calls and initializations keep what is in range.
-use Rattle.std.proofs.Common.{◌≡◌, ◌<◌, ◌+◌, arith, ℕ, zero, suc, Bool, true, false, List, [], ◌∷◌, ◌++◌, length, Option, Some, refl, sym, ap, ◌∙◌, subst, append_assoc}
+use Rattle.std.proofs.Common.{◌≡◌, ◌<◌, arith, ℕ, suc, Bool, true, List, [], ◌∷◌, ◌++◌, length, Option, Some, refl, sym, ap, ◌∙◌, subst, append_assoc}
 use Rattle.std.specs.Prelude.{None as Absent}
-use Rattle.std.specs.Prelude.{slice_get, slice_index_or, map}
+use Rattle.std.specs.Prelude.{slice_get}
 use Rattle.std.specs.Option.{option_to_list}
 use Rattle.std.specs.List.{Contains}
-use Rattle.std.proofs.lemmas.List.{length-append, length-map}
+use Rattle.std.proofs.lemmas.List.{length-map}
 use Rattle.std.proofs.lemmas.Option.{slice_get_within}
 use Rattle.wy_kernel.specs.declared.types.Ty.{Ty}
 use Rattle.wy_kernel.specs.declared.types.MethodForm.{MethodForm}
@@ -12,12 +12,11 @@ use Rattle.wy_kernel.specs.declared.types.MethodForm.TheVariants as kinds
 use Rattle.wy_kernel.specs.Program as part
 use Rattle.wy_kernel.specs.Program.{Program, Body, Class, Method, method, class, body, init_body, is_source, local_site}
 use Rattle.wy_kernel.specs.Subtyping.{named_above, direct_supertypes}
-use Rattle.wy_value.specs.declared.value.Value.{Value}
 use Rattle.wy_value.specs.declared.value.Value.TheVariants as val
 use Rattle.wy_event.specs.declared.record.Kind.TheVariants as kind
 use Rattle.wy_event.specs.declared.record.Slot.TheVariants as slot
-use Rattle.wy_steps.specs.State.{Carried, Noted, Around, Reason, ◌>>◌}
-use Rattle.wy_steps.specs.Steps.{constant, note, note_new, event_in}
+use Rattle.wy_steps.specs.State.{Around, ◌>>◌}
+use Rattle.wy_steps.specs.Steps.{constant, note, note_new}
 use Rattle.wy_meaning.specs.World.{World, about, into}
 use Rattle.wy_meaning.specs.Call.{bound, bind_all, is_void, run_body, frame_of_call, call_uses, call_method, initialize_above, initialization}
 use Rattle.wy_meaning.specs.Statement.{exec}
@@ -25,20 +24,20 @@ use Rattle.wy_meaning.specs.Run.{call_body, init_block}
 use Rattle.wy_typing.specs.Expressions.{IsMethod}
 use Rattle.wy_typing.specs.Programs.{types, this_types, result_of, IsBody, IsBodyOf}
 use Rattle.wy_typing.specs.Statements.{IsTyped}
-use Rattle.wy_induction.specs.Law.{nothing, both, Entails, OfCall, OfInit, Region, In, Ends}
+use Rattle.wy_induction.specs.Law.{nothing, Entails, OfCall, OfInit, Region, In, Ends}
 use Rattle.wy_induction.proofs.Rules.{newest, before, trivially}
-use Rattle.wy_typed_states.specs.Typed.{Is, Runs, types_of, local_types}
+use Rattle.wy_typed_states.specs.Typed.{Is, types_of, local_types}
 use Rattle.wy_typed_states.proofs.Subtypes.{part_is}
-use Rattle.wy_typed_states.proofs.Law.{is, runs}
+use Rattle.wy_typed_states.proofs.Law.{runs}
 use Rattle.wy_typed_states.proofs.Rules.{Ground, A, p, Known, notes_call, notes_init}
-use Rattle.wy_typed_states.proofs.Facts.{AllAre, all_are, called}
+use Rattle.wy_typed_states.proofs.Facts.{all_are, called}
 use Rattle.wy_typed_states.proofs.Places.{Methods, world_of}
 use Rattle.wy_typed_states.proofs.Statements.{GivesBack}
 use Rattle.wy_typed_states.proofs.Bodies as typed_body
 use Rattle.wy_typed_states.proofs.Bodies.{part_there, body_there}
 use Rattle.wy_in_range.specs.Sites.{BodySited}
-use Rattle.wy_in_range.specs.InRange.{Text, IsSite, HasLocal, Lined, JumpsTo, FitsText}
-use Rattle.wy_in_range.proofs.Facts.{S, C, Moment, fine, all_fine, drafted, constant_fine}
+use Rattle.wy_in_range.specs.InRange.{Text, IsSite, Lined, JumpsTo, FitsText}
+use Rattle.wy_in_range.proofs.Facts.{C, Moment, fine, all_fine, drafted, constant_fine}
 use Rattle.wy_in_range.proofs.Values.{some_value, locals_known}
 use Rattle.wy_in_range.proofs.Bare as bare
 use Rattle.wy_in_range.proofs.Bare.{Bare}

@@ -1,7 +1,7 @@
 -- Each expression of a body keeps what is in range.
-use Rattle.std.proofs.Common.{◌≡◌, ◌<◌, ◌≤◌, ◌+◌, ◌*◌, ◌^◌, ◌⊎◌, inl, inr, ⊎_elim, arith, ℕ, zero, suc, Bool, true, false, List, [], ◌∷◌, ◌++◌, length, replicate, Option, Some, refl, sym, ap, ◌∙◌, subst}
+use Rattle.std.proofs.Common.{◌≡◌, ◌<◌, ◌≤◌, ◌+◌, inr, arith, ℕ, zero, suc, Bool, true, false, List, [], ◌∷◌, length, replicate, Option, Some, refl, sym, ap, ◌∙◌, subst}
 use Rattle.std.specs.Prelude.{None as Absent}
-use Rattle.std.specs.Prelude.{pos, ◌==◌, if◌then◌else◌, slice_get}
+use Rattle.std.specs.Prelude.{pos, ◌==◌, if◌then◌else◌}
 use Rattle.std.specs.List.{AllByRecursion}
 use Rattle.std.proofs.lemmas.Option.{slice_get_within}
 use Rattle.wy_kernel.specs.declared.types.Base.{Base}
@@ -28,10 +28,10 @@ use Rattle.wy_value.specs.Conversion.{converted}
 use Rattle.wy_value.specs.Operator.{binary_of, unary_of}
 use Rattle.wy_event.specs.declared.record.Kind.TheVariants as kind
 use Rattle.wy_event.specs.declared.record.Slot.TheVariants as slot
-use Rattle.wy_steps.specs.State.{Carried, Run, Noted, State, Around, choose, return, ◌>>=◌, ◌>>◌}
-use Rattle.wy_steps.specs.Steps.{Made, element_limit, constant, tick, note, joined, with_value, value_of, event_in}
-use Rattle.wy_meaning.specs.World.{World, plain, about, into, class_code, is_true, is_null, is_text, all_of}
-use Rattle.wy_meaning.specs.Place.{Spot, Located, AtLocal, AtStatic, AtField, AtElem, initialize_source, initialize, static_spot, find, read_place, set_place, update_place, operated, primitive_of}
+use Rattle.wy_steps.specs.State.{Carried, Run, Noted, Around, return, ◌>>=◌, ◌>>◌}
+use Rattle.wy_steps.specs.Steps.{Made, element_limit, constant, tick, note, joined, with_value, value_of}
+use Rattle.wy_meaning.specs.World.{World, plain, about, class_code, is_true, is_null, is_text, all_of}
+use Rattle.wy_meaning.specs.Place.{Located, AtLocal, AtStatic, AtField, AtElem, initialize_source, initialize, static_spot, find, read_place, set_place, update_place, operated, primitive_of}
 use Rattle.wy_meaning.specs.Text.{to_string, call_chosen, shown_as, shown, concatenated, cat, append_place}
 use Rattle.wy_meaning.specs.Array.{any_negative, create_array, first_site, rest_sites, set_elements, create_filled, new_array}
 use Rattle.wy_meaning.specs.Library.{library_form}
@@ -49,26 +49,26 @@ use Rattle.wy_induction.proofs.Rules.{newest, before, trivially}
 use Rattle.wy_typed_states.specs.Typed.{Is, local_types}
 use Rattle.wy_typed_states.proofs.Values.{fits_is}
 use Rattle.wy_typed_states.proofs.Library.{class_code_is, to_string_method, to_string_is, equals_method, equals_is, text_methods}
-use Rattle.wy_typed_states.proofs.Law.{is, event}
+use Rattle.wy_typed_states.proofs.Law.{is}
 use Rattle.wy_typed_states.proofs.Rules.{Ground, A, p, Known, Does, asks, ticks, notes_test, notes_object, sets_slot}
 use Rattle.wy_typed_states.proofs.Rules as typed_rule
 use Rattle.wy_typed_states.proofs.Facts.{found_as, new_is, AllAre, all_are, called}
 use Rattle.wy_typed_states.proofs.Places.{Methods, world_of, of_type, Locates, finds, fetches, finds_type, may_initialize}
 use Rattle.wy_typed_states.proofs.Forms.{T, chosen_calls_at, object_is_object, shows, concatenates}
 use Rattle.wy_typed_states.proofs.Calls.{AllTypes, gives_all, one_method, calls_with, static_calls, Constructs, constructor_calls}
-use Rattle.wy_typed_states.proofs.Arrays.{makes_array, AllAlike, alike, elements_are, element_place, element_stores, made_elements, array_made, one_less}
+use Rattle.wy_typed_states.proofs.Arrays.{makes_array, elements_are, element_place, element_stores, made_elements, array_made, one_less}
 use Rattle.wy_typed_states.proofs.Expressions as expression
-use Rattle.wy_in_range.specs.Sites.{Sited, PlaceSited, PartSited, RowSited}
-use Rattle.wy_in_range.specs.InRange.{Text, IsSite, IsArray, IsSome, IsTruth, FixedInRange}
-use Rattle.wy_in_range.proofs.Facts.{S, C, Moment, always, Fine, fine, all_fine, Spotted, spotted, drafted, constant_fine, with_value_fine, joined_fine, value_of_fine, chosen_fine}
-use Rattle.wy_in_range.proofs.Values.{Plain, binary_gives, operated_gives, unary_gives, converted_fixed, primitive_gives, some_value, truth, primitive_fixed, locals_known, field_known, field_class, method_class}
+use Rattle.wy_in_range.specs.Sites.{Sited, PlaceSited, RowSited}
+use Rattle.wy_in_range.specs.InRange.{Text, IsSite, FixedInRange}
+use Rattle.wy_in_range.proofs.Facts.{C, always, fine, all_fine, spotted, drafted, constant_fine, with_value_fine, joined_fine, value_of_fine, chosen_fine}
+use Rattle.wy_in_range.proofs.Values.{binary_gives, operated_gives, unary_gives, converted_fixed, some_value, truth, primitive_fixed, locals_known, field_known, field_class, method_class}
 use Rattle.wy_in_range.proofs.Bare as bare
 use Rattle.wy_in_range.proofs.Bare.{Bare}
 use Rattle.wy_in_range.proofs.Forms as plain_form
 use Rattle.wy_in_range.proofs.Forms.{Site, some, spot_fine}
 use Rattle.wy_in_range.proofs.Texts as plain_text
 use Rattle.wy_in_range.proofs.Texts.{MakesArrays, Nested, array}
-use Rattle.wy_in_range.proofs.Rules.{At, Full, bind, after, weaker, where_at, either, plainly, then_plainly, then_bare, bare_first, forgets, scopes}
+use Rattle.wy_in_range.proofs.Rules.{Full, bind, after, where_at, either, plainly, then_plainly, then_bare, bare_first, scopes}
 
 -- what calls and initializations keep
 pub record Inner (G : Ground) (W : Text) (M : Methods G) : Type 1 where

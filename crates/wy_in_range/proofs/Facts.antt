@@ -1,6 +1,5 @@
 -- What is known of the ranges of values, slots and uses, at each moment of a run from then on.
-use Rattle.std.proofs.Common.{◌≡◌, ◌<◌, ◌≤◌, ◌+◌, ◌⊎◌, inl, inr, ℕ, suc, List, [], ◌∷◌, ◌++◌, length, Option, Some, refl, sym, subst}
-use Rattle.std.specs.Prelude.{None as Absent}
+use Rattle.std.proofs.Common.{◌≡◌, ◌+◌, ◌⊎◌, inl, inr, ℕ, List, [], ◌∷◌, ◌++◌, length, Option, Some, refl, subst}
 use Rattle.std.specs.List.{AllByRecursion}
 use Rattle.wy_kernel.specs.Program.{Program}
 use Rattle.wy_value.specs.declared.value.Value.{Value}
@@ -14,10 +13,10 @@ use Rattle.wy_event.specs.declared.record.Use.TheVariants as use_of
 use Rattle.wy_event.specs.Record.{Recorded}
 use Rattle.wy_steps.specs.State.{Carried, Held, Store, Noted, State, Reason, Jumped, Returned, Threw}
 use Rattle.wy_steps.specs.Steps.{Draft, event_in, constant, with_value, joined, value_of, chosen, Made}
-use Rattle.wy_induction.specs.Law.{nothing, both, Entails}
+use Rattle.wy_induction.specs.Law.{both, Entails}
 use Rattle.wy_typed_states.proofs.Moments.{Later, later_one, one_of_longer}
 use Rattle.wy_typed_states.proofs.Rules.{Ground, A, p, Known}
-use Rattle.wy_in_range.specs.InRange.{Text, Events, IsObject, IsArray, HasLocal, SlotInRange, IsThrown, ValueInRange, FixedInRange, IsPlace, UseInRange, UsesInRange, IsSite, WhatInRange, InRange, IsByteOf, IsNoPrint, written_as, written_by}
+use Rattle.wy_in_range.specs.InRange.{Text, Events, IsObject, IsArray, SlotInRange, IsThrown, ValueInRange, FixedInRange, IsPlace, UseInRange, UsesInRange, IsSite, WhatInRange, InRange, IsByteOf, IsNoPrint, written_by}
 
 -- ---- with more events
 

@@ -1,17 +1,11 @@
 -- Parts of forms that evaluate nothing keep what is in range.
-use Rattle.std.proofs.Common.{◌≡◌, ◌<◌, ◌≤◌, ◌+◌, ◌*◌, ◌^◌, ◌⊎◌, inl, inr, ⊎_elim, arith, ℕ, zero, suc, Bool, true, false, List, [], ◌∷◌, length, Option, Some, refl, sym, ap, ◌∙◌, subst}
+use Rattle.std.proofs.Common.{◌≡◌, ◌<◌, inl, ⊎_elim, arith, ℕ, Bool, true, false, length, Option, Some, refl, sym, ap, ◌∙◌, subst}
 use Rattle.std.specs.Prelude.{None as Absent}
-use Rattle.std.specs.Prelude.{ℤ, pos, negsuc, nat_lt, if◌then◌else◌}
-use Rattle.std.specs.List.{AllByRecursion}
+use Rattle.std.specs.Prelude.{pos, negsuc, nat_lt, if◌then◌else◌}
 use Rattle.std.proofs.lemmas.Bool.{ltb-true}
 use Rattle.std.proofs.lemmas.Option.{slice_get_within}
-use Rattle.wy_kernel.specs.declared.types.Base.{Base}
-use Rattle.wy_kernel.specs.declared.types.Base.TheVariants.{Primitive as Basic, Class as Named}
 use Rattle.wy_kernel.specs.declared.types.Ty.{Ty}
-use Rattle.wy_kernel.specs.declared.types.Ty.TheVariants.{Of}
-use Rattle.wy_kernel.specs.declared.form.LibOp.{LibOp}
-use Rattle.wy_kernel.specs.declared.form.LibOp.TheVariants as op
-use Rattle.wy_kernel.specs.Program.{Field, string_class, type_code, base_code, type_of_code}
+use Rattle.wy_kernel.specs.Program.{Field, string_class, type_code, base_code}
 use Rattle.wy_kernel.specs.Subtyping.{class_type}
 use Rattle.wy_value.specs.declared.value.Value.{Value}
 use Rattle.wy_value.specs.declared.value.Value.TheVariants as val
@@ -19,23 +13,23 @@ use Rattle.wy_event.specs.declared.record.Kind.TheVariants as kind
 use Rattle.wy_event.specs.declared.record.Slot.{Slot}
 use Rattle.wy_event.specs.declared.record.Slot.TheVariants as slot
 use Rattle.wy_event.specs.Record.{Recorded}
-use Rattle.wy_steps.specs.State.{Carried, Run, Reason, Jumped, Returned, Threw, FellOff, InitFailed, ◌>>◌}
-use Rattle.wy_steps.specs.Steps.{Made, element_limit, constant, joined, joined_all, with_value, value_of, code_of, event_in, event_at}
-use Rattle.wy_meaning.specs.World.{World, plain, about, into, spelling, class_code, throwing, fail, type_of, units_of, natural_of, length_in, length_of, object_of, null_pointer, arithmetic, array_store, array_index, number_format, string_index, negative_size, class_cast}
+use Rattle.wy_steps.specs.State.{Run, Threw}
+use Rattle.wy_steps.specs.Steps.{Made, constant, joined, with_value, value_of, code_of, event_in, event_at}
+use Rattle.wy_meaning.specs.World.{World, plain, about, into, class_code, throwing, fail, type_of, units_of, natural_of, length_in, length_of, object_of, null_pointer, arithmetic, array_store, array_index, number_format, string_index, negative_size, class_cast}
 use Rattle.wy_meaning.specs.Place.{Spot, local_spot, field_spot, index_in, checked_index, element_spot, lacks_value, fetch, assign, check_store, store, primitive_of, divided}
 use Rattle.wy_typing.specs.Expressions.{IsField}
 use Rattle.wy_induction.specs.Law.{nothing, both, Entails, Frame, Region, In}
 use Rattle.wy_induction.proofs.Rules.{newest, before, trivially}
-use Rattle.wy_typed_states.specs.Typed.{Is, MayStand, made_type, local_types}
+use Rattle.wy_typed_states.specs.Typed.{Is, local_types}
 use Rattle.wy_typed_states.proofs.Library.{Fails, arithmetic_fails, array_store_fails, array_index_fails, null_pointer_fails, number_format_fails, string_index_fails, negative_size_fails, class_cast_fails}
-use Rattle.wy_typed_states.proofs.Moments.{Later, MadeAs}
+use Rattle.wy_typed_states.proofs.Moments.{Later}
 use Rattle.wy_typed_states.proofs.Law.{is, event, current}
 use Rattle.wy_typed_states.proofs.Rules.{Ground, A, p, Known}
 use Rattle.wy_typed_states.proofs.Places.{Methods, of_type, world_of}
-use Rattle.wy_in_range.specs.InRange.{Text, IsSite, IsTypeOfObjects, IsCode, arrays_from, IsObject, IsArray, HasLocal, index_limit, IsNone, IsSome, IsThrown, IsLength, ValueInRange, FixedInRange, InRange}
-use Rattle.wy_in_range.proofs.Facts.{S, C, Moment, always, Fine, fine, all_fine, Spotted, spotted, thrown, fair, Drafted, drafted, Inv, found_in_range, uses_append, constant_fine, with_value_fine, joined_fine, value_of_fine}
+use Rattle.wy_in_range.specs.InRange.{Text, IsSite, arrays_from, IsArray, HasLocal, index_limit, IsNone, IsSome, IsLength, ValueInRange, FixedInRange, InRange}
+use Rattle.wy_in_range.proofs.Facts.{C, Moment, always, fine, spotted, thrown, fair, drafted, found_in_range, uses_append, joined_fine, value_of_fine}
 use Rattle.wy_in_range.proofs.Values.{Plain, primitive_gives, field_of_source, object_at}
-use Rattle.wy_in_range.proofs.Bare.{Bare, bind, next, after, gives_less, gives, leaves, stops, either, chooses, where_at, frames, looks, reads, declares, takes_elements, takes_units, takes_byte, notes, writes, creates_new}
+use Rattle.wy_in_range.proofs.Bare.{Bare, bind, next, after, gives, leaves, stops, either, frames, looks, reads, notes, writes, creates_new}
 
 code_of_class : (c : ℕ) → type_code (class_type c) ≡ class_code c
 unfolding type_code base_code class_code
@@ -109,7 +103,6 @@ module _ (G : Ground) (W : Text) (J : ℕ → Type 0) (M : Methods G) where
   -- ---- what is looked up
 
   looks_up : {r : Region} {P : Known G} (n : ℕ) → B r P (event_at n) (λ o. nothing)
-
   looks_up n = looks G W J n (λ o. nothing) (λ s o k i e. tt)
 
   pub finds_type : {r : Region} {P : Known G} (v : Value) → B r P (type_of v) (λ t. nothing)

@@ -1,23 +1,22 @@
 -- What parts of a run do to what is in range, from typed states, as rules that a goal determines.
 use Rattle.std.proofs.Common.{◌≡◌, ◌⊎◌, inl, inr, ℕ, zero, suc, Bool, true, false, List, length, Option, Some, refl, sym, ap, ◌∙◌, subst}
-use Rattle.std.specs.Prelude.{None as Absent}
 use Rattle.std.specs.List.{AllByRecursion}
 use Rattle.std.proofs.lemmas.Bool.{eq-eqb}
-use Rattle.wy_steps.specs.State.{Active, Carried, Covered, Reach, State, Store, Stop, StepLimit, Reason, Jumped, Returned, Threw, Outcome, Done, Left, Stopped, Run, go_on, ◌>>=◌, ◌>>◌, go_on_left, catching, choose}
-use Rattle.wy_steps.specs.Steps.{steps_left, scoped, active_again, reaching, end_reaches, without, in_frame, frame_again, covered, covering, begun, ended, left_by, stop_cause, event_of, arrives, cover_end, end_normally, be_left}
+use Rattle.wy_steps.specs.State.{Active, Store, Stop, StepLimit, Reason, Jumped, Returned, Threw, Outcome, Done, Left, Stopped, Run, go_on, ◌>>=◌, ◌>>◌, go_on_left, catching, choose}
+use Rattle.wy_steps.specs.Steps.{steps_left, scoped, active_again, reaching, end_reaches, without, in_frame, frame_again, covered, covering, begun, arrives, cover_end, end_normally, be_left}
 use Rattle.wy_meaning.specs.Run.{end}
 use Rattle.wy_meaning.specs.Statement.{statement, turns, while_form, do_form}
-use Rattle.wy_induction.specs.Law.{nothing, both, Entails, Frame, OfCall, OfInit, Region, Outside, In, Ends}
+use Rattle.wy_induction.specs.Law.{nothing, both, Entails, Frame, Region, In, Ends}
 use Rattle.wy_induction.proofs.States as state
 use Rattle.wy_induction.proofs.States.{law_of, steps_of}
 use Rattle.wy_induction.proofs.Loops.{counted}
-use Rattle.wy_induction.proofs.Rules.{newest, before, trivially}
+use Rattle.wy_induction.proofs.Rules.{trivially}
 use Rattle.wy_typed_states.specs.Typed.{Runs, IsTypedState}
 use Rattle.wy_typed_states.proofs.Moments.{Later}
 use Rattle.wy_typed_states.proofs.Law.{law, runs, reason, Standing, standing_up}
 use Rattle.wy_typed_states.proofs.Rules.{Ground, A, p, Known, Kept, typed, Does, ticks as ticks_typed}
 use Rattle.wy_in_range.specs.InRange.{Text, IsByteOf}
-use Rattle.wy_in_range.proofs.Facts.{S, C, Moment, fair, AllInRange, StoreInRange, written_before, Inv}
+use Rattle.wy_in_range.proofs.Facts.{S, Moment, fair, AllInRange, StoreInRange, written_before, Inv}
 use Rattle.wy_in_range.proofs.Bare as bare
 use Rattle.wy_in_range.proofs.Bare.{Bare, Comes, Given, onward}
 

@@ -1,5 +1,5 @@
 -- Every run keeps what is in range, at each depth of calls.
-use Rattle.std.proofs.Common.{◌≡◌, ◌<◌, ◌+◌, ◌*◌, ◌^◌, ◌++◌, ◌⊎◌, inl, inr, ⊎_elim, arith, ◌≤◌, ◌-◌, ℕ, zero, suc, Bool, true, false, List, [], ◌∷◌, length, Option, Some, refl, sym, ap, ◌∙◌, subst, append-nil, append_assoc}
+use Rattle.std.proofs.Common.{◌≡◌, ◌<◌, ◌+◌, ◌++◌, ◌⊎◌, inl, inr, ⊎_elim, arith, ◌≤◌, ℕ, zero, suc, Bool, true, false, List, [], ◌∷◌, length, Some, refl, sym, ap, ◌∙◌, subst, append-nil, append_assoc}
 use Rattle.std.specs.Prelude.{None as Absent}
 use Rattle.std.specs.Prelude.{pos, nat_eq, if◌then◌else◌, slice_get, take}
 use Rattle.std.proofs.lemmas.Bool.{eqb-true, eq-eqb}
@@ -17,8 +17,8 @@ use Rattle.wy_event.specs.declared.record.Kind.{Kind}
 use Rattle.wy_event.specs.declared.record.Kind.TheVariants as kind
 use Rattle.wy_event.specs.Record.{Recorded}
 use Rattle.wy_steps.specs.Sets.{Sets}
-use Rattle.wy_steps.specs.State.{Carried, Covered, Noted, State, Stop, StepLimit, EventLimit, UseLimit, ElementLimit, UnitLimit, OutputLimit, DepthLimit, Unassigned, FellOff, InitFailed, Reason, Jumped, Returned, Threw, Outcome, Done, Left, Stopped, stop, ◌>>◌}
-use Rattle.wy_steps.specs.Steps.{Made, constant, value_of, event_in, depth_limit}
+use Rattle.wy_steps.specs.State.{Carried, Covered, Noted, Stop, StepLimit, EventLimit, UseLimit, ElementLimit, UnitLimit, OutputLimit, DepthLimit, Unassigned, FellOff, InitFailed, Reason, Jumped, Returned, Threw, Outcome, Done, Left, Stopped, stop, ◌>>◌}
+use Rattle.wy_steps.specs.Steps.{Made, value_of, event_in, depth_limit}
 use Rattle.wy_meaning.specs.World.{World, units_in}
 use Rattle.wy_meaning.specs.Call.{bound, initialization}
 use Rattle.wy_meaning.specs.Run.{call_body, init_block, world, strings, main_run, start, outcome, end, stop_number, stop_of, last_of_stop, last_of_reason, last_of, covers, tail_of, history, events, output, tail}
@@ -38,7 +38,7 @@ use Rattle.wy_typed_states.proofs.Arrays.{makes_array, made_is, array_made}
 use Rattle.wy_typed_states.proofs.Bodies.{body_called, initialized, part_there}
 use Rattle.wy_typed_states.proofs.Runs.{main_calls, start_typed}
 use Rattle.wy_in_range.specs.InRange.{Text, Events, IsSite, FitsText, InRange, IsByteOf, units_seen, written_as, written_by, written, LastFits, RecordsAreInRange, OutputIsWritten, EndIsInRange, RunsAreInRange}
-use Rattle.wy_in_range.proofs.Facts.{S, C, Moment, AllInRange, Inv, fine, fair, all_fine, constant_fine, value_of_fine, in_range_up, written_before, written_one, nothing_before_is}
+use Rattle.wy_in_range.proofs.Facts.{Moment, AllInRange, Inv, fine, fair, constant_fine, value_of_fine, in_range_up, written_before, written_one, nothing_before_is}
 use Rattle.wy_in_range.proofs.Values.{method_class}
 use Rattle.wy_in_range.proofs.Bare as bare
 use Rattle.wy_in_range.proofs.Bare.{Given}
@@ -46,7 +46,7 @@ use Rattle.wy_in_range.proofs.Texts as plain_text
 use Rattle.wy_in_range.proofs.Texts.{MakesArrays}
 use Rattle.wy_in_range.proofs.Expressions.{Inner, initializes}
 use Rattle.wy_in_range.proofs.Bodies.{call_runs, init_runs}
-use Rattle.wy_in_range.proofs.Rules.{At, Full, TypedGiven, ends, bind, plainly}
+use Rattle.wy_in_range.proofs.Rules.{Full, TypedGiven, ends, bind, plainly}
 
 module _ (G : Ground) (W : Text) (text : FitsText W (p G)) where
   -- the calls and initializations of the world at a depth

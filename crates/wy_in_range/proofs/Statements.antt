@@ -1,25 +1,23 @@
 -- Each statement of a body keeps what is in range.
-use Rattle.std.proofs.Common.{◌≡◌, ◌<◌, ⊎_elim, ℕ, Bool, true, false, List, [], length, Option, Some, refl, sym, ap, subst}
-use Rattle.std.specs.Prelude.{None as Absent}
+use Rattle.std.proofs.Common.{◌≡◌, ℕ, Bool, true, false, [], Option, Some, refl, sym, ap, subst}
 use Rattle.std.specs.Prelude.{slice_get}
 use Rattle.std.proofs.lemmas.Option.{slice_get_within}
 use Rattle.wy_kernel.specs.declared.types.Ty.{Ty}
-use Rattle.wy_kernel.specs.declared.types.Ty.TheVariants.{Of}
 use Rattle.wy_kernel.specs.Form.{Expression, Part, absent, the, Statement, Stmt, Act, Block, Eval, Declare, If, While, Do, For, Labelled, Jump, Return, Throw, Try, Print, Other, nothing as no_statement, this, Statements, done, first, Catches, uncaught, catch}
-use Rattle.wy_kernel.specs.Program.{Program, is_subclass, class_of_type}
+use Rattle.wy_kernel.specs.Program.{is_subclass, class_of_type}
 use Rattle.wy_kernel.specs.Subtyping.{class_type, object_type}
 use Rattle.wy_kernel.specs.Builtin.{throwable_class}
 use Rattle.wy_value.specs.declared.value.Value.{Value}
 use Rattle.wy_value.specs.declared.value.Value.TheVariants as val
 use Rattle.wy_event.specs.declared.record.Kind.TheVariants as kind
 use Rattle.wy_event.specs.declared.record.Slot.TheVariants as slot
-use Rattle.wy_steps.specs.State.{Carried, Run, Through, Reason, Jumped, Returned, Threw, ◌>>=◌, ◌>>◌, leave, catching, choose}
+use Rattle.wy_steps.specs.State.{Run, Through, Reason, Jumped, Returned, Threw, ◌>>=◌, ◌>>◌, leave, catching}
 use Rattle.wy_steps.specs.Steps.{code_of, note, note_write, event_in, value_of as carried_of}
-use Rattle.wy_meaning.specs.World.{World, plain, into, fail, throwing, null_pointer, is_null}
+use Rattle.wy_meaning.specs.World.{World, plain, into, is_null}
 use Rattle.wy_meaning.specs.Text.{to_string, shown_as, shown, print_value}
 use Rattle.wy_meaning.specs.Expression.{eval, eval_part, part_or}
 use Rattle.wy_meaning.specs.Statement.{tested, evaluated, if_form, for_test, for_form, return_form, throw_form, caught, handle, at_throw, finally, try_form, print_form, other_or, exec, exec_act, exec_other, exec_all, exec_catches}
-use Rattle.wy_typing.specs.Types.{boolean_type, text_type, IsPrinted as IsPrintedType}
+use Rattle.wy_typing.specs.Types.{boolean_type, IsPrinted as IsPrintedType}
 use Rattle.wy_typing.specs.Expressions.{HasType, fitting}
 use Rattle.wy_typing.specs.Statements.{Within, IsTyped, Acts, OtherTyped, AllTyped, CatchesTyped, IsTest, IsResult, IsOperand}
 use Rattle.wy_induction.specs.Law.{nothing, both, Entails, Frame, In}
@@ -38,16 +36,16 @@ use Rattle.wy_typed_states.proofs.Statements as typed_statement
 use Rattle.wy_typed_states.proofs.Statements.{GivesBack, leaves_typed, place}
 use Rattle.wy_typed_states.proofs.Expressions as expression
 use Rattle.wy_in_range.specs.Sites.{Sited, PartSited, StatementSited, ActSited, OtherSited, AllSited, CatchesSited}
-use Rattle.wy_in_range.specs.InRange.{Text, IsSite, HasLocal, IsThrown, IsPrinted, FixedInRange, StringIsFinal, Lined, ActLined, OtherLined, AllLined, CatchesLined, JumpsTo, ActJumpsTo, OtherJumpsTo, AllJumpTo, CatchesJumpTo}
-use Rattle.wy_in_range.proofs.Facts.{S, C, Moment, always, Fine, fine, thrown, fair, drafted, Inv, constant_fine}
+use Rattle.wy_in_range.specs.InRange.{Text, IsSite, HasLocal, IsPrinted, StringIsFinal, Lined, ActLined, OtherLined, AllLined, CatchesLined, JumpsTo, ActJumpsTo, OtherJumpsTo, AllJumpTo, CatchesJumpTo}
+use Rattle.wy_in_range.proofs.Facts.{C, Moment, always, fine, thrown, fair, drafted, constant_fine}
 use Rattle.wy_in_range.proofs.Values.{throwable}
 use Rattle.wy_in_range.proofs.Strings.{text_printed}
 use Rattle.wy_in_range.proofs.Bare as bare
 use Rattle.wy_in_range.proofs.Bare.{Bare}
 use Rattle.wy_in_range.proofs.Forms as plain_form
 use Rattle.wy_in_range.proofs.Texts as plain_text
-use Rattle.wy_in_range.proofs.Expressions.{Inner, Good, keeps, shows_good, chosen_good, test_draft}
-use Rattle.wy_in_range.proofs.Rules.{At, Full, bind, after, weaker, where_at, with_end, either, plainly, then_plainly, then_bare, bare_first, forgets, catches, numbered, OrTo, whiles, dos}
+use Rattle.wy_in_range.proofs.Expressions.{Inner, keeps, chosen_good, test_draft}
+use Rattle.wy_in_range.proofs.Rules.{Full, bind, after, where_at, with_end, either, plainly, then_plainly, then_bare, bare_first, catches, numbered, OrTo, whiles, dos}
 
 module _ (G : Ground) (W : Text) (final : StringIsFinal (p G)) (M : Methods G) (L : Inner G W M) (i : Frame) (result : Option Ty) (back : GivesBack G M i result) where
   abbrev w : World (A G)

@@ -1,25 +1,21 @@
 -- Where no class extends String, no New makes what may stand for one; so what is printed is no object.
-use Rattle.std.proofs.Common.{◌≡◌, ◌<◌, ◌⊎◌, inl, inr, ⊎_elim, ℕ, zero, suc, List, length, Option, Some, refl, sym, ap, ◌∙◌, subst}
+use Rattle.std.proofs.Common.{◌≡◌, ◌⊎◌, inl, inr, ⊎_elim, ℕ, zero, suc, List, length, Option, Some, refl, sym, ap, ◌∙◌, subst}
 use Rattle.std.specs.Prelude.{None as Absent}
 use Rattle.std.specs.List.{Contains}
-use Rattle.wy_kernel.specs.declared.types.Base.{Base}
 use Rattle.wy_kernel.specs.declared.types.Base.TheVariants.{Primitive as Basic, Class as Named}
 use Rattle.wy_kernel.specs.declared.types.Ty.{Ty}
 use Rattle.wy_kernel.specs.declared.types.Ty.TheVariants.{Void, Null as OfNull, Of}
 use Rattle.wy_kernel.specs.Program.{Class, string_class, type_code, type_of_code}
 use Rattle.wy_kernel.specs.Subtyping.{Below, same, transitive, declared, byte_short, short_int, int_long, char_int, of_null, to_object, of_arrays, direct_supertypes, class_type}
-use Rattle.wy_kernel.specs.Table.{IsTypeOf}
 use Rattle.wy_value.specs.declared.value.Value.{Value}
 use Rattle.wy_value.specs.declared.value.Value.TheVariants as val
 use Rattle.wy_event.specs.declared.record.Kind.TheVariants as kind
 use Rattle.wy_event.specs.Record.{Recorded}
-use Rattle.wy_steps.specs.State.{Noted}
 use Rattle.wy_steps.specs.Steps.{code_of, event_in}
 use Rattle.wy_typing.specs.Types.{text_type}
-use Rattle.wy_typing.specs.Types as typing
 use Rattle.wy_typed_states.specs.Typed.{Is, MayStand, made_type}
 use Rattle.wy_typed_states.proofs.Library.{code_is}
-use Rattle.wy_typed_states.proofs.Rules.{Ground, A, p}
+use Rattle.wy_typed_states.proofs.Rules.{Ground, p}
 use Rattle.wy_in_range.specs.InRange.{Text, IsTypeOfObjects, WhatInRange, IsPrinted, InRange, StringIsFinal}
 use Rattle.wy_in_range.proofs.Facts.{Moment, AllInRange, found_in_range}
 

@@ -1,41 +1,35 @@
 -- Texts, operations of the library, arrays and the ends of bodies keep what is in range.
-use Rattle.std.proofs.Common.{◌≡◌, ◌<◌, ◌≤◌, ◌+◌, ◌*◌, ◌^◌, ◌⊎◌, inl, inr, ⊎_elim, arith, ℕ, zero, suc, Bool, true, false, List, [], ◌∷◌, ◌++◌, length, Option, Some, refl, sym, ap, ◌∙◌, subst}
+use Rattle.std.proofs.Common.{◌≡◌, ◌<◌, ◌≤◌, ◌+◌, inr, arith, ℕ, zero, suc, Bool, true, false, List, [], ◌∷◌, ◌++◌, length, Option, Some, refl, sym, ap, ◌∙◌, subst}
 use Rattle.std.specs.Prelude.{None as Absent}
-use Rattle.std.specs.Prelude.{ℤ, pos, negsuc, int_lt, if◌then◌else◌}
-use Rattle.std.specs.List.{AllByRecursion}
-use Rattle.wy_kernel.specs.declared.types.Base.{Base}
-use Rattle.wy_kernel.specs.declared.types.Base.TheVariants.{Primitive as Basic, Class as Named}
+use Rattle.std.specs.Prelude.{ℤ, pos, int_lt, if◌then◌else◌}
 use Rattle.wy_kernel.specs.declared.types.Ty.{Ty}
-use Rattle.wy_kernel.specs.declared.types.Ty.TheVariants.{Of}
 use Rattle.wy_kernel.specs.declared.form.LibOp.{LibOp}
 use Rattle.wy_kernel.specs.declared.form.LibOp.TheVariants as op
-use Rattle.wy_kernel.specs.Program.{type_code, base_code, primitive_code, element_type}
-use Rattle.wy_kernel.specs.Table.{IsTypeOf}
+use Rattle.wy_kernel.specs.Program.{type_code, element_type}
 use Rattle.wy_value.specs.declared.value.Value.{Value}
 use Rattle.wy_value.specs.declared.value.Value.TheVariants as val
 use Rattle.wy_value.specs.Encoding.{utf8_of}
 use Rattle.wy_value.proofs.Encodings.{utf8_of-nil}
 use Rattle.wy_event.specs.declared.record.Kind.TheVariants as kind
-use Rattle.wy_event.specs.declared.record.Slot.{Slot}
 use Rattle.wy_event.specs.declared.record.Slot.TheVariants as slot
-use Rattle.wy_steps.specs.State.{Carried, Run, Reason, Jumped, Returned, Threw, FellOff, InitFailed, ◌>>◌}
-use Rattle.wy_steps.specs.Steps.{Made, element_limit, constant, joined, joined_all, with_value, value_of, code_of, event_in}
-use Rattle.wy_meaning.specs.World.{World, plain, about, into, spelling, is_text, units_of, natural_of}
+use Rattle.wy_steps.specs.State.{Run, Reason, Jumped, Returned, Threw, FellOff, InitFailed}
+use Rattle.wy_steps.specs.Steps.{element_limit, constant, joined_all, with_value, value_of, code_of, event_in}
+use Rattle.wy_meaning.specs.World.{World, plain, about, spelling, natural_of}
 use Rattle.wy_meaning.specs.Array.{make_array, for_each, subarrays, make_arrays}
-use Rattle.wy_meaning.specs.Text.{spelled_as, make_text, line_end, print, print_nothing}
+use Rattle.wy_meaning.specs.Text.{spelled_as, make_text, line_end, print_nothing}
 use Rattle.wy_meaning.specs.Library.{int_in, text_arg, unit_or_fail, part_or_fail, int_or_fail, parse, absolute, greater, lesser, byte_value, read_byte, library_one, library_two, library_three, library}
 use Rattle.wy_meaning.specs.Call.{text_equals, call_on_text, end_body, at_return, at_failure}
 use Rattle.wy_meaning.specs.Statement.{declaration, jump}
-use Rattle.wy_induction.specs.Law.{nothing, both, Entails, Frame, Region, In, Ends}
-use Rattle.wy_induction.proofs.Rules.{newest, before, same, trivially}
+use Rattle.wy_induction.specs.Law.{nothing, both, Entails, Frame, Region, In}
+use Rattle.wy_induction.proofs.Rules.{before, same, trivially}
 use Rattle.wy_typed_states.proofs.Moments.{Later}
 use Rattle.wy_typed_states.proofs.Law.{event}
 use Rattle.wy_typed_states.proofs.Rules.{Ground, A, p, Known}
 use Rattle.wy_typed_states.proofs.Places.{Methods, world_of}
-use Rattle.wy_in_range.specs.InRange.{Text, IsTypeOfObjects, arrays_from, IsArray, index_limit, IsByte, IsPrinted, FixedInRange}
-use Rattle.wy_in_range.proofs.Facts.{S, C, Moment, always, Fine, fine, all_fine, Spotted, spotted, fair, Drafted, drafted, array_up, constant_fine, with_value_fine, joined_fine, value_of_fine}
-use Rattle.wy_in_range.proofs.Bare.{IsByteIn, Bare, bind, next, after, weaker, gives_less, gives, leaves, stops, either, chooses, where_at, frames, looks, reads, declares, takes_elements, takes_units, takes_byte, BytesAre, line_bytes, prints, notes, writes, creates_new}
-use Rattle.wy_in_range.proofs.Forms.{Site, some, null_fails, size_fails, number_fails, place_fails, finds_type, finds_units, finds_object, measures_some, set_draft}
+use Rattle.wy_in_range.specs.InRange.{Text, IsTypeOfObjects, arrays_from, IsArray, IsByte, FixedInRange}
+use Rattle.wy_in_range.proofs.Facts.{S, C, Moment, always, fine, all_fine, spotted, fair, drafted, array_up, constant_fine, with_value_fine, joined_fine, value_of_fine}
+use Rattle.wy_in_range.proofs.Bare.{IsByteIn, Bare, bind, next, after, weaker, gives_less, gives, leaves, stops, frames, declares, takes_elements, takes_units, takes_byte, BytesAre, line_bytes, prints, notes, writes, creates_new}
+use Rattle.wy_in_range.proofs.Forms.{Site, null_fails, number_fails, place_fails, finds_type, finds_units, finds_object, measures_some, set_draft}
 
 module _ (G : Ground) (W : Text) (J : ℕ → Type 0) (M : Methods G) where
   abbrev w : World (A G)

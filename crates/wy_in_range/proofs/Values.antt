@@ -1,5 +1,5 @@
 -- What types say of the ranges of values, and that operations make no fixed text.
-use Rattle.std.proofs.Common.{◌≡◌, ◌<◌, ◌≤◌, ◌+◌, ◌*◌, ◌/◌, ◌%◌, ◌^◌, ◌⊎◌, inl, inr, ⊎_elim, arith, ℕ, zero, suc, Bool, true, false, List, [], ◌∷◌, ◌++◌, length, Option, Some, refl, sym, ap, ◌∙◌, subst}
+use Rattle.std.proofs.Common.{◌≡◌, ◌<◌, ◌+◌, ◌*◌, ◌/◌, ◌%◌, ◌^◌, ⊎_elim, arith, ℕ, zero, suc, Bool, true, false, List, [], ◌∷◌, ◌++◌, length, Option, Some, refl, sym, ap, ◌∙◌, subst}
 use Rattle.std.specs.Prelude.{None as Absent}
 use Rattle.std.specs.Prelude.{ℤ, pos, ◌&&◌, if◌then◌else◌, slice_get, slice_index_or}
 use Rattle.std.specs.List.{All}
@@ -17,8 +17,8 @@ use Rattle.wy_kernel.specs.declared.types.Ty.{Ty}
 use Rattle.wy_kernel.specs.declared.types.Ty.TheVariants.{Void, Null as OfNull, Of}
 use Rattle.wy_kernel.specs.Builtin as builtin
 use Rattle.wy_kernel.specs.Builtin.{throwable_class}
-use Rattle.wy_kernel.specs.Program.{Program, Body, Field, Method, field, method, body, init_body, is_source, object_class, string_class, base_of, type_of_code}
-use Rattle.wy_kernel.specs.Subtyping.{IsReference, Below, class_type, object_type, primitive_type}
+use Rattle.wy_kernel.specs.Program.{Program, Body, Field, Method, field, method, body, init_body, is_source, object_class, base_of, type_of_code}
+use Rattle.wy_kernel.specs.Subtyping.{class_type, primitive_type}
 use Rattle.wy_kernel.specs.Table.{IsMethodOf, IsFieldOf}
 use Rattle.wy_value.specs.declared.value.Value.{Value}
 use Rattle.wy_value.specs.declared.value.Value.TheVariants as val
@@ -38,7 +38,7 @@ use Rattle.wy_typed_states.proofs.Library.{object_is_top, text_below_object}
 use Rattle.wy_typed_states.proofs.States.{all_at}
 use Rattle.wy_typed_states.proofs.Bodies.{part_there}
 use Rattle.wy_typed_states.proofs.Rules.{Ground, A, p}
-use Rattle.wy_in_range.specs.InRange.{arrays_from, IsObject, IsSome, IsTruth, IsPrinted, IsThrown, FixedInRange}
+use Rattle.wy_in_range.specs.InRange.{arrays_from, IsObject, IsSome, IsTruth, IsThrown, FixedInRange}
 
 -- ---- operations
 
