@@ -1,0 +1,2 @@
+//! The trace of a run is never refused.
+#![tactic(auto)]
