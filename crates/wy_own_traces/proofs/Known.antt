@@ -68,7 +68,7 @@ module _ (before : List Recorded) where
   abbrev pub earlier : List Known
   earlier = map known_in before
 
-  known_there : (k : ℕ) (e : Recorded) → slice_get before k ≡ Some e → slice_get earlier k ≡ Some (known_in e)
+  pub known_there : (k : ℕ) (e : Recorded) → slice_get before k ≡ Some e → slice_get earlier k ≡ Some (known_in e)
   known_there k e h = slice_get-map known_in before k ∙ ap (option_map known_in) h
 
   pub refers : (r : Role) (k : ℕ) (e : Recorded) → slice_get before k ≡ Some e → fits r (known_in e) ≡ true → Refers r earlier k
