@@ -1,3 +1,4 @@
 mod Known
 mod Slots
 mod Values
+mod Records
