@@ -2,3 +2,4 @@ mod Known
 mod Slots
 mod Values
 mod Records
+mod Ends
