@@ -3,3 +3,4 @@ mod Slots
 mod Values
 mod Records
 mod Ends
+mod Whole
