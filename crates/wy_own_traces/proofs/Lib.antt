@@ -1,0 +1,6 @@
+mod Known
+mod Slots
+mod Values
+mod Records
+mod Ends
+mod Whole
