@@ -35,7 +35,7 @@ use Rattle.wy_typed_states.proofs.Places.{Methods, world_of}
 use Rattle.wy_typed_states.proofs.Statements.{GivesBack}
 use Rattle.wy_typed_states.proofs.Bodies as typed_body
 use Rattle.wy_typed_states.proofs.Bodies.{part_there, body_there}
-use Rattle.wy_in_range.specs.Sites.{BodySited}
+use Rattle.wy_typing.specs.Sites.{BodySited}
 use Rattle.wy_in_range.specs.InRange.{Text, IsSite, Lined, JumpsTo, FitsText}
 use Rattle.wy_in_range.proofs.Facts.{C, Moment, fine, all_fine, drafted, constant_fine}
 use Rattle.wy_in_range.proofs.Values.{some_value, locals_known}

@@ -58,7 +58,7 @@ use Rattle.wy_typed_states.proofs.Forms.{T, chosen_calls_at, object_is_object, s
 use Rattle.wy_typed_states.proofs.Calls.{AllTypes, gives_all, one_method, calls_with, static_calls, Constructs, constructor_calls}
 use Rattle.wy_typed_states.proofs.Arrays.{makes_array, elements_are, element_place, element_stores, made_elements, array_made, one_less}
 use Rattle.wy_typed_states.proofs.Expressions as expression
-use Rattle.wy_in_range.specs.Sites.{Sited, PlaceSited, RowSited}
+use Rattle.wy_typing.specs.Sites.{Sited, PlaceSited, RowSited}
 use Rattle.wy_in_range.specs.InRange.{Text, IsSite, FixedInRange}
 use Rattle.wy_in_range.proofs.Facts.{C, always, fine, all_fine, spotted, drafted, constant_fine, with_value_fine, joined_fine, value_of_fine, chosen_fine}
 use Rattle.wy_in_range.proofs.Values.{binary_gives, operated_gives, unary_gives, converted_fixed, some_value, truth, primitive_fixed, locals_known, field_known, field_class, method_class}

@@ -35,7 +35,7 @@ use Rattle.wy_typed_states.proofs.Forms.{chosen_gives, object_is_object}
 use Rattle.wy_typed_states.proofs.Statements as typed_statement
 use Rattle.wy_typed_states.proofs.Statements.{GivesBack, leaves_typed, place}
 use Rattle.wy_typed_states.proofs.Expressions as expression
-use Rattle.wy_in_range.specs.Sites.{Sited, PartSited, StatementSited, ActSited, OtherSited, AllSited, CatchesSited}
+use Rattle.wy_typing.specs.Sites.{Sited, PartSited, StatementSited, ActSited, OtherSited, AllSited, CatchesSited}
 use Rattle.wy_in_range.specs.InRange.{Text, IsSite, HasLocal, IsPrinted, StringIsFinal, Lined, ActLined, OtherLined, AllLined, CatchesLined, JumpsTo, ActJumpsTo, OtherJumpsTo, AllJumpTo, CatchesJumpTo}
 use Rattle.wy_in_range.proofs.Facts.{C, Moment, always, fine, thrown, fair, drafted, constant_fine}
 use Rattle.wy_in_range.proofs.Values.{throwable}

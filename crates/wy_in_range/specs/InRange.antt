@@ -28,7 +28,7 @@ use Rattle.wy_meaning.specs.Run.{Tail, events, output, tail}
 use Rattle.wy_typing.specs.Expressions.{IsMethod, IsField}
 use Rattle.wy_induction.specs.Law.{Frame}
 use Rattle.wy_typed_states.specs.Typed.{running, local_types}
-use Rattle.wy_in_range.specs.Sites.{BodySited}
+use Rattle.wy_typing.specs.Sites.{BodySited}
 
 -- ---- the text of a program
 

@@ -1,2 +1,1 @@
 pub mod InRange
-pub mod Sites

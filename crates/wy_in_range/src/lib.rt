@@ -20,6 +20,8 @@ ghost use Rattle.wy_in_range.specs.InRange.{FitsText, RunsAreInRange, Text};
 /// To fit its text is to have the sites of its bodies at its tokens, no class below String and no jump out of a body, and to end lines
 /// exactly where the text has `println`.
 pub fn runs_are_in_range()
-    ensures runs { (text : Text) (p : Program) → IsProgram p → KeepsLibrary p → FitsText text p → RunsAreInRange nothing text p }
-    ensures runs_carrying { (text : Text) (p : Program) → IsProgram p → KeepsLibrary p → FitsText text p → RunsAreInRange numbers text p }
+    ensures runs { (text : Text) (p : Program) → IsProgram p → KeepsLibrary p → FitsText text p
+        → RunsAreInRange nothing text p }
+    ensures runs_carrying { (text : Text) (p : Program) → IsProgram p → KeepsLibrary p
+        → FitsText text p → RunsAreInRange numbers text p }
 {}

@@ -18,7 +18,7 @@ use Rattle.wy_payload.specs.Ranges.{ranges_of}
 use Rattle.wy_payload.specs.Values.{output_limit}
 use Rattle.wy_shaped.specs.Shaped as shaped_count
 use Rattle.wy_shaped.specs.Shaped.{Shaped, RecordsAreShaped, CoverageIsShaped, LastIsShaped, CountsAreShaped, CoverFits, OptionBelow, IsThrow}
-use Rattle.wy_readable.specs.Readable.{uses_in, printed, KeepsRules}
+use Rattle.wy_readable.specs.Readable.{uses_in, printed, IsReadable}
 use Rattle.wy_in_range.specs.InRange.{FitsText, LastFits, InRange, EndInRange, RunsAreInRange}
 use Rattle.wy_own_traces.specs.Own.{text_of, IsOwn, OwnTracesKeepRules}
 use Rattle.wy_own_traces.proofs.Records.{all_may_stand, all_written}
@@ -46,7 +46,7 @@ module _ (P : memory.Program) (library : KeepsLibrary (program_of P)) (laws : Ar
   shaped : (n : ℕ) (e : Recorded) → slice_get rs n ≡ Some e → Shaped rs n e
   shaped = laws.records (program_of P) head.input head.steps
 
-  keeps_with : (end : Kept) → IsOwn P head rs end → KeepsRules P head rs end
+  keeps_with : (end : Kept) → IsOwn P head rs end → IsReadable P head rs end
   unfolding kept_tail
   keeps_with end own =
       let last = laws.last (program_of P) head.input head.steps in
@@ -80,4 +80,4 @@ module _ (P : memory.Program) (library : KeepsLibrary (program_of P)) (laws : Ar
 
 pub own_keep_rules : (P : memory.Program) → KeepsLibrary (program_of P) → AreShaped → RunsAreInRange nothing (text_of P) (program_of P) → OwnTracesKeepRules P
 own_keep_rules P library laws ranged head rs end own =
-    subst (λ (l : List Recorded). IsOwn P head l end → KeepsRules P head l end) (sym own.events_are) (keeps_with P library laws ranged head end) own
+    subst (λ (l : List Recorded). IsOwn P head l end → IsReadable P head l end) (sym own.events_are) (keeps_with P library laws ranged head end) own

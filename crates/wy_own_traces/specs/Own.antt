@@ -19,7 +19,7 @@ use Rattle.wy_spelling.specs.Spelling.{trace_limit}
 use Rattle.wy_frames.specs.declared.error.TraceError.{TraceError}
 use Rattle.wy_frames.specs.declared.error.TraceError.TheVariants.{NoMemory}
 use Rattle.wy_frames.specs.Traces.{ReadsAs}
-use Rattle.wy_readable.specs.Readable.{HeadMayStand, KeepsRules}
+use Rattle.wy_readable.specs.Readable.{HeadMayStand, IsReadable}
 use Rattle.wy_readable.specs.Laws.{run_bytes, IsRead}
 use Rattle.wy_in_range.specs.InRange.{Text, FitsText, IsByteOf}
 
@@ -38,7 +38,7 @@ pub record IsOwn (p : Program) (head : Head) (rs : List Recorded) (end : Tail) :
 
 -- so it keeps every rule of a reader
 abbrev pub OwnTracesKeepRules : Program → Type 0
-OwnTracesKeepRules p = (head : Head) (rs : List Recorded) (end : Tail) → IsOwn p head rs end → KeepsRules p head rs end
+OwnTracesKeepRules p = (head : Head) (rs : List Recorded) (end : Tail) → IsOwn p head rs end → IsReadable p head rs end
 
 -- what holds of the bytes of each run of the program, where they are within the limit of a trace
 abbrev pub OfOwnBytes : (Program → Head → List Recorded → Tail → List ℕ → Type 0) → Program → Type 0

@@ -12,7 +12,7 @@ use Rattle.wy_kernel.specs.declared.program.Program as memory
 use Rattle.wy_kernel.specs.declared.types.MethodForm.{MethodForm}
 use Rattle.wy_kernel.specs.declared.types.MethodForm.TheVariants as kind
 use Rattle.wy_typing.specs.Programs.{IsProgram}
-use Rattle.wy_sites.specs.Sites.{HasSites}
+use Rattle.wy_typing.specs.Sites.{HasSites}
 use Rattle.std.proofs.lemmas.Option.{slice_get_within}
 use Rattle.wy_program.proofs.Bodies.{indexed}
 

@@ -6,7 +6,7 @@ ghost use Rattle.wy_kernel.specs.Parts.{program_of};
 ghost use Rattle.wy_kernel.specs.Program.{body, method};
 ghost use Rattle.wy_kernel.specs.View.{body_of};
 ghost use Rattle.wy_program.specs.Texts.{Reads};
-ghost use Rattle.wy_sites.specs.Sites.{HasSites};
+ghost use Rattle.wy_typing.specs.Sites.{HasSites};
 ghost use Rattle.wy_syntax.specs.Declarations.{unit};
 ghost use Rattle.wy_tree.specs.Ast.{view};
 ghost use Rattle.wy_tree.specs.Tokens.{spanned_token, token_limit};

@@ -24,7 +24,7 @@ use Rattle.wy_elab_expr.specs.Operators.{Judgement, is_void, is_text_type, is_as
 use Rattle.wy_elab_expr.specs.Members.{Spot, spot, this_form, named_spot, qualified_spot, qualified_name, field_spot, no_field, is_library_name, Nothing, Object, OfClass, Super, text_methods, library_call, some_void}
 use Rattle.wy_elab_expr.specs.Elaboration.{type_with, type_written, literal_or_null, literal_meaning, ClassName, class_in, Stream, Input, Output, stream_in, class_methods, is_of_texts, called_on_known, called_on_class, called_on, byte_read, printed_type, is_printed, Printed, printed, is_print, some_printed, print_operand, called_on_stream, above, super_field_named, super_spot, is_index, element_of, element_at, element_spot, sizes_of, with_brackets, assigned_value, assigned, adds_text, updated_in, left_primitive, updated_by, updated, stepped_in, stepped, read, is_an_array, field_target, is_limit, class_target, just, class_for_new, Listing, listing, or_type, is_place, elaborated, elaborated_all, target, elements_of, initialized}
 use Rattle.wy_structure.proofs.Yields.{Yields, given, refused_found, anything, then_found, of_choice, of_option}
-use Rattle.wy_sites.specs.Sites.{Sited, RowSited}
+use Rattle.wy_typing.specs.Sites.{Sited, RowSited}
 use Rattle.wy_sites.proofs.Tokens.{Tokens, RowTokens, InitialTokens, ElementTokens}
 use Rattle.wy_sites.proofs.Forms.{MeaningSited, MeaningsSited, GetsSited, brought_sited, formed_sited, unary_sited, binary_sited, lazy_sited, choice_sited, cast_sited, instance_sited}
 use Rattle.wy_sites.proofs.Members.{SpotSited, GetsSpot, named_spot_sited, named_sited, qualified_sited, qualified_name_sited, object_sited, field_spot_sited, field_read_sited, called_sited, library_sited, created_sited}

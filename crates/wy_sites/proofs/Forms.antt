@@ -17,7 +17,7 @@ use Rattle.wy_constant.specs.Scope.{FixedText}
 use Rattle.wy_elab_expr.specs.Meaning.{Meaning, Known, Formed, type_of, Gets, refuse, listed, place_of, converted_form, constant_for, brought, formed}
 use Rattle.wy_elab_expr.specs.Operators.{Judgement, is_void, is_nullable, is_boolean, can_cast, unary_type, unary_known, unary_formed, known_or, unary_of, OperandTypes, operand_types, joins, binary_known, token_of, binary_formed, joined, binary_of, lazy_form, lazy_formed, lazy_of, choice_formed, choice_of, cast_known, cast_form, cast_of, tested, instance_of, boolean_type}
 use Rattle.wy_structure.proofs.Yields.{Yields, found_ok, ok_same, given, refused_found, then_found, of_choice}
-use Rattle.wy_sites.specs.Sites.{Sited}
+use Rattle.wy_typing.specs.Sites.{Sited}
 
 -- P holds of each site in the form that is found; of a constant no form is made yet
 abbrev pub MeaningSited : (ℕ → Type 0) → Meaning → Type 0

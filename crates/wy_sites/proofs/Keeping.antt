@@ -13,7 +13,7 @@ use Rattle.wy_constant.specs.Scope as scope
 use Rattle.wy_elab_expr.specs.Meaning.{Gets}
 use Rattle.wy_statement.specs.Making.{Making, Makes, give, refuse, onward, ◌>>=◌, each, expressed, after_texts, with_texts, changed, in_block, local, after_scope, declaring, rejoined, resumed}
 use Rattle.wy_structure.proofs.Yields.{Yields, ok_same, anything}
-use Rattle.wy_sites.specs.Sites.{LocalsSited}
+use Rattle.wy_typing.specs.Sites.{LocalsSited}
 
 pub record Keeps (P : ℕ → Type 0) {A : Type 0} (f : Makes A) (Q : A → Type 0) : Type 0 where
   pub by : (s after : Making) (x : A) → LocalsSited P s.locals → f s ≡ Ok (x, after) → Q x × LocalsSited P after.locals

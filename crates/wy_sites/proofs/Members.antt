@@ -19,7 +19,7 @@ use Rattle.wy_elab_expr.specs.Meaning.{Meaning, Known, Formed, type_of, Gets, gi
 use Rattle.wy_elab_expr.specs.Operators.{Judgement, class_of, is_interface}
 use Rattle.wy_elab_expr.specs.Members.{Spot, spot, this_form, is_outside, own_field, own_field_named, variable_or_field, named_spot, read_as, named, no_field, static_field, field_of_class, is_library_name, member_of_class, qualified_spot, limit_or, qualified_name, object_field, field_through, field_spot, is_length, field_read, some_void, types_of, brought_all, method_for, Through, Nothing, Object, OfClass, Super, is_static, broken, receiver, call_form, call_of, called_unless, called_at, called, LibraryMethod, applicable, has_name, front, library_form, library_call, constructed, is_abstract, new_plain, created}
 use Rattle.wy_structure.proofs.Yields.{Yields, given, refused_found, anything, then_found, of_choice}
-use Rattle.wy_sites.specs.Sites.{Sited, PlaceSited, PartSited, RowSited}
+use Rattle.wy_typing.specs.Sites.{Sited, PlaceSited, PartSited, RowSited}
 use Rattle.wy_sites.proofs.Forms.{MeaningSited, MeaningsSited, GetsSited, brought_sited, formed_sited}
 
 abbrev pub SpotSited : (ℕ → Type 0) → Spot → Type 0

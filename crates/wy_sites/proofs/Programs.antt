@@ -10,7 +10,7 @@ use Rattle.wy_members.specs.Declarations.{CompilationUnit, classes_of, table}
 use Rattle.wy_elab_stmt.proofs.OneProgram.{as_wide}
 use Rattle.wy_structure.proofs.Productions.{unit_full}
 use Rattle.wy_structure.proofs.Elaborated.{MadeFrom, made_from}
-use Rattle.wy_sites.specs.Sites.{IsToken, HasSites}
+use Rattle.wy_typing.specs.Sites.{IsToken, HasSites}
 use Rattle.wy_sites.specs.Laws.{SitesAreTokens}
 use Rattle.wy_sites.proofs.Tokens.{ClassesTokens}
 use Rattle.wy_sites.proofs.TreeClasses.{unit_tokens}

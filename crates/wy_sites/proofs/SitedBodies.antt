@@ -15,7 +15,7 @@ use Rattle.wy_statement.specs.Parts.{NoValue, ValueOf, constructor_called, const
 use Rattle.wy_statement.specs.Jumps.{alone, inside}
 use Rattle.wy_statement.specs.Statements.{Setting, number, plain, block, statements, joined, row_of}
 use Rattle.wy_statement.specs.Bodies.{implied, declared_type, parameter, parameters, outcome_of, brace_of, method_block, superclass_of, implied_super_call, implied_fields_call, own_call, no_call, written_super_call, fields_call, first_calls, constructor_block, implied_constructor_block, around_initializer, own_place, field_number, assigned_first, field_initial, field_initials, initializer_block}
-use Rattle.wy_sites.specs.Sites.{Sited, PlaceSited, StatementSited, AllSited}
+use Rattle.wy_typing.specs.Sites.{Sited, PlaceSited, StatementSited, AllSited}
 use Rattle.wy_sites.proofs.Tokens.{FirstTokens, DeclaratorTokens, BlockTokens, AllTokens, HeaderTokens, OwnTokens}
 use Rattle.wy_sites.proofs.Expressions.{initialized_sited}
 use Rattle.wy_sites.proofs.Keeping.{Keeps, given, and_then, behind, of_choice, of_expressed, of_any, of_declaring, of_each}

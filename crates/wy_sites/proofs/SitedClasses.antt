@@ -18,7 +18,7 @@ use Rattle.wy_statement.specs.Statements.{Setting}
 use Rattle.wy_statement.specs.Bodies.{Growing, Growth, body_of, end_of, method_block, constructor_block, implied_constructor_block, initializer_block, field_initials, implied_body}
 use Rattle.wy_elab_stmt.specs.Classes.{ClassBodies, whole, with_body, grown, in_initializer, in_fields, is_static, member, members, implied_constructor, none_yet, fields_body, finished, of_class, of_interface, class_bodies}
 use Rattle.wy_structure.proofs.Yields.{Yields, given, then_found, of_choice}
-use Rattle.wy_sites.specs.Sites.{StatementSited, LocalsSited, BodySited}
+use Rattle.wy_typing.specs.Sites.{StatementSited, LocalsSited, BodySited}
 use Rattle.wy_sites.proofs.Tokens.{BlockTokens, MemberTokens, ClassTokens}
 use Rattle.wy_sites.proofs.Keeping.{Keeps, of_resumed}
 use Rattle.wy_sites.proofs.SitedStatements.{ListSited, row_sited}

@@ -7,7 +7,7 @@ use Rattle.wy_kernel.specs.Program.{Body, string_class, object_class}
 use Rattle.wy_kernel.specs.Program as part
 use Rattle.wy_kernel.specs.Builtin.{method_site, throwable_class}
 use Rattle.wy_library.specs.Library.{library_local, body_of, object_to_string, object_equals, plain_throwable, throwable_with_message, get_message, throwable_to_string, plain_constructor, constructor_with_message, library_bodies}
-use Rattle.wy_sites.specs.Sites.{AllSited, LocalsSited, BodySited}
+use Rattle.wy_typing.specs.Sites.{AllSited, LocalsSited, BodySited}
 use Rattle.wy_sites.proofs.SitedClasses.{SomeBodySited}
 
 -- the site is that of the method

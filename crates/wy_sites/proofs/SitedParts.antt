@@ -15,7 +15,7 @@ use Rattle.wy_elab_expr.specs.Members.{is_outside, brought_all, method_for}
 use Rattle.wy_elab_expr.specs.Elaboration.{Printed, print_operand, elaborated, elaborated_all}
 use Rattle.wy_statement.specs.Parts.{Outcome, NoValue, ValueOf, NoReturn, condition, performed, printing, evaluated, is_output_call, print_of, returned_as, returned, thrown, constructor_form, constructed_by, constructor_called, constructor_call}
 use Rattle.wy_structure.proofs.Yields.{Yields, given, refused_found, anything, then_found, of_choice}
-use Rattle.wy_sites.specs.Sites.{Sited, RowSited, ActSited}
+use Rattle.wy_typing.specs.Sites.{Sited, RowSited, ActSited}
 use Rattle.wy_sites.proofs.Tokens.{Tokens, RowTokens}
 use Rattle.wy_sites.proofs.Forms.{MeaningSited, MeaningsSited, brought_sited, formed_sited}
 use Rattle.wy_sites.proofs.Members.{brought_all_sited}

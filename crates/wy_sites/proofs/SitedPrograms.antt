@@ -14,7 +14,7 @@ use Rattle.wy_elab_stmt.specs.Classes.{class_bodies}
 use Rattle.wy_elab_stmt.specs.Program.{Bodies, and_more, no_bodies, bodies_from, setting, program_with}
 use Rattle.wy_structure.proofs.Elaborated.{MadeFrom}
 use Rattle.wy_structure.proofs.Yields.{Yields, given, then_found}
-use Rattle.wy_sites.specs.Sites.{BodySited}
+use Rattle.wy_typing.specs.Sites.{BodySited}
 use Rattle.wy_sites.proofs.Tokens.{ClassesTokens}
 use Rattle.wy_sites.proofs.TableRows.{at_place, behind_first}
 use Rattle.wy_sites.proofs.SitedClasses.{SomeBodySited, BodiesSited, ClassSited, class_bodies_sited}

@@ -13,7 +13,7 @@ use Rattle.wy_statement.specs.Making.{Makes, give, refuse, ◌>>=◌, expressed,
 use Rattle.wy_statement.specs.Parts.{condition, performed, returned, returns_nothing, thrown, caught_class}
 use Rattle.wy_statement.specs.Jumps.{Around, inside, in_loop, under_label, break_target, continue_target}
 use Rattle.wy_statement.specs.Statements.{Setting, number, plain, testing, targets_in, other_targets_in, site_of, body_of_loop, number_of_body, constant_if, given_first, declarator, declarations, effect, effects, for_init, jumping, returning, row_of, joined, tested, looping, is_label, in_first_block, must_be_throwable, Clause, clause, is_declaration, declared, several, statement, other_statement, block, statements, last_block, clauses}
-use Rattle.wy_sites.specs.Sites.{Sited, PartSited, StatementSited, ActSited, OtherSited, AllSited, CatchesSited}
+use Rattle.wy_typing.specs.Sites.{Sited, PartSited, StatementSited, ActSited, OtherSited, AllSited, CatchesSited}
 use Rattle.wy_sites.proofs.Tokens.{Tokens, OptionTokens, FirstTokens, DeclaratorTokens, EffectTokens, InitTokens, StatementTokens, BlockTokens, AllTokens, OtherTokens, LastTokens, CatchTokens}
 use Rattle.wy_sites.proofs.Expressions.{initialized_sited}
 use Rattle.wy_sites.proofs.Keeping.{Keeps, given, refused_at, and_then, behind, of_choice, of_expressed, of_any, of_changed, within_block, of_declaring, of_each}

@@ -16,7 +16,7 @@ use Rattle.wy_members.specs.Declarations.{class_in, classes_of}
 use Rattle.wy_structure.proofs.Trees.{Full, AllFull, parts_full, wide}
 use Rattle.wy_structure.proofs.Productions.{UnitFull}
 use Rattle.wy_structure.proofs.ClassTrees.{Row, row_rises, row_behind, row_with, row_longer, placed_row, modifiers_row, throws_row, brace_row}
-use Rattle.wy_sites.specs.Sites.{IsToken}
+use Rattle.wy_typing.specs.Sites.{IsToken}
 use Rattle.wy_sites.proofs.Tokens.{HeaderTokens, OwnTokens, BodyTokens, AllTokens, MemberTokens, ClassesTokens}
 use Rattle.wy_sites.proofs.TreeExpressions.{arguments_tokens}
 use Rattle.wy_sites.proofs.TreeStatements.{declarators_tokens, statement_tokens, block_tokens}

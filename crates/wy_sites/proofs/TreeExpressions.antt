@@ -10,7 +10,7 @@ use Rattle.wy_syntax.specs.Syntax.{Base, Expression, Literal, Name, This, Group,
 use Rattle.wy_syntax.specs.Names.{width, widths, is_leaf, name_of, word_of, sign_of, base_named, written, operator, updating, prefix, is_up}
 use Rattle.wy_syntax.specs.Expressions.{leaf, joined, assigned, prefixed, empty_pairs, is_mark, stepped, three, four, is_braced, expression, assignment, choice, binary, unary, cast, postfix, primary, creation, sizes, listed, elements, inside, arguments_of, arguments, initial}
 use Rattle.wy_structure.proofs.Trees.{Full, AllFull, parts_full, wide}
-use Rattle.wy_sites.specs.Sites.{IsToken}
+use Rattle.wy_typing.specs.Sites.{IsToken}
 use Rattle.wy_sites.proofs.Tokens.{Tokens, RowTokens, InitialTokens, ElementTokens}
 
 -- what holds of both holds of the one that is chosen

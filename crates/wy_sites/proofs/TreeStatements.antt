@@ -12,7 +12,7 @@ use Rattle.wy_syntax.specs.Names.{width, widths, is_leaf, named, written as writ
 use Rattle.wy_syntax.specs.Expressions.{expression, initial}
 use Rattle.wy_syntax.specs.Statements.{effect, initial_in, declarator, declarator_list, declarators, effects_behind, effects, for_parts, for_init, value, statement, braces, block, statements, by_word, branch, otherwise, loop_while, loop_do, loop_for, behind_init, for_test, body_behind, other, tried, catches, clause, last_of, thrown, declared}
 use Rattle.wy_structure.proofs.Trees.{Full, AllFull, parts_full, wide}
-use Rattle.wy_sites.specs.Sites.{IsToken}
+use Rattle.wy_typing.specs.Sites.{IsToken}
 use Rattle.wy_sites.proofs.Tokens.{OptionTokens, FirstTokens, DeclaratorTokens, EffectTokens, InitTokens, StatementTokens, BlockTokens, AllTokens, OtherTokens, LastTokens, CatchTokens}
 use Rattle.wy_sites.proofs.TreeExpressions.{either, expression_tokens, initial_tokens}
 

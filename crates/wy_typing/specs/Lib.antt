@@ -3,3 +3,4 @@ pub mod Expressions
 pub mod Statements
 pub mod Programs
 pub mod Laws
+pub mod Sites

@@ -104,7 +104,8 @@ fn is_not_extended(lineage: &Lineage, d: u32, class: &Class) -> bool
 
 fn is_hidden_in_library(lineage: &Lineage, d: u32) -> bool
     ensures { IsTrue result
-        ↔ ((d < first_source_class) × (d ≡ 0 → ⊥) × (Supertype (lineage_of lineage.now).classes d 2 → ⊥)) }
+        ↔ ((d < first_source_class) × (d ≡ 0 → ⊥)
+        × (Supertype (lineage_of lineage.now).classes d 2 → ⊥)) }
 {
     d < FIRST_SOURCE_CLASS && d != OBJECT && !is_supertype(lineage, d, THROWABLE)
 }
