@@ -1,9 +1,12 @@
 //! The trace of a run of no program's events: a step budget of 5, the input `hi`, the source `a b`, and 3 steps.
 
+ghost use Rattle.std.specs.Prelude.{◌≤◌, IfSome, length};
+ghost use Rattle.wy_spelling.specs.Spelling.{opening, trace_limit};
+
 use std::alloc::{AllocError, Global};
 use std::test::Fail;
-use wy_event::record::Trace;
-use wy_frames::{DamageRule, TraceError, decode};
+use wy_event::record::{Head, Trace};
+use wy_frames::{DamageRule, Decoder, TraceError, decode, read_head};
 use wy_kernel::program::Program;
 use wy_kernel::types::NONE;
 
@@ -50,6 +53,36 @@ fn a_trace_is_read(rt: HostRuntime) -> Result<(), Fail> {
     let alloc = rt.alloc();
     let program = program(alloc);
     let read = decode(alloc, TRACE.as_slice(), &program);
+    assert!(rt; matches!(&read, Ok(trace) if is_the_run(trace)));
+    Ok(())
+}
+
+/// The head, if its input and its source are short.
+#[tactic(auto, using(crate::proofs::Opening::opening_is_short))]
+fn short_head(head: Head) -> Option<Head>
+    ensures { IfSome result (λ head. length (opening head) ≤ trace_limit) }
+{
+    if head.input.as_slice().len() > 100 || head.source.as_slice().len() > 100 {
+        return None;
+    }
+    Some(head)
+}
+
+#[test]
+fn a_trace_is_read_byte_by_byte(rt: HostRuntime) -> Result<(), Fail> {
+    let alloc = rt.alloc();
+    let program = program(alloc);
+    let (head, end) = read_head(alloc, TRACE.as_slice())?;
+    let Some(head) = short_head(head) else {
+        return Err(Fail::new("the head is long"));
+    };
+    let mut decoder = Decoder::new(alloc, head, &program);
+    for (n, byte) in TRACE.iter().enumerate() {
+        if n >= end as usize {
+            assert!(rt; decoder.feed(&[*byte]) == Ok(()), "byte {n}");
+        }
+    }
+    let read = decoder.finish();
     assert!(rt; matches!(&read, Ok(trace) if is_the_run(trace)));
     Ok(())
 }

@@ -3,4 +3,4 @@ use Rattle.wy_static.specs.Answers.{AreTargetsAt}
 use Rattle.wy_static.proofs.answer.Links.targets.Goals as goal
 
 pub returns : goal.returns
-returns c = λ p all. subst (λ (ns : List ℕ). AreTargetsAt p c.args.site ns) (sym c.kept.ensures) (all.targets c.args.site)
+returns c = λ p all. subst (λ (ns : List ℕ). AreTargetsAt p c.args.site ns) (sym c.numbers_under.ensures) (all.targets c.args.site)

@@ -9,4 +9,4 @@ returns-then-class-eq-OBJECT c = λ p r.
 
 pub returns-else-class-eq-OBJECT : goal.returns-else-class-eq-OBJECT
 returns-else-class-eq-OBJECT c = λ p r.
-    subst (λ (xs : List ℕ). (k : ℕ) → Contains xs k ↔ (MayReceive p k × IsAtOrBelow p k c.args.class)) (sym c.kept.ensures) (below_another p c.args.class _ c.if-class-eq-OBJECT.false (λ k. r.below k c.args.class))
+    subst (λ (xs : List ℕ). (k : ℕ) → Contains xs k ↔ (MayReceive p k × IsAtOrBelow p k c.args.class)) (sym c.numbers_under.ensures) (below_another p c.args.class _ c.if-class-eq-OBJECT.false (λ k. r.below k c.args.class))
