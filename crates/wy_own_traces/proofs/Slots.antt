@@ -17,7 +17,7 @@ use Rattle.wy_kernel.specs.declared.types.Field as memory_field
 use Rattle.wy_kernel.specs.declared.form.Body as memory_body
 use Rattle.wy_kernel.specs.declared.program.Program as memory
 use Rattle.wy_kernel.specs.Parts.{program_of}
-use Rattle.wy_kernel.specs.Program.{Program, Field, body, init_body, type_code, base_code, primitive_code}
+use Rattle.wy_kernel.specs.Program.{Program, Field, body, init_body, type_code, base_code, primitive_code, library_methods}
 use Rattle.wy_kernel.specs.Builtin as builtin
 use Rattle.wy_kernel.specs.Builtin.{method_site}
 use Rattle.wy_kernel.specs.View.{NONE, field_of, body_of, local_of}
@@ -40,7 +40,7 @@ use Rattle.wy_payload.specs.declared.ranges.Ranges.{Ranges}
 use Rattle.wy_payload.specs.declared.slot.SlotForm.TheVariants as form
 use Rattle.wy_payload.specs.Bodies.{locals_of}
 use Rattle.wy_payload.specs.Ranges.{ranges_of, known_as}
-use Rattle.wy_payload.specs.Rules.{in_range, unless, site_rule, what_rule, is_code, is_static, field_rule, locals_in, brackets_unit, library_sites, library_methods}
+use Rattle.wy_payload.specs.Rules.{in_range, unless, site_rule, what_rule, is_code, is_static, field_rule, locals_in, brackets_unit, library_sites}
 use Rattle.wy_payload.specs.Places.{slot_form, allows_slot}
 use Rattle.wy_shaped.specs.Shaped as shaped_place
 use Rattle.wy_shaped.specs.Shaped.{Shaped, Below, IsLocal, IsNowhere, SlotFits, SlotOf, UseFits, UsesFit, IsFrame, IsTest}

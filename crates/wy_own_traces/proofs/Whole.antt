@@ -79,5 +79,5 @@ module _ (P : memory.Program) (library : KeepsLibrary (program_of P)) (laws : Ar
       }
 
 pub own_keep_rules : (P : memory.Program) → KeepsLibrary (program_of P) → AreShaped → RunsAreInRange nothing (text_of P) (program_of P) → OwnTracesKeepRules P
-own_keep_rules P library laws ranged head rs end own =
+own_keep_rules P library laws ranged head records end own =
     subst (λ (l : List Recorded). IsOwn P head l end → IsReadable P head l end) (sym own.events_are) (keeps_with P library laws ranged head end) own
