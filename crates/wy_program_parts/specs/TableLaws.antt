@@ -1,5 +1,5 @@
 -- The table of a tree: its declarations are few, and it keeps what is asked of the table of every program.
-use Rattle.std.specs.Prelude.{◌≤◌, length}
+use Rattle.std.specs.Prelude.{ℕ, ◌≤◌, length}
 use Rattle.wy_tree.specs.Ast.{Ast, tokens}
 use Rattle.wy_tree.specs.Grammar.{WellFormed}
 use Rattle.wy_kernel.specs.Table.{Table, IsTable}
