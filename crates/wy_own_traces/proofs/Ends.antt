@@ -1,7 +1,7 @@
 -- The end of a run keeps the rules of a reader.
-use Rattle.std.proofs.Common.{◌≡◌, ◌<◌, ◌≤◌, ◌+◌, ◌⊎◌, inl, inr, ⊎_elim, arith, ℕ, zero, suc, Bool, true, false, ◌||◌, List, [], ◌∷◌, length, Option, Some, refl, sym, ap, ◌∙◌, subst}
+use Rattle.std.proofs.Common.{◌≡◌, ◌≤◌, ◌⊎◌, inl, inr, ⊎_elim, arith, ℕ, zero, suc, Bool, true, false, ◌||◌, List, length, Some, refl, sym, ap, ◌∙◌, subst}
 use Rattle.std.specs.Prelude.{None as Absent}
-use Rattle.std.specs.Prelude.{map, take, nat_le, ◌==◌, slice_get, if◌then◌else◌, All}
+use Rattle.std.specs.Prelude.{map, nat_le, ◌==◌, slice_get, if◌then◌else◌, All}
 use Rattle.std.specs.Option.{option_map}
 use Rattle.std.proofs.lemmas.Bool.{eqb-true}
 use Rattle.std.proofs.lemmas.Bool.Decides.{nat_tests}
@@ -10,13 +10,11 @@ use Rattle.std.proofs.lemmas.Option.{slice_get-map, slice_get-get_or}
 use Rattle.std.proofs.Math.Seq.{take-length}
 use Rattle.wy_kernel.specs.View.{NONE, present}
 use Rattle.wy_event.specs.declared.record.Cover.{Cover}
-use Rattle.wy_event.specs.declared.record.Kind.{Kind}
 use Rattle.wy_event.specs.Record.{Recorded}
 use Rattle.wy_steps.specs.State.{Covered}
 use Rattle.wy_meaning.specs.Kept.{covered_of}
 use Rattle.wy_fitting.specs.Fits.{IsNumber}
 use Rattle.wy_payload.specs.declared.known.Known.{Known}
-use Rattle.wy_payload.specs.declared.known.Role.{Role}
 use Rattle.wy_payload.specs.declared.known.Role.TheVariants as role
 use Rattle.wy_payload.specs.Rules.{Broken, in_range, reference_rule}
 use Rattle.wy_payload.specs.Closing.{first_rule, cause_rule, is_thrown, last_rule}

@@ -1,9 +1,9 @@
 -- What is known of the records before one, as a reader knows it.
-use Rattle.std.proofs.Common.{◌≡◌, ◌<◌, ◌≤◌, arith, ℕ, zero, suc, Bool, true, false, List, [], ◌∷◌, length, Option, Some, refl, sym, ap, ◌∙◌, subst}
+use Rattle.std.proofs.Common.{◌≡◌, ◌<◌, ◌≤◌, arith, ℕ, zero, suc, true, List, [], ◌∷◌, length, Option, Some, refl, ap, ◌∙◌, subst}
 use Rattle.std.specs.Prelude.{None as Absent}
-use Rattle.std.specs.Prelude.{map, take, nat_lt, nat_le, ◌%◌, ◌-◌, ◌+◌, slice_get, IfSome}
+use Rattle.std.specs.Prelude.{map, take, nat_lt, nat_le, slice_get, IfSome}
 use Rattle.std.proofs.lemmas.Bool.Decides.{nat_tests}
-use Rattle.std.proofs.lemmas.Option.{slice_get-map, slice_get_within}
+use Rattle.std.proofs.lemmas.Option.{slice_get-map}
 use Rattle.std.specs.Option.{option_map}
 use Rattle.std.proofs.lemmas.List.{length-map, length-take-le}
 use Rattle.wy_event.specs.declared.record.Kind.{Kind}
@@ -16,7 +16,7 @@ use Rattle.wy_payload.specs.declared.known.Known.TheVariants as known
 use Rattle.wy_payload.specs.declared.known.Role.{Role}
 use Rattle.wy_payload.specs.declared.known.Role.TheVariants as role
 use Rattle.wy_payload.specs.Ranges.{known_as}
-use Rattle.wy_payload.specs.Rules.{Broken, unless, fits, refers_to, reference_rule, brackets_unit}
+use Rattle.wy_payload.specs.Rules.{unless, fits, refers_to, reference_rule, brackets_unit}
 use Rattle.wy_shaped.specs.Shaped.{Shaped, Below, OptionBelow, WhatOf, IsFrame, IsControl, IsNew, IsText, IsTest, IsThrow, IsLeaving}
 use Rattle.wy_readable.specs.Readable.{or_none, known_in, Refers}
 use Rattle.wy_in_range.specs.InRange.{arrays_from, IsObject, IsArray}

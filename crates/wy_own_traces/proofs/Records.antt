@@ -1,8 +1,6 @@
 -- Each record that is in range keeps the rules of a reader, and so does what the records write.
-use Rattle.std.proofs.Common.{◌≡◌, ◌<◌, ◌≤◌, ◌+◌, ◌^◌, ◌++◌, arith, ℕ, zero, suc, Bool, true, false, List, [], ◌∷◌, length, Option, Some, refl, sym, ap, ◌∙◌, subst, append-nil, append_assoc, le_trans}
-use Rattle.std.specs.Prelude.{None as Absent}
-use Rattle.std.specs.Prelude.{map, take, ◌==◌, slice_get, slice_index, slice_index_or, if◌then◌else◌}
-use Rattle.std.specs.List.{list_any}
+use Rattle.std.proofs.Common.{◌≡◌, ◌≤◌, ◌+◌, ◌^◌, ◌++◌, arith, ℕ, zero, suc, Bool, List, [], ◌∷◌, length, Some, refl, sym, ap, ◌∙◌, subst, append_assoc}
+use Rattle.std.specs.Prelude.{map, take, slice_get, slice_index, slice_index_or, if◌then◌else◌}
 use Rattle.std.proofs.lemmas.Option.{slice_get_within}
 use Rattle.std.proofs.lemmas.List.{map-append}
 use Rattle.std.proofs.Math.Seq.{take-append_seam}
@@ -11,7 +9,6 @@ use Rattle.wy_kernel.specs.Parts.{program_of}
 use Rattle.wy_kernel.specs.Program.{fixed_text}
 use Rattle.wy_value.specs.declared.value.Value.{Value}
 use Rattle.wy_value.specs.declared.value.Value.TheVariants as val
-use Rattle.wy_value.specs.Numeral.{has_text, text_of as digits_of}
 use Rattle.wy_value.specs.Encoding.{utf8_of}
 use Rattle.wy_value.proofs.Encodings.{utf8_of-nil}
 use Rattle.wy_event.specs.declared.record.Kind.{Kind}
@@ -24,9 +21,9 @@ use Rattle.wy_payload.specs.Ranges.{ranges_of, known_as}
 use Rattle.wy_payload.specs.Values.{text_length, printed_length, newline_length, output_of}
 use Rattle.wy_shaped.specs.Shaped.{Shaped, ValueFits, IsFrame, IsControl, IsText}
 use Rattle.wy_readable.specs.Readable.{known_in, known_before, MayStand, AllMayStand, printed}
-use Rattle.wy_in_range.specs.InRange.{InRange, FixedInRange, units_seen, written_as, written_by, written}
+use Rattle.wy_in_range.specs.InRange.{InRange, units_seen, written_as, written_by, written}
 use Rattle.wy_own_traces.specs.Own.{text_of}
-use Rattle.wy_own_traces.proofs.Known.{earlier, known_there, there_taken, option_refers}
+use Rattle.wy_own_traces.proofs.Known.{known_there, there_taken, option_refers}
 use Rattle.wy_own_traces.proofs.Slots.{site_passes, what_passes, slot_allowed, slot_there, uses_stand}
 use Rattle.wy_own_traces.proofs.Values.{value_stands}
 

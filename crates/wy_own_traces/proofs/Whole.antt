@@ -1,5 +1,5 @@
 -- The trace of a run keeps every rule of a reader, where its records are shaped and in range.
-use Rattle.std.proofs.Common.{◌≡◌, ◌≤◌, ◌+◌, arith, ℕ, zero, suc, List, [], ◌∷◌, length, Some, refl, sym, ap, ◌∙◌, subst}
+use Rattle.std.proofs.Common.{◌≡◌, ◌≤◌, arith, ℕ, List, [], ◌∷◌, length, Some, refl, sym, ap, ◌∙◌, subst}
 use Rattle.std.specs.Prelude.{map, take, slice_get}
 use Rattle.std.proofs.lemmas.List.{length-map}
 use Rattle.wy_kernel.specs.declared.program.Program as memory
@@ -12,14 +12,13 @@ use Rattle.wy_event.specs.Record.{Recorded}
 use Rattle.wy_steps.specs.Sets.{nothing}
 use Rattle.wy_meaning.specs.Run.{Tail, events, output, tail}
 use Rattle.wy_meaning.specs.Kept.{covered_of, kept_tail}
-use Rattle.wy_typing.specs.Programs.{IsProgram}
 use Rattle.wy_typed_states.specs.Typed.{KeepsLibrary}
 use Rattle.wy_payload.specs.Ranges.{ranges_of}
 use Rattle.wy_payload.specs.Values.{output_limit}
 use Rattle.wy_shaped.specs.Shaped as shaped_count
 use Rattle.wy_shaped.specs.Shaped.{Shaped, RecordsAreShaped, CoverageIsShaped, LastIsShaped, CountsAreShaped, CoverFits, OptionBelow, IsThrow}
 use Rattle.wy_readable.specs.Readable.{uses_in, printed, IsReadable}
-use Rattle.wy_in_range.specs.InRange.{FitsText, LastFits, InRange, EndInRange, RunsAreInRange}
+use Rattle.wy_in_range.specs.InRange.{LastFits, InRange, RunsAreInRange}
 use Rattle.wy_own_traces.specs.Own.{text_of, IsOwn, OwnTracesKeepRules}
 use Rattle.wy_own_traces.proofs.Records.{all_may_stand, all_written}
 use Rattle.wy_own_traces.proofs.Ends.{covers_stand, last_stands}
@@ -66,7 +65,7 @@ module _ (P : memory.Program) (library : KeepsLibrary (program_of P)) (laws : Ar
         little_output = subst (λ n. n ≤ output_limit) written counts.5;
         end_stands = record {
           each_covered = sym (length-map end.coverage.statements covered_of) ∙ ap length covers ∙ closed.covers;
-          covers = covers_stand rs shaped end.coverage.statements ending.coverage covers own.covers (laws.coverage (program_of P) head.input head.steps);
+          covers = covers_stand rs shaped end.coverage.statements ending.coverage covers (λ k d lt. (own.end_fits.covers k d lt).begins) (laws.coverage (program_of P) head.input head.steps);
           stop = subst (λ n. n ≤ 11) (sym stops) closed.stop;
           last = last_stands rs shaped end.stop end.last (subst (λ n. LastFits n (present end.last)) (sym stops) (subst (λ o. LastFits ending.stop o) (sym lasts) closed.last)) (subst (λ o. OptionBelow rs IsThrow (length rs) o) (sym lasts) last);
           steps = subst (λ n. n ≤ head.steps) (sym steps) closed.steps;

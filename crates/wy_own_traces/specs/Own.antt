@@ -1,10 +1,9 @@
 -- The trace of a run is its own: its events and its end are those of the run.
-use Rattle.std.specs.Prelude.{◌≡◌, ◌==◌, ◌≤◌, ℕ, All, List, length, Err}
+use Rattle.std.specs.Prelude.{◌≡◌, ◌==◌, ◌≤◌, ℕ, List, length, Err}
 use Rattle.std.specs.List.{AllByRecursion, list_any}
 use Rattle.wy_kernel.specs.declared.program.Program.{Program}
 use Rattle.wy_kernel.specs.Parts.{program_of}
 use Rattle.wy_kernel.specs.Statements.{statements_of}
-use Rattle.wy_event.specs.declared.record.Cover.{Cover}
 use Rattle.wy_event.specs.declared.record.Head.{Head}
 use Rattle.wy_event.specs.declared.record.Tail.{Tail}
 use Rattle.wy_event.specs.Record.{Recorded}
@@ -13,7 +12,7 @@ use Rattle.wy_meaning.specs.Run.{events, tail}
 use Rattle.wy_meaning.specs.Kept.{kept_tail}
 use Rattle.wy_typing.specs.Programs.{IsProgram}
 use Rattle.wy_typed_states.specs.Typed.{KeepsLibrary}
-use Rattle.wy_fitting.specs.Fits.{IsNumber, AllFit}
+use Rattle.wy_fitting.specs.Fits.{AllFit, EndFits}
 use Rattle.wy_payload.specs.Bodies.{newlines_of}
 use Rattle.wy_spelling.specs.Spelling.{trace_limit}
 use Rattle.wy_frames.specs.declared.error.TraceError.{TraceError}
@@ -34,7 +33,7 @@ pub record IsOwn (p : Program) (head : Head) (rs : List Recorded) (end : Tail) :
   pub events_are : rs ≡ events nothing (program_of p) head.input head.steps
   pub end_is : kept_tail end ≡ tail nothing (program_of p) head.input head.steps
   pub fit : AllFit rs
-  pub covers : All (λ (c : Cover). IsNumber c.begins) end.coverage.statements
+  pub end_fits : EndFits end
 
 -- so it keeps every rule of a reader
 abbrev pub OwnTracesKeepRules : Program → Type 0

@@ -12,3 +12,4 @@ pub mod Opened
 pub mod Requests
 pub mod Generated
 pub mod LeftLemmas
+mod OwnTraces

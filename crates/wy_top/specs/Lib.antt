@@ -13,3 +13,4 @@ pub mod Replies
 pub mod Recorder
 pub mod Openings
 pub mod Left
+pub mod OwnTraces

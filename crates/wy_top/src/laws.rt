@@ -5,15 +5,18 @@ ghost use Rattle.wy_outside.specs.Shelf.{Files};
 ghost use Rattle.wy_reached.specs.Laws.{CallsStandOnLinks, EachItemIsNeeded, ExecutedPointsAreReached};
 ghost use Rattle.wy_steps.specs.Sets.{nothing};
 ghost use Rattle.wy_top.specs.Due.{Due, AreSyntaxLines};
+ghost use Rattle.wy_top.specs.OwnTraces.{RecordedTracesAreNotRefused, RecordedTracesAreRead};
 ghost use Rattle.wy_top.specs.Texts.{OfTexts};
 ghost use Rattle.wy_typed_states.specs.Laws.{StatesAreTyped};
 
 use wy_absence::laws::one_answer_to_whynot;
 use wy_choices::no_two_choices_share_a_site;
 use wy_elab_stmt::laws::a_text_has_one_program;
+use wy_fits_text::trees_fit_their_texts;
 use wy_kept_library::programs_keep_the_library;
 use wy_machine::one_audit_is_due;
 use wy_one_reading::bytes_are_read_in_one_way;
+use wy_own_traces::own_traces_are_read;
 use wy_parser::laws::a_token_list_has_one_tree;
 use wy_program::texts_are_programs;
 use wy_program_parts::trees_declare_few;
@@ -21,9 +24,12 @@ use wy_reached::{
     calls_stand_on_links, each_item_is_needed, executed_points_are_reached, programs_stand_apart,
 };
 use wy_session::laws::one_talk;
+use wy_shaped::references_point_below;
 use wy_structure::{each_number_is_one_statement, tests_stand_apart};
 use wy_telling::laws::one_answer_to_why;
-use wy_tree::laws::{a_refused_text_has_no_tokens, a_text_has_one_token_list};
+use wy_tree::laws::{
+    a_refused_text_has_no_tokens, a_text_has_one_token_list, tokens_stand_in_order,
+};
 use wy_typed_states::states_are_typed;
 use wy_words::laws::words_ask_one_command;
 
@@ -65,4 +71,19 @@ pub fn runs_of_texts()
     executed_points_are_reached();
     each_item_is_needed();
     calls_stand_on_links();
+}
+
+/// The trace of a run of the program of each text, where source, input, steps and the trace are within their limits, is read as a trace
+/// with the head, the events and the end of the run; no reader refuses it but for want of memory.
+pub fn recorded_traces_are_read()
+    ensures read { RecordedTracesAreRead }
+    ensures not_refused { RecordedTracesAreNotRefused }
+{
+    tokens_stand_in_order();
+    texts_are_programs();
+    trees_declare_few();
+    programs_keep_the_library();
+    trees_fit_their_texts();
+    references_point_below();
+    own_traces_are_read();
 }

@@ -1,0 +1,126 @@
+-- The trace of a run of the program of a text is read, and not refused.
+use Rattle.std.proofs.Common.{◌≡◌, ◌∙◌, sym, ap, subst, refl, ℕ, ◌≤◌, List, length, map, Err, arith}
+use Rattle.std.proofs.lemmas.List.{length-map}
+use Rattle.std.proofs.lemmas.List.Folds.{map_fixed}
+use Rattle.wy_tree.specs.Ast.{tokens}
+use Rattle.wy_tree.specs.Tokens.{SpannedToken}
+use Rattle.wy_tree.specs.TokenLaws.{TokensInOrder}
+use Rattle.wy_syntax.specs.Declarations.{unit as unit_of}
+use Rattle.wy_kernel.specs.Program.{Program}
+use Rattle.wy_kernel.specs.declared.program.Program as memory
+use Rattle.wy_kernel.specs.Parts.{program_of}
+use Rattle.wy_event.specs.Record.{Recorded, recorded}
+use Rattle.wy_event.specs.declared.record.Head.{Head}
+use Rattle.wy_fitting.specs.Fits.{AllFit, told}
+use Rattle.wy_steps.specs.Sets.{nothing}
+use Rattle.wy_meaning.specs.Run as meaning
+use Rattle.wy_meaning.specs.Run.{events}
+use Rattle.wy_meaning.specs.Kept.{kept_tail}
+use Rattle.wy_shaped.specs.Shaped.{RecordsAreShaped}
+use Rattle.wy_typing.specs.Programs.{IsProgram}
+use Rattle.wy_typed_states.specs.Typed.{KeepsLibrary}
+use Rattle.wy_kept_library.specs.Laws.{ProgramsKeepLibrary}
+use Rattle.wy_program_parts.specs.TableLaws.{TreesDeclareFew}
+use Rattle.wy_program.specs.Laws.{TextsArePrograms}
+use Rattle.wy_program.proofs.Programs.{few_parts}
+use Rattle.wy_in_range.specs.InRange.{FitsText}
+use Rattle.wy_fits_text.specs.Laws.{TreesFitTheirTexts}
+use Rattle.wy_own_traces.specs.Own.{IsOwn, OfFittingPrograms, OwnTracesAreNotRefused, OwnTracesAreRead, text_of}
+use Rattle.wy_frames.specs.declared.error.TraceError.{TraceError}
+use Rattle.wy_frames.specs.declared.error.TraceError.TheVariants.{NoMemory}
+use Rattle.wy_frames.specs.Traces.{ReadsAs}
+use Rattle.wy_readable.specs.Laws.{run_bytes}
+use Rattle.wy_reply.proofs.Carrying.{all_told}
+use Rattle.wy_reply.specs.Recordings.{IsTraceOf, trace_spelling}
+use Rattle.wy_top.specs.OwnTraces.{IsReadAsRun, IsRecorded, RecordedTracesAreNotRefused, RecordedTracesAreRead}
+use Rattle.wy_top.specs.Programs.{IsProgramOf}
+use Rattle.wy_top.proofs.Sources.{few_tokens}
+
+-- what is known of texts, of their programs and of own traces
+pub record Laws : Type 0 where
+  pub ordered : TokensInOrder
+  pub programs : TextsArePrograms
+  pub few : TreesDeclareFew
+  pub library : ProgramsKeepLibrary
+  pub texts : TreesFitTheirTexts
+  pub shaped : (p : Program) (input : List ℕ) (steps : ℕ) → RecordsAreShaped nothing p input steps
+
+-- ---- the program of a text
+
+record Asked (p : memory.Program) : Type 0 where
+  fits : IsProgram (program_of p)
+  keeps : KeepsLibrary (program_of p)
+  text : FitsText (text_of p) (program_of p)
+
+asked : Laws → (source : List ℕ) (p : memory.Program) → length source ≤ 1048576 → IsProgramOf source p → Asked p
+asked laws source p short of =
+    let few : length of.spans ≤ 1048576 = let i = few_tokens laws.ordered source of.spans of.read in omega (arith, i, short) in
+    let tree = of.becomes.tree in
+    let many : length (tokens tree) ≡ length of.spans = ap length of.becomes.reads.1 ∙ length-map of.spans (λ (s : SpannedToken). s.token) in
+    let lines : length p.lines.items ≡ length of.spans = ap length of.lines ∙ length-map of.spans (λ (s : SpannedToken). s.line) in
+    let parts = few_parts (unit_of 0 tree) (length of.spans) (program_of p) of.becomes.elaborated (laws.few tree of.becomes.reads.0 (omega (arith, few, many))) in
+    record {
+      fits = laws.programs source of.spans tree of.read of.becomes.reads few (length of.spans) (program_of p) of.becomes.elaborated;
+      keeps = laws.library (unit_of 0 tree) (length of.spans) (program_of p) of.becomes.elaborated (omega (arith, parts.classes));
+      text = subst (λ n. FitsText (record { tokens = n; ends_line = (text_of p).ends_line }) (program_of p)) (many ∙ sym lines) (laws.texts tree of.becomes.reads.0 (length of.spans) (program_of p) of.becomes.elaborated);
+    }
+
+-- ---- its traces
+
+-- what holds of the input and the steps of a run holds of those of its head
+at_head : (A : List ℕ → ℕ → Type 0) (head : Head) (input : List ℕ) (steps : ℕ) → head.input ≡ input → head.steps ≡ steps → A input steps → A head.input head.steps
+at_head A head input steps i s a = subst (λ n. A head.input n) (sym s) (subst (λ (l : List ℕ). A l steps) (sym i) a)
+
+back : (A : List ℕ → ℕ → Type 0) (head : Head) (input : List ℕ) (steps : ℕ) → head.input ≡ input → head.steps ≡ steps → A head.input head.steps → A input steps
+back A head input steps i s a = subst (λ (l : List ℕ). A l steps) i (subst (λ n. A head.input n) s a)
+
+module _ (source input : List ℕ) (steps : ℕ) (p : memory.Program) (bytes : List ℕ) (r : IsRecorded source input steps p bytes) where
+  is : IsTraceOf trace_spelling (program_of p) source input steps bytes
+  is = r.is_trace
+
+  runs : List Recorded
+  runs = events nothing (program_of p) is.head.input is.head.steps
+
+  own : IsOwn p is.head runs is.end
+  own = record {
+    head_stands = record {
+      some_steps = subst (λ n. 1 ≤ n) (sym is.steps_are) r.some_steps;
+      steps = subst (λ n. n ≤ 50000000) (sym is.steps_are) r.steps_within;
+      input = subst (λ (l : List ℕ). length l ≤ 16777216) (sym is.input_is) r.input_within;
+      source = subst (λ (l : List ℕ). length l ≤ 1048576) (sym is.source_is) r.source_within;
+    };
+    bytes = subst _ (sym is.input_is) r.input_bytes;
+    events_are = refl;
+    end_is = at_head (λ i n. kept_tail is.end ≡ meaning.tail nothing (program_of p) i n) is.head input steps is.input_is is.steps_are is.end_is;
+    fit = at_head (λ i n. AllFit (events nothing (program_of p) i n)) is.head input steps is.input_is is.steps_are is.events_fit;
+    end_fits = is.end_fits;
+  }
+
+  spelled : bytes ≡ run_bytes is.head runs is.end
+  spelled = at_head (λ i n. bytes ≡ run_bytes is.head (events nothing (program_of p) i n) is.end) is.head input steps is.input_is is.steps_are is.spelled
+
+  pub read_as_run : Laws → OfFittingPrograms OwnTracesAreRead → IsReadAsRun source input steps p bytes
+  read_as_run laws reads =
+      let a = asked laws source p r.source_within r.is_program in
+      let x = reads p a.fits a.keeps a.text is.head runs is.end bytes own r.within spelled in
+      let all : map told runs ≡ runs = map_fixed told runs (all_told (program_of p) is.head.input is.head.steps (laws.shaped (program_of p) is.head.input is.head.steps)) in
+      record {
+        trace = x.trace;
+        read = x.read;
+        steps_are = ap (λ (h : Head). h.steps) x.head_is ∙ is.steps_are;
+        input_is = ap (λ (h : Head). h.input) x.head_is ∙ is.input_is;
+        source_is = ap (λ (h : Head). h.source) x.head_is ∙ is.source_is;
+        events_are = back (λ i n. map recorded x.trace.events ≡ events nothing (program_of p) i n) is.head input steps is.input_is is.steps_are (x.events_are ∙ all);
+        end_is = ap kept_tail x.tail_is ∙ is.end_is;
+      }
+
+  pub not_refused : Laws → OfFittingPrograms OwnTracesAreNotRefused → (e : TraceError) → ReadsAs (Err e) p bytes → e ≡ NoMemory
+  not_refused laws reads e refused =
+      let a = asked laws source p r.source_within r.is_program in
+      reads p a.fits a.keeps a.text is.head runs is.end bytes own r.within spelled e refused
+
+pub traces_read : Laws → OfFittingPrograms OwnTracesAreRead → RecordedTracesAreRead
+traces_read laws reads source input steps p bytes r = read_as_run source input steps p bytes r laws reads
+
+pub traces_not_refused : Laws → OfFittingPrograms OwnTracesAreNotRefused → RecordedTracesAreNotRefused
+traces_not_refused laws reads source input steps p bytes r = not_refused source input steps p bytes r laws reads

@@ -1,0 +1,46 @@
+-- The trace of a run of the program of a text is read, and not refused.
+use Rattle.std.specs.Prelude.{◌≡◌, ◌≤◌, ℕ, List, length, map, Ok, Err}
+use Rattle.std.specs.List.{AllByRecursion}
+use Rattle.wy_kernel.specs.declared.program.Program.{Program}
+use Rattle.wy_kernel.specs.Parts.{program_of}
+use Rattle.wy_event.specs.Record.{recorded}
+use Rattle.wy_event.specs.declared.record.Trace.{Trace}
+use Rattle.wy_steps.specs.Sets.{nothing}
+use Rattle.wy_meaning.specs.Run.{events, tail}
+use Rattle.wy_meaning.specs.Kept.{kept_tail}
+use Rattle.wy_payload.specs.Closing.{steps_limit}
+use Rattle.wy_frames.specs.declared.error.TraceError.{TraceError}
+use Rattle.wy_frames.specs.declared.error.TraceError.TheVariants.{NoMemory}
+use Rattle.wy_frames.specs.Traces.{IsReadAs, ReadsAs}
+use Rattle.wy_in_range.specs.InRange.{IsByteOf}
+use Rattle.wy_reply.specs.Recordings.{IsTraceOf, trace_spelling}
+use Rattle.wy_top.specs.Held.{input_limit, source_limit, trace_limit}
+use Rattle.wy_top.specs.Programs.{IsProgramOf}
+
+-- the bytes are the trace of the run of a text's program with this input and so many steps, each within its limit
+pub record IsRecorded (source input : List ℕ) (steps : ℕ) (p : Program) (bytes : List ℕ) : Type 0 where
+  pub is_program : IsProgramOf source p
+  pub source_within : length source ≤ source_limit
+  pub input_within : length input ≤ input_limit
+  pub input_bytes : AllByRecursion IsByteOf input
+  pub some_steps : 1 ≤ steps
+  pub steps_within : steps ≤ steps_limit
+  pub is_trace : IsTraceOf trace_spelling (program_of p) source input steps bytes
+  pub within : length bytes ≤ trace_limit
+
+-- the bytes are read as a trace: with the head, the events and the end of the run
+pub record IsReadAsRun (source input : List ℕ) (steps : ℕ) (p : Program) (bytes : List ℕ) : Type 0 where
+  pub trace : Trace
+  pub read : IsReadAs p bytes (Ok trace)
+  pub steps_are : trace.head.steps ≡ steps
+  pub input_is : trace.head.input ≡ input
+  pub source_is : trace.head.source ≡ source
+  pub events_are : map recorded trace.events ≡ events nothing (program_of p) input steps
+  pub end_is : kept_tail trace.tail ≡ tail nothing (program_of p) input steps
+
+abbrev pub RecordedTracesAreRead : Type 0
+RecordedTracesAreRead = (source input : List ℕ) (steps : ℕ) (p : Program) (bytes : List ℕ) → IsRecorded source input steps p bytes → IsReadAsRun source input steps p bytes
+
+-- a reader that answers no trace says that memory ran out
+abbrev pub RecordedTracesAreNotRefused : Type 0
+RecordedTracesAreNotRefused = (source input : List ℕ) (steps : ℕ) (p : Program) (bytes : List ℕ) → IsRecorded source input steps p bytes → (e : TraceError) → ReadsAs (Err e) p bytes → e ≡ NoMemory
