@@ -14,8 +14,7 @@ use Rattle.wy_tree.specs.declared.grammar.Sort.TheVariants as sorts
 use Rattle.wy_tree.specs.declared.grammar.Item.{Item}
 use Rattle.wy_syntax.specs.Syntax.{Base, Expression, Literal, Name, This, Group, Field, InvokeOn, SuperField, SuperInvoke, Element, NewArray, NewList, Unary, Step, Binary, Both, Either, InstanceOf, Assign, Update, Wrong, Row}
 use Rattle.wy_syntax.specs.Names.{width, is_leaf, name_of, word_of, sign_of, base_named, written, operator, updating, prefix, is_up}
-use Rattle.wy_syntax.specs.Expressions.{leaf, joined, assigned, prefixed, empty_pairs, stepped, three, four, expression, assignment, choice, binary, unary, cast, postfix, primary, creation, sizes, listed, elements, arguments_of}
-use Rattle.wy_statement.specs.Parts.{ends_line}
+use Rattle.wy_syntax.specs.Expressions.{leaf, joined, empty_pairs, stepped, four, expression, assignment, choice, binary, unary, cast, postfix, primary, creation, sizes, listed, elements, arguments_of}
 use Rattle.wy_elab_stmt.proofs.OneProgram.{as_wide}
 
 -- ---- what is said of a call

@@ -1,6 +1,6 @@
 -- Where each print ends a line by its site, it does so where a `println` stands, and there alone.
 use Rattle.std.proofs.Common.{◌≡◌, ◌∙◌, refl, sym, ap, subst, arith, ℕ, zero, suc, Bool, true, false, ◌||◌, List, [], ◌∷◌, ◌++◌}
-use Rattle.std.specs.Prelude.{◌==◌, Option, Some, None, flat_map, slice_get}
+use Rattle.std.specs.Prelude.{◌==◌, Option, Some, None, slice_get}
 use Rattle.std.specs.List.{AllByRecursion, list_any}
 use Rattle.std.proofs.ByRecursion.{All-append}
 use Rattle.std.proofs.lemmas.Bool.Decides.{nat_tests}
@@ -143,20 +143,20 @@ module _ (E L : Lines) (less : (n : ℕ) → L n ≡ true → E n ≡ true) wher
     act_turned (While test x) h o i = turned x h i
     act_turned (Do x test) h o i = turned x h i
     act_turned (For inits test updates x) h o i =
-        let behind = right_of L (statements_of_all inits) (statements_of_all updates ++ statements x) i in
-        (
+        let behind = right_of L (statements_of_all inits) (statements_of_all updates ++ statements x) i in (
           all_turned inits h.0 (left_of L (statements_of_all inits) (statements_of_all updates ++ statements x) i),
-          all_turned updates h.1 (left_of L (statements_of_all updates) (statements x) behind), turned x h.2 (right_of L (statements_of_all updates) (statements x) behind),
+          all_turned updates h.1 (left_of L (statements_of_all updates) (statements x) behind),
+          turned x h.2 (right_of L (statements_of_all updates) (statements x) behind),
         )
     act_turned (Labelled x) h o i = turned x h i
     act_turned (Jump target) h o i = tt
     act_turned (Return value) h o i = tt
     act_turned (Throw value) h o i = tt
     act_turned (Try x catches y) h o i =
-        let behind = right_of L (statements x) (statements_of_catches catches ++ statements_of_other y) i in
-        (
+        let behind = right_of L (statements x) (statements_of_catches catches ++ statements_of_other y) i in (
           turned x h.0 (left_of L (statements x) (statements_of_catches catches ++ statements_of_other y) i),
-          catches_turned catches h.1 (left_of L (statements_of_catches catches) (statements_of_other y) behind), other_turned y h.2 (right_of L (statements_of_catches catches) (statements_of_other y) behind),
+          catches_turned catches h.1 (left_of L (statements_of_catches catches) (statements_of_other y) behind),
+          other_turned y h.2 (right_of L (statements_of_catches catches) (statements_of_other y) behind),
         )
     act_turned (Print operand ty true at) h o i = o.0
     act_turned (Print operand ty false at) h o i = not_there at (L at) refl h
@@ -198,8 +198,7 @@ lines_end E p h =
     let xs = statements_of_bodies p.bodies in
     let ys = statements_of_bodies p.init_bodies in
     let there : EachEnds L (statements_of p) = all_there (statements_of p) in
-    let less : (n : ℕ) → L n ≡ true → E n ≡ true = none_other E (statements_of p) (both E xs ys (bodies_end E p.bodies h.0) (bodies_end E p.init_bodies h.1)) in
-    (
+    let less : (n : ℕ) → L n ≡ true → E n ≡ true = none_other E (statements_of p) (both E xs ys (bodies_end E p.bodies h.0) (bodies_end E p.init_bodies h.1)) in (
       λ k b e. turned E L less b.block (All-contains (LinedBody E) p.bodies (Some b) h.0 (contained p.bodies k (Some b) e)) (at_body L p.bodies k b e (left_of L xs ys there)),
       λ c b e. turned E L less b.block (All-contains (LinedBody E) p.init_bodies (Some b) h.1 (contained p.init_bodies c (Some b) e)) (at_body L p.init_bodies c b e (right_of L xs ys there)),
     )

@@ -1,5 +1,5 @@
 -- No class of a program extends String, which is final.
-use Rattle.std.proofs.Common.{◌≡◌, refl, sym, ap, subst, ◌∙◌, arith, inl, inr, ℕ, zero, suc, ◌+◌, ◌<◌, Bool, true, false, not, if◌then◌else◌, List, [], ◌∷◌, ◌++◌, length, map, Option, Some, Result, Ok, Err}
+use Rattle.std.proofs.Common.{◌≡◌, refl, sym, ap, subst, ◌∙◌, arith, inl, inr, ℕ, zero, suc, ◌+◌, Bool, true, false, not, if◌then◌else◌, List, [], ◌∷◌, ◌++◌, length, map, Option, Some, Result, Ok}
 use Rattle.std.specs.Prelude.{None as Absent}
 use Rattle.std.specs.Prelude.{◌⊎◌, ◌==◌, slice_get, option_to_list, unwrap_or, filter_map}
 use Rattle.std.specs.List.{Contains, list_all, cons_option}
@@ -14,9 +14,8 @@ use Rattle.wy_constant.specs.Refusal.{Refusal}
 use Rattle.wy_members.specs.Declarations.{CompilationUnit, classes_of, denoted, superclass, class_row, class_rows, table}
 use Rattle.wy_members.specs.Broken.{IsRow, IsJudged, HasWrongSupertype, implements_class, extends_final}
 use Rattle.wy_members.specs.Refusal.{KeepsRules}
-use Rattle.wy_members.proofs.Contained.{contained, placed, in_numbered}
+use Rattle.wy_members.proofs.Contained.{placed, in_numbered}
 use Rattle.wy_members.proofs.InRange.{acyclic}
-use Rattle.wy_members.proofs.Library.{how_many}
 use Rattle.wy_elab_stmt.specs.Elaborates.{Elaborates, by_declarations, by_bodies}
 use Rattle.wy_structure.proofs.Elaborated.{MadeFrom}
 use Rattle.wy_structure.proofs.Members.{none_in, at_head, behind_head}

@@ -1,6 +1,6 @@
 -- The bodies of every program: a print ends a line where the word in front of its `(` is `println`.
-use Rattle.std.proofs.Common.{ℕ, Bool, List}
-use Rattle.std.specs.Prelude.{Option, Some, None}
+use Rattle.std.proofs.Common.{ℕ, Bool, false}
+use Rattle.std.specs.Prelude.{Option, None}
 use Rattle.wy_kernel.specs.Form as kernel
 use Rattle.wy_kernel.specs.View.{NONE}
 use Rattle.wy_kernel.specs.Program.{Program}

@@ -1,6 +1,6 @@
 -- Jumps stay in their body: where the jumps of a statement are sound, each goes to the end of a statement that it stands in.
 use Rattle.std.proofs.Common.{◌≡◌, refl, inl, inr, ℕ, Ok}
-use Rattle.std.specs.Prelude.{◌⊎◌, Some, slice_get}
+use Rattle.std.specs.Prelude.{◌⊎◌, Some}
 use Rattle.std.proofs.lemmas.List.Elements.{Contains-append_left, Contains-append_right}
 use Rattle.wy_kernel.specs.Form.{Statement, Stmt, Act, Block, Eval, Declare, If, While, Do, For, Labelled, Jump, Return, Throw, Try, Print, Other, nothing, this, Statements, done, first, Catches, uncaught, catch}
 use Rattle.wy_kernel.specs.Program.{Program, Body}
@@ -87,8 +87,7 @@ library_sound =
 pub jumps_stay : (unit : CompilationUnit) (count : ℕ) (p : Program) → Elaborates unit count (Ok p) → NoJumpLeaves p
 jumps_stay unit count p h =
     let stays : (b : Body) → IsBodyOf p b → JumpsTo (λ target. ⊥) b.block =
-        (λ b c. sound_jumps nowhere nowhere nowhere b.block (λ k j. inl j) (every_body (Sound nowhere nowhere) InOwnBody members_sound library_sound unit count p h b c)) in
-    (
+    (λ b c. sound_jumps nowhere nowhere nowhere b.block (λ k j. inl j) (every_body (Sound nowhere nowhere) InOwnBody members_sound library_sound unit count p h b c)) in (
       λ k b e. stays b (Contains-append_left p.bodies p.init_bodies (Some b) (contained p.bodies k (Some b) e)),
       λ c b e. stays b (Contains-append_right p.bodies p.init_bodies (Some b) (contained p.init_bodies c (Some b) e)),
     )

@@ -10,9 +10,9 @@ use Rattle.wy_elab_stmt.specs.Elaborates.{Elaborates}
 use Rattle.wy_payload.specs.Bodies.{newlines_of}
 use Rattle.wy_in_range.specs.InRange.{Text, FitsText}
 
--- as many tokens as the tree, and a `println` where a print of the program ends a line
-abbrev pub text_of : Ast → Program → Text
-text_of tree p = record { tokens = length (tokens tree); ends_line = λ site. list_any (λ s. s == site) (newlines_of (statements_of p)) }
+-- a text of so many tokens, where a `println` stands at each print of the program that ends a line
+abbrev pub text_of : ℕ → Program → Text
+text_of many p = record { tokens = many; ends_line = λ site. list_any (λ s. s == site) (newlines_of (statements_of p)) }
 
 abbrev pub TreesFitTheirTexts : Type 0
-TreesFitTheirTexts = (tree : Ast) → WellFormed tree → (count : ℕ) (p : Program) → Elaborates (unit 0 tree) count (Ok p) → FitsText (text_of tree p) p
+TreesFitTheirTexts = (tree : Ast) → WellFormed tree → (count : ℕ) (p : Program) → Elaborates (unit 0 tree) count (Ok p) → FitsText (text_of (length (tokens tree)) p) p
