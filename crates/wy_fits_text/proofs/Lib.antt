@@ -1,0 +1,12 @@
+pub mod Wider
+pub mod Standing
+pub mod Staying
+pub mod Final
+pub mod Calls
+pub mod Said
+pub mod Printing
+pub mod PrintingClasses
+pub mod StatementCalls
+pub mod ClassCalls
+pub mod Ending
+pub mod Whole
