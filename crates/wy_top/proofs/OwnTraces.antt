@@ -1,5 +1,6 @@
 -- The trace of a run of the program of a text is read, and not refused.
 use Rattle.std.proofs.Common.{◌≡◌, ◌∙◌, sym, ap, subst, refl, ℕ, ◌≤◌, List, length, map, Err, arith}
+use Rattle.std.specs.List.{AllByRecursion}
 use Rattle.std.proofs.lemmas.List.{length-map}
 use Rattle.std.proofs.lemmas.List.Folds.{map_fixed}
 use Rattle.wy_tree.specs.Ast.{tokens}
@@ -23,7 +24,7 @@ use Rattle.wy_kept_library.specs.Laws.{ProgramsKeepLibrary}
 use Rattle.wy_program_parts.specs.TableLaws.{TreesDeclareFew}
 use Rattle.wy_program.specs.Laws.{TextsArePrograms}
 use Rattle.wy_program.proofs.Programs.{few_parts}
-use Rattle.wy_in_range.specs.InRange.{FitsText}
+use Rattle.wy_in_range.specs.InRange.{FitsText, IsByteOf}
 use Rattle.wy_fits_text.specs.Laws.{TreesFitTheirTexts}
 use Rattle.wy_own_traces.specs.Own.{IsOwn, OfFittingPrograms, OwnTracesAreNotRefused, OwnTracesAreRead, text_of}
 use Rattle.wy_frames.specs.declared.error.TraceError.{TraceError}
@@ -75,10 +76,10 @@ back : (A : List ℕ → ℕ → Type 0) (head : Head) (input : List ℕ) (steps
 back A head input steps i s a = subst (λ (l : List ℕ). A l steps) i (subst (λ n. A head.input n) s a)
 
 module _ (source input : List ℕ) (steps : ℕ) (p : memory.Program) (bytes : List ℕ) (r : IsRecorded source input steps p bytes) where
-  is : IsTraceOf trace_spelling (program_of p) source input steps bytes
+  abbrev is : IsTraceOf trace_spelling (program_of p) source input steps bytes
   is = r.is_trace
 
-  runs : List Recorded
+  abbrev runs : List Recorded
   runs = events nothing (program_of p) is.head.input is.head.steps
 
   own : IsOwn p is.head runs is.end
@@ -89,7 +90,7 @@ module _ (source input : List ℕ) (steps : ℕ) (p : memory.Program) (bytes : L
       input = subst (λ (l : List ℕ). length l ≤ 16777216) (sym is.input_is) r.input_within;
       source = subst (λ (l : List ℕ). length l ≤ 1048576) (sym is.source_is) r.source_within;
     };
-    bytes = subst _ (sym is.input_is) r.input_bytes;
+    bytes = subst (λ (l : List ℕ). AllByRecursion IsByteOf l) (sym is.input_is) r.input_bytes;
     events_are = refl;
     end_is = at_head (λ i n. kept_tail is.end ≡ meaning.tail nothing (program_of p) i n) is.head input steps is.input_is is.steps_are is.end_is;
     fit = at_head (λ i n. AllFit (events nothing (program_of p) i n)) is.head input steps is.input_is is.steps_are is.events_fit;

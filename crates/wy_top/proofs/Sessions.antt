@@ -9,7 +9,7 @@ use Rattle.wy_outside.specs.Shelf.{Files}
 use Rattle.wy_outside.specs.Sink.{appended}
 use Rattle.wy_words.specs.Views.{command_of}
 use Rattle.wy_words.specs.declared.commands.Command.{Command}
-use Rattle.wy_words.specs.Words.{Asks, AskOneCommand, Command, Explore, Gen, Why, WhyNot}
+use Rattle.wy_words.specs.Words.{Asks, AskOneCommand, Command as Request, Explore, Gen, Why, WhyNot}
 use Rattle.wy_session.specs.Desk.{scene_of}
 use Rattle.wy_session.specs.Talk.{Talks}
 use Rattle.wy_session.specs.Ways.{BreaksOff, Closed, Closes, TakesManyFor, TookMany, WritesPart, keys_fault_line}
@@ -217,7 +217,7 @@ delivered_all answer s n m before after (inl (as_answered, kept, all)) is = all
 delivered_all answer s n m before after (inr (inl (fault, rose, part))) is = absurd (let e = sym fault ∙ is in cc)
 delivered_all answer s n m before after (inr (inr (lack, kept, part))) is = absurd (let e = sym lack ∙ is in cc)
 
-each_none : (command : List ℕ → List ℕ → Command) (w : List ℕ → Wanted) → ((name trace word : List ℕ) → Explore name ≡ command trace word → ⊥) → (words : List (List ℕ)) (name : List ℕ) (held : Option Files) (text : List ℕ) → Session words name →
+each_none : (command : List ℕ → List ℕ → Request) (w : List ℕ → Wanted) → ((name trace word : List ℕ) → Explore name ≡ command trace word → ⊥) → (words : List (List ℕ)) (name : List ℕ) (held : Option Files) (text : List ℕ) → Session words name →
     AnswersEach command w words held text
 each_none command w other words name held text x = λ trace word asks. absurd (other name trace word (x.one words (Explore name) (command trace word) x.asks asks))
 
