@@ -14,7 +14,7 @@ use Rattle.wy_kernel.specs.Program.{same_primitive}
 use Rattle.wy_kernel.specs.Table.{Table, ConstantValue, Simple, Text}
 use Rattle.wy_constant.specs.declared.rule.Rule.TheVariants.{BadOperand, BadCast}
 use Rattle.wy_constant.specs.Scope.{FixedText}
-use Rattle.wy_elab_expr.specs.Meaning.{Meaning, Known, Formed, type_of, Gets, refuse, ◌>>=◌, listed, place_of, converted_form, constant_for, brought, formed}
+use Rattle.wy_elab_expr.specs.Meaning.{Meaning, Known, Formed, type_of, Gets, refuse, ◌>>=◌, listed, text_number, converted_form, constant_for, brought, formed}
 use Rattle.wy_elab_expr.specs.Operators.{Judgement, is_void, is_nullable, is_boolean, can_cast, unary_type, unary_known, unary_formed, known_or, unary_of, OperandTypes, operand_types, joins, binary_known, token_of, binary_formed, joined, binary_of, lazy_form, lazy_formed, lazy_of, choice_formed, choice_of, cast_known, cast_form, cast_of, tested, instance_of, boolean_type}
 use Rattle.wy_structure.proofs.Yields.{Yields, found_ok, ok_same, given, refused_found, then_found, of_choice}
 use Rattle.wy_structure.specs.Sites.{deciding, deciding_in_place, deciding_in_part, deciding_in_row}
@@ -62,7 +62,7 @@ text_found ks f = record { by = λ s after x e. let same : Str (f s).0 ≡ x = a
 
 pub brought_few : (ks : List ℕ) (to : Ty) (m : Meaning) → FewMeaning ks m → Yields (brought to m) (Few ks)
 unfolding brought
-brought_few ks to (Known (Text units) token) h = text_found ks (λ texts. (place_of (listed texts units token) units, listed texts units token))
+brought_few ks to (Known (Text units) token) h = text_found ks (λ texts. (text_number (listed texts units token) units, listed texts units token))
 brought_few ks to (Known (Simple c) token) h = given (Few ks) (Const (constant_for to c)) (few_none ks)
 brought_few ks to (Formed form from) h = given (Few ks) (converted_form to from form) (converted_few ks to from form h)
 

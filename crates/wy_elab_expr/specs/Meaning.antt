@@ -45,8 +45,8 @@ abbrev pub listed : List FixedText → List ℕ → ℕ → List FixedText
 listed [] units token = record { units = units; token = token } ∷ []
 listed (t ∷ rest) units token = if has_units units t then record t { token = min t.token token } ∷ rest else t ∷ listed rest units token
 
-abbrev pub place_of : List FixedText → List ℕ → ℕ
-place_of texts units = position_or_len (has_units units) texts
+abbrev pub text_number : List FixedText → List ℕ → ℕ
+text_number texts units = position_or_len (has_units units) texts
 
 -- ---- what is found with these texts, and the texts after it; or a refusal
 
@@ -80,7 +80,7 @@ constant_for to c = c
 
 -- one form of the target type; a text is its place among the texts
 unfoldable pub brought : Ty → Meaning → Gets Expression
-brought to (Known (Text units) token) = λ texts. (let all = listed texts units token in Ok (Str (place_of all units), all))
+brought to (Known (Text units) token) = λ texts. (let all = listed texts units token in Ok (Str (text_number all units), all))
 brought to (Known (Simple c) token) = give (Const (constant_for to c))
 brought to (Formed form from) = give (converted_form to from form)
 

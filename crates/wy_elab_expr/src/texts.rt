@@ -2,7 +2,7 @@
 
 ghost use Rattle.std.specs.Prelude.{◌≡◌, ◌<◌, ◌^◌, [], length, map, OnOk, IfOk};
 ghost use Rattle.wy_constant.specs.Scopes.{text_of};
-ghost use Rattle.wy_elab_expr.specs.Meaning.{has_units, listed, place_of};
+ghost use Rattle.wy_elab_expr.specs.Meaning.{has_units, listed, text_number};
 
 use std::alloc::{AllocError, Global};
 use std::marker::Model;
@@ -54,7 +54,7 @@ impl Texts {
     /// Takes the place of a text, which a form with this first token holds.
     pub fn place(&mut self, units: Vec<u16>, token: u32) -> Result<u32, AllocError>
         ensures listed { OnOk result (self.new ≡ listed self.old units.items token) }
-        ensures place { IfOk result (λ n. n ≡ place_of self.new units.items) }
+        ensures place { IfOk result (λ n. n ≡ text_number self.new units.items) }
     {
         let at = place_in(self.list.as_slice(), units.as_slice());
         if at < self.list.len() {
@@ -78,7 +78,7 @@ fn has_units(text: &FixedText, units: &[u16]) -> bool
 
 // The place of the first text with these units, or how many there are.
 fn place_in(list: &[FixedText], units: &[u16]) -> usize
-    ensures { result ≡ place_of (map text_of list.now) units.now }
+    ensures { result ≡ text_number (map text_of list.now) units.now }
 {
     for (i, text) in list.iter().enumerate() {
         if has_units(text, units) {

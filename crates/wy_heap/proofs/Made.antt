@@ -12,11 +12,11 @@ use Rattle.wy_steps.specs.Steps.{default_value}
 use Rattle.wy_heap.specs.declared.block.Block.{Block}
 use Rattle.wy_heap.specs.declared.block.Block.TheVariants.{Nothing, Object, Array, Text}
 use Rattle.wy_heap.specs.declared.heap.Heap.{Heap}
-use Rattle.wy_heap.specs.Plan.{Plan, first_of, fields_of, place_of}
+use Rattle.wy_heap.specs.Plan.{Plan, first_of, fields_of, position_of}
 use Rattle.wy_heap.specs.Block.{block_at}
 use Rattle.wy_heap.specs.Heap.{plan, held, code, code_in, size, size_in, text, text_in, is_made, element_count, unit_count, static_place, field_place, element_place, value_at}
 use Rattle.wy_heap.specs.Changes.{Keeps, KeepsOthers, MakesArray, MakesObject, MakesText, is_part, is_field_of}
-use Rattle.wy_heap.proofs.Places.{IsAt, place_of-is_at}
+use Rattle.wy_heap.proofs.Places.{IsAt, position_of-is_at}
 use Rattle.wy_heap.proofs.Slots.{field-covers, element-covers, get-append, get-append_past}
 
 -- ---- nothing is made
@@ -176,15 +176,15 @@ makes-object n c many old new more elements = record {
   code = new_code n _ _ _ old new more;
   size = new_size n _ _ _ old new more;
   text = new_text n _ _ _ old new more;
-  fields = λ f. new_field n _ _ _ old new more f ∙ by f (place_of (fields_of (plan old) c) f) refl;
+  fields = λ f. new_field n _ _ _ old new more f ∙ by f (position_of (fields_of (plan old) c) f) refl;
   no_elements = λ i. new_element n _ _ _ old new more i;
   elements = elements;
   units = ap length more.units ∙ ap length (append-nil old.units.items);
 }
   where
-    by : (f : ℕ) (o : Option ℕ) → place_of (fields_of (plan old) c) f ≡ o → value_at (old.values.items ++ map (first_of (plan old)) (fields_of (plan old) c)) (option_map (λ k. length old.values.items + k) o) ≡ (if is_some o then Some (first_of (plan old) f) else Absent)
+    by : (f : ℕ) (o : Option ℕ) → position_of (fields_of (plan old) c) f ≡ o → value_at (old.values.items ++ map (first_of (plan old)) (fields_of (plan old) c)) (option_map (λ k. length old.values.items + k) o) ≡ (if is_some o then Some (first_of (plan old) f) else Absent)
     by f Absent e = refl
-    by f (Some k) e = field-at (plan old) old.values.items (fields_of (plan old) c) f k (place_of-is_at (fields_of (plan old) c) f k e)
+    by f (Some k) e = field-at (plan old) old.values.items (fields_of (plan old) c) f k (position_of-is_at (fields_of (plan old) c) f k e)
 
 -- ---- an array
 

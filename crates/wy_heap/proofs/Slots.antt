@@ -9,10 +9,10 @@ use Rattle.wy_event.specs.Record.{same_slot}
 use Rattle.wy_heap.specs.declared.block.Block.{Block}
 use Rattle.wy_heap.specs.declared.block.Block.TheVariants.{Nothing, Object, Array, Text}
 use Rattle.wy_heap.specs.declared.heap.Heap.{Heap}
-use Rattle.wy_heap.specs.Plan.{Plan, fields_of, place_of}
+use Rattle.wy_heap.specs.Plan.{Plan, fields_of, position_of}
 use Rattle.wy_heap.specs.Block.{block_at, begin_of, length_of, Covers}
 use Rattle.wy_heap.specs.Heap.{plan, field_place, element_place}
-use Rattle.wy_heap.proofs.Places.{IsAt, place_of-is_at}
+use Rattle.wy_heap.proofs.Places.{IsAt, position_of-is_at}
 
 -- ---- lists
 
@@ -46,7 +46,7 @@ pub record HasField (p : Plan) (b : Block) (f q : ℕ) : Type 0 where
   pub many : ℕ
   pub place : ℕ
   pub is : b ≡ Object class begin many
-  pub at : place_of (fields_of p class) f ≡ Some place
+  pub at : position_of (fields_of p class) f ≡ Some place
   pub sum : begin + place ≡ q
 
 pub field_place-has_field : (p : Plan) (b : Block) (f q : ℕ) → field_place p b f ≡ Some q → HasField p b f q
@@ -54,9 +54,9 @@ unfolding field_place
 field_place-has_field p Nothing f q e = absurd (none-some q e)
 field_place-has_field p (Array k begin n) f q e = absurd (none-some q e)
 field_place-has_field p (Text begin n) f q e = absurd (none-some q e)
-field_place-has_field p (Object c begin n) f q e = by (place_of (fields_of p c) f) refl e
+field_place-has_field p (Object c begin n) f q e = by (position_of (fields_of p c) f) refl e
   where
-    by : (o : Option ℕ) → place_of (fields_of p c) f ≡ o → option_map (λ k. begin + k) o ≡ Some q → HasField p (Object c begin n) f q
+    by : (o : Option ℕ) → position_of (fields_of p c) f ≡ o → option_map (λ k. begin + k) o ≡ Some q → HasField p (Object c begin n) f q
     by Absent is e = absurd (none-some q e)
     by (Some k) is e = record { class = c; begin = begin; many = n; place = k; is = refl; at = is; sum = same_Some (begin + k) q e }
 
@@ -89,7 +89,7 @@ pub field-covers : (h : Heap) (n f q : ℕ) → field_place (plan h) (block_at h
 unfolding begin_of length_of plan
 field-covers h n f q e =
     let has : HasField (plan h) (block_at h.blocks.items n) f q = field_place-has_field (plan h) (block_at h.blocks.items n) f q e in
-    let at : IsAt (fields_of (plan h) has.class) f has.place = place_of-is_at (fields_of (plan h) has.class) f has.place has.at in
+    let at : IsAt (fields_of (plan h) has.class) f has.place = position_of-is_at (fields_of (plan h) has.class) f has.place has.at in
     let many : has.many ≡ length (fields_of (plan h) has.class) = h.is_apart.lengths n has.class has.begin has.many has.is in
     covers (block_at h.blocks.items n) has.begin has.many q (ap begin_of has.is) (ap length_of has.is) (omega (arith, has.sum)) (omega (arith, has.sum, at.below, many))
 
@@ -131,8 +131,8 @@ same_field h o f g q e e' =
     let has : HasField (plan h) b f q = field_place-has_field (plan h) b f q e in
     let has' : HasField (plan h) b g q = field_place-has_field (plan h) b g q e' in
     let same : (has.class ≡ has'.class) × (has.begin ≡ has'.begin) = same_object b has.class has'.class has.begin has'.begin has.many has'.many has.is has'.is in
-    let at : IsAt (fields_of (plan h) has.class) f has.place = place_of-is_at (fields_of (plan h) has.class) f has.place has.at in
-    let at' : IsAt (fields_of (plan h) has'.class) g has'.place = place_of-is_at (fields_of (plan h) has'.class) g has'.place has'.at in
+    let at : IsAt (fields_of (plan h) has.class) f has.place = position_of-is_at (fields_of (plan h) has.class) f has.place has.at in
+    let at' : IsAt (fields_of (plan h) has'.class) g has'.place = position_of-is_at (fields_of (plan h) has'.class) g has'.place has'.at in
     let places : has.place ≡ has'.place = omega (arith, has.sum, has'.sum, same.1) in
     sym at.is ∙ ap (λ c. get_or (fields_of (plan h) c) has.place 0) same.0 ∙ ap (λ k. get_or (fields_of (plan h) has'.class) k 0) places ∙ at'.is
 

@@ -8,7 +8,7 @@ use Rattle.wy_event.specs.declared.record.Slot.TheVariants.{Static, Field, Elem}
 use Rattle.wy_event.specs.Record.{same_slot}
 use Rattle.wy_steps.specs.Steps.{default_value}
 use Rattle.wy_heap.specs.declared.heap.Heap.{Heap}
-use Rattle.wy_heap.specs.Plan.{Plan, plan_of, first_of, fields_of, place_of, is_static_of}
+use Rattle.wy_heap.specs.Plan.{Plan, plan_of, first_of, fields_of, position_of, is_static_of}
 use Rattle.wy_heap.specs.Heap.{plan, held, code, size, text, is_made, element_count, unit_count}
 
 -- a heap of a program in which nothing was made
@@ -50,7 +50,7 @@ pub record KeepsOthers (n : ℕ) (old new : Heap) : Type 0 where
 
 -- the objects of a class have the field
 unfoldable pub is_field_of : Plan → ℕ → ℕ → Bool
-is_field_of plan c f = is_some (place_of (fields_of plan c) f)
+is_field_of plan c f = is_some (position_of (fields_of plan c) f)
 
 -- there is an object of a class, whose fields have their first values
 pub record MakesObject (n c : ℕ) (old new : Heap) : Type 0 where

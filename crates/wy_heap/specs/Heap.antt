@@ -7,7 +7,7 @@ use Rattle.wy_event.specs.declared.record.Slot.TheVariants.{Static, Field, Elem}
 use Rattle.wy_heap.specs.declared.block.Block.{Block}
 use Rattle.wy_heap.specs.declared.block.Block.TheVariants.{Object, Array, Text}
 use Rattle.wy_heap.specs.declared.heap.Heap.{Heap}
-use Rattle.wy_heap.specs.Plan.{Plan, field_at, fields_of, place_of}
+use Rattle.wy_heap.specs.Plan.{Plan, field_at, fields_of, position_of}
 use Rattle.wy_heap.specs.Layout.{plan_with}
 use Rattle.wy_heap.specs.Block.{block_at}
 
@@ -29,7 +29,7 @@ static_place plan begun f = if (field_at plan.fields f).is_static && slice_index
 
 -- the place among the values of a field, if the block is an object that has it
 unfoldable pub field_place : Plan → Block → ℕ → Option ℕ
-field_place plan (Object c begin n) f = option_map (λ k. begin + k) (place_of (fields_of plan c) f)
+field_place plan (Object c begin n) f = option_map (λ k. begin + k) (position_of (fields_of plan c) f)
 field_place plan _ f = Absent
 
 -- the place among the values of an element, if the block is an array that has it

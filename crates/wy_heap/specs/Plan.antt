@@ -59,6 +59,6 @@ unfoldable pub is_static_of : Plan → ℕ → ℕ → Bool
 is_static_of plan c f = (field_at plan.fields f).is_static && nat_eq (field_at plan.fields f).class c
 
 -- the place of a number in a list
-unfoldable pub place_of : List ℕ → ℕ → Option ℕ
-place_of [] f = Absent
-place_of (x ∷ xs) f = if nat_eq x f then Some zero else option_map suc (place_of xs f)
+unfoldable pub position_of : List ℕ → ℕ → Option ℕ
+position_of [] f = Absent
+position_of (x ∷ xs) f = if nat_eq x f then Some zero else option_map suc (position_of xs f)

@@ -141,7 +141,7 @@ impl Layouts {
     ghost use Rattle.std.specs.Prelude.{◌≡◌, ◌<◌, ◌+◌, ◌^◌, ℕ, IfOk, OnOk, length, map, true};
     ghost use Rattle.wy_heap.specs.Layout.{IsPlaced, is_known};
     ghost use Rattle.wy_heap.specs.Layouts.{plan_in};
-    ghost use Rattle.wy_heap.specs.Plan.{field_at, fields_of, fields_up, first_of, place_of, plan_of};
+    ghost use Rattle.wy_heap.specs.Plan.{field_at, fields_of, fields_up, first_of, position_of, plan_of};
     ghost use Rattle.wy_kernel.specs.Parts.{program_of};
 
     /// The layouts of a program, with no row yet.
@@ -196,7 +196,7 @@ impl Layouts {
     /// The offset of a field in the objects of a class whose row is worked out, and None where they don't have it.
     pub fn offset(&self, class: u32, field: u32) -> Option<u32>
         requires { is_known self.now.rows.items class ≡ true }
-        ensures { result ≡ place_of (fields_of (plan_in self.now) class) field }
+        ensures { result ≡ position_of (fields_of (plan_in self.now) class) field }
     {
         let row = self.fields_in_row(class);
         let offset = number_at(&self.offsets, field).unwrap_or(NONE);

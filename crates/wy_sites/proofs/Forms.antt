@@ -14,7 +14,7 @@ use Rattle.wy_kernel.specs.Program.{same_primitive}
 use Rattle.wy_kernel.specs.Table.{Table, ConstantValue, Simple, Text}
 use Rattle.wy_constant.specs.declared.rule.Rule.TheVariants.{BadOperand, BadCast}
 use Rattle.wy_constant.specs.Scope.{FixedText}
-use Rattle.wy_elab_expr.specs.Meaning.{Meaning, Known, Formed, type_of, Gets, refuse, listed, place_of, converted_form, constant_for, brought, formed}
+use Rattle.wy_elab_expr.specs.Meaning.{Meaning, Known, Formed, type_of, Gets, refuse, listed, text_number, converted_form, constant_for, brought, formed}
 use Rattle.wy_elab_expr.specs.Operators.{Judgement, is_void, is_nullable, is_boolean, can_cast, unary_type, unary_known, unary_formed, known_or, unary_of, OperandTypes, operand_types, joins, binary_known, token_of, binary_formed, joined, binary_of, lazy_form, lazy_formed, lazy_of, choice_formed, choice_of, cast_known, cast_form, cast_of, tested, instance_of, boolean_type}
 use Rattle.wy_structure.proofs.Yields.{Yields, found_ok, ok_same, given, refused_found, then_found, of_choice}
 use Rattle.wy_typing.specs.Sites.{Sited}
@@ -43,7 +43,7 @@ text_found P f = record { by = λ s after x e. let same : Str (f s).0 ≡ x = ap
 
 pub brought_sited : (P : ℕ → Type 0) (to : Ty) (m : Meaning) → MeaningSited P m → Yields (brought to m) (Sited P)
 unfolding brought
-brought_sited P to (Known (Text units) token) h = text_found P (λ texts. (place_of (listed texts units token) units, listed texts units token))
+brought_sited P to (Known (Text units) token) h = text_found P (λ texts. (text_number (listed texts units token) units, listed texts units token))
 brought_sited P to (Known (Simple c) token) h = given (Sited P) (Const (constant_for to c)) tt
 brought_sited P to (Formed form from) h = given (Sited P) (converted_form to from form) (converted_sited P to from form h)
 

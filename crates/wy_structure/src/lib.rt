@@ -30,24 +30,16 @@ pub fn numbers_follow_the_text()
 {}
 
 /// A `break` or a `continue` goes to the end of a statement of its body that it stands in, or that it is: of a loop, of a labelled
-/// statement, or of the body of a loop.
-pub fn jumps_go_out()
-    ensures { (unit : CompilationUnit) (count : ℕ) (p : Program) → Elaborates unit count (Ok p)
-        → AllJumpsGoOut p }
-{}
-
-/// The test of a statement reaches to the end of a statement of its body that it stands in, or of its own; a statement without a
-/// test has no reach.
-pub fn tests_reach_out()
-    ensures { (unit : CompilationUnit) (count : ℕ) (p : Program) → Elaborates unit count (Ok p)
-        → AllReach p }
-{}
-
-/// The test of a statement reaches to the end of the outermost statement around it that a jump (`break`, `continue`, `return` or
-/// `throw`) in its guarded part goes to, and to its own end where none does.
-pub fn tests_reach_as_far_as_jumps_lead()
-    ensures { (unit : CompilationUnit) (count : ℕ) (p : Program) → Elaborates unit count (Ok p)
-        → AllTestsReachAsFar p }
+/// statement, or of the body of a loop. The test of a statement reaches to the end of a statement of its body that it stands in, or
+/// of its own, and a statement without a test has no reach: it reaches to the end of the outermost statement around it that a jump
+/// (`break`, `continue`, `return` or `throw`) in its guarded part goes to, and to its own end where none does.
+pub fn jumps_and_tests_go_out()
+    ensures jumps { (unit : CompilationUnit) (count : ℕ) (p : Program)
+        → Elaborates unit count (Ok p) → AllJumpsGoOut p }
+    ensures tests { (unit : CompilationUnit) (count : ℕ) (p : Program)
+        → Elaborates unit count (Ok p) → AllReach p }
+    ensures as_far { (unit : CompilationUnit) (count : ℕ) (p : Program)
+        → Elaborates unit count (Ok p) → AllTestsReachAsFar p }
 {}
 
 /// In the program of a well-formed tree of at most 1,048,576 tokens no `&&`, `||` or `?:` has the site of a statement with a test:

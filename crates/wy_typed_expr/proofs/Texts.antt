@@ -4,7 +4,7 @@ use Rattle.std.specs.Prelude.{bytes_eq}
 use Rattle.std.specs.List.{position_or_len}
 use Rattle.std.proofs.lemmas.Slice.Eq.{bytes_eq-Decides}
 use Rattle.wy_constant.specs.Scope.{FixedText}
-use Rattle.wy_elab_expr.specs.Meaning.{has_units, listed, place_of}
+use Rattle.wy_elab_expr.specs.Meaning.{has_units, listed, text_number}
 
 same_bytes : (xs : List ℕ) → bytes_eq xs xs ≡ true
 same_bytes xs = (bytes_eq-Decides xs xs).1 refl
@@ -15,7 +15,7 @@ step p x xs false e = ap (λ b. cond (not b) (1 + position_or_len p xs) 0) e
 
 -- it has a place, and there are no fewer texts
 abbrev IsListed : List FixedText → List FixedText → List ℕ → Type 0
-IsListed texts all units = (length texts ≤ length all) × (place_of all units < length all)
+IsListed texts all units = (length texts ≤ length all) × (text_number all units < length all)
 
 listed_by : (t : FixedText) (rest : List FixedText) (units : List ℕ) (token : ℕ) (b : Bool) → has_units units t ≡ b → IsListed rest (listed rest units token) units →
     IsListed (t ∷ rest) (if b then record t { token = min t.token token } ∷ rest else t ∷ listed rest units token) units

@@ -30,7 +30,7 @@ use Rattle.wy_whynot.specs.Chains.{Leads}
 use Rattle.wy_whynot.specs.Executed.{cover_of, executed}
 use Rattle.wy_whynot.specs.Graph.{along, edge, here, IsMarked, IsSpread, IsWay}
 use Rattle.wy_whynot.specs.Items.{AreBlocked, IsBlocked, IsIdle, item_cmp}
-use Rattle.wy_whynot.specs.Numbers.{ArePoints, edge_of, is_picked, IsFound, place_of, told, turned}
+use Rattle.wy_whynot.specs.Numbers.{ArePoints, edge_of, is_picked, IsFound, point_number, told, turned}
 use Rattle.wy_whynot.proofs.Begun.{never_executed}
 use Rattle.wy_whynot.proofs.Chaining.{leads_on, reached_from, reached_leads}
 use Rattle.wy_whynot.proofs.Crossing.{crossed_executed}
@@ -102,7 +102,7 @@ module _ (p : Program) (rs : List Recorded) (covers : List Cover) (n : ℕ) (lin
   ex = executed rs covers
 
   abbrev at : Point → ℕ
-  at = place_of points
+  at = point_number points
 
   abbrev edges : List Edge
   edges = map (edge_of points) links
@@ -196,14 +196,14 @@ module _ (p : Program) (rs : List Recorded) (covers : List Cover) (index : Index
   abbrev points : List Point
   points = found.points.items
 
-  leading : IsSpread (map turned (map (edge_of points) links)) (map not (map (executed rs covers) points)) (place_of points (point.Statement n)) found.leading.items
-  leading = subst (λ b. IsSpread (map turned (map (edge_of points) links)) (map not b) (place_of points (point.Statement n)) found.leading.items) (f.begun rs is_index) f.leading
+  leading : IsSpread (map turned (map (edge_of points) links)) (map not (map (executed rs covers) points)) (point_number points (point.Statement n)) found.leading.items
+  leading = subst (λ b. IsSpread (map turned (map (edge_of points) links)) (map not b) (point_number points (point.Statement n)) found.leading.items) (f.begun rs is_index) f.leading
 
   begun_at : (q : Point) → Contains points q → told points found.begun.items q ≡ executed rs covers q
-  begun_at q i = ap (λ b. get_or b (place_of points q) false) (f.begun rs is_index) ∙ ex_at p rs covers n links are points f.points q i
+  begun_at q i = ap (λ b. get_or b (point_number points q) false) (f.begun rs is_index) ∙ ex_at p rs covers n links are points f.points q i
 
-  start_marked : IsMarked found.reached.items (place_of points point.Start)
-  start_marked = f.reached.begun (get_or-replicate (length points) (place_of points point.Start) true false (place_within points point.Start f.points.in_order f.points.there.start))
+  start_marked : IsMarked found.reached.items (point_number points point.Start)
+  start_marked = f.reached.begun (get_or-replicate (length points) (point_number points point.Start) true false (place_within points point.Start f.points.in_order f.points.there.start))
 
   not_crossed : (l : Link) → executed rs covers l.to ≡ false → executed rs covers l.to ≡ true → ⊥
   not_crossed l h k = cc
@@ -213,8 +213,8 @@ module _ (p : Program) (rs : List Recorded) (covers : List Cover) (index : Index
       let ends = f.points.there.ends l i in
       let parts = and_parts (told points found.begun.items l.from) (told points found.reached.items l.from && told points found.leading.items l.to) h in
       let more = and_parts (told points found.reached.items l.from) (told points found.leading.items l.to) parts.1 in
-      let to = arrives p rs covers n links are points f.points (replicate (length points) true) (place_of points l.from) (f.reached.ways (place_of points l.from) more.0) in
-      let on = leaves p rs covers n links are points f.points never (place_of points l.to) (leading.ways (place_of points l.to) more.1) in
+      let to = arrives p rs covers n links are points f.points (replicate (length points) true) (point_number points l.from) (f.reached.ways (point_number points l.from) more.0) in
+      let on = leaves p rs covers n links are points f.points never (point_number points l.to) (leading.ways (point_number points l.to) more.1) in
       let from : to.q ≡ l.from = same_place p rs covers n links are points f.points to.q l.from to.there ends.0 to.number in
       let target : on.q ≡ l.to = same_place p rs covers n links are points f.points on.q l.to on.there ends.1 on.number in
       let idle : executed rs covers l.to ≡ false = ap (executed rs covers) (sym target) ∙ on.never in

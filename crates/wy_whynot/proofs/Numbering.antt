@@ -16,7 +16,7 @@ use Rattle.wy_static.specs.declared.point.Point.TheVariants as point
 use Rattle.wy_static.specs.declared.point.Link.{Link}
 use Rattle.wy_static.specs.Order.{point_cmp}
 use Rattle.wy_static.proofs.Orders.{point_total, same_points}
-use Rattle.wy_whynot.specs.Numbers.{ArePoints, HasEnds, IsInOrder, place_of}
+use Rattle.wy_whynot.specs.Numbers.{ArePoints, HasEnds, IsInOrder, point_number}
 use Rattle.wy_whynot.proofs.Sorting.{in_head}
 use Rattle.wy_whynot.proofs.Spreading.{nothing_in}
 
@@ -86,17 +86,17 @@ parted points q up = λ i j d le lt below. ⊎_elim
     (cases_eq i j)
 
 -- a place at which a point stands is its number
-pub place_is : (points : List Point) (q : Point) (k : ℕ) → IsInOrder points → k < length points → get_or points k q ≡ q → place_of points q ≡ k
-unfolding place_of
+pub place_is : (points : List Point) (q : Point) (k : ℕ) → IsInOrder points → k < length points → get_or points k q ≡ q → point_number points q ≡ k
+unfolding point_number
 place_is [] q k up lt at = absurd (omega arith)
-place_is (x ∷ xs) q zero up lt at = ap (λ (r : Ordering). cond (is_eq r) zero (suc (place_of xs q))) (ap (λ y. point_cmp y q) at ∙ tied_itself point_total q)
+place_is (x ∷ xs) q zero up lt at = ap (λ (r : Ordering). cond (is_eq r) zero (suc (point_number xs q))) (ap (λ y. point_cmp y q) at ∙ tied_itself point_total q)
 place_is (x ∷ xs) q (suc k) up lt at =
     let less : point_cmp x q ≡ Less = ap (point_cmp x) (sym at) ∙ Less-from_sorted point_cmp (x ∷ xs) 0 (suc k) q up (omega arith) lt in
-    ap (λ (r : Ordering). cond (is_eq r) zero (suc (place_of xs q))) less ∙ ap suc (place_is xs q k (sorted_tail point_cmp x xs up) (omega arith) at)
+    ap (λ (r : Ordering). cond (is_eq r) zero (suc (point_number xs q))) less ∙ ap suc (place_is xs q k (sorted_tail point_cmp x xs up) (omega arith) at)
 
 pub number_is : (points : List Point) (q : Point) (i : ℕ) → IsInOrder points → Contains points q
     → IsPartitionPoint (λ (x : Point). is_lt (point_cmp x q) ≡ true) (λ (x : Point). is_lt (point_cmp x q) ≡ false) points i
-    → (i ≡ place_of points q) × (i < length points)
+    → (i ≡ point_number points q) × (i < length points)
 number_is points q i up there part =
     let k = there.0 in
     let upto : i ≤ k = ⊎_elim (λ (lt : k < i). clash (is_lt (point_cmp (get_or points k q) q)) (part.0 k q (omega arith) lt) (ap (λ y. is_lt (point_cmp y q)) there.2 ∙ never_below_itself q)) (λ (le : i ≤ k). le) (cases_lt k i) in
@@ -109,7 +109,7 @@ number_is points q i up there part =
     (same ∙ sym (place_is points q k up there.1 there.2), omega (arith, there.1))
 
 -- the point of a number
-pub point_at : (points : List Point) (q d : Point) → IsInOrder points → Contains points q → get_or points (place_of points q) d ≡ q
+pub point_at : (points : List Point) (q d : Point) → IsInOrder points → Contains points q → get_or points (point_number points q) d ≡ q
 point_at points q d up there = ap (λ k. get_or points k d) (place_is points q there.0 up there.1 there.2) ∙ default points there.0 there.1 ∙ there.2
   where
     default : (xs : List Point) (k : ℕ) → k < length xs → get_or xs k d ≡ get_or xs k q
@@ -117,5 +117,5 @@ point_at points q d up there = ap (λ k. get_or points k d) (place_is points q t
     default (x ∷ xs) zero lt = refl
     default (x ∷ xs) (suc k) lt = default xs k (omega arith)
 
-pub place_within : (points : List Point) (q : Point) → IsInOrder points → Contains points q → place_of points q < length points
+pub place_within : (points : List Point) (q : Point) → IsInOrder points → Contains points q → point_number points q < length points
 place_within points q up there = omega (arith, place_is points q there.0 up there.1 there.2, there.1)

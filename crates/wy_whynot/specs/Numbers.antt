@@ -31,12 +31,12 @@ pub record ArePoints (links : List Link) (n : ℕ) (points : List Point) : Type 
   pub in_order : IsInOrder points
 
 -- where a point stands among points
-unfoldable pub place_of : List Point → Point → ℕ
-place_of [] q = zero
-place_of (x ∷ xs) q = if is_eq (point_cmp x q) then zero else suc (place_of xs q)
+unfoldable pub point_number : List Point → Point → ℕ
+point_number [] q = zero
+point_number (x ∷ xs) q = if is_eq (point_cmp x q) then zero else suc (point_number xs q)
 
 abbrev pub edge_of : List Point → Link → Edge
-edge_of points l = edge (place_of points l.from) (place_of points l.to)
+edge_of points l = edge (point_number points l.from) (point_number points l.to)
 
 abbrev pub turned : Edge → Edge
 turned e = edge e.to e.from
@@ -44,7 +44,7 @@ turned e = edge e.to e.from
 -- ---- what was found
 
 abbrev pub told : List Point → List Bool → Point → Bool
-told points marks q = slice_index_or marks (place_of points q) false
+told points marks q = slice_index_or marks (point_number points q) false
 
 -- a link from a point that was executed and reached to one that leads on
 abbrev pub is_picked : Found → Link → Bool
@@ -71,7 +71,7 @@ pub record IsFound (links : List Link) (covers : List Cover) (index : Index) (n 
       → found.begun.items ≡ map (executed rs covers) found.points.items
   pub reached : IsSpread (map (edge_of found.points.items) links)
       (replicate (length found.points.items) true)
-      (place_of found.points.items point.Start) found.reached.items
+      (point_number found.points.items point.Start) found.reached.items
   pub leading : IsSpread (map turned (map (edge_of found.points.items) links))
       (map not found.begun.items)
-      (place_of found.points.items (point.Statement n)) found.leading.items
+      (point_number found.points.items (point.Statement n)) found.leading.items

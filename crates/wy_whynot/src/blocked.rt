@@ -9,7 +9,7 @@ ghost use Rattle.wy_static.specs.Links.{AreLinks};
 ghost use Rattle.wy_whynot.specs.Graph.{IsSpread};
 ghost use Rattle.wy_whynot.specs.Items.{AreBlocked};
 ghost use Rattle.wy_whynot.specs.Laws.{NeverBegan};
-ghost use Rattle.wy_whynot.specs.Numbers.{ArePoints, IsFound, IsPlaced, edge_of, is_picked, place_of, turned};
+ghost use Rattle.wy_whynot.specs.Numbers.{ArePoints, IsFound, IsPlaced, edge_of, is_picked, point_number, turned};
 
 use crate::executed::executed_points;
 use crate::graph::{Edge, spread};
@@ -58,7 +58,7 @@ fn reached(
 ) -> Result<Vec<bool>, AllocError>
     requires { ArePoints links.now statement points.now }
     ensures { IfOk result (λ marks. IsSpread (map (edge_of points.now) links.now)
-        (replicate (length points.now) true) (place_of points.now point.Start) marks.items) }
+        (replicate (length points.now) true) (point_number points.now point.Start) marks.items) }
 {
     let edges = edges_of(alloc, points, links, statement)?;
     let open = vec![in alloc; true; points.len()]?;
@@ -77,7 +77,7 @@ fn leading(
     requires points { ArePoints links.now statement points.now }
     requires sized { length begun.now ≡ length points.now }
     ensures { IfOk result (λ marks. IsSpread (map turned (map (edge_of points.now) links.now))
-        (map not begun.now) (place_of points.now (point.Statement statement)) marks.items) }
+        (map not begun.now) (point_number points.now (point.Statement statement)) marks.items) }
 {
     let edges = edges_of(alloc, points, links, statement)?;
     let back = turned(alloc, &edges)?;

@@ -4,7 +4,7 @@ ghost use Rattle.std.specs.Prelude.{◌≡◌, ◌<◌, IfOk, All, length, map};
 ghost use Rattle.std.specs.List.{Contains};
 ghost use Rattle.wy_static.specs.declared.point.Point.TheVariants as point;
 ghost use Rattle.wy_whynot.specs.Graph.{LiesIn};
-ghost use Rattle.wy_whynot.specs.Numbers.{ArePoints, HasEnds, IsInOrder, edge_of, place_of};
+ghost use Rattle.wy_whynot.specs.Numbers.{ArePoints, HasEnds, IsInOrder, edge_of, point_number};
 
 use crate::graph::Edge;
 use crate::order::compare_points;
@@ -43,7 +43,7 @@ pub(crate) fn points_of(
 pub(crate) fn number(points: &[Point], point: Point) -> usize
     requires in_order { IsInOrder points.now }
     requires there { Contains points.now point }
-    ensures place { result ≡ place_of points.now point }
+    ensures place { result ≡ point_number points.now point }
     ensures within { result < length points.now }
 {
     points.partition_point(|other| compare_points(*other, point).is_lt())

@@ -4,7 +4,7 @@ use Rattle.std.proofs.lemmas.List.{length-map}
 use Rattle.wy_static.specs.declared.point.Point.TheVariants as point
 use Rattle.wy_whynot.specs.declared.graph.Edge.{Edge}
 use Rattle.wy_whynot.specs.Graph.{IsSpread, LiesIn}
-use Rattle.wy_whynot.specs.Numbers.{place_of, turned}
+use Rattle.wy_whynot.specs.Numbers.{point_number, turned}
 use Rattle.wy_whynot.proofs.Answering.{all_turned}
 use Rattle.wy_whynot.proofs.blocked.leading.Goals as goal
 
@@ -25,7 +25,7 @@ pub returns : goal.returns
 returns c =
     let open' : c.deref-2.result.now ≡ map not c.args.begun.now = c.deref-2.ensures.value ∙ c.in_ok-open.ensures in
     let back = c.in_ok-back.ensures ∙ ap (map turned) (c.deref.ensures.value ∙ c.in_ok-edges.ensures.edges) in
-    let start : c.number-start.result ≡ place_of c.args.points.now (point.Statement c.args.statement) = c.number-start.ensures.place in
-    subst (λ (es : List Edge). IsSpread es (map not c.args.begun.now) (place_of c.args.points.now (point.Statement c.args.statement)) c.in_ok-marks.marks.items) back
-    (subst (λ (o : List Bool). IsSpread c.in_ok-back.back.items o (place_of c.args.points.now (point.Statement c.args.statement)) c.in_ok-marks.marks.items) open'
+    let start : c.number-start.result ≡ point_number c.args.points.now (point.Statement c.args.statement) = c.number-start.ensures.place in
+    subst (λ (es : List Edge). IsSpread es (map not c.args.begun.now) (point_number c.args.points.now (point.Statement c.args.statement)) c.in_ok-marks.marks.items) back
+    (subst (λ (o : List Bool). IsSpread c.in_ok-back.back.items o (point_number c.args.points.now (point.Statement c.args.statement)) c.in_ok-marks.marks.items) open'
     (subst (λ (s : ℕ). IsSpread c.in_ok-back.back.items c.deref-2.result.now s c.in_ok-marks.marks.items) start c.in_ok-marks.ensures))

@@ -2,13 +2,13 @@ use Rattle.std.proofs.Common.{◌≡◌, List, ℕ, Bool, length, replicate, tru
 use Rattle.wy_static.specs.declared.point.Point.TheVariants as point
 use Rattle.wy_whynot.specs.declared.graph.Edge.{Edge}
 use Rattle.wy_whynot.specs.Graph.{IsSpread}
-use Rattle.wy_whynot.specs.Numbers.{place_of}
+use Rattle.wy_whynot.specs.Numbers.{point_number}
 use Rattle.wy_whynot.proofs.blocked.reached.Goals as goal
 
 pub returns : goal.returns
 returns c =
     let open' : c.deref.result.now ≡ replicate (length c.args.points.now) true = search rules in
-    let start : c.number.result ≡ place_of c.args.points.now point.Start = c.number.ensures.place in
-    subst (λ (es : List Edge). IsSpread es (replicate (length c.args.points.now) true) (place_of c.args.points.now point.Start) c.in_ok-marks.marks.items) c.in_ok-edges.ensures.edges
-    (subst (λ (o : List Bool). IsSpread c.in_ok-edges.edges.items o (place_of c.args.points.now point.Start) c.in_ok-marks.marks.items) open'
+    let start : c.number.result ≡ point_number c.args.points.now point.Start = c.number.ensures.place in
+    subst (λ (es : List Edge). IsSpread es (replicate (length c.args.points.now) true) (point_number c.args.points.now point.Start) c.in_ok-marks.marks.items) c.in_ok-edges.ensures.edges
+    (subst (λ (o : List Bool). IsSpread c.in_ok-edges.edges.items o (point_number c.args.points.now point.Start) c.in_ok-marks.marks.items) open'
     (subst (λ (s : ℕ). IsSpread c.in_ok-edges.edges.items c.deref.result.now s c.in_ok-marks.marks.items) start c.in_ok-marks.ensures))

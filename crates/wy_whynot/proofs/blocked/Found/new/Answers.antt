@@ -3,7 +3,7 @@ use Rattle.wy_static.specs.declared.point.Point.{Point}
 use Rattle.wy_static.specs.declared.point.Point.TheVariants as point
 use Rattle.wy_whynot.specs.Executed.{executed}
 use Rattle.wy_whynot.specs.Graph.{IsSpread}
-use Rattle.wy_whynot.specs.Numbers.{ArePoints, edge_of, place_of, turned}
+use Rattle.wy_whynot.specs.Numbers.{ArePoints, edge_of, point_number, turned}
 use Rattle.wy_whynot.proofs.blocked.Found.new.Goals as goal
 
 pub reached-requires : goal.reached-requires
@@ -23,7 +23,7 @@ returns c =
       points = c.in_ok-points.ensures;
       sized = c.in_ok-begun.ensures.sized ∙ ap length c.deref.ensures.value;
       begun = λ rs is. c.in_ok-begun.ensures.executed rs is ∙ ap (map (executed rs c.args.coverage.now)) c.deref.ensures.value;
-      reached = subst (λ (ps : List Point). IsSpread (map (edge_of ps) c.args.links.now) (replicate (length ps) true) (place_of ps point.Start) c.in_ok-reached.reached.items) c.deref-2.ensures.value c.in_ok-reached.ensures;
-      leading = subst (λ (bs : List Bool). IsSpread (map turned (map (edge_of points) c.args.links.now)) (map not bs) (place_of points (point.Statement c.args.statement)) c.in_ok-leading.leading.items) c.deref-4.ensures.value
-          (subst (λ (ps : List Point). IsSpread (map turned (map (edge_of ps) c.args.links.now)) (map not c.deref-4.result.now) (place_of ps (point.Statement c.args.statement)) c.in_ok-leading.leading.items) c.deref-3.ensures.value c.in_ok-leading.ensures);
+      reached = subst (λ (ps : List Point). IsSpread (map (edge_of ps) c.args.links.now) (replicate (length ps) true) (point_number ps point.Start) c.in_ok-reached.reached.items) c.deref-2.ensures.value c.in_ok-reached.ensures;
+      leading = subst (λ (bs : List Bool). IsSpread (map turned (map (edge_of points) c.args.links.now)) (map not bs) (point_number points (point.Statement c.args.statement)) c.in_ok-leading.leading.items) c.deref-4.ensures.value
+          (subst (λ (ps : List Point). IsSpread (map turned (map (edge_of ps) c.args.links.now)) (map not c.deref-4.result.now) (point_number ps (point.Statement c.args.statement)) c.in_ok-leading.leading.items) c.deref-3.ensures.value c.in_ok-leading.ensures);
     }
