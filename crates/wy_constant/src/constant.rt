@@ -1,7 +1,7 @@
 //! The value of a constant expression (JLS 15.28).
 
 ghost use Rattle.std.specs.Prelude.{◌≡◌, ◌&&◌, ◌||◌, IfOk, option_and_then, option_map};
-ghost use Rattle.wy_kernel.specs.ClassTable.{table_of};
+ghost use Rattle.wy_table.specs.ClassTable.{table_of};
 ghost use Rattle.wy_kernel.specs.Table.{constant_value};
 ghost use Rattle.wy_syntax.specs.View.{expression_of, type_seen};
 ghost use Rattle.wy_constant.specs.Constant.{binary_constant, both, cast_constant, choice_constant, combined, constant, name_in, truth, unary_constant};
@@ -14,9 +14,9 @@ use crate::scope::Scope;
 use std::alloc::{AllocError, Global};
 use wy_kernel::form::Const;
 use wy_kernel::operator::{BinOp, UnOp};
-use wy_kernel::table::ClassTable;
 use wy_syntax::expression::Expression;
 use wy_syntax::name::WrittenType;
+use wy_table::table::ClassTable;
 
 #[tactic(auto, using(crate::proofs::Views::view_name))]
 fn name_of(e: &Expression) -> Option<&str>

@@ -1,14 +1,14 @@
 //! Classes by name, and the field that a class has by a name (JLS 6.5, 8.3).
 
 ghost use Rattle.std.specs.Prelude.{◌≡◌, option_map, slice_get};
-ghost use Rattle.wy_kernel.specs.ClassTable.{table_of};
+ghost use Rattle.wy_table.specs.ClassTable.{table_of};
 ghost use Rattle.wy_kernel.specs.Table.{constant_value};
 ghost use Rattle.wy_kernel.specs.View.{class_of, field_of as field_seen};
 ghost use Rattle.wy_constant.specs.Fields.{class_named, declared_field, field_constant, field_of, is_class_named, is_field, superclass};
 
 use wy_kernel::form::Const;
-use wy_kernel::table::ClassTable;
 use wy_kernel::types::{Class, Field, NONE};
+use wy_table::table::ClassTable;
 
 fn is_this_class(class: &Class, name: &str) -> bool
     ensures { result ≡ is_class_named name.now (class_of class.now) }
@@ -80,7 +80,7 @@ pub fn field_by_name(table: &ClassTable, class: u32, name: &str) -> Option<u32>
 }
 
 /// The value of a field that is a constant variable.
-#[tactic(auto, unfolding(wy_kernel::specs::ClassTable::table_of))]
+#[tactic(auto, unfolding(wy_table::specs::ClassTable::table_of))]
 pub fn constant_of_field(table: &ClassTable, field: u32) -> Option<&Const>
     ensures { option_map (λ c.
         constant_value c.now) result ≡ field_constant (table_of table.now) field }

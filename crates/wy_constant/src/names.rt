@@ -2,7 +2,7 @@
 
 ghost use Rattle.std.specs.Prelude.{◌≡◌, IfOk, option_map, pos, negsuc};
 ghost use Rattle.wy_value.specs.declared.value.Value.{Value};
-ghost use Rattle.wy_kernel.specs.ClassTable.{table_of};
+ghost use Rattle.wy_table.specs.ClassTable.{table_of};
 ghost use Rattle.wy_kernel.specs.Table.{constant_value};
 ghost use Rattle.wy_constant.specs.Constant.{can_name_class, class_value, field_value, limit, member_constant, name_constant, qualified, simple};
 ghost use Rattle.wy_constant.specs.Scopes.{variable_of};
@@ -12,7 +12,7 @@ use crate::scope::Scope;
 use crate::simple::copied;
 use std::alloc::AllocError;
 use wy_kernel::form::Const;
-use wy_kernel::table::ClassTable;
+use wy_table::table::ClassTable;
 
 fn copied_if(c: Option<&Const>) -> Result<Option<Const>, AllocError>
     ensures { IfOk result (λ k.

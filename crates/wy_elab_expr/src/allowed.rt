@@ -1,15 +1,15 @@
 //! Which casts and assignments are allowed (JLS 5.2, 5.5; two references as this project has it, without the rules on methods).
 
 ghost use Rattle.std.specs.Prelude.{◌≡◌, slice_get};
-ghost use Rattle.wy_kernel.specs.ClassTable.{table_of};
+ghost use Rattle.wy_table.specs.ClassTable.{table_of};
 ghost use Rattle.wy_elab_expr.specs.Operators.{can_cast, can_cast_bases, can_cast_by, can_cast_primitive, can_cast_reference, class_of, is_interface, is_open, is_related, may_meet};
 ghost use Rattle.wy_elab_expr.specs.Views.{Judged};
 
 use crate::kinds::{is_nullable, primitive_in};
 use wy_kernel::operator::Primitive;
-use wy_kernel::table::ClassTable;
 use wy_kernel::types::{Base, Ty};
 use wy_overloads::subtype;
+use wy_table::table::ClassTable;
 
 /// Whether a type is below another.
 pub fn is_below(table: &ClassTable, a: Ty, b: Ty) -> bool

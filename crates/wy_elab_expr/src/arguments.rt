@@ -1,7 +1,7 @@
 //! Arguments: their types, and their forms in the types of parameters (JLS 15.12.2, 15.12.4.2).
 
 ghost use Rattle.std.specs.Prelude.{◌≡◌, IfOk, map};
-ghost use Rattle.wy_kernel.specs.ClassTable.{table_of};
+ghost use Rattle.wy_table.specs.ClassTable.{table_of};
 ghost use Rattle.wy_kernel.specs.View.{expression};
 ghost use Rattle.wy_elab_expr.specs.Members.{brought_all, method_for, of_choice, some_void, types_of};
 ghost use Rattle.wy_elab_expr.specs.Views.{GetsTo, GivesAlways, Judged, behind, meaning_of, row_seen};
@@ -14,9 +14,9 @@ use crate::texts::Texts;
 use std::alloc::{AllocError, Global};
 use wy_constant::{Rule, TypeError};
 use wy_kernel::form::Expr;
-use wy_kernel::table::ClassTable;
 use wy_kernel::types::Ty;
 use wy_overloads::choose;
+use wy_table::table::ClassTable;
 
 /// Whether an argument has no value.
 pub fn some_void(args: &[Meaning]) -> bool

@@ -1,7 +1,7 @@
 //! Which values may be assigned to which variables (JLS 5.2).
 
 ghost use Rattle.std.specs.Prelude.{◌≡◌, ℕ};
-ghost use Rattle.wy_kernel.specs.ClassTable.{table_of};
+ghost use Rattle.wy_table.specs.ClassTable.{table_of};
 ghost use Rattle.wy_kernel.specs.Subtyping.{primitive_type};
 ghost use Rattle.wy_kernel.specs.Table.{constant_value};
 ghost use Rattle.wy_elab_expr.specs.Meaning.{Known};
@@ -15,8 +15,8 @@ use crate::meaning::Meaning;
 use wy_constant::has_int;
 use wy_kernel::form::Const;
 use wy_kernel::operator::Primitive;
-use wy_kernel::table::ClassTable;
 use wy_kernel::types::{Base, Ty};
+use wy_table::table::ClassTable;
 
 // Whether byte, short or char has the value of a constant.
 fn constant_fits(p: Primitive, c: &Const) -> bool

@@ -1,7 +1,7 @@
 //! Assignment, `op=`, `++` and `--`, and the variables that they are about (JLS 15.14, 15.15, 15.26).
 
 ghost use Rattle.std.specs.Prelude.{◌≡◌, IfOk, Some, false, option_map, option_and_then, slice_get};
-ghost use Rattle.wy_kernel.specs.ClassTable.{table_of};
+ghost use Rattle.wy_table.specs.ClassTable.{table_of};
 ghost use Rattle.wy_kernel.specs.View.{expression};
 ghost use Rattle.wy_constant.specs.Fields.{field_of};
 ghost use Rattle.wy_elab_expr.specs.Meaning.{type_of};
@@ -23,8 +23,8 @@ use std::alloc::{AllocError, Global};
 use wy_constant::{Rule, Scope, TypeError, field_by_name};
 use wy_kernel::form::Expr;
 use wy_kernel::operator::{BinOp, Primitive};
-use wy_kernel::table::ClassTable;
 use wy_kernel::types::{Base, NONE, Ty};
+use wy_table::table::ClassTable;
 
 /// The superclass of the class of a body, or Object.
 #[tactic(auto, unfolding(wy_kernel::specs::View::present))]

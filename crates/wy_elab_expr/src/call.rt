@@ -1,7 +1,7 @@
 //! Calls of methods of classes, and `new` (JLS 15.9, 15.12).
 
 ghost use Rattle.std.specs.Prelude.{◌≡◌, ◌<◌, IfOk, OnSome, map, option_map, slice_get};
-ghost use Rattle.wy_kernel.specs.ClassTable.{table_of};
+ghost use Rattle.wy_table.specs.ClassTable.{table_of};
 ghost use Rattle.wy_kernel.specs.Form as kernel;
 ghost use Rattle.wy_kernel.specs.View.{expression, method_of as method_seen, row_of};
 ghost use Rattle.wy_elab_expr.specs.Members.{broken, broken_by, call_form, call_of, called, called_at, called_unless, constructed, created, instance_if, is_abstract, is_static, new_plain, receiver, this_form, Super};
@@ -19,8 +19,8 @@ use crate::texts::Texts;
 use std::alloc::{AllocError, Global};
 use wy_constant::{Rule, Scope, TypeError};
 use wy_kernel::form::{CallForm, Expr};
-use wy_kernel::table::ClassTable;
 use wy_kernel::types::{Method, MethodForm, Ty};
+use wy_table::table::ClassTable;
 
 /// Through what a method is called: nothing, an expression, a class, or `super`.
 #[derive(Drop)]

@@ -1,7 +1,7 @@
 //! Calls on a class and on an object (JLS 15.12.1).
 
 ghost use Rattle.std.specs.Prelude.{◌≡◌, map, option_map};
-ghost use Rattle.wy_kernel.specs.ClassTable.{table_of};
+ghost use Rattle.wy_table.specs.ClassTable.{table_of};
 ghost use Rattle.wy_constant.specs.Fields.{class_named};
 ghost use Rattle.wy_elab_expr.specs.Elaboration.{called_on, called_on_class, called_on_known, class_methods, is_of_texts};
 ghost use Rattle.wy_elab_expr.specs.Views.{GetsTo, Judged, class_name_of, library_method, meaning_of};
@@ -21,7 +21,7 @@ use crate::refusal::refused;
 use crate::texts::Texts;
 use std::alloc::Global;
 use wy_constant::{Rule, Scope, TypeError, class_by_name};
-use wy_kernel::table::ClassTable;
+use wy_table::table::ClassTable;
 
 fn class_methods(class: &str) -> &'static [LibraryMethod]
     ensures { map library_method result.now ≡ class_methods class.now }

@@ -1,7 +1,7 @@
 //! Casts and `instanceof` (JLS 15.16, 15.20.2).
 
 ghost use Rattle.std.specs.Prelude.{◌≡◌, ℕ, IfOk, None, option_map};
-ghost use Rattle.wy_kernel.specs.ClassTable.{table_of};
+ghost use Rattle.wy_table.specs.ClassTable.{table_of};
 ghost use Rattle.wy_kernel.specs.Subtyping.{primitive_type};
 ghost use Rattle.wy_kernel.specs.Table.{constant_value};
 ghost use Rattle.wy_elab_expr.specs.Meaning.{Known};
@@ -19,8 +19,8 @@ use std::alloc::{AllocError, Global};
 use wy_constant::{Rule, TypeError, cast, constant_in, value_of};
 use wy_kernel::form::Const;
 use wy_kernel::operator::Primitive;
-use wy_kernel::table::ClassTable;
 use wy_kernel::types::{Base, Ty};
+use wy_table::table::ClassTable;
 
 fn number_of(p: Primitive, c: &Const) -> Option<Const>
     ensures { (token : ℕ) → option_map constant_value result ≡ cast_known (primitive_type p)

@@ -1,7 +1,7 @@
 //! `?:` (JLS 15.25; its type for two references as this project has it).
 
 ghost use Rattle.std.specs.Prelude.{◌≡◌, IfOk, length, option_map, option_and_then, Some};
-ghost use Rattle.wy_kernel.specs.ClassTable.{table_of};
+ghost use Rattle.wy_table.specs.ClassTable.{table_of};
 ghost use Rattle.wy_kernel.specs.Program.{class_of_type};
 ghost use Rattle.wy_kernel.specs.Table.{constant_value};
 ghost use Rattle.wy_constant.specs.Constant.{choice_constant};
@@ -22,8 +22,8 @@ use std::alloc::{AllocError, Global};
 use wy_constant::{Rule, TypeError, choice_value, copied, type_of_choice, value_of};
 use wy_kernel::form::Const;
 use wy_kernel::operator::Primitive;
-use wy_kernel::table::ClassTable;
 use wy_kernel::types::{Base, NONE, Ty};
+use wy_table::table::ClassTable;
 use wy_value::Value;
 
 fn value_known(m: &Meaning) -> Option<Value>

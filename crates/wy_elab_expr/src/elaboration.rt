@@ -1,7 +1,7 @@
 //! Expressions become forms: one rule a form, operands from left to right before the form's own rules (JLS 15.7).
 
 ghost use Rattle.std.specs.Prelude.{◌≡◌, map, option_map, true};
-ghost use Rattle.wy_kernel.specs.ClassTable.{table_of};
+ghost use Rattle.wy_table.specs.ClassTable.{table_of};
 ghost use Rattle.wy_kernel.specs.View.{expression};
 ghost use Rattle.wy_syntax.specs.Syntax as source;
 ghost use Rattle.wy_syntax.specs.View.{base_seen, expression_of, initial_of, named_of, row_of, type_seen};
@@ -35,10 +35,10 @@ use std::alloc::Global;
 use wy_constant::{Rule, Scope, TypeError};
 use wy_kernel::form::Expr;
 use wy_kernel::operator::{BinOp, UnOp};
-use wy_kernel::table::ClassTable;
 use wy_kernel::types::Ty;
 use wy_syntax::expression::{Element, Expression, Initial};
 use wy_syntax::name::{Named, WrittenBase, WrittenType};
+use wy_table::table::ClassTable;
 
 /// What an expression is found to be.
 #[cycle(elaboration)]

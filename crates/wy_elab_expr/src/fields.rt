@@ -1,7 +1,7 @@
 //! What names of variables and of fields denote (JLS 6.5, 8.3, 15.11).
 
 ghost use Rattle.std.specs.Prelude.{◌≡◌, IfOk, option_map, slice_get};
-ghost use Rattle.wy_kernel.specs.ClassTable.{table_of};
+ghost use Rattle.wy_table.specs.ClassTable.{table_of};
 ghost use Rattle.wy_kernel.specs.Table.{constant_value};
 ghost use Rattle.wy_kernel.specs.Form as kernel;
 ghost use Rattle.wy_kernel.specs.View.{field_of as field_seen};
@@ -24,8 +24,8 @@ use wy_constant::{
 use wy_kernel::builtin::FIRST_SOURCE_CLASS;
 use wy_kernel::form::{Const, Expr, LibOp};
 use wy_kernel::operator::Primitive;
-use wy_kernel::table::ClassTable;
 use wy_kernel::types::{Base, Field, Ty};
+use wy_table::table::ClassTable;
 
 /// Whether a member of a class is out of reach: it is private, and the body is of another class.
 pub fn is_outside(scope: &Scope, is_private: bool, class: u32) -> bool

@@ -1,7 +1,7 @@
 //! Calls of the library's methods (JLS 15.12). A list has the more specific ones in front, so that the first that takes the arguments is meant.
 
 ghost use Rattle.std.specs.Prelude.{◌≡◌, ◌&&◌, bytes_eq, map, option_map};
-ghost use Rattle.wy_kernel.specs.ClassTable.{table_of};
+ghost use Rattle.wy_table.specs.ClassTable.{table_of};
 ghost use Rattle.wy_elab_expr.specs.Members.{applicable, are_below, brought_all, has_name, library_call, library_form};
 ghost use Rattle.wy_elab_expr.specs.Views.{GetsTo, Judged, fronted, inner_of, library_method, meaning_of, row_seen};
 
@@ -15,8 +15,8 @@ use crate::texts::Texts;
 use std::alloc::Global;
 use wy_constant::{Rule, TypeError};
 use wy_kernel::form::Expr;
-use wy_kernel::table::ClassTable;
 use wy_kernel::types::Ty;
+use wy_table::table::ClassTable;
 
 // Whether each type is below the one at its place, and there are as many.
 fn are_below(table: &ClassTable, types: &[Ty], params: &[Ty]) -> bool

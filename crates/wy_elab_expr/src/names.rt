@@ -1,7 +1,7 @@
 //! Names before a dot: those of classes, and the streams of System; and written types (JLS 4.3, 6.5).
 
 ghost use Rattle.std.specs.Prelude.{◌≡◌, IfOk, option_map};
-ghost use Rattle.wy_kernel.specs.ClassTable.{table_of};
+ghost use Rattle.wy_table.specs.ClassTable.{table_of};
 ghost use Rattle.wy_syntax.specs.View.{base_seen, expression_of, type_seen};
 ghost use Rattle.wy_constant.specs.Fields.{class_named};
 ghost use Rattle.wy_elab_expr.specs.Elaboration.{class_for_new, class_in, is_place, is_system, named_type, names_class, stream_in, stream_named, type_with, type_written, with_brackets};
@@ -12,10 +12,10 @@ use crate::printing::Stream;
 use crate::refusal::refused;
 use std::alloc::AllocError;
 use wy_constant::{Rule, Scope, TypeError, class_by_name, may_be_class};
-use wy_kernel::table::ClassTable;
 use wy_kernel::types::{Base, Ty};
 use wy_syntax::expression::Expression;
 use wy_syntax::name::{WrittenBase, WrittenType};
+use wy_table::table::ClassTable;
 
 /// A class that a name denotes, with the name's token.
 #[derive(Clone, Copy)]

@@ -1,7 +1,7 @@
 //! The types that binary operators take and give (JLS 15.17 to 15.24).
 
 ghost use Rattle.std.specs.Prelude.{◌≡◌, option_map};
-ghost use Rattle.wy_kernel.specs.ClassTable.{table_of};
+ghost use Rattle.wy_table.specs.ClassTable.{table_of};
 ghost use Rattle.wy_value.specs.Operator.{is_comparison, is_equality, is_shift};
 ghost use Rattle.wy_elab_expr.specs.Operators.{boolean_type, booleans, both_numbers, is_bitwise, joins, of_number, of_one_type, of_references, of_shift, number_type, operand_types, or_else};
 ghost use Rattle.wy_elab_expr.specs.Views.{Judged, operands_of};
@@ -10,8 +10,8 @@ use crate::allowed::can_cast;
 use crate::bring::primitive;
 use crate::kinds::{both_numbers, is_boolean, is_nullable, is_text, is_void, number_type};
 use wy_kernel::operator::{BinOp, Primitive};
-use wy_kernel::table::ClassTable;
 use wy_kernel::types::Ty;
+use wy_table::table::ClassTable;
 
 /// The types that the operands are brought to, and that of the result.
 #[derive(Clone, Copy)]

@@ -1,7 +1,7 @@
 //! Unary and binary operators, `&&` and `||` (JLS 15.15, 15.17 to 15.24).
 
 ghost use Rattle.std.specs.Prelude.{◌≡◌, ◌&&◌, ◌||◌, IfOk, Some, if◌then◌else◌, option_map};
-ghost use Rattle.wy_kernel.specs.ClassTable.{table_of};
+ghost use Rattle.wy_table.specs.ClassTable.{table_of};
 ghost use Rattle.wy_kernel.specs.Table.{constant_value};
 ghost use Rattle.wy_constant.specs.Constant.{as_truth};
 ghost use Rattle.wy_elab_expr.specs.Meaning.{refuse, type_of};
@@ -19,8 +19,8 @@ use std::alloc::{AllocError, Global};
 use wy_constant::{Rule, TypeError, fold_binary, fold_unary, truth_of};
 use wy_kernel::form::{CondForm, Const};
 use wy_kernel::operator::{BinOp, Primitive, UnOp};
-use wy_kernel::table::ClassTable;
 use wy_kernel::types::Ty;
+use wy_table::table::ClassTable;
 
 fn unary_type(op: UnOp, ty: Ty) -> Option<Primitive>
     ensures { result ≡ unary_type op ty }

@@ -1,7 +1,7 @@
 //! `this`, and the fields that `super` names (JLS 15.8.3, 15.11.2).
 
 ghost use Rattle.std.specs.Prelude.{if◌then◌else◌};
-ghost use Rattle.wy_kernel.specs.ClassTable.{table_of};
+ghost use Rattle.wy_table.specs.ClassTable.{table_of};
 ghost use Rattle.wy_kernel.specs.Subtyping.{class_type};
 ghost use Rattle.wy_elab_expr.specs.Meaning.{Formed, give, refuse};
 ghost use Rattle.wy_elab_expr.specs.Members.{this_form};
@@ -15,7 +15,7 @@ use crate::meaning::{Meaning, of_form};
 use crate::refusal::refused;
 use std::alloc::Global;
 use wy_constant::{Rule, Scope, TypeError};
-use wy_kernel::table::ClassTable;
+use wy_table::table::ClassTable;
 
 /// `this`
 pub fn read_this(alloc: Global, scope: &Scope, token: u32) -> Result<Meaning, TypeError>

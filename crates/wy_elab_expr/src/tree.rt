@@ -5,7 +5,7 @@ ghost use Rattle.wy_constant.specs.Constant.{constant};
 ghost use Rattle.wy_constant.specs.Scope.{with_texts};
 ghost use Rattle.wy_elab_expr.specs.Elaboration.{typed};
 ghost use Rattle.wy_elab_expr.specs.Views.{GetsTo, Judged, typed_of};
-ghost use Rattle.wy_kernel.specs.ClassTable.{table_of};
+ghost use Rattle.wy_table.specs.ClassTable.{table_of};
 ghost use Rattle.wy_kernel.specs.Table.{constant_value};
 ghost use Rattle.wy_syntax.specs.Expressions.{expression};
 ghost use Rattle.wy_syntax.specs.Names.{width};
@@ -16,8 +16,8 @@ use crate::typed::{Typed, typed_expression};
 use std::alloc::{AllocError, Global};
 use wy_constant::{Scope, TypeError, constant_of};
 use wy_kernel::form::Const;
-use wy_kernel::table::ClassTable;
 use wy_syntax::lower::expression::expression;
+use wy_table::table::ClassTable;
 use wy_tree::tree::Tree;
 
 /// The form of the expression that a tree is, in its own type; or the first rule that it breaks, operands before their operator.

@@ -1,7 +1,7 @@
 //! Expressions with their types, as what stands around them takes them (JLS 15). Nothing here reads an expression.
 
 ghost use Rattle.std.specs.Prelude.{◌≡◌, OnErr};
-ghost use Rattle.wy_kernel.specs.ClassTable.{table_of};
+ghost use Rattle.wy_table.specs.ClassTable.{table_of};
 ghost use Rattle.wy_syntax.specs.View.{expression_of};
 ghost use Rattle.wy_constant.specs.Scope.{with_texts};
 ghost use Rattle.wy_elab_expr.specs.Elaboration.{typed};
@@ -13,9 +13,9 @@ use crate::texts::Texts;
 use std::alloc::Global;
 use wy_constant::{Scope, TypeError};
 use wy_kernel::form::Expr;
-use wy_kernel::table::ClassTable;
 use wy_kernel::types::Ty;
 use wy_syntax::expression::Expression;
+use wy_table::table::ClassTable;
 
 /// A form and its type.
 #[derive(Drop)]

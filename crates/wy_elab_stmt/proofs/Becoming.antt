@@ -1,7 +1,7 @@
 -- What the code finds is what declarations become.
 use Rattle.std.proofs.Common.{◌≡◌, ◌∙◌, sym, ap, subst, ℕ, List, Result, Ok, Err, map}
 use Rattle.wy_kernel.specs.declared.program.Program as memory
-use Rattle.wy_kernel.specs.declared.table.ClassTable.{ClassTable}
+use Rattle.wy_table.specs.declared.table.ClassTable.{ClassTable}
 use Rattle.wy_kernel.specs.Program.{Program}
 use Rattle.wy_kernel.specs.Parts.{program_of}
 use Rattle.wy_kernel.specs.Table.{Table}

@@ -12,7 +12,7 @@ ghost use Rattle.wy_statement.specs.Statements.{Setting as PlainSetting};
 ghost use Rattle.wy_elab_stmt.specs.ClassViews.{class_bodies_seen};
 ghost use Rattle.wy_statement.specs.Views.{IsSetting};
 ghost use Rattle.wy_elab_stmt.specs.Whole.{all_texts, and_class, behind_bodies, bodies_view, class_behind, declared_behind, made, made_view, main_or_refused, of_library, program_from};
-ghost use Rattle.wy_kernel.specs.ClassTable.{table_of};
+ghost use Rattle.wy_table.specs.ClassTable.{table_of};
 ghost use Rattle.wy_kernel.specs.Parts.{program_of};
 ghost use Rattle.wy_syntax.specs.View.{class_of, declaration_of};
 ghost use Rattle.wy_kernel.specs.Program.{library_statements};
@@ -27,13 +27,13 @@ use wy_elab_expr::Texts;
 use wy_kernel::builtin::FIRST_SOURCE_CLASS;
 use wy_kernel::form::Body;
 use wy_kernel::program::Program;
-use wy_kernel::table::ClassTable;
 use wy_library::{library_bodies, library_init_bodies};
 use wy_statement::class_places::places_of;
 use wy_statement::numbers::{LIBRARY_STATEMENTS, numbers_of};
 use wy_statement::place::Place;
 use wy_statement::setting::Setting;
 use wy_syntax::declaration::{ClassSyntax, Declaration};
+use wy_table::table::ClassTable;
 
 /// The bodies of methods by their numbers, and the initializers of classes by theirs.
 #[derive(Drop)]
@@ -242,7 +242,7 @@ fn main_found(table: &ClassTable, unit: &[Declaration], tokens: u32) -> Result<u
     }
 }
 
-#[tactic(auto, unfolding(wy_kernel::specs::ClassTable::table_of))]
+#[tactic(auto, unfolding(wy_table::specs::ClassTable::table_of))]
 fn program_from(
     alloc: Global,
     table: ClassTable,

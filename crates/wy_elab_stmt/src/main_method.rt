@@ -4,16 +4,16 @@ ghost use Rattle.std.specs.Prelude.{◌≡◌, ◌≤◌, length, map};
 ghost use Rattle.std.specs.List.{position_from};
 ghost use Rattle.wy_elab_stmt.specs.MainMethod.{is_one_text_array, is_string, is_text_array, is_written_main, main_among, main_at, main_declared, written_main_token};
 ghost use Rattle.wy_elab_stmt.specs.Program.{main_of, stands_at};
-ghost use Rattle.wy_kernel.specs.ClassTable.{table_of};
+ghost use Rattle.wy_table.specs.ClassTable.{table_of};
 ghost use Rattle.wy_kernel.specs.View.{method_of};
 ghost use Rattle.wy_syntax.specs.View.{base_seen, declaration_of, header_of, member_of, parameter_of};
 ghost use Rattle.wy_tree.specs.Tokens.{token_limit};
 
-use wy_kernel::table::ClassTable;
 use wy_kernel::types::Method;
 use wy_members::has_modifier;
 use wy_syntax::declaration::{Declaration, Header, Member, Modifier, Outcome, Parameter};
 use wy_syntax::name::WrittenBase;
+use wy_table::table::ClassTable;
 
 fn is_string(base: &WrittenBase) -> bool
     ensures { result ≡ is_string (base_seen base.now) }

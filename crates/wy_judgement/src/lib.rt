@@ -4,9 +4,9 @@
 
 ghost use Rattle.wy_elab_expr.specs.Operators.{Judgement, Settles};
 ghost use Rattle.wy_judgement.specs.Laws.{OneJudgement};
-ghost use Rattle.wy_kernel.specs.ClassTable.{table_of};
+ghost use Rattle.wy_table.specs.ClassTable.{table_of};
 
-use wy_kernel::table::ClassTable;
+use wy_table::table::ClassTable;
 
 /// There is a judgement that follows the rules of subtyping and of choice in a table.
 pub fn a_table_is_judged(_table: &ClassTable)

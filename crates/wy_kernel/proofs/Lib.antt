@@ -1,6 +1,5 @@
 pub mod Indexed
 pub mod Supertypes
-pub mod Counts
 pub mod Views
 pub mod Found
 pub mod Numbered

@@ -6,5 +6,4 @@ pub mod Parts
 pub mod Subtyping
 pub mod Builtin
 pub mod Table
-pub mod ClassTable
 pub mod Rows

@@ -8,5 +8,4 @@ pub mod form;
 pub mod operator;
 pub mod program;
 mod search;
-pub mod table;
 pub mod types;

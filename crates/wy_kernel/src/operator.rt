@@ -1,7 +1,7 @@
 //! The primitive types and the operators of Java (JLS 4.2, 15.15, 15.17 to 15.22).
 
 /// A primitive type.
-#[derive(Clone, Copy, Debug, PartialEq, Eq)]
+#[derive(Clone, Copy, Debug, PartialEq, Eq, Hash)]
 pub enum Primitive {
     Bool,
     Byte,

@@ -6,14 +6,14 @@ use crate::operator::Primitive;
 pub const NONE: u32 = 4294967295;
 
 /// What brackets stand behind: a primitive type, or a class by its number.
-#[derive(Clone, Copy, Debug, PartialEq, Eq)]
+#[derive(Clone, Copy, Debug, PartialEq, Eq, Hash)]
 pub enum Base {
     Primitive(Primitive),
     Class(u32),
 }
 
 /// A type: none, that of `null`, or a base with so many pairs of brackets.
-#[derive(Clone, Copy, Debug, PartialEq, Eq)]
+#[derive(Clone, Copy, Debug, PartialEq, Eq, Hash)]
 pub enum Ty {
     Void,
     Null,

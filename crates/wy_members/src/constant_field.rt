@@ -2,7 +2,7 @@
 //! new follows. Locals are not looked at here.
 
 ghost use Rattle.std.specs.Prelude.{◌≡◌, ◌<◌, IfOk, MatchBool, OnOk, OnSome, Some, length, option_map, slice_get, slice_set};
-ghost use Rattle.wy_kernel.specs.ClassTable.{table_of};
+ghost use Rattle.wy_table.specs.ClassTable.{table_of};
 ghost use Rattle.wy_kernel.specs.Table.{constant_value};
 ghost use Rattle.wy_syntax.specs.View.{expression_of};
 ghost use Rattle.wy_members.specs.Constants.{initial_value_of, told, with_constants};
@@ -12,8 +12,8 @@ ghost use Rattle.wy_members.specs.Initializers.{initializers_seen};
 use std::alloc::{AllocError, Global};
 use wy_constant::{Scope, constant_of, constant_variable};
 use wy_kernel::form::Const;
-use wy_kernel::table::ClassTable;
 use wy_syntax::expression::Expression;
+use wy_table::table::ClassTable;
 
 fn initial_value(
     alloc: Global,

@@ -2,7 +2,7 @@
 //! No rule is decided here.
 
 ghost use Rattle.std.specs.Prelude.{◌≡◌, IfOk, None, map, option_map};
-ghost use Rattle.wy_kernel.specs.ClassTable.{table_of};
+ghost use Rattle.wy_table.specs.ClassTable.{table_of};
 ghost use Rattle.wy_kernel.specs.Subtyping.{IsAcyclic};
 ghost use Rattle.wy_kernel.specs.Table.{constant_value};
 ghost use Rattle.wy_kernel.specs.View.{field_of};
@@ -18,8 +18,8 @@ use crate::rows::Rows;
 use std::alloc::{AllocError, Global};
 use wy_kernel::closure::supertypes;
 use wy_kernel::form::Const;
-use wy_kernel::table::ClassTable;
 use wy_kernel::types::Field;
+use wy_table::table::ClassTable;
 
 fn unknown() -> Option<Const>
     ensures { option_map constant_value result ≡ None }

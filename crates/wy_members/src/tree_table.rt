@@ -2,7 +2,7 @@
 
 ghost use Rattle.std.specs.Prelude.{◌≡◌, ◌≤◌, ℕ, Err, IfOk, OnOk};
 ghost use Rattle.wy_constant.specs.declared.rule.Rule.{Rule};
-ghost use Rattle.wy_kernel.specs.ClassTable.{table_of};
+ghost use Rattle.wy_table.specs.ClassTable.{table_of};
 ghost use Rattle.wy_members.specs.Constants.{IsTableOf};
 ghost use Rattle.wy_members.specs.Refusal.{IsRefusal, KeepsRules};
 ghost use Rattle.wy_syntax.specs.Declarations.{unit};
@@ -14,7 +14,7 @@ use crate::unit_table::class_table_of;
 use std::alloc::Global;
 use wy_constant::TypeError;
 use wy_declaration::unit;
-use wy_kernel::table::ClassTable;
+use wy_table::table::ClassTable;
 use wy_tree::tree::Tree;
 
 /// The classes, methods and fields of the program that a tree is, with the values of its constant fields; or the first rule on

@@ -2,7 +2,7 @@
 
 ghost use Rattle.std.specs.Prelude.{◌≡◌, ℕ, Err, IfOk, MatchOption, OnOk, map};
 ghost use Rattle.wy_constant.specs.declared.rule.Rule.{Rule};
-ghost use Rattle.wy_kernel.specs.ClassTable.{table_of};
+ghost use Rattle.wy_table.specs.ClassTable.{table_of};
 ghost use Rattle.wy_syntax.specs.View.{declaration_of};
 ghost use Rattle.wy_members.specs.Constants.{IsTableOf};
 ghost use Rattle.wy_members.specs.Names.{unit_of};
@@ -16,8 +16,8 @@ use crate::program_table::program_table;
 use crate::rows::{Rows, rows_of};
 use std::alloc::Global;
 use wy_constant::TypeError;
-use wy_kernel::table::ClassTable;
 use wy_syntax::declaration::Declaration;
+use wy_table::table::ClassTable;
 
 /// The classes, methods and fields of a program with the values of its constant fields, or the first rule on declarations that it
 /// breaks, at the least token (JLS 8, 9).

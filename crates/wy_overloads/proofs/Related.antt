@@ -9,10 +9,10 @@ use Rattle.wy_kernel.specs.declared.types.Base.{Base}
 use Rattle.wy_kernel.specs.declared.types.Base.TheVariants.{Primitive as Basic, Class as Named}
 use Rattle.wy_kernel.specs.declared.types.Ty.{Ty}
 use Rattle.wy_kernel.specs.declared.types.Ty.TheVariants.{Void, Null, Of}
-use Rattle.wy_kernel.specs.declared.table.ClassTable.{ClassTable}
+use Rattle.wy_table.specs.declared.table.ClassTable.{ClassTable}
 use Rattle.wy_kernel.specs.Program.{Class}
 use Rattle.wy_kernel.specs.Builtin as builtin
-use Rattle.wy_kernel.specs.ClassTable.{table_of}
+use Rattle.wy_table.specs.ClassTable.{table_of}
 use Rattle.wy_overloads.specs.Lineage.{HasTop}
 use Rattle.wy_overloads.specs.LineageView.{lineage_of}
 use Rattle.wy_overloads.specs.declared.lineage.Lineage.{Lineage}

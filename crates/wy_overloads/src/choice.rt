@@ -1,7 +1,7 @@
 //! The choice of the method that a call means, by the types of its arguments (JLS 15.12.2).
 
 ghost use Rattle.std.specs.Prelude.{◌≡◌, ◌≢◌, ◌↔◌, ℕ, Ok, Err, IsTrue, MatchOption};
-ghost use Rattle.wy_kernel.specs.ClassTable.{table_of};
+ghost use Rattle.wy_table.specs.ClassTable.{table_of};
 ghost use Rattle.wy_kernel.specs.View.{method_of};
 ghost use Rattle.wy_overloads.specs.Choice.{Applies, Chosen, IsMethod, IsMostSpecific, Refused, SomeApplies};
 ghost use Rattle.wy_constant.specs.declared.rule.Rule.{Rule};
@@ -12,8 +12,8 @@ use crate::lineage::Lineage;
 use crate::member::{has_some, is_member, is_of_library};
 use crate::signature::are_below;
 use wy_constant::{Rule, TypeError};
-use wy_kernel::table::ClassTable;
 use wy_kernel::types::{Method, Ty};
+use wy_table::table::ClassTable;
 
 /// The number of the method that `receiver` has by this name for arguments of these types. A refusal is at `token`.
 pub fn choose(

@@ -6,8 +6,8 @@ ghost use Rattle.wy_kernel.specs.Table.{KeepsSupertypes};
 ghost use Rattle.wy_kernel.specs.View.{class_of};
 ghost use Rattle.wy_overloads.specs.Lineage.{HasTop};
 
-use wy_kernel::table::ClassTable;
 use wy_kernel::types::{Class, Method};
+use wy_table::table::ClassTable;
 
 /// Declarations, borrowed. Classes and methods go by their places.
 #[derive(Clone, Copy)]
@@ -30,7 +30,7 @@ impl<'a> Lineage<'a> {
     ghost use Rattle.wy_kernel.specs.Subtyping.{Supertype};
     ghost use Rattle.wy_kernel.specs.View.{class_of, method_of};
     ghost use Rattle.wy_kernel.specs.Builtin.{no_site};
-    ghost use Rattle.wy_kernel.specs.ClassTable.{table_of};
+    ghost use Rattle.wy_table.specs.ClassTable.{table_of};
     ghost use Rattle.wy_kernel.specs.Table.{KeepsSupertypes};
     ghost use Rattle.wy_overloads.specs.Lineage.{HasTop, hierarchy};
     ghost use Rattle.wy_overloads.specs.LineageView.{lineage_of};

@@ -2,7 +2,7 @@
 //! No walk over classes, and no memory.
 
 ghost use Rattle.std.specs.Prelude.{◌≡◌, ◌↔◌, IsTrue};
-ghost use Rattle.wy_kernel.specs.ClassTable.{table_of};
+ghost use Rattle.wy_table.specs.ClassTable.{table_of};
 ghost use Rattle.wy_kernel.specs.Program.{object_class};
 ghost use Rattle.wy_kernel.specs.Subtyping.{Below, IsReference, Supertype};
 ghost use Rattle.wy_overloads.specs.LineageView.{lineage_of};
@@ -10,8 +10,8 @@ ghost use Rattle.wy_overloads.specs.LineageView.{lineage_of};
 use crate::lineage::Lineage;
 use wy_constant::widens;
 use wy_kernel::operator::Primitive;
-use wy_kernel::table::ClassTable;
 use wy_kernel::types::{Base, Ty};
+use wy_table::table::ClassTable;
 
 const OBJECT: u32 = 0;
 

@@ -1,6 +1,6 @@
 -- What code finds of an expression in a scope, as what is found of it in a body that is being made.
 use Rattle.std.proofs.Common.{ap, sym, subst, List, Result, Ok, Err}
-use Rattle.wy_kernel.specs.ClassTable.{table_of}
+use Rattle.wy_table.specs.ClassTable.{table_of}
 use Rattle.wy_kernel.specs.Table.{Table}
 use Rattle.wy_constant.specs.declared.rule.TypeError.{TypeError}
 use Rattle.wy_constant.specs.declared.rule.TypeError.TheVariants as error

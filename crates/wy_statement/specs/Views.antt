@@ -20,7 +20,7 @@ use Rattle.wy_constant.specs.Refusal.{Refusal, Fails}
 use Rattle.wy_constant.specs.Scope.{FixedText}
 use Rattle.wy_statement.specs.declared.making.Making as memory
 use Rattle.wy_statement.specs.Making.{Making}
-use Rattle.wy_kernel.specs.ClassTable.{table_of}
+use Rattle.wy_table.specs.ClassTable.{table_of}
 use Rattle.wy_elab_expr.specs.Operators.{Settles}
 use Rattle.wy_statement.specs.declared.place.Role.{Role}
 use Rattle.wy_statement.specs.declared.setting.Setting as memory_setting

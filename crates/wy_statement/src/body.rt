@@ -8,7 +8,7 @@ ghost use Rattle.wy_statement.specs.Places.{calls_superclass};
 ghost use Rattle.wy_statement.specs.Statements.{Setting as PlainSetting, joined};
 ghost use Rattle.wy_statement.specs.Views.{IsSetting, MakesTo, making_of, row_seen, statements_seen};
 ghost use Rattle.wy_statement.specs.Views as seen;
-ghost use Rattle.wy_kernel.specs.ClassTable.{table_of};
+ghost use Rattle.wy_table.specs.ClassTable.{table_of};
 ghost use Rattle.wy_kernel.specs.Form as kernel;
 ghost use Rattle.wy_kernel.specs.View.{act, expression, method_of, statement};
 ghost use Rattle.wy_syntax.specs.View.{block_of, class_of, header_of, own_call_of, parameter_of, statement_of, statements_of, type_seen};
@@ -28,11 +28,11 @@ use std::alloc::{AllocError, Global};
 use wy_constant::{TypeError, class_above};
 use wy_elab_expr::{Texts, with_brackets};
 use wy_kernel::form::{CallForm, Expr, Stmt, StmtForm};
-use wy_kernel::table::ClassTable;
 use wy_kernel::types::{Method, MethodForm, NONE, Ty};
 use wy_syntax::declaration::{ClassSyntax, Header, Outcome as Written, OwnCall, Parameter};
 use wy_syntax::name::WrittenType;
 use wy_syntax::statement::{Block, Statement};
+use wy_table::table::ClassTable;
 
 /// A statement that stands for no words of its own.
 #[tactic(auto, using(wy_kernel::proofs::Views::view_statement))]

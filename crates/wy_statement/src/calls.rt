@@ -6,7 +6,7 @@ ghost use Rattle.wy_statement.specs.Making.{expressed};
 ghost use Rattle.wy_statement.specs.Parts.{constructed_by, constructor_call, constructor_called, constructor_form, none_for_object, object_called};
 ghost use Rattle.wy_statement.specs.Statements.{Setting as PlainSetting};
 ghost use Rattle.wy_statement.specs.Views.{IsSetting, MakesTo, making_of};
-ghost use Rattle.wy_kernel.specs.ClassTable.{table_of};
+ghost use Rattle.wy_table.specs.ClassTable.{table_of};
 ghost use Rattle.wy_kernel.specs.View.{expression as kernel_expression, method_of as method_seen, row_of as kernel_row};
 ghost use Rattle.wy_syntax.specs.View.{expression_of, row_of};
 
@@ -18,9 +18,9 @@ use std::alloc::{AllocError, Global};
 use wy_constant::{Rule, Scope, TypeError};
 use wy_elab_expr::{Meaning, Texts, brought_all, class, elaborated_all, method_for, some_void};
 use wy_kernel::form::{CallForm, Expr};
-use wy_kernel::table::ClassTable;
 use wy_kernel::types::Method;
 use wy_syntax::expression::Expression;
+use wy_table::table::ClassTable;
 
 fn method_at(table: &ClassTable, k: u32) -> Option<&Method>
     ensures value { option_map (λ m.

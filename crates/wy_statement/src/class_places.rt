@@ -2,7 +2,7 @@
 
 ghost use Rattle.std.specs.Prelude.{◌≡◌, ◌++◌, IfOk, OnOk, Some, map, flat_map, option_map};
 ghost use Rattle.wy_statement.specs.Places.{calls_superclass, class_places, declares_constructor, first_calls, has_fields_unit, implied_calls, implied_constructor_places, initialized_places, is_object, member_places, place_if, places_of};
-ghost use Rattle.wy_kernel.specs.ClassTable.{table_of};
+ghost use Rattle.wy_table.specs.ClassTable.{table_of};
 ghost use Rattle.wy_syntax.specs.View.{class_of, declaration_of, declarator_of, member_of, own_call_of};
 
 use crate::place::{Place, Role};
@@ -10,10 +10,10 @@ use crate::places::{put, put_block, put_statements, put_written};
 use std::alloc::{AllocError, Global};
 use wy_constant::class_above;
 use wy_kernel::builtin::FIRST_SOURCE_CLASS;
-use wy_kernel::table::ClassTable;
 use wy_members::{initializes_objects, is_constructor};
 use wy_syntax::declaration::{ClassSyntax, Declaration, Member, OwnCall};
 use wy_syntax::statement::Declarator;
+use wy_table::table::ClassTable;
 
 /// Whether the constructors of a class call one of its superclass, which Object has none of.
 #[tactic(auto, unfolding(crate::specs::Places::calls_superclass))]

@@ -5,7 +5,7 @@ ghost use Rattle.wy_constant.specs.Fields.{declared_field, is_field};
 ghost use Rattle.wy_statement.specs.Bodies.{around_initializer, assigned_first, field_initial, field_number, initializer_block, or_zero, own_place};
 ghost use Rattle.wy_statement.specs.Statements.{Setting as PlainSetting};
 ghost use Rattle.wy_statement.specs.Views.{IsSetting, MakesTo, around_of, making_of, statements_seen};
-ghost use Rattle.wy_kernel.specs.ClassTable.{table_of};
+ghost use Rattle.wy_table.specs.ClassTable.{table_of};
 ghost use Rattle.wy_kernel.specs.View.{field_of, place as place_seen, statement};
 ghost use Rattle.wy_syntax.specs.View.{block_of, class_of, declarator_of, initial_of, named_of, type_seen};
 
@@ -22,12 +22,12 @@ use std::alloc::{AllocError, Global};
 use wy_constant::TypeError;
 use wy_elab_expr::Texts;
 use wy_kernel::form::{Place, Stmt};
-use wy_kernel::table::ClassTable;
 use wy_kernel::types::{Field, Ty};
 use wy_syntax::declaration::ClassSyntax;
 use wy_syntax::expression::Initial;
 use wy_syntax::name::{Named, WrittenType};
 use wy_syntax::statement::{Block, Declarator};
+use wy_table::table::ClassTable;
 
 #[tactic(auto, using(wy_elab_expr::proofs::KernelViews::view_static, wy_elab_expr::proofs::KernelViews::view_field))]
 fn own_place(alloc: Global, is_static: bool, field: u32, token: u32) -> Result<Place, AllocError>

@@ -9,7 +9,7 @@ ghost use Rattle.wy_statement.specs.Making.{changed, expressed};
 ghost use Rattle.wy_statement.specs.Parts.{caught_class, condition, performed, returned, thrown};
 ghost use Rattle.wy_statement.specs.Statements.{Setting as PlainSetting, constant_if, must_be_throwable, value_of_initial};
 ghost use Rattle.wy_statement.specs.Views.{IsSetting, MakesTo, making_of, outcome_of};
-ghost use Rattle.wy_kernel.specs.ClassTable.{table_of};
+ghost use Rattle.wy_table.specs.ClassTable.{table_of};
 ghost use Rattle.wy_kernel.specs.Table.{constant_value};
 ghost use Rattle.wy_kernel.specs.View.{act, expression as kernel_expression};
 ghost use Rattle.wy_syntax.specs.View.{expression_of, initial_of, named_of, type_seen};
@@ -23,10 +23,10 @@ use std::alloc::{AllocError, Global};
 use wy_constant::{Rule, Scope, TypeError, constant_of, constant_variable};
 use wy_elab_expr::{Texts, class_for_new};
 use wy_kernel::form::{Const, Expr, StmtForm};
-use wy_kernel::table::ClassTable;
 use wy_kernel::types::Ty;
 use wy_syntax::expression::{Expression, Initial};
 use wy_syntax::name::{Named, WrittenType};
+use wy_table::table::ClassTable;
 
 /// The test of a statement with this site.
 pub fn condition(

@@ -4,7 +4,7 @@ ghost use Rattle.std.specs.Prelude.{◌≡◌, map, option_map};
 ghost use Rattle.wy_elab_expr.specs.Views.{GetsTo, Judged, inner_of, meaning_of, printed_of, stream_of};
 ghost use Rattle.wy_statement.specs.Parts.{condition, ends_line, evaluated, is_output, is_output_call, is_throwable, performed, print_of, printing, returned, returned_as, thrown};
 ghost use Rattle.wy_statement.specs.Views.{outcome_of};
-ghost use Rattle.wy_kernel.specs.ClassTable.{table_of};
+ghost use Rattle.wy_table.specs.ClassTable.{table_of};
 ghost use Rattle.wy_kernel.specs.View.{act, expression as kernel_expression};
 ghost use Rattle.wy_syntax.specs.Syntax as source;
 ghost use Rattle.wy_syntax.specs.View.{expression_of, row_of};
@@ -20,9 +20,9 @@ use wy_elab_expr::{
 };
 use wy_kernel::form::{Expr, StmtForm};
 use wy_kernel::operator::Primitive;
-use wy_kernel::table::ClassTable;
 use wy_kernel::types::Ty;
 use wy_syntax::expression::Expression;
+use wy_table::table::ClassTable;
 
 /// The test of a statement with this site.
 #[tactic(auto, unfolding(crate::specs::Parts::condition))]

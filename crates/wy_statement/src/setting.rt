@@ -5,7 +5,7 @@ ghost use Rattle.std.specs.Prelude.{◌≡◌};
 use crate::numbers::Numbers;
 use crate::place::Role;
 use std::alloc::Global;
-use wy_kernel::table::ClassTable;
+use wy_table::table::ClassTable;
 
 /// The table of a program, and the numbers of its statements.
 #[derive(Drop)]

@@ -1,5 +1,5 @@
 use Rattle.std.specs.Prelude.{map}
-use Rattle.wy_kernel.specs.ClassTable.{table_of}
+use Rattle.wy_table.specs.ClassTable.{table_of}
 use Rattle.wy_overloads.proofs.Related.{is_table_of}
 use Rattle.wy_judgement.proofs.Judged.{judged}
 use Rattle.wy_judgement.proofs.a_table_is_judged.Goals as goal

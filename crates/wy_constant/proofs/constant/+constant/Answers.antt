@@ -1,4 +1,4 @@
-use Rattle.wy_kernel.specs.ClassTable.{table_of}
+use Rattle.wy_table.specs.ClassTable.{table_of}
 use Rattle.wy_constant.proofs.Layers.{no_constant}
 use Rattle.wy_constant.proofs.constant.+constant.Goals as goal
 

@@ -1,5 +1,5 @@
 use Rattle.std.proofs.Common.{◌≡◌}
-use Rattle.wy_kernel.specs.ClassTable.{table_of}
+use Rattle.wy_table.specs.ClassTable.{table_of}
 use Rattle.wy_constant.specs.Fields.{field_of, field_within}
 use Rattle.wy_constant.proofs.fields.field_by_name.Given as goal
 

@@ -1,5 +1,5 @@
 use Rattle.std.proofs.Common.{refl}
-use Rattle.wy_kernel.specs.ClassTable.{table_of}
+use Rattle.wy_table.specs.ClassTable.{table_of}
 use Rattle.wy_elab_expr.proofs.Judging.{chosen_by}
 use Rattle.wy_elab_expr.proofs.arguments.chosen.Goals as goal
 

@@ -1,5 +1,5 @@
 use Rattle.std.proofs.Common.{◌∙◌}
-use Rattle.wy_kernel.specs.ClassTable.{table_of}
+use Rattle.wy_table.specs.ClassTable.{table_of}
 use Rattle.wy_elab_expr.proofs.Nearest.{near_here, near_further, near_none, near_end}
 use Rattle.wy_elab_expr.proofs.choice.nearest_above.Goals as goal
 

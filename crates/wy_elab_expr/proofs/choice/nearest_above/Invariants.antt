@@ -1,5 +1,5 @@
 use Rattle.std.proofs.Common.{◌≡◌, Some, length}
-use Rattle.wy_kernel.specs.ClassTable.{table_of}
+use Rattle.wy_table.specs.ClassTable.{table_of}
 use Rattle.wy_elab_expr.specs.Operators.{nearest_above}
 use Rattle.wy_elab_expr.specs.Views.{Judged}
 use Rattle.wy_elab_expr.proofs.choice.nearest_above.Given as goal

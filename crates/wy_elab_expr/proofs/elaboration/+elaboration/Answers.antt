@@ -1,6 +1,6 @@
 use Rattle.std.proofs.Common.{arith, map, rules, sym, ◌∙◌}
 use Rattle.std.proofs.lemmas.Result.{err_from_is_err_and}
-use Rattle.wy_kernel.specs.ClassTable.{table_of}
+use Rattle.wy_table.specs.ClassTable.{table_of}
 use Rattle.wy_syntax.specs.View.{expression_of, row_of}
 use Rattle.wy_elab_expr.specs.Views.{class_name_of, meaning_of, stream_of}
 use Rattle.wy_elab_expr.proofs.Dots.{read_of_class, read_stops, read_goes, target_of_class, target_stops, target_goes, stream_stops, class_stops, object_fails, object_stops, stream_goes, class_goes, object_goes, call_found, call_seen}

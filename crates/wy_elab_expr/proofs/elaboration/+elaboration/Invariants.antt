@@ -1,6 +1,6 @@
 use Rattle.std.proofs.Common.{◌≡◌, ◌+◌, ◌*◌, drop, map, max}
 use denote.Param.Weighed.{most}
-use Rattle.wy_kernel.specs.ClassTable.{table_of}
+use Rattle.wy_table.specs.ClassTable.{table_of}
 use Rattle.wy_kernel.specs.View.{expression}
 use Rattle.wy_syntax.specs.declared.expression.Expression.{size-Expression}
 use Rattle.wy_syntax.specs.View.{expression_of, row_of}

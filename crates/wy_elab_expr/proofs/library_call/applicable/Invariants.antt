@@ -1,5 +1,5 @@
 use Rattle.std.proofs.Common.{◌≡◌, map, length}
-use Rattle.wy_kernel.specs.ClassTable.{table_of}
+use Rattle.wy_table.specs.ClassTable.{table_of}
 use Rattle.wy_elab_expr.specs.Members.{applicable}
 use Rattle.wy_elab_expr.specs.Views.{Judged, library_method}
 use Rattle.wy_elab_expr.proofs.library_call.applicable.Given as goal

@@ -1,5 +1,5 @@
 use Rattle.std.proofs.Common.{◌≡◌, length}
-use Rattle.wy_kernel.specs.ClassTable.{table_of}
+use Rattle.wy_table.specs.ClassTable.{table_of}
 use Rattle.wy_elab_expr.specs.Members.{are_below}
 use Rattle.wy_elab_expr.specs.Views.{Judged}
 use Rattle.wy_elab_expr.proofs.library_call.are_below.Given as goal

@@ -1,4 +1,4 @@
-use Rattle.wy_kernel.specs.ClassTable.{table_of}
+use Rattle.wy_table.specs.ClassTable.{table_of}
 use Rattle.wy_elab_expr.proofs.Layers.{no_stream}
 use Rattle.wy_elab_expr.proofs.names.stream_in.Goals as goal
 

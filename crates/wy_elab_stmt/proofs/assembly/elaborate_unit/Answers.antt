@@ -1,6 +1,6 @@
 use Rattle.std.proofs.Common.{◌≡◌, ◌∙◌, length, map, rules}
 use Rattle.std.proofs.lemmas.Result.{err_from_is_err_and}
-use Rattle.wy_kernel.specs.ClassTable.{table_of}
+use Rattle.wy_table.specs.ClassTable.{table_of}
 use Rattle.wy_syntax.specs.View.{declaration_of}
 use Rattle.wy_elab_stmt.specs.Whole.{made_view}
 use Rattle.wy_elab_stmt.proofs.Programs.{program_made, main_stops}

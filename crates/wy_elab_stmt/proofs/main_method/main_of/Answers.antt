@@ -2,7 +2,7 @@ use Rattle.std.proofs.Common.{ap, sym, ◌∙◌, map, ℕ, arith}
 use Rattle.std.proofs.lemmas.List.{length-map}
 use Rattle.std.specs.Prelude.{option_and_then}
 use Rattle.std.specs.List.{position_from}
-use Rattle.wy_kernel.specs.ClassTable.{table_of}
+use Rattle.wy_table.specs.ClassTable.{table_of}
 use Rattle.wy_syntax.specs.View.{declaration_of}
 use Rattle.wy_elab_stmt.specs.Program.{main_of, stands_at}
 use Rattle.wy_elab_stmt.proofs.MainMethod.{main_by_words}

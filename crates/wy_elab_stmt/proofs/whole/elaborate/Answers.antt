@@ -3,7 +3,7 @@ use Rattle.std.proofs.lemmas.List.{length-map}
 use Rattle.std.proofs.lemmas.Result.{err_from_is_err_and}
 use Rattle.wy_tree.specs.declared.token.Spanned.{Spanned}
 use Rattle.wy_tree.specs.Seen.{seen}
-use Rattle.wy_kernel.specs.ClassTable.{table_of}
+use Rattle.wy_table.specs.ClassTable.{table_of}
 use Rattle.wy_elab_stmt.proofs.OneProgram.{within}
 use Rattle.wy_elab_stmt.proofs.Becoming.{refused_due, bodies_due}
 use Rattle.wy_elab_stmt.proofs.whole.elaborate.Goals as goal

@@ -1,4 +1,4 @@
-use Rattle.wy_kernel.specs.ClassTable.{table_of}
+use Rattle.wy_table.specs.ClassTable.{table_of}
 use Rattle.wy_members.specs.Sweep.{GoesOn, unknown}
 use Rattle.wy_members.specs.Initializers.{initializers_seen}
 use Rattle.wy_members.proofs.constant_field.find_constants.Given as goal

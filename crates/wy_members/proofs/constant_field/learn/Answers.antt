@@ -1,10 +1,10 @@
 use Rattle.std.proofs.Common.{Some, arith}
 use Rattle.std.specs.Prelude.{option_map}
 use Rattle.std.proofs.lemmas.List.{length-map, map-set}
-use Rattle.wy_kernel.specs.ClassTable.{table_of}
+use Rattle.wy_table.specs.ClassTable.{table_of}
 use Rattle.wy_kernel.specs.Table.{constant_value}
 use Rattle.wy_kernel.specs.View.{field_of}
-use Rattle.wy_kernel.proofs.Counts.{constants_of_fields}
+use Rattle.wy_table.proofs.Counts.{constants_of_fields}
 use Rattle.wy_members.proofs.Learning.{still_table}
 use Rattle.wy_members.proofs.constant_field.learn.Goals as goal
 

@@ -1,6 +1,6 @@
 use Rattle.std.proofs.Common.{◌∙◌, refl, ap, sym, rules, arith}
 use Rattle.std.specs.Prelude.{option_map}
-use Rattle.wy_kernel.specs.ClassTable.{table_of}
+use Rattle.wy_table.specs.ClassTable.{table_of}
 use Rattle.wy_kernel.specs.Table.{constant_value}
 use Rattle.wy_members.specs.Initializers.{initializers_seen}
 use Rattle.wy_members.proofs.Sweeps.{goes_on_itself, swept_further, swept_new, swept_all}

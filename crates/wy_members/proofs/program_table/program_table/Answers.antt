@@ -2,10 +2,10 @@ use Rattle.std.proofs.Common.{◌≡◌, length, ap, subst, ◌∙◌}
 use Rattle.std.specs.Prelude.{List, Option, option_map}
 use Rattle.std.proofs.lemmas.List.{length-map}
 use Rattle.wy_syntax.specs.Syntax.{Expression}
-use Rattle.wy_kernel.specs.declared.table.ClassTable.{ClassTable}
-use Rattle.wy_kernel.specs.ClassTable.{table_of}
+use Rattle.wy_table.specs.declared.table.ClassTable.{ClassTable}
+use Rattle.wy_table.specs.ClassTable.{table_of}
 use Rattle.wy_kernel.specs.Table.{Table, constant_value}
-use Rattle.wy_kernel.proofs.Counts.{constants_of_fields}
+use Rattle.wy_table.proofs.Counts.{constants_of_fields}
 use Rattle.wy_members.specs.Declarations.{table}
 use Rattle.wy_members.specs.Names.{unit_of}
 use Rattle.wy_members.specs.Initializers.{initializers_seen}

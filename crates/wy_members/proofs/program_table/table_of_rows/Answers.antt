@@ -5,7 +5,7 @@ use Rattle.wy_kernel.specs.declared.types.Class as memory
 use Rattle.wy_kernel.specs.Program.{Class}
 use Rattle.wy_kernel.specs.Builtin.{no_site}
 use Rattle.wy_kernel.specs.View.{class_of, method_of, field_of}
-use Rattle.wy_kernel.specs.ClassTable.{table_of}
+use Rattle.wy_table.specs.ClassTable.{table_of}
 use Rattle.wy_kernel.specs.Table.{Table, IsTable, NamesAmong, KeepsSupertypes, constant_value}
 use Rattle.wy_members.specs.Declarations.{table, no_constants}
 use Rattle.wy_members.specs.Names.{unit_of}

@@ -1,5 +1,5 @@
 use Rattle.std.proofs.Common.{◌≡◌, ◌++◌, length, map}
-use Rattle.wy_kernel.specs.ClassTable.{table_of}
+use Rattle.wy_table.specs.ClassTable.{table_of}
 use Rattle.wy_syntax.specs.View.{declaration_of}
 use Rattle.wy_members.specs.Declarations.{class_by_class_from}
 use Rattle.wy_statement.specs.Places.{class_places}

@@ -1,6 +1,6 @@
 use Rattle.std.proofs.Common.{◌≡◌, ◌++◌, length, map}
 use Rattle.std.specs.Prelude.{flat_map}
-use Rattle.wy_kernel.specs.ClassTable.{table_of}
+use Rattle.wy_table.specs.ClassTable.{table_of}
 use Rattle.wy_syntax.specs.View.{class_of, member_of}
 use Rattle.wy_statement.specs.Places.{member_places}
 use Rattle.wy_statement.proofs.class_places.put_members.Given as goal

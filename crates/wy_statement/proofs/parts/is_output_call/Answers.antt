@@ -1,4 +1,4 @@
-use Rattle.wy_kernel.specs.ClassTable.{table_of}
+use Rattle.wy_table.specs.ClassTable.{table_of}
 use Rattle.wy_statement.proofs.Printing.{no_call}
 use Rattle.wy_statement.proofs.parts.is_output_call.Goals as goal
 

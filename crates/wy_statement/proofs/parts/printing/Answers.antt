@@ -1,6 +1,6 @@
 -- A call of `print` or `println`, with what is printed.
 use Rattle.std.proofs.Common.{◌≡◌, ap, sym, subst, ◌∙◌, map}
-use Rattle.wy_kernel.specs.ClassTable.{table_of}
+use Rattle.wy_table.specs.ClassTable.{table_of}
 use Rattle.wy_kernel.specs.View.{act}
 use Rattle.wy_syntax.specs.Syntax as source
 use Rattle.wy_syntax.specs.View.{expression_of, row_of}

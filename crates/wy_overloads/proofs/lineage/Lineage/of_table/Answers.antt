@@ -8,7 +8,7 @@ use Rattle.std.specs.declared.vec.Vec.{Vec}
 use Rattle.wy_kernel.specs.declared.types.Class.{Class}
 use Rattle.wy_kernel.specs.declared.types.Method.{Method}
 use Rattle.wy_kernel.specs.Table.{Table, KeepsSupertypes}
-use Rattle.wy_kernel.specs.ClassTable.{table_of}
+use Rattle.wy_table.specs.ClassTable.{table_of}
 use Rattle.wy_kernel.specs.View.{class_of, method_of}
 use Rattle.wy_overloads.specs.Lineage.{HasTop}
 use Rattle.wy_overloads.specs.LineageView.{lineage_of}

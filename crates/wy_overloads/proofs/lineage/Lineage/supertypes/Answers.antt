@@ -3,7 +3,7 @@ use Rattle.std.specs.Prelude.{map}
 use Rattle.std.specs.declared.alloc.Global.{Global}
 use Rattle.std.specs.declared.vec.Vec.{Vec}
 use Rattle.wy_kernel.specs.View.{class_of}
-use Rattle.wy_kernel.proofs.Counts.{rows_of_classes}
+use Rattle.wy_table.proofs.Counts.{rows_of_classes}
 use Rattle.wy_kernel.proofs.Indexed.{mapped}
 use Rattle.wy_overloads.specs.LineageView.{lineage_of}
 use Rattle.wy_overloads.proofs.Climbing.{row_exact}

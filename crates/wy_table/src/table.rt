@@ -5,8 +5,8 @@ ghost use Rattle.std.specs.Prelude.{map};
 ghost use Rattle.wy_kernel.specs.Table.{IsTable, KeepsSupertypes, table_with};
 ghost use Rattle.wy_kernel.specs.View.{class_of};
 
-use crate::form::Const;
-use crate::types::{Class, Field, Method};
+use wy_kernel::form::Const;
+use wy_kernel::types::{Class, Field, Method};
 
 /// The declarations of a program.
 #[derive(Drop)]
@@ -28,7 +28,7 @@ pub struct ClassTable {
 impl ClassTable {
     ghost use Rattle.std.specs.Prelude.{◌≡◌, ◌<◌, ◌↔◌, ℕ, length, slice_get, option_map, map, Some};
     ghost use Rattle.std.specs.List.{Contains};
-    ghost use Rattle.wy_kernel.specs.ClassTable.{table_of};
+    ghost use Rattle.wy_table.specs.ClassTable.{table_of};
     ghost use Rattle.wy_kernel.specs.Subtyping.{Supertype};
     ghost use Rattle.wy_kernel.specs.Table.{constant_value};
     ghost use Rattle.wy_kernel.specs.View.{class_of, field_of, method_of};

@@ -1,10 +1,10 @@
 use Rattle.std.proofs.Common.{◌<◌, ◌≡◌, length, Some, slice_get, ap, sym, ◌∙◌, arith}
 use Rattle.std.specs.Prelude.{map}
-use Rattle.wy_kernel.specs.ClassTable.{table_of}
-use Rattle.wy_kernel.proofs.Counts.{rows_of_classes}
+use Rattle.wy_table.specs.ClassTable.{table_of}
+use Rattle.wy_table.proofs.Counts.{rows_of_classes}
 use Rattle.wy_kernel.proofs.Indexed.{mapped}
 use Rattle.wy_kernel.proofs.Supertypes.{row_exact}
-use Rattle.wy_kernel.proofs.table.ClassTable.supertypes.Goals as goal
+use Rattle.wy_table.proofs.table.ClassTable.supertypes.Goals as goal
 
 pub returns : goal.returns
 unfolding table_of

@@ -1,10 +1,10 @@
 use Rattle.std.proofs.Common.{◌<◌, length, Some, ap, sym, ◌∙◌, arith}
 use Rattle.std.specs.Prelude.{option_map}
-use Rattle.wy_kernel.specs.ClassTable.{table_of}
+use Rattle.wy_table.specs.ClassTable.{table_of}
 use Rattle.wy_kernel.specs.Table.{constant_value}
-use Rattle.wy_kernel.proofs.Counts.{constants_of_fields}
+use Rattle.wy_table.proofs.Counts.{constants_of_fields}
 use Rattle.wy_kernel.proofs.Indexed.{mapped, constant_seen}
-use Rattle.wy_kernel.proofs.table.ClassTable.field_constant.Goals as goal
+use Rattle.wy_table.proofs.table.ClassTable.field_constant.Goals as goal
 
 pub returns : goal.returns
 unfolding table_of

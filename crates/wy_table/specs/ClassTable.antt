@@ -1,5 +1,5 @@
 -- A class table in memory as contracts see it.
-use Rattle.wy_kernel.specs.declared.table.ClassTable.{ClassTable}
+use Rattle.wy_table.specs.declared.table.ClassTable.{ClassTable}
 use Rattle.wy_kernel.specs.Table.{Table, table_with}
 
 unfoldable pub table_of : ClassTable → Table

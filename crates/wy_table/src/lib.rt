@@ -1,0 +1,5 @@
+//! What a program declares, before its bodies: its rows, and what is above each class.
+//! Nothing here reads a tree or chooses a method.
+#![tactic(auto)]
+
+pub mod table;
