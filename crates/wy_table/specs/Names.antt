@@ -23,4 +23,4 @@ pub record KeepsNames (classes : List Class) (fields : List Field) (names : Decl
   pub of_classes : (name : List ℕ) → get_by_text names.classes name ≡ position_from (λ c. bytes_eq c.name name) 0 classes
   pub a_map_a_class : length names.fields.items ≡ length classes
   pub of_fields : (class : ℕ) (name : List ℕ) → class < length classes →
-    number_in names.fields.items class name ≡ position_from (is_field_named class name) 0 fields
+      number_in names.fields.items class name ≡ position_from (is_field_named class name) 0 fields
