@@ -267,6 +267,7 @@ fn program_from(
         fields,
         constants: _,
         supertypes: _,
+        names: _,
     } = table;
     Ok(Program {
         classes,

@@ -1,1 +1,2 @@
 pub mod ClassTable
+pub mod Names
