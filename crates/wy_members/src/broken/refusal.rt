@@ -7,6 +7,7 @@ ghost use Rattle.wy_members.specs.Refusal.{IsRefusal, KeepsRules};
 ghost use Rattle.wy_members.specs.Rows.{AreRows};
 
 use crate::broken::breach::Breach;
+use crate::broken::compared::{Compared, first_alike};
 use crate::broken::fitting::fitting_classes;
 use crate::broken::inheriting::inheriting_methods;
 use crate::broken::judging::breach_in;
@@ -35,11 +36,18 @@ pub fn refusal(alloc: Global, names: &Names, rows: &Rows) -> Result<Option<Breac
         rows.methods.as_slice(),
         above.as_slice(),
     );
-    let compared = Lineage::of_rows(
+    let inherited = Lineage::of_rows(
         fitting.as_slice(),
         inheriting.as_slice(),
         above_fitting.as_slice(),
     );
+    let shared = first_alike(alloc, &inherited, false)?;
+    let unfinished = first_alike(alloc, &inherited, true)?;
+    let compared = Compared {
+        lineage: &inherited,
+        shared: shared.as_slice(),
+        unfinished: unfinished.as_slice(),
+    };
     Ok(breach_in(
         names,
         rows,
