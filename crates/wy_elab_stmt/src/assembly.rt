@@ -267,6 +267,7 @@ fn program_from(
         fields,
         constants: _,
         supertypes: _,
+        index: _,
     } = table;
     Ok(Program {
         classes,

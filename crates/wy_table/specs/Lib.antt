@@ -1,1 +1,4 @@
 pub mod ClassTable
+pub mod Listed
+pub mod MethodIndex
+pub mod Methods

@@ -2,4 +2,5 @@
 //! Nothing here reads a tree or chooses a method.
 #![tactic(auto)]
 
+pub mod methods;
 pub mod table;
