@@ -75,7 +75,7 @@ fn has_alike(lineage: &Lineage, k: u32, m: &Method) -> bool
     requires { IsMethod (lineage_of lineage.now) k (method_of m.now) }
     ensures { HasAlike (lineage_of lineage.now) k (method_of m.now) → IsTrue result }
 {
-    for j in lineage.alike(k) {
+    for j in lineage.alike_by_name(k, m) {
         if *j != k {
             return true;
         }
@@ -88,7 +88,7 @@ fn has_earlier(lineage: &Lineage, only_abstract: bool, k: u32, m: &Method) -> bo
     requires { IsMethod (lineage_of lineage.now) k (method_of m.now) }
     ensures { IsTrue result ↔ HasEarlier (lineage_of lineage.now) only_abstract k (method_of m.now) }
 {
-    for j in lineage.alike(k) {
+    for j in lineage.alike_by_name(k, m) {
         let other = lineage.method(*j);
         if *j < k && is_sought(only_abstract, other) && is_alike(m, other) {
             return true;

@@ -24,7 +24,7 @@ pub fn overrides_wrongly(lineage: &Lineage, k: u32, m: &Method) -> bool
     ensures { IsTrue result ↔ OverridesWrongly (lineage_of lineage.now) (method_of m.now) }
 {
     let class = type_of_class(m.class);
-    for j in lineage.alike(k) {
+    for j in lineage.alike_by_name(k, m) {
         let other = lineage.method(*j);
         if is_wrong_to_override(lineage, &class, m, other) {
             return true;
@@ -113,7 +113,7 @@ fn inherited_alike(
         (λ j. (other : PlainMethod) × IsMethod (lineage_of lineage.now) j other
         × InheritsAlike (lineage_of lineage.now) c only_abstract (method_of m.now) j other) }
 {
-    if declares_among(lineage, lineage.alike(k), c, m) {
+    if declares_among(lineage, lineage.alike_by_name(k, m), c, m) {
         return None;
     }
     let class = type_of_class(c);
@@ -150,7 +150,7 @@ fn equal_of(lineage: &Lineage, ty: &Ty, k: u32, m: &Method, only_abstract: bool)
         (λ j. (other : PlainMethod) × IsMethod (lineage_of lineage.now) j other
         × IsEqualSought (lineage_of lineage.now) ty.now only_abstract (method_of m.now) other) }
 {
-    for j in lineage.alike(k) {
+    for j in lineage.alike_by_name(k, m) {
         let other = lineage.method(*j);
         if is_sought(only_abstract, other) && is_equivalent(lineage, ty, m, other) {
             return Some(*j);
@@ -172,7 +172,7 @@ fn differs_in_form(lineage: &Lineage, ty: &Ty, k: u32, m: &Method) -> bool
     requires by_name { AreByName (lineage_of lineage.now) ty.now (method_of m.now) }
     ensures { IsTrue result ↔ DiffersInForm (lineage_of lineage.now) ty.now (method_of m.now) }
 {
-    for j in lineage.alike(k) {
+    for j in lineage.alike_by_name(k, m) {
         let other = lineage.method(*j);
         if m.form != other.form && is_equivalent(lineage, ty, m, other) {
             return true;
@@ -186,7 +186,7 @@ fn has_no_common_result(lineage: &Lineage, ty: &Ty, k: u32, m: &Method) -> bool
     requires by_name { AreByName (lineage_of lineage.now) ty.now (method_of m.now) }
     ensures { IsTrue result ↔ HasNoCommonResult (lineage_of lineage.now) ty.now (method_of m.now) }
 {
-    for j in lineage.alike(k) {
+    for j in lineage.alike_by_name(k, m) {
         let other = lineage.method(*j);
         if is_common_result(lineage, ty, m, *j, other) {
             return false;
@@ -211,7 +211,7 @@ fn stands_for_each(lineage: &Lineage, ty: &Ty, k: u32, m: &Method) -> bool
     requires by_name { AreByName (lineage_of lineage.now) ty.now (method_of m.now) }
     ensures { IsTrue result ↔ StandsForEach (lineage_of lineage.now) ty.now (method_of m.now) }
 {
-    for j in lineage.alike(k) {
+    for j in lineage.alike_by_name(k, m) {
         let other = lineage.method(*j);
         if !stands_for(lineage, ty, m, other) {
             return false;
