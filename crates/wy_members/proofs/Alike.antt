@@ -1,7 +1,9 @@
 -- Methods with one name and the same parameter types: which of them a class has, and that a rule may begin at any of them.
-use Rattle.std.proofs.Common.{◌≡◌, ℕ, ◌≤◌, ◌<◌, arith, Bool, true, false, List, length, Some, refl, sym, ◌∙◌, subst, ◌⊎◌, inl, inr, IsTrue, ◌↔◌}
+use Rattle.std.proofs.Common.{◌≡◌, ℕ, ◌+◌, ◌≤◌, ◌<◌, arith, below_more, Bool, true, false, List, [], ◌∷◌, ◌++◌, length, Some, refl, sym, ◌∙◌, subst, ◌⊎◌, inl, inr, IsTrue, ◌↔◌}
 use Rattle.std.specs.List.{Contains}
 use Rattle.std.proofs.lemmas.Bool.{cases_eq}
+use Rattle.std.proofs.lemmas.List.Elements.{Contains-append_left, Contains-push, Contains-push_cases}
+use Rattle.std.proofs.lemmas.Option.{slice_get_within}
 use Rattle.std.proofs.Math.Logic.{∥∥₁_elim}
 use Rattle.std.proofs.Props.{props}
 use Rattle.wy_kernel.specs.declared.types.MethodForm.{MethodForm}
@@ -11,11 +13,10 @@ use Rattle.wy_kernel.specs.Program.{Class, Method}
 use Rattle.wy_kernel.specs.Subtyping.{class_type}
 use Rattle.wy_kernel.specs.Table.{Table}
 use Rattle.wy_table.specs.Methods.{IsByName, IsAlike, Lists}
-use Rattle.wy_overloads.specs.Choice.{DeclaredFor, IsMethod, IsMember, IsEquivalent, Equivalent, NearestHasBody}
-use Rattle.wy_overloads.proofs.Related.{not_below}
-use Rattle.wy_members.specs.Broken.{Inherits, HasNoCommonResult}
-use Rattle.wy_members.specs.Within.{SomeMethod, StandsWrongly, InheritsWrongly, LeavesAbstract}
-use Rattle.wy_members.specs.Alike.{AreByName, HasAlike, IsFound, IsSought, ListsAlike, SomeListed, InheritsAlike, InheritsAlikeWrongly, LeavesAlikeAbstract}
+use Rattle.wy_overloads.specs.Choice.{DeclaredFor, IsMethod, IsEquivalent, Equivalent}
+use Rattle.wy_members.specs.Broken.{Inherits}
+use Rattle.wy_members.specs.Within.{StandsWrongly, InheritsWrongly, LeavesAbstract}
+use Rattle.wy_members.specs.Alike.{AreByName, AreMethods, HasAlike, HasEarlier, IsFound, IsSought, ListsAlike, SomeListed, InheritsAlike, InheritsAlikeWrongly, LeavesAlikeAbstract}
 use Rattle.wy_members.proofs.Alone.{never_wrong_alone}
 use Rattle.wy_members.proofs.Listed.{EachBefore, each_listed}
 
@@ -138,11 +139,43 @@ none_left t c numbers n lists all right (k, m, is, (inherits, none, abstract)) =
 
 -- each method before a place that is found has one alike to it in the list
 abbrev pub FoundBefore : Table → Bool → ℕ → List ℕ → Type 0
-FoundBefore t only_abstract n numbers = (k : ℕ) (m : Method) → k < n → IsMethod t k m → IsFound t only_abstract k m → SomeListed t numbers (λ j other. IsAlike other m)
+FoundBefore t only_abstract n numbers = (k : ℕ) → k < n → (m : Method) → IsMethod t k m → IsFound t only_abstract k m → SomeListed t numbers (λ j other. IsAlike other m)
+
+-- what holds before a place and at it holds up to it
+up_to : (t : Table) (only_abstract : Bool) (n : ℕ) (numbers : List ℕ) (m : Method) → IsMethod t n m → FoundBefore t only_abstract n numbers → (IsFound t only_abstract n m → SomeListed t numbers (λ j other. IsAlike other m)) → FoundBefore t only_abstract (n + 1) numbers
+up_to t only_abstract n numbers m is before here =
+    below_more (λ k. (x : Method) → IsMethod t k x → IsFound t only_abstract k x → SomeListed t numbers (λ j other. IsAlike other x)) n before
+    (λ x there. (let P : Method → Type 0 = λ y. IsFound t only_abstract n y → SomeListed t numbers (λ j other. IsAlike other y) in subst P (one_method t n m x is there) here))
+
+pub found_added : (t : Table) (only_abstract : Bool) (n : ℕ) (numbers : List ℕ) (m : Method) → IsMethod t n m → FoundBefore t only_abstract n numbers → FoundBefore t only_abstract (n + 1) (numbers ++ n ∷ [])
+found_added t only_abstract n numbers m is before =
+    up_to t only_abstract n (numbers ++ n ∷ []) m is
+    (λ k less x there found. (let (j, other, at, (contains, a)) = before k less x there found in (j, other, at, (Contains-append_left numbers (n ∷ []) j contains, a))))
+    (λ found. (n, m, is, (Contains-push numbers n, (refl, refl))))
+
+less_is_other : (j k : ℕ) → j < k → k ≡ j → ⊥
+less_is_other j k less e = omega arith
 
 -- what is alike to a method that is found is found too
 found_with : (t : Table) (only_abstract : Bool) (k : ℕ) (m : Method) (j : ℕ) (other : Method) → IsMethod t k m → IsFound t only_abstract k m → j < k → IsSought only_abstract other → IsAlike m other → IsFound t only_abstract j other
-found_with t only_abstract k m j other is found less sought a = (sought, λ any. (k, m, is, (λ e. omega-less j k less e, found.0.0, turned m other a)))
-  where
-    omega-less : (j k : ℕ) → j < k → k ≡ j → ⊥
-    omega-less j k less e = omega arith
+found_with t only_abstract k m j other is found less sought a = (sought, λ any. (k, m, is, (less_is_other j k less, found.0.0, turned m other a)))
+
+pub found_kept : (t : Table) (only_abstract : Bool) (n : ℕ) (numbers : List ℕ) (m : Method) → IsMethod t n m → FoundBefore t only_abstract n numbers → (IsFound t only_abstract n m → HasEarlier t only_abstract n m) → FoundBefore t only_abstract (n + 1) numbers
+found_kept t only_abstract n numbers m is before earlier =
+    up_to t only_abstract n numbers m is before
+    (λ found. (let (j, other, there, (less, sought, a)) = earlier found in
+      let (i, x, at, (contains, b)) = before j less other there (found_with t only_abstract n m j other is found less sought a) in
+      (i, x, at, (contains, through x other m b (turned m other a)))))
+
+pub all_found : (t : Table) (only_abstract : Bool) (n : ℕ) (numbers : List ℕ) → length t.methods ≤ n → FoundBefore t only_abstract n numbers → AreMethods t numbers → ListsAlike t (IsFound t only_abstract) numbers
+all_found t only_abstract n numbers all found range = record {
+  each = λ k m is. found k (let less : k < length t.methods = slice_get_within t.methods k m is in omega arith) m is;
+  in_range = range;
+}
+
+pub range_added : (t : Table) (numbers : List ℕ) (n : ℕ) → AreMethods t numbers → n < length t.methods → AreMethods t (numbers ++ n ∷ [])
+range_added t numbers n range less k contains =
+    elim (Contains-push_cases numbers n k contains) [
+      | inl before ↦ range k before
+      | inr same ↦ (let e : n ≡ k = same in omega arith)
+    ]

@@ -4,12 +4,18 @@ use Rattle.wy_kernel.specs.View.{method_of}
 use Rattle.wy_overloads.specs.Choice.{IsEquivalent}
 use Rattle.wy_overloads.specs.LineageView.{lineage_of}
 use Rattle.wy_overloads.proofs.Related.{both, not_below, untrue}
-use Rattle.wy_members.proofs.Listed.{each_listed, in_list}
+use Rattle.wy_members.proofs.Listed.{each_listed, in_list, one_listed}
 use Rattle.wy_members.proofs.Alike.{listed}
 use Rattle.wy_members.proofs.broken.overriding.stands_for_each.Goals as goal
 
 pub method-other-requires : goal.method-other-requires
 method-other-requires c = in_list (lineage_of c.args.lineage.now) c.alike_by_name-j-items.result.now c.loop-j.j-index c.alike_by_name-j-items.ensures.in_range c.loop-j-test.true
+
+pub loop-j-preserved : goal.loop-j-preserved
+loop-j-preserved c =
+    let t = lineage_of c.args.lineage.now in
+    let m = method_of c.args.m.now in
+    one_listed t c.alike_by_name-j-items.result.now c.loop-j.j-index (λ j x. IsEquivalent t.classes c.args.ty.now m x → Substitutable t.classes m.result x.result) (method_of c.method-other.result.now) c.method-other.ensures c.loop-j.invariant (c.stands_for.ensures.0 c.if-not-stands_for.false)
 
 pub returns-then-not-stands_for : goal.returns-then-not-stands_for
 returns-then-not-stands_for c = not_below (λ all. untrue _ c.if-not-stands_for.true (c.stands_for.ensures.1 (λ e. all _ (method_of c.method-other.result.now) (c.method-other.ensures, e))))
