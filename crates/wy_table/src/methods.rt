@@ -183,7 +183,8 @@ fn constructor_classes(
     alloc: Global,
     methods: &[Method],
 ) -> Result<Vec<Option<usize>>, AllocError>
-    ensures { IfOk result (λ keys. keys.items ≡ map constructor_key (map method_of methods.now)) }
+    ensures { IfOk result (λ keys.
+        keys.items ≡ map (λ m. constructor_key (method_of m)) methods.now) }
 {
     methods.iter().map(|m| constructor_class(m)).collect(alloc)
 }
