@@ -100,6 +100,7 @@ grouped_one methods n keys new groups all s m group before is name params at wit
           group = ap (λ xs. slice_get xs i) pushed ∙ in_front groups (group ∷ []) i _ g.group ∙ ap (λ x. Some x) (sym place);
           known = (let longer : position_or_len (same g.signature) keys < length new = subst (λ ks. position_or_len (same g.signature) keys < length ks) (sym grown) p.1 in omega arith);
         }
+
     here : (y : Method) → slice_get methods n ≡ Some y → IsGrouped new all n y
     here y e =
         let one : m ≡ y = (let f : Some m ≡ Some y = sym is ∙ e in cc) in
@@ -116,9 +117,9 @@ pub alike_together : (methods : List Method) (keys : List Signature) (groups : L
 alike_together methods keys groups all = record {
   a_group_a_method = all.0;
   together = λ j k m other is is' alike. (
-    let a = all.1 j m (slice_get_within methods j m is) is in
-    let b = all.1 k other (slice_get_within methods k other is') is' in
-    let name : string_bytes a.signature.name ≡ string_bytes b.signature.name = a.name ∙ sym alike.0 ∙ sym b.name in
-    let params : a.signature.params.items ≡ b.signature.params.items = a.params ∙ sym alike.1 ∙ sym b.params in
-    a.group ∙ ap (λ p. Some (position_or_len p keys)) (congruent a.signature b.signature name params) ∙ sym b.group);
+      let a = all.1 j m (slice_get_within methods j m is) is in
+      let b = all.1 k other (slice_get_within methods k other is') is' in
+      let name : string_bytes a.signature.name ≡ string_bytes b.signature.name = a.name ∙ sym alike.0 ∙ sym b.name in
+      let params : a.signature.params.items ≡ b.signature.params.items = a.params ∙ sym alike.1 ∙ sym b.params in
+      a.group ∙ ap (λ p. Some (position_or_len p keys)) (congruent a.signature b.signature name params) ∙ sym b.group);
 }

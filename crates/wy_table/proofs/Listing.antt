@@ -32,8 +32,10 @@ module _ {Q : Type 0} (IsWanted : ℕ → Q → Type 0) where
     where
       kept : (q : Q) (k : ℕ) → Contains (old q) k → Contains (new q) k
       kept q k has = subst (λ xs. Contains xs k) (sym (grows q)) (Contains-append_left (old q) _ k has)
+
       here : (q : Q) (b : Bool) → test q ≡ b → test q ≡ true → Contains (new q) n
       here q b e t = subst (λ xs. Contains xs n) (sym (grows q ∙ ap (λ c. old q ++ (if c then n ∷ [] else [])) t)) (Contains-push (old q) n)
+
       among : (q : Q) (k : ℕ) (b : Bool) → Contains (old q ++ (if b then n ∷ [] else [])) k → k < n + 1
       among q k b has =
           elim (Contains-append_cases (old q) _ k has) [

@@ -179,10 +179,7 @@ fn constructor_class(m: &Method) -> Option<usize>
 }
 
 // For each method its class, if it is a constructor.
-fn constructor_classes(
-    alloc: Global,
-    methods: &[Method],
-) -> Result<Vec<Option<usize>>, AllocError>
+fn constructor_classes(alloc: Global, methods: &[Method]) -> Result<Vec<Option<usize>>, AllocError>
     ensures { IfOk result (λ keys.
         keys.items ≡ map (λ m. constructor_key (method_of m)) methods.now) }
 {
@@ -217,7 +214,11 @@ fn groups(alloc: Global, methods: &[Method]) -> Result<Vec<usize>, AllocError>
 fn group_if_named(m: &Method, group: usize) -> Option<usize>
     ensures { result ≡ group_key (method_of m.now) group }
 {
-    if is_by_name(m.form) { Some(group) } else { None }
+    if is_by_name(m.form) {
+        Some(group)
+    } else {
+        None
+    }
 }
 
 // For each method that is called by its name, the number of its signature.
