@@ -179,11 +179,9 @@ fn constructor_class(m: &Method) -> Option<usize>
 }
 
 // For each method its class, if it is a constructor.
-fn constructor_classes(
-    alloc: Global,
-    methods: &[Method],
-) -> Result<Vec<Option<usize>>, AllocError>
-    ensures { IfOk result (λ keys. keys.items ≡ map constructor_key (map method_of methods.now)) }
+fn constructor_classes(alloc: Global, methods: &[Method]) -> Result<Vec<Option<usize>>, AllocError>
+    ensures { IfOk result (λ keys.
+        keys.items ≡ map (λ m. constructor_key (method_of m)) methods.now) }
 {
     methods.iter().map(|m| constructor_class(m)).collect(alloc)
 }
@@ -216,7 +214,11 @@ fn groups(alloc: Global, methods: &[Method]) -> Result<Vec<usize>, AllocError>
 fn group_if_named(m: &Method, group: usize) -> Option<usize>
     ensures { result ≡ group_key (method_of m.now) group }
 {
-    if is_by_name(m.form) { Some(group) } else { None }
+    if is_by_name(m.form) {
+        Some(group)
+    } else {
+        None
+    }
 }
 
 // For each method that is called by its name, the number of its signature.
