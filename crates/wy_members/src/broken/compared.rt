@@ -14,6 +14,7 @@ use wy_overloads::lineage::Lineage;
 use wy_overloads::signature::are_same_types;
 
 /// What is compared, with the first of each set of methods that have one name and the same parameter types.
+#[derive(Clone, Copy)]
 pub struct Compared<'a> {
     pub lineage: &'a Lineage<'a>,
     /// Those of which there is another one.

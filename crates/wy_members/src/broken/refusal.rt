@@ -18,6 +18,7 @@ use crate::rows::Rows;
 use std::alloc::{AllocError, Global};
 use wy_kernel::closure::supertypes;
 use wy_overloads::lineage::Lineage;
+use wy_table::methods::MethodIndex;
 
 /// The rule that the declarations of a program break at their least token, and there the first, if they break one.
 pub fn refusal(alloc: Global, names: &Names, rows: &Rows) -> Result<Option<Breach>, AllocError>
@@ -31,15 +32,19 @@ pub fn refusal(alloc: Global, names: &Names, rows: &Rows) -> Result<Option<Breac
     let fitting = fitting_classes(alloc, rows.classes.as_slice())?;
     let above = supertypes(alloc, rows.classes.as_slice())?;
     let above_fitting = supertypes(alloc, fitting.as_slice())?;
+    let index = MethodIndex::of(alloc, rows.methods.as_slice())?;
+    let index_inheriting = MethodIndex::of(alloc, inheriting.as_slice())?;
     let judged = Lineage::of_rows(
         rows.classes.as_slice(),
         rows.methods.as_slice(),
         above.as_slice(),
+        &index,
     );
     let inherited = Lineage::of_rows(
         fitting.as_slice(),
         inheriting.as_slice(),
         above_fitting.as_slice(),
+        &index_inheriting,
     );
     let shared = first_alike(alloc, &inherited, false)?;
     let unfinished = first_alike(alloc, &inherited, true)?;
