@@ -268,6 +268,7 @@ fn program_from(
         constants: _,
         supertypes: _,
         names: _,
+        index: _,
     } = table;
     Ok(Program {
         classes,

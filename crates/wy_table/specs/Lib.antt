@@ -1,2 +1,5 @@
 pub mod ClassTable
 pub mod Names
+pub mod Listed
+pub mod MethodIndex
+pub mod Methods

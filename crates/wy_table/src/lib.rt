@@ -3,4 +3,5 @@
 #![tactic(auto)]
 
 pub mod names;
+pub mod methods;
 pub mod table;

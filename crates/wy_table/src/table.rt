@@ -3,9 +3,11 @@
 
 ghost use Rattle.std.specs.Prelude.{map};
 ghost use Rattle.wy_kernel.specs.Table.{IsTable, KeepsSupertypes, table_with};
-ghost use Rattle.wy_kernel.specs.View.{class_of, field_of};
+ghost use Rattle.wy_kernel.specs.View.{class_of, field_of, method_of};
+ghost use Rattle.wy_table.specs.MethodIndex.{IsIndexOf};
 ghost use Rattle.wy_table.specs.Names.{KeepsNames};
 
+use crate::methods::MethodIndex;
 use crate::names::DeclaredNames;
 use wy_kernel::form::Const;
 use wy_kernel::types::{Class, Field, Method};
@@ -21,12 +23,15 @@ pub struct ClassTable {
     /// For each class, all classes and interfaces at or above it.
     pub supertypes: Vec<Vec<u32>>,
     pub names: DeclaredNames,
+    /// The methods by what they are looked for by.
+    pub index: MethodIndex,
     pub ghost is_table: { ∥ IsTable
         (table_with classes.items methods.items fields.items constants.items) ∥₁ },
     pub ghost keeps_supertypes: { ∥ KeepsSupertypes (map class_of classes.items)
         (map (λ row. row.items) supertypes.items) ∥₁ },
     pub ghost keeps_names: { ∥ KeepsNames (map class_of classes.items)
         (map field_of fields.items) names ∥₁ },
+    pub ghost is_index: { ∥ IsIndexOf index (map method_of methods.items) ∥₁ },
 }
 
 #[tactic(auto, unfolding(crate::specs::ClassTable::table_of))]
