@@ -1,1 +1,5 @@
 pub mod ClassTable
+pub mod Hierarchy
+pub mod Numbering
+pub mod Above
+pub mod Spans

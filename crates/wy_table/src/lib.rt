@@ -2,4 +2,9 @@
 //! Nothing here reads a tree or chooses a method.
 #![tactic(auto)]
 
+mod above;
+pub mod hierarchy;
+mod numbering;
+mod order;
+pub mod spans;
 pub mod table;
