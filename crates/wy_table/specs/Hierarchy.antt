@@ -1,5 +1,5 @@
 -- The classes at or above each class, as a hierarchy has them by spans of numbers (JLS 4.10).
-use Rattle.std.specs.Prelude.{◌≡◌, ℕ, ◌<◌, List, map, length, slice_index, slice_get, Some}
+use Rattle.std.specs.Prelude.{◌≡◌, ℕ, List, map, length, slice_index, slice_get, Some}
 use Rattle.std.specs.List.{Contains, filter, range_with_len}
 use Rattle.wy_table.specs.Spans.{is_covered}
 use Rattle.wy_table.specs.declared.hierarchy.Hierarchy.{Hierarchy}

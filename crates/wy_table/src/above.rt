@@ -2,10 +2,11 @@
 
 ghost use Rattle.std.specs.Prelude.{◌≡◌, ◌≢◌, ◌<◌, ◌||◌, [], ◌∷◌, ℕ, IfOk, IsTrue, OnOk, Some, length, map, nat_eq, slice_index, slice_index_or};
 ghost use Rattle.std.specs.List.{All, list_any};
+ghost use Rattle.std.specs.Option.{option_to_list};
 ghost use Rattle.wy_kernel.specs.Rows.{TakesEach};
 ghost use Rattle.wy_kernel.specs.Subtyping.{named_above};
 ghost use Rattle.wy_kernel.specs.Table.{NamesAmong};
-ghost use Rattle.wy_kernel.specs.View.{class_of};
+ghost use Rattle.wy_kernel.specs.View.{class_of, present};
 ghost use Rattle.wy_table.specs.Above.{AreBegun, AreMarked, AreRows, IsRow, MakesRow};
 ghost use Rattle.wy_table.specs.Numbering.{IsNumbering};
 ghost use Rattle.wy_table.specs.Spans.{is_covered};
@@ -102,12 +103,20 @@ fn row_of(
 pub fn directly_above(alloc: Global, class: &Class) -> Result<Vec<u32>, AllocError>
     ensures { IfOk result (λ row. row.items ≡ named_above (Some (class_of class.now))) }
 {
-    let mut row = Vec::new(alloc);
-    if class.above != NONE {
-        row.push(class.above)?;
-    }
+    let mut row = superclass(alloc, class.above)?;
     row.extend_from_slice(class.interfaces.as_slice())?;
     Ok(row)
+}
+
+#[tactic(auto, unfolding(wy_kernel::specs::View::present))]
+fn superclass(alloc: Global, above: u32) -> Result<Vec<u32>, AllocError>
+    ensures { IfOk result (λ row. row.items ≡ option_to_list (present above)) }
+{
+    if above == NONE {
+        Ok(Vec::new(alloc))
+    } else {
+        Ok(vec![in alloc; above]?)
+    }
 }
 
 fn are_made(rows: &[Vec<Span>], above: &[u32]) -> bool
@@ -165,15 +174,15 @@ fn walk(alloc: Global, classes: &[Class], numbers: &[u32], c: u32) -> Result<Vec
 
 fn take_each(
     found: &mut Vec<u32>,
-    marks: &mut [bool],
+    marks: &mut Vec<bool>,
     numbers: &[u32],
     others: &[u32],
 ) -> Result<(), AllocError>
     requires among { All (λ d. d < length numbers.now) others.now }
     requires numbered { IsNumbering (length numbers.now) numbers.now }
-    requires marked { AreMarked numbers.now found.old.items marks.old }
+    requires marked { AreMarked numbers.now found.old.items marks.old.items }
     ensures takes { OnOk result (TakesEach found.old.items others.now found.new.items) }
-    ensures marked { OnOk result (AreMarked numbers.now found.new.items marks.new) }
+    ensures marked { OnOk result (AreMarked numbers.now found.new.items marks.new.items) }
 {
     for other in others {
         take(found, marks, numbers, *other)?;
@@ -183,15 +192,15 @@ fn take_each(
 
 fn take(
     found: &mut Vec<u32>,
-    marks: &mut [bool],
+    marks: &mut Vec<bool>,
     numbers: &[u32],
     other: u32,
 ) -> Result<(), AllocError>
     requires here { other < length numbers.now }
     requires numbered { IsNumbering (length numbers.now) numbers.now }
-    requires marked { AreMarked numbers.now found.old.items marks.old }
+    requires marked { AreMarked numbers.now found.old.items marks.old.items }
     ensures takes { OnOk result (TakesEach found.old.items (other ∷ []) found.new.items) }
-    ensures marked { OnOk result (AreMarked numbers.now found.new.items marks.new) }
+    ensures marked { OnOk result (AreMarked numbers.now found.new.items marks.new.items) }
 {
     let number = numbers[other as usize] as usize;
     if !marks[number] {

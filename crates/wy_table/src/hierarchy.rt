@@ -25,10 +25,10 @@ impl Hierarchy {
     pub fn is_above(&self, c: u32, d: u32) -> bool
         ensures { IsTrue result ↔ IsListed (rows_of self.now) c d }
     {
-        match (self.rows.get(c as usize), self.numbers.get(d as usize)) {
-            (Some(row), Some(number)) => is_covered(row.as_slice(), *number),
-            _ => false,
+        if c as usize >= self.rows.len() || d as usize >= self.numbers.len() {
+            return false;
         }
+        is_covered(self.rows[c as usize].as_slice(), self.numbers[d as usize])
     }
 }
 

@@ -1,7 +1,6 @@
 //! A number for each class, such that the classes of a list have their places in it as numbers.
 
-ghost use Rattle.std.specs.Prelude.{◌≡◌, ◌<◌, ◌^◌, IfOk, length};
-ghost use Rattle.std.specs.List.{range_with_len};
+ghost use Rattle.std.specs.Prelude.{◌≡◌, ◌<◌, ◌^◌, ℕ, IfOk, length, slice_index};
 ghost use Rattle.wy_table.specs.Numbering.{AreInverse, IsNumbering};
 
 use std::alloc::{AllocError, Global};
@@ -23,7 +22,8 @@ pub fn numbers(alloc: Global, many: usize, placed: &[u32]) -> Result<Vec<u32>, A
 
 fn in_order(alloc: Global, many: usize) -> Result<Vec<u32>, AllocError>
     requires { many < 2 ^ 32 }
-    ensures { IfOk result (λ numbers. numbers.items ≡ range_with_len 0 many) }
+    ensures long { IfOk result (λ numbers. length numbers.items ≡ many) }
+    ensures each { IfOk result (λ numbers. (k : ℕ) → k < many → slice_index numbers.items k ≡ k) }
 {
     let mut numbers = Vec::new(alloc);
     for n in 0..many {
