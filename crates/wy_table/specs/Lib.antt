@@ -3,3 +3,7 @@ pub mod Names
 pub mod Listed
 pub mod MethodIndex
 pub mod Methods
+pub mod Hierarchy
+pub mod Numbering
+pub mod Above
+pub mod Spans
