@@ -11,17 +11,18 @@ use Rattle.std.proofs.lemmas.List.{length-map, length-take-le, map-append, map-s
 use Rattle.wy_constant.specs.declared.variable.FixedText as memory
 use Rattle.wy_constant.specs.Scope.{FixedText}
 use Rattle.wy_constant.specs.Scopes.{text_of}
+use Rattle.wy_table.specs.Names.{numbered_also}
 use Rattle.wy_elab_expr.specs.Meaning.{has_units, text_number}
-use Rattle.wy_elab_expr.specs.TextPlaces.{KeepsPlaces, place_in, placed_also}
+use Rattle.wy_elab_expr.specs.TextPlaces.{KeepsTextPlaces, place_in}
 
 -- ---- the first place in a list
 
-pub first_push : {X : Type 0} (p : X → Bool) (n : ℕ) (xs : List X) (y : X) → position_from p n (xs ++ y ∷ []) ≡ placed_also (position_from p n xs) (p y) (n + length xs)
+pub first_push : {X : Type 0} (p : X → Bool) (n : ℕ) (xs : List X) (y : X) → position_from p n (xs ++ y ∷ []) ≡ numbered_also (position_from p n xs) (p y) (n + length xs)
 first_push p n [] y = ap (λ k. cond (p y) (Some k) None) (sym (add-zero n))
-first_push p n (x ∷ xs) y = by (p x) (first_push p (n + 1) xs y ∙ ap (placed_also (position_from p (n + 1) xs) (p y)) (omega arith))
+first_push p n (x ∷ xs) y = by (p x) (first_push p (n + 1) xs y ∙ ap (numbered_also (position_from p (n + 1) xs) (p y)) (omega arith))
   where
-    by : (b : Bool) → position_from p (n + 1) (xs ++ y ∷ []) ≡ placed_also (position_from p (n + 1) xs) (p y) (n + suc (length xs)) →
-        cond b (Some n) (position_from p (n + 1) (xs ++ y ∷ [])) ≡ placed_also (cond b (Some n) (position_from p (n + 1) xs)) (p y) (n + suc (length xs))
+    by : (b : Bool) → position_from p (n + 1) (xs ++ y ∷ []) ≡ numbered_also (position_from p (n + 1) xs) (p y) (n + suc (length xs)) →
+        cond b (Some n) (position_from p (n + 1) (xs ++ y ∷ [])) ≡ numbered_also (cond b (Some n) (position_from p (n + 1) xs)) (p y) (n + suc (length xs))
     by true e = refl
     by false e = e
 
@@ -79,50 +80,50 @@ not_some (Some n) e = cc
 -- ---- the place in a map, once one more is put there
 
 pub placed_more : {S : Type 0} (m n : IndexMap (Vec ℕ Global) ℕ S) (k : Vec ℕ Global) (at : ℕ) → place_in m k ≡ None → Updates (λ a b. bytes_eq a.items b.items) m n k (Some at) →
-    (q : Vec ℕ Global) → place_in n q ≡ placed_also (place_in m q) (bytes_eq k.items q.items) at
+    (q : Vec ℕ Global) → place_in n q ≡ numbered_also (place_in m q) (bytes_eq k.items q.items) at
 placed_more m n k at none u q = u.0 q ∙ by (bytes_eq k.items q.items) refl
   where
-    other : (o : Option ℕ) → o ≡ placed_also o false at
+    other : (o : Option ℕ) → o ≡ numbered_also o false at
     other (Some n) = refl
     other None = refl
 
-    by : (b : Bool) → bytes_eq k.items q.items ≡ b → cond b (Some at) (place_in m q) ≡ placed_also (place_in m q) b at
+    by : (b : Bool) → bytes_eq k.items q.items ≡ b → cond b (Some at) (place_in m q) ≡ numbered_also (place_in m q) b at
     by true is =
         let same : k.items ≡ q.items = (bytes_eq-Decides k.items q.items).0 is in
         let nothing : place_in m q ≡ None = ap (λ w. lookup (λ b. bytes_eq w b.items) m.entries) (sym same) ∙ none in
-        sym (ap (λ o. placed_also o true at) nothing)
+        sym (ap (λ o. numbered_also o true at) nothing)
     by false is = other (place_in m q)
 
 -- ---- a map that keeps the places of texts
 
 -- once one text more of a list has its place
 pub placed_push : {S : Type 0} (list : List memory.FixedText) (i : ℕ) (text : memory.FixedText) (m n : IndexMap (Vec ℕ Global) ℕ S) → i < length list → text ≡ get_or list i text →
-    KeepsPlaces (map text_of (take i list)) m → ((q : Vec ℕ Global) → place_in n q ≡ placed_also (place_in m q) (bytes_eq text.units.items q.items) i) → KeepsPlaces (map text_of (take (i + 1) list)) n
+    KeepsTextPlaces (map text_of (take i list)) m → ((q : Vec ℕ Global) → place_in n q ≡ numbered_also (place_in m q) (bytes_eq text.units.items q.items) i) → KeepsTextPlaces (map text_of (take (i + 1) list)) n
 placed_push list i text m n less is keeps more q =
     let one : take (i + 1) list ≡ take i list ++ text ∷ [] = take_more list i text less ∙ ap (λ x. take i list ++ x ∷ []) (sym is) in
     let many : length (map text_of (take i list)) ≡ i = length-map (take i list) text_of ∙ length-take-le i list (omega arith) in
-    more q ∙ ap (λ o. placed_also o (bytes_eq text.units.items q.items) i) (keeps q)
-    ∙ ap (placed_also (position_from (has_units q.items) 0 (map text_of (take i list))) (bytes_eq text.units.items q.items)) (sym many ∙ sym (zero-add _))
+    more q ∙ ap (λ o. numbered_also o (bytes_eq text.units.items q.items) i) (keeps q)
+    ∙ ap (numbered_also (position_from (has_units q.items) 0 (map text_of (take i list))) (bytes_eq text.units.items q.items)) (sym many ∙ sym (zero-add _))
     ∙ sym (first_push (has_units q.items) 0 (map text_of (take i list)) (text_of text))
     ∙ ap (position_from (has_units q.items) 0) (sym (map-append text_of (take i list) (text ∷ [])))
     ∙ ap (λ xs. position_from (has_units q.items) 0 (map text_of xs)) (sym one)
 
 -- once a text that is not there yet stands behind the others
 pub placed_behind : {S : Type 0} (xs ys : List memory.FixedText) (text : memory.FixedText) (m n : IndexMap (Vec ℕ Global) ℕ S) (k : Vec ℕ Global) → ys ≡ xs ++ text ∷ [] → k.items ≡ text.units.items →
-    position_or_len (has_units text.units.items) (map text_of xs) ≡ length xs → KeepsPlaces (map text_of xs) m → Updates (λ a b. bytes_eq a.items b.items) m n k (Some (length xs)) → KeepsPlaces (map text_of ys) n
+    position_or_len (has_units text.units.items) (map text_of xs) ≡ length xs → KeepsTextPlaces (map text_of xs) m → Updates (λ a b. bytes_eq a.items b.items) m n k (Some (length xs)) → KeepsTextPlaces (map text_of ys) n
 placed_behind xs ys text m n k e same beyond keeps u q =
     let none : place_in m k ≡ None = keeps k ∙ ap (λ w. position_from (has_units w) 0 (map text_of xs)) same ∙ nowhere (has_units text.units.items) 0 (map text_of xs) (beyond ∙ sym (length-map xs text_of)) in
     placed_more m n k (length xs) none u q
-    ∙ ap (λ o. placed_also o (bytes_eq k.items q.items) (length xs)) (keeps q)
-    ∙ ap (λ w. placed_also (position_from (has_units q.items) 0 (map text_of xs)) (bytes_eq w q.items) (length xs)) same
-    ∙ ap (placed_also (position_from (has_units q.items) 0 (map text_of xs)) (bytes_eq text.units.items q.items)) (sym (length-map xs text_of) ∙ sym (zero-add _))
+    ∙ ap (λ o. numbered_also o (bytes_eq k.items q.items) (length xs)) (keeps q)
+    ∙ ap (λ w. numbered_also (position_from (has_units q.items) 0 (map text_of xs)) (bytes_eq w q.items) (length xs)) same
+    ∙ ap (numbered_also (position_from (has_units q.items) 0 (map text_of xs)) (bytes_eq text.units.items q.items)) (sym (length-map xs text_of) ∙ sym (zero-add _))
     ∙ sym (first_push (has_units q.items) 0 (map text_of xs) (text_of text))
     ∙ ap (position_from (has_units q.items) 0) (sym (map-append text_of xs (text ∷ [])))
     ∙ ap (λ zs. position_from (has_units q.items) 0 (map text_of zs)) (sym e)
 
 -- once a text has another token
 pub placed_again : {S : Type 0} (xs : List memory.FixedText) (i : ℕ) (text : memory.FixedText) (token : ℕ) (m : IndexMap (Vec ℕ Global) ℕ S) → i < length xs → text ≡ get_or xs i text →
-    KeepsPlaces (map text_of xs) m → KeepsPlaces (map text_of (set xs i (record { units = text.units; token = token }))) m
+    KeepsTextPlaces (map text_of xs) m → KeepsTextPlaces (map text_of (set xs i (record { units = text.units; token = token }))) m
 placed_again xs i text token m less is keeps q =
     keeps q
     ∙ sym (ap (position_from (has_units q.items) 0) (map-set text_of xs i (record { units = text.units; token = token }))
@@ -130,14 +131,14 @@ placed_again xs i text token m less is keeps q =
     (ap (has_units q.items) (ap text_of is ∙ sym (get_or-map text_of xs i text (text_of text) less))))
 
 -- a text that has a place stands there, and one that has none doesn't stand in the list
-pub stands : {S : Type 0} (xs : List memory.FixedText) (m : IndexMap (Vec ℕ Global) ℕ S) (k : Vec ℕ Global) (i : ℕ) → KeepsPlaces (map text_of xs) m → place_in m k ≡ Some i →
+pub stands : {S : Type 0} (xs : List memory.FixedText) (m : IndexMap (Vec ℕ Global) ℕ S) (k : Vec ℕ Global) (i : ℕ) → KeepsTextPlaces (map text_of xs) m → place_in m k ≡ Some i →
     (i ≡ text_number (map text_of xs) k.items) × (i < length xs)
 stands xs m k i keeps e =
     let p = present (has_units k.items) 0 (map text_of xs) i (sym (keeps k) ∙ e) in
     let p0 = p.0 in let p1 = p.1 in let many = length-map xs text_of in
     (omega arith, omega arith)
 
-pub stands_nowhere : {S : Type 0} (xs : List memory.FixedText) (m : IndexMap (Vec ℕ Global) ℕ S) (k : Vec ℕ Global) → KeepsPlaces (map text_of xs) m → place_in m k ≡ None →
+pub stands_nowhere : {S : Type 0} (xs : List memory.FixedText) (m : IndexMap (Vec ℕ Global) ℕ S) (k : Vec ℕ Global) → KeepsTextPlaces (map text_of xs) m → place_in m k ≡ None →
     text_number (map text_of xs) k.items ≡ length (map text_of xs)
 stands_nowhere xs m k keeps e = absent (has_units k.items) 0 (map text_of xs) (sym (keeps k) ∙ e)
 

@@ -1,5 +1,5 @@
 -- Where texts stand, by what they hold.
-use Rattle.std.specs.Prelude.{◌≡◌, ℕ, Bool, List, Option, Some, None, Vec, if◌then◌else◌}
+use Rattle.std.specs.Prelude.{◌≡◌, ℕ, List, Option, Vec}
 use Rattle.std.specs.Global.{Global}
 use Rattle.std.specs.List.{position_from}
 use Rattle.std.specs.Str.{bytes_eq}
@@ -12,10 +12,5 @@ abbrev pub place_in : {S : Type 0} → IndexMap (Vec ℕ Global) ℕ S → Vec �
 place_in places units = get (λ a b. bytes_eq a.items b.items) places units
 
 -- of what texts hold, the place of the first that holds it
-abbrev pub KeepsPlaces : {S : Type 0} → List FixedText → IndexMap (Vec ℕ Global) ℕ S → Type 0
-KeepsPlaces texts places = (units : Vec ℕ Global) → place_in places units ≡ position_from (has_units units.items) 0 texts
-
--- the place once one text more has one, which is the same text or not
-abbrev pub placed_also : Option ℕ → Bool → ℕ → Option ℕ
-placed_also (Some place) same at = Some place
-placed_also None same at = if same then Some at else None
+abbrev pub KeepsTextPlaces : {S : Type 0} → List FixedText → IndexMap (Vec ℕ Global) ℕ S → Type 0
+KeepsTextPlaces texts places = (units : Vec ℕ Global) → place_in places units ≡ position_from (has_units units.items) 0 texts

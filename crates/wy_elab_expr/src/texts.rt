@@ -5,7 +5,8 @@ ghost use Rattle.std.specs.Global.{Global};
 ghost use Rattle.std.specs.Str.{bytes_eq};
 ghost use Rattle.wy_constant.specs.Scopes.{text_of};
 ghost use Rattle.wy_elab_expr.specs.Meaning.{listed, text_number};
-ghost use Rattle.wy_elab_expr.specs.TextPlaces.{KeepsPlaces, place_in, placed_also};
+ghost use Rattle.wy_elab_expr.specs.TextPlaces.{KeepsTextPlaces, place_in};
+ghost use Rattle.wy_table.specs.Names.{numbered_also};
 
 use indexmap::IndexMap;
 use std::alloc::{AllocError, Global};
@@ -18,7 +19,7 @@ pub struct Texts {
     list: Vec<FixedText>,
     places: IndexMap<Vec<u16>, u32>,
     ghost few_texts: { length list.items < 2 ^ 32 },
-    ghost keeps_places: { KeepsPlaces (map text_of list.items) places },
+    ghost keeps_places: { KeepsTextPlaces (map text_of list.items) places },
 }
 
 impl Model for Texts {
@@ -84,7 +85,7 @@ impl Texts {
 // The place of each of these texts by what it holds; of texts that hold the same, that of the first.
 fn places_of(alloc: Global, list: &[FixedText]) -> Result<IndexMap<Vec<u16>, u32>, AllocError>
     requires { length list.now < 2 ^ 32 }
-    ensures { IfOk result (KeepsPlaces (map text_of list.now)) }
+    ensures { IfOk result (KeepsTextPlaces (map text_of list.now)) }
 {
     let mut places = IndexMap::new(alloc);
     for (i, text) in list.iter().enumerate() {
@@ -100,7 +101,7 @@ fn put_place(
     at: u32,
 ) -> Result<(), AllocError>
     ensures { OnOk result ((other : Vec ℕ Global) → place_in places.new other
-        ≡ placed_also (place_in places.old other) (bytes_eq units.now.items other.items) at) }
+        ≡ numbered_also (place_in places.old other) (bytes_eq units.now.items other.items) at) }
 {
     if !places.contains_key(units) {
         places.insert(copied(units)?, at)?;

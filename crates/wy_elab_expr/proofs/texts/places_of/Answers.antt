@@ -3,7 +3,6 @@ use Rattle.std.proofs.lemmas.List.{length-take-le, map-append, length-map}
 use Rattle.std.specs.List.{position_from}
 use Rattle.wy_elab_expr.specs.Meaning.{has_units}
 use Rattle.wy_constant.specs.Scopes.{text_of}
-use Rattle.wy_elab_expr.specs.TextPlaces.{placed_also}
 use Rattle.wy_elab_expr.proofs.TextPlaces.{placed_push}
 use Rattle.wy_elab_expr.proofs.texts.places_of.Goals as goal
 
