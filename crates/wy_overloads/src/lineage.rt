@@ -46,7 +46,7 @@ impl<'a> Lineage<'a> {
     ghost use Rattle.wy_overloads.specs.Candidates.{numbers_of};
     ghost use Rattle.wy_overloads.specs.Choice.{IsEquivalent, IsMember, IsMethod};
     ghost use Rattle.wy_table.specs.MethodIndex.{IsIndexOf};
-    ghost use Rattle.wy_table.specs.Methods.{IsShared, Lists};
+    ghost use Rattle.wy_table.specs.Methods.{IsAlike, IsByName, IsShared, Lists};
 
     /// The classes and the methods of a table.
     pub fn of_table(table: &'a ClassTable) -> Self
@@ -141,9 +141,18 @@ impl<'a> Lineage<'a> {
             (numbers_of result) }
     {
         Candidates {
-            by_name: self.index.alike(k),
+            by_name: self.alike_by_name(k, m),
             constructors: self.constructors_of(ty),
         }
+    }
+
+    /// The methods to look at for those that are called by the name of method `k` and have its parameter types.
+    pub fn alike_by_name(&self, k: u32, m: &Method) -> &'a [u32]
+        requires { IsMethod (lineage_of self.now) k (method_of m.now) }
+        ensures { Lists (lineage_of self.now).methods
+            (λ j other. IsByName other.form × IsAlike (method_of m.now) other) result.now }
+    {
+        self.index.alike(k)
     }
 
     /// The methods to look at for those that have the name and the parameter types of another, constructors aside.
@@ -154,8 +163,8 @@ impl<'a> Lineage<'a> {
         self.index.shared()
     }
 
-    // Among them is each constructor of the class that a type is.
-    fn constructors_of(&self, ty: &Ty) -> &'a [u32]
+    /// The methods to look at for the constructors of the class that a type is.
+    pub fn constructors_of(&self, ty: &Ty) -> &'a [u32]
         ensures { Lists (lineage_of self.now).methods
             (λ k m. (m.form ≡ MethodForm.Constructor) × (ty.now ≡ class_type m.class)) result.now }
     {
