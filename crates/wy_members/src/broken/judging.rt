@@ -13,7 +13,7 @@ ghost use Rattle.wy_kernel.specs.Program.{first_source_class};
 
 use crate::broken::again::least_again;
 use crate::broken::breach::Breach;
-use crate::broken::cycle::least_cycle;
+use crate::broken::cycle::{Judged, least_cycle};
 use crate::broken::first::earlier;
 use crate::broken::least::lesser;
 use crate::broken::methods::{
@@ -33,18 +33,18 @@ pub fn breach_in(
     rows: &Rows,
     known: &[Method],
     classes: &[&ClassSyntax],
-    judged: &Lineage,
+    judged: &Judged,
     compared: &Lineage,
 ) -> Option<Breach>
     requires judged { AreJudged (unit_of names.now) rows.now known.now classes.now
-        (lineage_of judged.now) (lineage_of compared.now) }
+        (lineage_of judged.now.lineage.now) (lineage_of compared.now) }
     requires few { length classes.now + first_source_class < 2 ^ 32 }
     ensures { MatchOption result (KeepsRules (unit_of names.now)) (λ b.
         IsRefusal (unit_of names.now) b.rule b.token) }
 {
     let duplicate = least_duplicate(rows, known, classes);
     let unknown = unknown::least_in_classes(names, classes);
-    let cycle = least_cycle(judged);
+    let cycle = least_cycle(judged.lineage);
     let overriding = least_bad_override(names, classes, judged, compared);
     let unimplemented = least_not_implemented(classes, judged, compared);
     let found = earlier(None, Rule::Duplicate, duplicate);
@@ -69,11 +69,11 @@ fn least_duplicate(rows: &Rows, known: &[Method], classes: &[&ClassSyntax]) -> O
 fn least_bad_override(
     names: &Names,
     classes: &[&ClassSyntax],
-    judged: &Lineage,
+    judged: &Judged,
     compared: &Lineage,
 ) -> Option<u32>
     requires { length classes.now + first_source_class < 2 ^ 32 }
-    ensures { IsLeast (BadOverridesIn (unit_of names.now) (lineage_of judged.now).classes
+    ensures { IsLeast (BadOverridesIn (unit_of names.now) (lineage_of judged.now.lineage.now).classes
         (lineage_of compared.now) (map (λ k. class_syntax k.now) classes.now)) result }
 {
     let supertypes = supertypes::least_in_classes(names, judged, classes);
@@ -84,11 +84,11 @@ fn least_bad_override(
 
 fn least_not_implemented(
     classes: &[&ClassSyntax],
-    judged: &Lineage,
+    judged: &Judged,
     compared: &Lineage,
 ) -> Option<u32>
     requires { length classes.now + first_source_class < 2 ^ 32 }
-    ensures { IsLeast (NotImplementedsIn (lineage_of judged.now) (lineage_of compared.now)
+    ensures { IsLeast (NotImplementedsIn (lineage_of judged.now.lineage.now) (lineage_of compared.now)
         (map (λ k. class_syntax k.now) classes.now)) result }
 {
     let declared = least_declared_abstract(judged);
