@@ -7,6 +7,7 @@ pub mod Names
 pub mod Numbers
 pub mod Least
 pub mod Within
+pub mod Alike
 pub mod Earlier
 pub mod Judging
 pub mod Known

@@ -19,6 +19,8 @@ use std::alloc::{AllocError, Global};
 use wy_kernel::form::Const;
 use wy_kernel::types::Field;
 use wy_table::hierarchy::hierarchy_of;
+use wy_table::methods::MethodIndex;
+use wy_table::names::DeclaredNames;
 use wy_table::table::ClassTable;
 
 fn unknown() -> Option<Const>
@@ -49,6 +51,8 @@ fn table_of_rows(alloc: Global, names: &Names, rows: Rows) -> Result<ClassTable,
 {
     let hierarchy = hierarchy_of(alloc, rows.classes.as_slice())?;
     let constants = no_constants(alloc, rows.fields.as_slice())?;
+    let declared = DeclaredNames::of(alloc, rows.classes.as_slice(), rows.fields.as_slice())?;
+    let index = MethodIndex::of(alloc, rows.methods.as_slice())?;
     let Rows {
         classes,
         methods,
@@ -60,6 +64,8 @@ fn table_of_rows(alloc: Global, names: &Names, rows: Rows) -> Result<ClassTable,
         fields,
         constants,
         hierarchy,
+        names: declared,
+        index,
     })
 }
 

@@ -3,12 +3,15 @@
 
 ghost use Rattle.std.specs.Prelude.{◌<◌, length, map};
 ghost use Rattle.wy_kernel.specs.Table.{KeepsSupertypes};
-ghost use Rattle.wy_kernel.specs.View.{class_of};
+ghost use Rattle.wy_kernel.specs.View.{class_of, method_of};
 ghost use Rattle.wy_overloads.specs.Lineage.{HasTop};
 ghost use Rattle.wy_table.specs.Hierarchy.{rows_of};
+ghost use Rattle.wy_table.specs.MethodIndex.{IsIndexOf};
 
-use wy_kernel::types::{Class, Method};
+use crate::candidates::Candidates;
+use wy_kernel::types::{Base, Class, Method, Ty};
 use wy_table::hierarchy::Hierarchy;
+use wy_table::methods::MethodIndex;
 use wy_table::table::ClassTable;
 
 /// Declarations, borrowed. Classes and methods go by their places.
@@ -18,9 +21,12 @@ pub struct Lineage<'a> {
     pub methods: &'a [Method],
     /// What is at or above each class.
     pub hierarchy: &'a Hierarchy,
+    /// The methods by what they are looked for by.
+    pub index: &'a MethodIndex,
     pub ghost has_top: { ∥ HasTop (map class_of classes.now) ∥₁ },
     pub ghost keeps_supertypes: { ∥ KeepsSupertypes (map class_of classes.now)
         (rows_of hierarchy.now) ∥₁ },
+    pub ghost is_index: { ∥ IsIndexOf index.now (map method_of methods.now) ∥₁ },
     pub ghost few_classes: { length classes.now < 4294967295 },
     pub ghost few_methods: { length methods.now < 4294967295 },
 }
@@ -35,6 +41,13 @@ impl<'a> Lineage<'a> {
     ghost use Rattle.wy_kernel.specs.Table.{KeepsSupertypes};
     ghost use Rattle.wy_overloads.specs.Lineage.{HasTop, hierarchy};
     ghost use Rattle.wy_overloads.specs.LineageView.{lineage_of};
+    ghost use Rattle.wy_kernel.specs.Subtyping.{class_type};
+    ghost use Rattle.wy_kernel.specs.declared.types.MethodForm.{MethodForm};
+    ghost use Rattle.wy_overloads.specs.Candidates.{numbers_of};
+    ghost use Rattle.wy_overloads.specs.Choice.{IsEquivalent, IsMember, IsMethod};
+    ghost use Rattle.wy_table.specs.Hierarchy.{rows_of};
+    ghost use Rattle.wy_table.specs.MethodIndex.{IsIndexOf};
+    ghost use Rattle.wy_table.specs.Methods.{IsAlike, IsByName, IsShared, Lists};
 
     /// The classes and the methods of a table.
     pub fn of_table(table: &'a ClassTable) -> Self
@@ -44,14 +57,21 @@ impl<'a> Lineage<'a> {
             classes: &table.classes,
             methods: &table.methods,
             hierarchy: &table.hierarchy,
+            index: &table.index,
         }
     }
 
-    /// These classes and methods, and what is at or above each class.
-    pub fn of_rows(classes: &'a [Class], methods: &'a [Method], hierarchy: &'a Hierarchy) -> Self
+    /// These classes and methods, what is at or above each class, and the index of the methods.
+    pub fn of_rows(
+        classes: &'a [Class],
+        methods: &'a [Method],
+        hierarchy: &'a Hierarchy,
+        index: &'a MethodIndex,
+    ) -> Self
         requires has_top { HasTop (map class_of classes.now) }
         requires keeps_supertypes { KeepsSupertypes (map class_of classes.now)
             (rows_of hierarchy.now) }
+        requires is_index { IsIndexOf index.now (map method_of methods.now) }
         requires few_classes { length classes.now < no_site }
         requires few_methods { length methods.now < no_site }
         ensures { lineage_of result ≡ record {
@@ -65,6 +85,7 @@ impl<'a> Lineage<'a> {
             classes,
             methods,
             hierarchy,
+            index,
         }
     }
 
@@ -100,5 +121,65 @@ impl<'a> Lineage<'a> {
         ensures { result ≡ length (lineage_of self.now).methods }
     {
         self.methods.len() as u32
+    }
+
+    /// The methods to look at for those that a type has by a name.
+    pub fn named(&self, ty: &Ty, name: &str) -> Candidates<'a>
+        ensures { Lists (lineage_of self.now).methods
+            (λ k m. IsMember (lineage_of self.now).classes ty.now name.now m) (numbers_of result) }
+    {
+        Candidates {
+            by_name: self.index.named(name),
+            constructors: self.constructors_of(ty),
+        }
+    }
+
+    /// The methods to look at for those of a type that have the name and the parameter types of method `k`.
+    pub fn alike(&self, ty: &Ty, k: u32, m: &Method) -> Candidates<'a>
+        requires { IsMethod (lineage_of self.now) k (method_of m.now) }
+        ensures { Lists (lineage_of self.now).methods
+            (λ j other. IsEquivalent (lineage_of self.now).classes ty.now (method_of m.now) other)
+            (numbers_of result) }
+    {
+        Candidates {
+            by_name: self.alike_by_name(k, m),
+            constructors: self.constructors_of(ty),
+        }
+    }
+
+    /// The methods to look at for those that are called by the name of method `k` and have its parameter types.
+    pub fn alike_by_name(&self, k: u32, m: &Method) -> &'a [u32]
+        requires { IsMethod (lineage_of self.now) k (method_of m.now) }
+        ensures { Lists (lineage_of self.now).methods
+            (λ j other. IsByName other.form × IsAlike (method_of m.now) other) result.now }
+    {
+        self.index.alike(k)
+    }
+
+    /// The methods to look at for those that have the name and the parameter types of another, constructors aside.
+    pub fn shared(&self) -> &'a [u32]
+        ensures { Lists (lineage_of self.now).methods (IsShared (lineage_of self.now).methods)
+            result.now }
+    {
+        self.index.shared()
+    }
+
+    /// The methods to look at for the constructors of the class that a type is.
+    pub fn constructors_of(&self, ty: &Ty) -> &'a [u32]
+        ensures { Lists (lineage_of self.now).methods
+            (λ k m. (m.form ≡ MethodForm.Constructor) × (ty.now ≡ class_type m.class)) result.now }
+    {
+        match *ty {
+            Ty::Of {
+                base: Base::Class(class),
+                brackets: _,
+            } => self.index.constructors(class),
+            Ty::Of {
+                base: Base::Primitive(_),
+                brackets: _,
+            } => &[],
+            Ty::Void => &[],
+            Ty::Null => &[],
+        }
     }
 }

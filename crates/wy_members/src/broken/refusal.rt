@@ -7,6 +7,7 @@ ghost use Rattle.wy_members.specs.Refusal.{IsRefusal, KeepsRules};
 ghost use Rattle.wy_members.specs.Rows.{AreRows};
 
 use crate::broken::breach::Breach;
+use crate::broken::compared::{Compared, first_alike};
 use crate::broken::cycle::{Judged, cyclic_classes};
 use crate::broken::fitting::fitting_classes;
 use crate::broken::inheriting::inheriting_methods;
@@ -18,6 +19,7 @@ use crate::rows::Rows;
 use std::alloc::{AllocError, Global};
 use wy_overloads::lineage::Lineage;
 use wy_table::hierarchy::hierarchy_of;
+use wy_table::methods::MethodIndex;
 
 /// The rule that the declarations of a program break at their least token, and there the first, if they break one.
 pub fn refusal(alloc: Global, names: &Names, rows: &Rows) -> Result<Option<Breach>, AllocError>
@@ -31,12 +33,31 @@ pub fn refusal(alloc: Global, names: &Names, rows: &Rows) -> Result<Option<Breac
     let fitting = fitting_classes(alloc, rows.classes.as_slice())?;
     let above = hierarchy_of(alloc, rows.classes.as_slice())?;
     let above_fitting = hierarchy_of(alloc, fitting.as_slice())?;
-    let lineage = Lineage::of_rows(rows.classes.as_slice(), rows.methods.as_slice(), &above);
-    let compared = Lineage::of_rows(fitting.as_slice(), inheriting.as_slice(), &above_fitting);
+    let index = MethodIndex::of(alloc, rows.methods.as_slice())?;
+    let index_inheriting = MethodIndex::of(alloc, inheriting.as_slice())?;
+    let lineage = Lineage::of_rows(
+        rows.classes.as_slice(),
+        rows.methods.as_slice(),
+        &above,
+        &index,
+    );
+    let inherited = Lineage::of_rows(
+        fitting.as_slice(),
+        inheriting.as_slice(),
+        &above_fitting,
+        &index_inheriting,
+    );
     let cyclic = cyclic_classes(alloc, &lineage)?;
     let judged = Judged {
         lineage: &lineage,
         cyclic: cyclic.as_slice(),
+    };
+    let shared = first_alike(alloc, &inherited, false)?;
+    let unfinished = first_alike(alloc, &inherited, true)?;
+    let compared = Compared {
+        lineage: &inherited,
+        shared: shared.as_slice(),
+        unfinished: unfinished.as_slice(),
     };
     Ok(breach_in(
         names,
