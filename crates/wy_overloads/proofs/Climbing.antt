@@ -103,8 +103,7 @@ rows_a_class classes rows k = ∥∥₁_elim k (hlevel props) (λ k'. k'.a_row_a
 pub listed_exact : (classes : List Class) (rows : List (List ℕ)) → ∥ KeepsSupertypes classes rows ∥₁ → (c d : ℕ) → c < length classes → IsListed rows c d ↔ Supertype classes c d
 listed_exact classes rows k c d lt =
     let within : c < length rows = (let many = rows_a_class classes rows k in omega arith) in
-    let at : slice_get rows c ≡ Some (get_or rows c []) = slice_get-get_or rows c [] within in
-    (
+    let at : slice_get rows c ≡ Some (get_or rows c []) = slice_get-get_or rows c [] within in (
       λ (row, is, h). (row_exact classes rows k c row is d).0 h,
       λ s. (get_or rows c [], at, (row_exact classes rows k c (get_or rows c []) at d).1 s),
     )

@@ -111,10 +111,10 @@ one_more t numbers n j P m before at is here i k x lt =
     below_more (λ i'. (k' : ℕ) (y : Method) → slice_get numbers i' ≡ Some k' → IsMethod t k' y → P k' y) n
     (λ i' less k' y. before i' k' y less)
     (λ k' y at' is'. (
-      let same : j ≡ k' = same_number numbers n j k' at at' in
-      let there : IsMethod t j y = subst (λ a. IsMethod t a y) (sym same) is' in
-      let one : m ≡ y = (let f : Some m ≡ Some y = sym is ∙ there in cc) in
-      subst (λ a. P a y) same (subst (λ z. P j z) one here)))
+    let same : j ≡ k' = same_number numbers n j k' at at' in
+    let there : IsMethod t j y = subst (λ a. IsMethod t a y) (sym same) is' in
+    let one : m ≡ y = (let f : Some m ≡ Some y = sym is ∙ there in cc) in
+    subst (λ a. P a y) same (subst (λ z. P j z) one here)))
     i lt k x
 
 -- where each of the candidates was looked at, what holds of them holds of each that they list

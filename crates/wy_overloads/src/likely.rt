@@ -62,11 +62,7 @@ fn is_preferred(lineage: &Lineage, best: &Method, m: &Method) -> bool {
 fn is_nearer(lineage: &Lineage, best: &Method, m: &Method) -> bool {
     if has_body(lineage, m) {
         !has_body(lineage, best)
-            || is_below(
-                lineage,
-                &type_of_class(m.class),
-                &type_of_class(best.class),
-            )
+            || is_below(lineage, &type_of_class(m.class), &type_of_class(best.class))
     } else {
         !has_body(lineage, best)
             && !is_same_type(&m.result, &best.result)

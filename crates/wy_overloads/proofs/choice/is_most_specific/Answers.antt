@@ -16,10 +16,10 @@ returns-then-not-are_below c =
     let classes = (lineage_of c.args.lineage.now).classes in
     let P : List Ty → List Ty → Type 0 = λ xs ys. EachBelow classes xs ys in
     not_below (λ h. (
-      let each = h c.at.result (method_of c.method-other.result.now) (c.method-other.ensures, c.applies.ensures.0 c.if-applies.true) in
-      let other = c.method-other.result.now.params.items in
-      let seen : P c.as_slice.result.now c.as_slice-then-applies.result.now = subst (λ ys. P c.as_slice.result.now ys) (sym c.as_slice-then-applies.ensures.value) (subst (λ xs. P xs other) (sym c.as_slice.ensures.value) each) in
-      untrue _ c.if-not-are_below.true (c.are_below.ensures.1 seen)))
+    let each = h c.at.result (method_of c.method-other.result.now) (c.method-other.ensures, c.applies.ensures.0 c.if-applies.true) in
+    let other = c.method-other.result.now.params.items in
+    let seen : P c.as_slice.result.now c.as_slice-then-applies.result.now = subst (λ ys. P c.as_slice.result.now ys) (sym c.as_slice-then-applies.ensures.value) (subst (λ xs. P xs other) (sym c.as_slice.ensures.value) each) in
+    untrue _ c.if-not-are_below.true (c.are_below.ensures.1 seen)))
 
 pub returns : goal.returns
 returns c =
