@@ -105,8 +105,7 @@ pub wrongly_by_one : (t : Table) (c : ℕ) (m : Method) (j : ℕ) (n : Method) (
     IsTrue r ↔ StandsWrongly t (class_type c) n → IsTrue r ↔ InheritsAlikeWrongly t c m
 wrongly_by_one t c m j n r there (other, is, found) exact =
     let P : Method → Type 0 = λ x. InheritsAlike t c false m j x in
-    let here : InheritsAlike t c false m j n = subst P (one_method t j other n is there) found in
-    (
+    let here : InheritsAlike t c false m j n = subst P (one_method t j other n is there) found in (
       λ h. (j, n, there, (here.1, here.2, exact.0 h)),
       λ (i, x, at, (a, inherits, wrong)). exact.1 (wrongly_alike t c i x n inherits (through x m n (turned m x a) here.1) wrong),
     )
@@ -127,13 +126,13 @@ none_wrong t c numbers n lists all right (k, m, is, (inherits, wrong)) =
     (λ l. never_wrong_alone t (class_type c) k m (itself t c k m inherits)
     (alone_or_alike t c k m inherits
     (λ alike. (let (j, other, there, (contains, a)) = l.each k m is ((by_its_name t c k m inherits, λ e. absurd (cc)), λ e. alike) in
-      each_listed t numbers n (λ i x. InheritsAlikeWrongly t c x → ⊥) all right j other contains there (k, m, is, (a, inherits, wrong))))) wrong)
+    each_listed t numbers n (λ i x. InheritsAlikeWrongly t c x → ⊥) all right j other contains there (k, m, is, (a, inherits, wrong))))) wrong)
 
 pub none_left : (t : Table) (c : ℕ) (numbers : List ℕ) (n : ℕ) → ∥ ListsAlike t (IsFound t true) numbers ∥₁ → length numbers ≤ n → EachBefore t numbers n (λ k m. LeavesAlikeAbstract t c m → ⊥) → LeavesAbstract t c → ⊥
 none_left t c numbers n lists all right (k, m, is, (inherits, none, abstract)) =
     ∥∥₁_elim lists (hlevel props)
     (λ l. (let (j, other, there, (contains, a)) = l.each k m is ((by_its_name t c k m inherits, λ e. abstract), λ e. absurd (cc)) in
-      each_listed t numbers n (λ i x. LeavesAlikeAbstract t c x → ⊥) all right j other contains there (k, m, is, (a, (inherits, none, abstract)))))
+    each_listed t numbers n (λ i x. LeavesAlikeAbstract t c x → ⊥) all right j other contains there (k, m, is, (a, (inherits, none, abstract)))))
 
 -- ---- the list of the first of them
 
@@ -164,8 +163,8 @@ pub found_kept : (t : Table) (only_abstract : Bool) (n : ℕ) (numbers : List �
 found_kept t only_abstract n numbers m is before earlier =
     up_to t only_abstract n numbers m is before
     (λ found. (let (j, other, there, (less, sought, a)) = earlier found in
-      let (i, x, at, (contains, b)) = before j less other there (found_with t only_abstract n m j other is found less sought a) in
-      (i, x, at, (contains, through x other m b (turned m other a)))))
+    let (i, x, at, (contains, b)) = before j less other there (found_with t only_abstract n m j other is found less sought a) in
+    (i, x, at, (contains, through x other m b (turned m other a)))))
 
 pub all_found : (t : Table) (only_abstract : Bool) (n : ℕ) (numbers : List ℕ) → length t.methods ≤ n → FoundBefore t only_abstract n numbers → AreMethods t numbers → ListsAlike t (IsFound t only_abstract) numbers
 all_found t only_abstract n numbers all found range = record {
