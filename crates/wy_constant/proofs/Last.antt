@@ -1,11 +1,6 @@
 -- The last element of a list, changed.
-use Rattle.std.proofs.Common.{◌≡◌, ◌∙◌, ap, sym, ℕ, zero, suc, ◌-◌, ◌+◌, ◌<◌, ◌≤◌, List, [], ◌∷◌, map, length, get_or, set, refl, arith}
-use Rattle.std.specs.Prelude.{slice_index_or}
-use Rattle.wy_constant.specs.declared.variable.Variable as memory
-use Rattle.wy_constant.specs.Scope.{Scope, Variable, FixedText, with_last, with_last_value, with_value}
-use Rattle.wy_constant.specs.Scopes.{variable_of}
-use Rattle.wy_kernel.specs.Table.{ConstantValue}
-use Rattle.std.specs.Prelude.{Option}
+use Rattle.std.proofs.Common.{◌≡◌, ap, ℕ, zero, suc, ◌+◌, ◌≤◌, List, [], ◌∷◌, map, length, get_or, set, refl, arith}
+use Rattle.wy_constant.specs.Scope.{with_last}
 
 pub changed_last : {A B : Type 0} (f : A → B) (g : B → B) (xs : List A) (i : ℕ) (v d : A) → i + 1 ≡ length xs → f v ≡ g (f (get_or xs i d)) →
     map f (set xs i v) ≡ with_last g (map f xs)

@@ -6,3 +6,4 @@ pub mod Views
 pub mod Arms
 pub mod Layers
 pub mod Last
+pub mod Placing

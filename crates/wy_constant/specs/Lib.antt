@@ -1,5 +1,6 @@
 pub mod Refusal
 pub mod Scope
+pub mod Places
 pub mod Scopes
 pub mod Fields
 pub mod Widening

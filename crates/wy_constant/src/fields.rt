@@ -3,48 +3,17 @@
 ghost use Rattle.std.specs.Prelude.{◌≡◌, option_map, slice_get};
 ghost use Rattle.wy_table.specs.ClassTable.{table_of};
 ghost use Rattle.wy_kernel.specs.Table.{constant_value};
-ghost use Rattle.wy_kernel.specs.View.{class_of, field_of as field_seen};
-ghost use Rattle.wy_constant.specs.Fields.{class_named, declared_field, field_constant, field_of, is_class_named, is_field, superclass};
+ghost use Rattle.wy_constant.specs.Fields.{class_named, field_constant, field_of, superclass};
 
 use wy_kernel::form::Const;
-use wy_kernel::types::{Class, Field, NONE};
+use wy_kernel::types::NONE;
 use wy_table::table::ClassTable;
 
-fn is_this_class(class: &Class, name: &str) -> bool
-    ensures { result ≡ is_class_named name.now (class_of class.now) }
-{
-    class.name.as_str() == name
-}
-
 /// The number of the class or interface of this name.
-#[tactic(auto, using(crate::proofs::Found::position_here, crate::proofs::Found::position_further, crate::proofs::Found::position_nowhere))]
 pub fn class_by_name(table: &ClassTable, name: &str) -> Option<u32>
     ensures { result ≡ class_named (table_of table.now).classes name.now }
 {
-    for c in 0..table.classes() {
-        if is_this_class(table.class(c), name) {
-            return Some(c);
-        }
-    }
-    None
-}
-
-fn is_this_field(f: &Field, class: u32, name: &str) -> bool
-    ensures { result ≡ is_field class name.now (field_seen f.now) }
-{
-    f.class == class && f.name.as_str() == name
-}
-
-#[tactic(auto, using(crate::proofs::Found::position_here, crate::proofs::Found::position_further, crate::proofs::Found::position_nowhere))]
-fn declared(table: &ClassTable, class: u32, name: &str) -> Option<u32>
-    ensures { result ≡ declared_field (table_of table.now).fields class name.now }
-{
-    for k in 0..table.fields() {
-        if is_this_field(table.field(k), class, name) {
-            return Some(k);
-        }
-    }
-    None
+    table.class_number(name)
 }
 
 /// The superclass of a class, if it has one.
@@ -67,7 +36,7 @@ pub fn field_by_name(table: &ClassTable, class: u32, name: &str) -> Option<u32>
     let mut at = class;
     let mut left = table.classes();
     'upward: while left > 0 {
-        if let Some(field) = declared(table, at, name) {
+        if let Some(field) = table.field_number(at, name) {
             return Some(field);
         }
         match class_above(table, at) {

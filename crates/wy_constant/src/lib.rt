@@ -6,13 +6,13 @@ mod arithmetic;
 mod assignment;
 mod constant;
 mod fields;
-mod find;
 mod fold;
 mod names;
 mod rule;
 mod scope;
 mod simple;
 mod variable;
+mod variables;
 
 pub use arithmetic::cast;
 pub use assignment::{constant_variable, does_constant_fit, widens};

@@ -3,13 +3,12 @@
 ghost use Rattle.std.specs.Prelude.{◌≡◌, ◌<◌, ◌≤◌, ◌^◌, length, map, option_map, OnOk, OnErr, IfOk, Ok};
 ghost use Rattle.wy_kernel.specs.Table.{constant_value};
 ghost use Rattle.wy_constant.specs.Refusal.{Gives};
-ghost use Rattle.wy_constant.specs.Scope.{with_value};
 ghost use Rattle.wy_constant.specs.Scopes.{text_of, variable_of};
 ghost use Rattle.wy_tree.specs.Tokens.{token_limit};
 
-use crate::find::find_variable;
 use crate::rule::{Rule, TypeError};
 use crate::variable::{FixedText, Variable};
+use crate::variables::Variables;
 use std::alloc::{AllocError, Global};
 use std::marker::Model;
 use wy_kernel::form::Const;
@@ -21,7 +20,7 @@ pub struct Scope {
     alloc: Global,
     class: u32,
     has_this: bool,
-    variables: Vec<Variable>,
+    variables: Variables,
     blocks: Vec<usize>,
     next: u32,
     texts: Vec<FixedText>,
@@ -31,14 +30,14 @@ pub struct Scope {
 impl Model for Scope {
     ghost use Rattle.std.specs.Prelude.{map};
     ghost use Rattle.wy_constant.specs.Scope.{Scope as Plain};
-    ghost use Rattle.wy_constant.specs.Scopes.{variable_of, text_of};
+    ghost use Rattle.wy_constant.specs.Scopes.{text_of, variables_of};
 
     ghost Value = { Plain };
 
     ghost view = { λ s. record {
       class = s.class;
       has_this = s.has_this;
-      variables = map variable_of s.variables.items;
+      variables = variables_of s.variables;
       blocks = s.blocks.items;
       next = s.next;
       texts = map text_of s.texts.items;
@@ -58,7 +57,7 @@ impl Scope {
             alloc,
             class,
             has_this,
-            variables: Vec::new(alloc),
+            variables: Variables::new(alloc),
             blocks: Vec::new(alloc),
             next: if has_this { 1 } else { 0 },
             texts: Vec::new(alloc),
@@ -104,7 +103,7 @@ impl Scope {
     pub fn variable(&self, name: &str) -> Option<&Variable>
         ensures { option_map (λ v. variable_of v.now) result ≡ denoted self.now name.now }
     {
-        find_variable(self.variables.as_slice(), name)
+        self.variables.named(name)
     }
 
     /// Declares a variable and gives its number. An `Err` changes nothing.
@@ -139,7 +138,7 @@ impl Scope {
             },
             Err(_) => return Err(TypeError::NoMemory),
         };
-        match self.variables.push(variable) {
+        match self.variables.push(self.alloc, variable) {
             Ok(()) => {
                 self.next += 1;
                 Ok(number)
@@ -149,14 +148,11 @@ impl Scope {
     }
 
     /// Says which value the variable has that was declared last. Without one it changes nothing.
-    #[tactic(auto, using(crate::proofs::Last::changed_last, crate::proofs::Last::unchanged), unfolding(crate::specs::Scope::with_last_value))]
+    #[tactic(auto, unfolding(crate::specs::Scope::with_last_value))]
     pub fn give_value(&mut self, constant: Option<Const>)
         ensures { self.new ≡ with_last_value (option_map constant_value constant) self.old }
     {
-        let many = self.variables.len();
-        if many > 0 {
-            give(&mut self.variables[many - 1], constant);
-        }
+        self.variables.give_last(constant);
     }
 
     /// How many locals the body has so far, `this` among them.
@@ -217,11 +213,4 @@ fn copied(alloc: Global, list: &[FixedText]) -> Result<Vec<FixedText>, AllocErro
         all.push(copy)?;
     }
     Ok(all)
-}
-
-fn give(variable: &mut Variable, constant: Option<Const>)
-    ensures { variable_of variable.new ≡ with_value (option_map constant_value constant)
-        (variable_of variable.old) }
-{
-    variable.constant = constant;
 }

@@ -5,10 +5,13 @@ ghost use Rattle.std.specs.Prelude.{◌<◌, length, map};
 ghost use Rattle.wy_kernel.specs.Table.{KeepsSupertypes};
 ghost use Rattle.wy_kernel.specs.View.{class_of, method_of};
 ghost use Rattle.wy_overloads.specs.Lineage.{HasTop};
+ghost use Rattle.wy_table.specs.Hierarchy.{rows_of};
 ghost use Rattle.wy_table.specs.MethodIndex.{IsIndexOf};
 
 use crate::candidates::Candidates;
-use wy_kernel::types::{Base, Class, Method, Ty};
+use crate::member::class_of_type;
+use wy_kernel::types::{Class, Method, Ty};
+use wy_table::hierarchy::Hierarchy;
 use wy_table::methods::MethodIndex;
 use wy_table::table::ClassTable;
 
@@ -17,13 +20,13 @@ use wy_table::table::ClassTable;
 pub struct Lineage<'a> {
     pub classes: &'a [Class],
     pub methods: &'a [Method],
-    /// For each class, all classes and interfaces at or above it.
-    pub supertypes: &'a [Vec<u32>],
+    /// What is at or above each class.
+    pub hierarchy: &'a Hierarchy,
     /// The methods by what they are looked for by.
     pub index: &'a MethodIndex,
     pub ghost has_top: { ∥ HasTop (map class_of classes.now) ∥₁ },
     pub ghost keeps_supertypes: { ∥ KeepsSupertypes (map class_of classes.now)
-        (map (λ row. row.items) supertypes.now) ∥₁ },
+        (rows_of hierarchy.now) ∥₁ },
     pub ghost is_index: { ∥ IsIndexOf index.now (map method_of methods.now) ∥₁ },
     pub ghost few_classes: { length classes.now < 4294967295 },
     pub ghost few_methods: { length methods.now < 4294967295 },
@@ -31,8 +34,7 @@ pub struct Lineage<'a> {
 
 #[tactic(auto, unfolding(crate::specs::LineageView::lineage_of))]
 impl<'a> Lineage<'a> {
-    ghost use Rattle.std.specs.Prelude.{◌≡◌, ◌<◌, ◌↔◌, ℕ, [], length, slice_get, map, Some};
-    ghost use Rattle.std.specs.List.{Contains};
+    ghost use Rattle.std.specs.Prelude.{◌≡◌, ◌<◌, ◌↔◌, IsTrue, [], length, slice_get, map, Some};
     ghost use Rattle.wy_kernel.specs.Subtyping.{Supertype};
     ghost use Rattle.wy_kernel.specs.View.{class_of, method_of};
     ghost use Rattle.wy_kernel.specs.Builtin.{no_site};
@@ -44,6 +46,7 @@ impl<'a> Lineage<'a> {
     ghost use Rattle.wy_kernel.specs.declared.types.MethodForm.{MethodForm};
     ghost use Rattle.wy_overloads.specs.Candidates.{numbers_of};
     ghost use Rattle.wy_overloads.specs.Choice.{IsEquivalent, IsMember, IsMethod};
+    ghost use Rattle.wy_table.specs.Hierarchy.{rows_of};
     ghost use Rattle.wy_table.specs.MethodIndex.{IsIndexOf};
     ghost use Rattle.wy_table.specs.Methods.{IsAlike, IsByName, IsShared, Lists};
 
@@ -54,7 +57,7 @@ impl<'a> Lineage<'a> {
         Lineage {
             classes: &table.classes,
             methods: &table.methods,
-            supertypes: &table.supertypes,
+            hierarchy: &table.hierarchy,
             index: &table.index,
         }
     }
@@ -63,12 +66,12 @@ impl<'a> Lineage<'a> {
     pub fn of_rows(
         classes: &'a [Class],
         methods: &'a [Method],
-        supertypes: &'a [Vec<u32>],
+        hierarchy: &'a Hierarchy,
         index: &'a MethodIndex,
     ) -> Self
         requires has_top { HasTop (map class_of classes.now) }
         requires keeps_supertypes { KeepsSupertypes (map class_of classes.now)
-            (map (λ row. row.items) supertypes.now) }
+            (rows_of hierarchy.now) }
         requires is_index { IsIndexOf index.now (map method_of methods.now) }
         requires few_classes { length classes.now < no_site }
         requires few_methods { length methods.now < no_site }
@@ -82,7 +85,7 @@ impl<'a> Lineage<'a> {
         Lineage {
             classes,
             methods,
-            supertypes,
+            hierarchy,
             index,
         }
     }
@@ -101,12 +104,12 @@ impl<'a> Lineage<'a> {
         &self.methods[n as usize]
     }
 
-    /// The classes and interfaces at or above a class.
-    pub fn supertypes(&self, n: u32) -> &[u32]
-        requires { n < length (lineage_of self.now).classes }
-        ensures { (d : ℕ) → Contains result.now d ↔ Supertype (lineage_of self.now).classes n d }
+    /// Whether class `d` is class `c` or above it.
+    pub fn is_above(&self, c: u32, d: u32) -> bool
+        requires { c < length (lineage_of self.now).classes }
+        ensures { IsTrue result ↔ Supertype (lineage_of self.now).classes c d }
     {
-        &self.supertypes[n as usize]
+        self.hierarchy.is_above(c, d)
     }
 
     pub fn classes(&self) -> u32
@@ -167,17 +170,9 @@ impl<'a> Lineage<'a> {
         ensures { Lists (lineage_of self.now).methods
             (λ k m. (m.form ≡ MethodForm.Constructor) × (ty.now ≡ class_type m.class)) result.now }
     {
-        match *ty {
-            Ty::Of {
-                base: Base::Class(class),
-                brackets: _,
-            } => self.index.constructors(class),
-            Ty::Of {
-                base: Base::Primitive(_),
-                brackets: _,
-            } => &[],
-            Ty::Void => &[],
-            Ty::Null => &[],
+        match class_of_type(ty) {
+            Some(class) => self.index.constructors(class),
+            None => &[],
         }
     }
 }

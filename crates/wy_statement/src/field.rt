@@ -1,12 +1,12 @@
 //! What initializers become (JLS 8.3.2, 8.6, 8.7).
 
 ghost use Rattle.std.specs.Prelude.{◌≡◌, IfOk, Some, option_map};
-ghost use Rattle.wy_constant.specs.Fields.{declared_field, is_field};
+ghost use Rattle.wy_constant.specs.Fields.{declared_field};
 ghost use Rattle.wy_statement.specs.Bodies.{around_initializer, assigned_first, field_initial, field_number, initializer_block, or_zero, own_place};
 ghost use Rattle.wy_statement.specs.Statements.{Setting as PlainSetting};
 ghost use Rattle.wy_statement.specs.Views.{IsSetting, MakesTo, around_of, making_of, statements_seen};
 ghost use Rattle.wy_table.specs.ClassTable.{table_of};
-ghost use Rattle.wy_kernel.specs.View.{field_of, place as place_seen, statement};
+ghost use Rattle.wy_kernel.specs.View.{place as place_seen, statement};
 ghost use Rattle.wy_syntax.specs.View.{block_of, class_of, declarator_of, initial_of, named_of, type_seen};
 
 use crate::around::{Around, Outcome};
@@ -22,7 +22,7 @@ use std::alloc::{AllocError, Global};
 use wy_constant::TypeError;
 use wy_elab_expr::Texts;
 use wy_kernel::form::{Place, Stmt};
-use wy_kernel::types::{Field, Ty};
+use wy_kernel::types::Ty;
 use wy_syntax::declaration::ClassSyntax;
 use wy_syntax::expression::Initial;
 use wy_syntax::name::{Named, WrittenType};
@@ -43,31 +43,10 @@ fn own_place(alloc: Global, is_static: bool, field: u32, token: u32) -> Result<P
     })
 }
 
-fn is_named(field: &Field, class: u32, name: &str) -> bool
-    ensures { result ≡ is_field class name.now (field_of field.now) }
-{
-    field.class == class && field.name.as_str() == name
-}
-
-#[tactic(auto, using(wy_constant::proofs::Found::position_here, wy_constant::proofs::Found::position_further, wy_constant::proofs::Found::position_nowhere))]
-fn declared_field(table: &ClassTable, class: u32, name: &str) -> Option<u32>
-    ensures { result ≡ declared_field (table_of table.now).fields class name.now }
-{
-    for k in 0..table.fields() {
-        if is_named(table.field(k), class, name) {
-            return Some(k);
-        }
-    }
-    None
-}
-
 fn number_in(table: &ClassTable, class: u32, name: &str) -> u32
     ensures { result ≡ or_zero (declared_field (table_of table.now).fields class name.now) }
 {
-    match declared_field(table, class, name) {
-        Some(field) => field,
-        None => 0,
-    }
+    table.field_number(class, name).unwrap_or(0)
 }
 
 fn field_number(setting: &Setting, class: u32, name: &str) -> u32

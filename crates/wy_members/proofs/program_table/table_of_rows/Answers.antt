@@ -6,6 +6,7 @@ use Rattle.wy_kernel.specs.Program.{Class}
 use Rattle.wy_kernel.specs.Builtin.{no_site}
 use Rattle.wy_kernel.specs.View.{class_of, method_of, field_of}
 use Rattle.wy_table.specs.ClassTable.{table_of}
+use Rattle.wy_table.specs.Hierarchy.{rows_of}
 use Rattle.wy_kernel.specs.Table.{Table, IsTable, NamesAmong, KeepsSupertypes, constant_value}
 use Rattle.wy_members.specs.Declarations.{table, no_constants}
 use Rattle.wy_members.specs.Names.{unit_of}
@@ -13,16 +14,16 @@ use Rattle.wy_members.proofs.InRange.{is_table, names_among}
 use Rattle.wy_members.proofs.ProgramTables.{same_table}
 use Rattle.wy_members.proofs.program_table.table_of_rows.Goals as goal
 
-pub supertypes-requires-clause-among : goal.supertypes-requires-clause-among
-supertypes-requires-clause-among c =
+pub hierarchy_of-requires-clause-among : goal.hierarchy_of-requires-clause-among
+hierarchy_of-requires-clause-among c =
     let seen : map class_of c.as_slice.result.now ≡ (table (unit_of c.args.names.now)).classes = ap (map class_of) c.as_slice.ensures.value ∙ c.requires.rows.classes in
     let P : List Class → Type 0 = λ xs. NamesAmong xs in
     subst P (sym seen) (names_among (unit_of c.args.names.now))
 
 pub invariant_of-result-clause-keeps_supertypes : goal.invariant_of-result-clause-keeps_supertypes
 invariant_of-result-clause-keeps_supertypes c =
-    let P : List memory.Class → Type 0 = λ xs. KeepsSupertypes (map class_of xs) (map (λ row. row.items) c.in_ok-supertypes.supertypes.items) in
-    ∣ subst P c.as_slice.ensures.value c.in_ok-supertypes.ensures ∣₁
+    let P : List memory.Class → Type 0 = λ xs. KeepsSupertypes (map class_of xs) (rows_of c.in_ok-hierarchy.hierarchy) in
+    ∣ subst P c.as_slice.ensures.value c.in_ok-hierarchy.ensures ∣₁
 
 pub invariant_of-result-clause-is_table : goal.invariant_of-result-clause-is_table
 invariant_of-result-clause-is_table c =

@@ -1,0 +1,12 @@
+use Rattle.std.proofs.Common.{map}
+use Rattle.std.proofs.Math.Logic.{∥∥₁_elim}
+use Rattle.std.proofs.Props.{props}
+use Rattle.wy_kernel.specs.View.{class_of, field_of}
+use Rattle.wy_table.specs.ClassTable.{table_of}
+use Rattle.wy_table.proofs.table.ClassTable.class_number.Goals as goal
+
+pub returns : goal.returns
+unfolding table_of
+returns c =
+    let t = c.args.self.now in
+    ∥∥₁_elim t.keeps_names (hlevel props) (λ keeps. c.class.ensures (map class_of t.classes.items) (map field_of t.fields.items) keeps)
