@@ -109,8 +109,7 @@ pub wrongly_by_one : (t : Table) (c : ℕ) (m : Method) (j : ℕ) (n : Method) (
     IsTrue r ↔ StandsWrongly t (class_type c) n → IsTrue r ↔ InheritsAlikeWrongly t c m
 wrongly_by_one t c m j n r there (other, is, found) exact =
     let P : Method → Type 0 = λ x. InheritsAlike t c false m j x in
-    let here : InheritsAlike t c false m j n = subst P (one_method t j other n is there) found in
-    (
+    let here : InheritsAlike t c false m j n = subst P (one_method t j other n is there) found in (
       λ h. (j, n, there, (here.1, here.2, exact.0 h)),
       λ (i, x, at, (a, inherits, wrong)). exact.1 (wrongly_alike t c i x n inherits (through x m n (turned m x a) here.1) wrong),
     )
@@ -161,13 +160,13 @@ none_wrong t c numbers n top lists all right (k, m, is, (inherits, wrong)) =
     (λ l. never_wrong_alone t (class_type c) k m (itself t c k m inherits)
     (alone_or_alike t c k m top inherits
     (λ alike. (let (j, other, there, (contains, a)) = l.each k m is ((by_its_name t c k m inherits, λ e. absurd (cc)), equal_extended t c k m top inherits k m (itself t c k m inherits), λ e. alike) in
-      each_listed t numbers n (λ i x. InheritsAlikeWrongly t c x → ⊥) all right j other contains there (k, m, is, (a, inherits, wrong))))) wrong)
+    each_listed t numbers n (λ i x. InheritsAlikeWrongly t c x → ⊥) all right j other contains there (k, m, is, (a, inherits, wrong))))) wrong)
 
 pub none_left : (t : Table) (c : ℕ) (numbers : List ℕ) (n : ℕ) → HasTop t.classes → ∥ ListsFound t true numbers ∥₁ → length numbers ≤ n → EachBefore t numbers n (λ k m. LeavesAlikeAbstract t c m → ⊥) → LeavesAbstract t c → ⊥
 none_left t c numbers n top lists all right (k, m, is, (inherits, none, abstract)) =
     ∥∥₁_elim lists (hlevel props)
     (λ l. (let (j, other, there, (contains, a)) = l.each k m is ((by_its_name t c k m inherits, λ e. abstract), equal_extended t c k m top inherits k m (itself t c k m inherits), λ e. absurd (cc)) in
-      each_listed t numbers n (λ i x. LeavesAlikeAbstract t c x → ⊥) all right j other contains there (k, m, is, (a, (inherits, none, abstract)))))
+    each_listed t numbers n (λ i x. LeavesAlikeAbstract t c x → ⊥) all right j other contains there (k, m, is, (a, (inherits, none, abstract)))))
 
 -- ---- the list of the first of them
 
@@ -199,8 +198,8 @@ module _ (t : Table) (Open : ℕ → Type 0) (only_abstract : Bool) where
   found_kept n numbers m is before earlier =
       up_to n numbers m is before
       (λ found. (let (j, other, there, (less, sought, allowed, a)) = earlier found in
-        let (i, x, at, (contains, b)) = before j less other there (found_with n m j other is found less sought allowed a) in
-        (i, x, at, (contains, through x other m b (turned m other a)))))
+      let (i, x, at, (contains, b)) = before j less other there (found_with n m j other is found less sought allowed a) in
+      (i, x, at, (contains, through x other m b (turned m other a)))))
 
   pub all_found : (n : ℕ) (numbers : List ℕ) → ((d : ℕ) → IsExtended t.classes d → Open d) → length t.methods ≤ n → FoundBefore n numbers → AreMethods t numbers → ListsFound t only_abstract numbers
   all_found n numbers allowed all found range = record {

@@ -118,10 +118,7 @@ fn is_earlier(
     ensures { IsTrue result ↔ ((j < k) × IsSought only_abstract (method_of other.now)
         × IsMarked marks.now other.now.class × IsAlike (method_of m.now) (method_of other.now)) }
 {
-    j < k
-        && is_sought(only_abstract, other)
-        && is_marked(marks, other.class)
-        && is_alike(m, other)
+    j < k && is_sought(only_abstract, other) && is_marked(marks, other.class) && is_alike(m, other)
 }
 
 fn is_alike(m: &Method, other: &Method) -> bool

@@ -24,12 +24,12 @@ loop-k-preserved c =
     let here : k < length t.methods = slice_get_within t.methods k m c.method-m.ensures in
     elim c.if-is_found.branch [
       | then-is_found+then-not-has_earlier+in_ok-push w ↦ (let e : items c.if-is_found.numbers ≡ before ++ k ∷ [] = ap items w.numbers-is ∙ w.in_ok-push.ensures.items in
-        subst So (sym e) (record { found = found_added t Open only k before m c.method-m.ensures c.loop-k.invariant.found; in_range = range_added t before k c.loop-k.invariant.in_range here }))
+          subst So (sym e) (record { found = found_added t Open only k before m c.method-m.ensures c.loop-k.invariant.found; in_range = range_added t before k c.loop-k.invariant.in_range here }))
       | else-is_found w ↦ (let earlier : IsFound t Open only k m → HasEarlier t Open only k m = elim w.else-is_found.branch [
-          | else-is_found-via-then-is_found+else-not-has_earlier v ↦ (λ found. v.has_earlier.ensures.0 v.if-not-has_earlier.false)
-          | else-is_found-via-else-is_found v ↦ (λ found. absurd (untrue _ v.if-is_found.false (c.is_found.ensures found)))
-        ] in
-        subst So (sym (ap items w.numbers-is)) (record { found = found_kept t Open only k before m c.method-m.ensures c.loop-k.invariant.found earlier; in_range = c.loop-k.invariant.in_range }))
+        | else-is_found-via-then-is_found+else-not-has_earlier v ↦ (λ found. v.has_earlier.ensures.0 v.if-not-has_earlier.false)
+        | else-is_found-via-else-is_found v ↦ (λ found. absurd (untrue _ v.if-is_found.false (c.is_found.ensures found)))
+      ] in
+          subst So (sym (ap items w.numbers-is)) (record { found = found_kept t Open only k before m c.method-m.ensures c.loop-k.invariant.found earlier; in_range = c.loop-k.invariant.in_range }))
     ]
 
 pub returns : goal.returns
