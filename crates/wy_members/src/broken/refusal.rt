@@ -9,6 +9,7 @@ ghost use Rattle.wy_members.specs.Rows.{AreRows};
 use crate::broken::breach::Breach;
 use crate::broken::compared::{Compared, first_alike};
 use crate::broken::cycle::{Judged, cyclic_classes};
+use crate::broken::extended::extended;
 use crate::broken::fitting::fitting_classes;
 use crate::broken::inheriting::inheriting_methods;
 use crate::broken::judging::breach_in;
@@ -52,8 +53,9 @@ pub fn refusal(alloc: Global, names: &Names, rows: &Rows) -> Result<Option<Breac
         lineage: &lineage,
         cyclic: cyclic.as_slice(),
     };
-    let shared = first_alike(alloc, &inherited, false)?;
-    let unfinished = first_alike(alloc, &inherited, true)?;
+    let marks = extended(alloc, &inherited)?;
+    let shared = first_alike(alloc, &inherited, &marks, false)?;
+    let unfinished = first_alike(alloc, &inherited, &marks, true)?;
     let compared = Compared {
         lineage: &inherited,
         shared: shared.as_slice(),
