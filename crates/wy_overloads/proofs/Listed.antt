@@ -1,5 +1,5 @@
 -- A search through candidates sees each of the methods that it looks for.
-use Rattle.std.proofs.Common.{◌≡◌, ℕ, ◌<◌, ◌≤◌, ◌+◌, List, [], ◌++◌, length, Option, Some, slice_get, refl, sym, ap, subst, ◌∙◌, arith, below_more, ◌⊎◌, inl, inr, get_or}
+use Rattle.std.proofs.Common.{◌≡◌, ℕ, ◌<◌, ◌≤◌, ◌+◌, List, [], ◌++◌, length, Some, slice_get, refl, sym, ap, subst, ◌∙◌, arith, below_more, ◌⊎◌, inl, inr, get_or}
 use Rattle.std.specs.List.{Contains}
 use Rattle.std.specs.Cmp.{nat_eq_equiv}
 use Rattle.std.proofs.Math.Logic.{∥∥₁_elim}

@@ -1,5 +1,3 @@
-use Rattle.std.proofs.Common.{ℕ}
-use Rattle.wy_kernel.specs.Program.{Method}
 use Rattle.wy_overloads.specs.Choice.{Chosen}
 use Rattle.wy_overloads.specs.Candidates.{numbers_of}
 use Rattle.wy_overloads.specs.LineageView.{lineage_of}

@@ -1,5 +1,3 @@
-use Rattle.std.proofs.Common.{ℕ}
-use Rattle.wy_kernel.specs.Program.{Method}
 use Rattle.wy_kernel.specs.View.{method_of}
 use Rattle.wy_overloads.specs.Choice.{IsEquivalent, HasHigherResult}
 use Rattle.wy_overloads.specs.Candidates.{numbers_of}

@@ -1,4 +1,4 @@
-use Rattle.std.proofs.Common.{◌≡◌, ℕ, map, sym, subst, ap, ◌∙◌}
+use Rattle.std.proofs.Common.{map, sym, subst}
 use Rattle.wy_kernel.specs.View.{method_of}
 use Rattle.wy_table.specs.Methods.{Lists, IsNamed}
 use Rattle.wy_overloads.specs.LineageView.{lineage_of}
