@@ -40,12 +40,13 @@ pub fn refusal(alloc: Global, names: &Names, rows: &Rows) -> Result<Option<Breac
         inheriting.as_slice(),
         above_fitting.as_slice(),
     );
-    Ok(breach_in(
+    breach_in(
+        alloc,
         names,
         rows,
         known.as_slice(),
         texts.as_slice(),
         &judged,
         &compared,
-    ))
+    )
 }
