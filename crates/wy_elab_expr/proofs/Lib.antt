@@ -1,6 +1,7 @@
 mod Forms
 pub mod KernelViews
 pub mod Listed
+pub mod TextPlaces
 pub mod Nearest
 pub mod Primitives
 pub mod Rows

@@ -1,4 +1,4 @@
--- A text among the texts: its place, and the texts with it.
+-- A text among the texts: the texts with it, and its place there.
 use Rattle.std.proofs.Common.{◌≡◌, ◌∙◌, ap, sym, ℕ, suc, ◌+◌, ◌<◌, ◌≤◌, Bool, true, false, min, List, [], ◌∷◌, ◌++◌, length, map, drop, get_or, set, cond, not, refl, eq-eqb, ◌&&◌, arith, add-one, drop-cons}
 use Rattle.std.proofs.Math.ListN.{drop_of_length-le}
 use Rattle.std.proofs.lemmas.List.{map-set, map-append, length-map, get_or-map}
@@ -12,24 +12,6 @@ use Rattle.wy_elab_expr.specs.Meaning.{has_units, listed, text_number}
 step : {X : Type 0} (p : X → Bool) (x : X) (xs : List X) (b : Bool) → p x ≡ b → position_or_len p (x ∷ xs) ≡ cond b 0 (1 + position_or_len p xs)
 step p x xs true e = ap (λ b. cond (not b) (1 + position_or_len p xs) 0) e
 step p x xs false e = ap (λ b. cond (not b) (1 + position_or_len p xs) 0) e
-
-at : (p : FixedText → Bool) (xs : List memory.FixedText) (i : ℕ) (x : memory.FixedText) (b : Bool) → i < length xs → x ≡ get_or xs i x → p (text_of x) ≡ b →
-    position_or_len p (map text_of (drop i xs)) ≡ cond b 0 (1 + position_or_len p (map text_of (drop (i + 1) xs)))
-at p xs i x b less is passes =
-    ap (λ z. position_or_len p (map text_of z)) (drop-cons xs i x less ∙ ap (λ z. z ∷ drop (suc i) xs) (sym is) ∙ ap (λ k. x ∷ drop k xs) (sym (add-one i)))
-    ∙ step p (text_of x) (map text_of (drop (i + 1) xs)) b passes
-
-pub place_here : (p : FixedText → Bool) (xs : List memory.FixedText) (i : ℕ) (x : memory.FixedText) (r : ℕ) → i < length xs → x ≡ get_or xs i x →
-    p (text_of x) ≡ true → r ≡ i + position_or_len p (map text_of (drop i xs)) → i ≡ r
-place_here p xs i x r less is passes e = let f = at p xs i x true less is passes in omega (arith, e, f)
-
-pub place_further : (p : FixedText → Bool) (xs : List memory.FixedText) (i : ℕ) (x : memory.FixedText) (r : ℕ) → i < length xs → x ≡ get_or xs i x →
-    p (text_of x) ≡ false → r ≡ i + position_or_len p (map text_of (drop i xs)) → r ≡ (i + 1) + position_or_len p (map text_of (drop (i + 1) xs))
-place_further p xs i x r less is fails e = let f = at p xs i x false less is fails in omega (arith, e, f)
-
-pub place_nowhere : (p : FixedText → Bool) (xs : List memory.FixedText) (i r : ℕ) → length xs ≤ i → i ≤ length xs → r ≡ i + position_or_len p (map text_of (drop i xs)) → length xs ≡ r
-place_nowhere p xs i r all in_range e =
-    let f : position_or_len p (map text_of (drop i xs)) ≡ 0 = ap (λ z. position_or_len p (map text_of z)) (drop_of_length-le xs all) in omega (arith, e, f)
 
 -- with its least token
 lowered : FixedText → ℕ → FixedText

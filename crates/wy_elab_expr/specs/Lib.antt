@@ -5,3 +5,4 @@ pub mod Elaboration
 pub mod Views
 pub mod Groups
 pub mod Parts
+pub mod TextPlaces

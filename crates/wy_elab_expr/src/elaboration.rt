@@ -255,17 +255,8 @@ fn invoked(
 {
     let args = elaborated_all(alloc, table, scope, texts, args)?;
     let ty = class(scope.class());
-    called(
-        alloc,
-        table,
-        scope,
-        texts,
-        Through::Nothing,
-        ty,
-        name,
-        args,
-        token,
-    )
+    let through = Through::Nothing;
+    called(alloc, table, scope, texts, through, ty, name, args, token)
 }
 
 // `object.name`
@@ -342,17 +333,8 @@ fn invoked_super(
 {
     let args = elaborated_all(alloc, table, scope, texts, args)?;
     let ty = class(above(table, scope));
-    called(
-        alloc,
-        table,
-        scope,
-        texts,
-        Through::Super,
-        ty,
-        name,
-        args,
-        token,
-    )
+    let through = Through::Super;
+    called(alloc, table, scope, texts, through, ty, name, args, token)
 }
 
 // `array[index]`

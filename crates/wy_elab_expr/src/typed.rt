@@ -37,7 +37,7 @@ pub fn typed_expression(
     ensures texts { scope.new ≡ with_texts scope.old scope.new.texts }
     ensures err { OnErr result (scope.new ≡ scope.old) }
 {
-    let mut texts = Texts::of(scope.copied_texts()?);
+    let mut texts = Texts::of(alloc, scope.copied_texts()?)?;
     let m = elaborated(alloc, table, scope, &mut texts, e)?;
     let ty = type_of(&m);
     let form = formed(alloc, &mut texts, m)?;

@@ -150,7 +150,7 @@ fn library_texts(alloc: Global) -> Result<Texts, AllocError>
         units: vec![in alloc; 58, 32]?,
         token: 0,
     };
-    Ok(Texts::of(vec![in alloc; text]?))
+    Texts::of(alloc, vec![in alloc; text]?)
 }
 
 // The texts that the forms of all bodies hold, in the order of their first tokens.
@@ -161,7 +161,7 @@ fn all_texts(setting: &Setting, unit: &[Declaration]) -> Result<Texts, TypeError
     let mut texts = library_texts(setting.alloc)?;
     let mut all = none_yet(setting.alloc);
     put_bodies(setting, &mut texts, &mut all, unit)?;
-    Ok(in_order(texts)?)
+    Ok(in_order(setting.alloc, texts)?)
 }
 
 // All bodies: made again from all texts in order, each form has the number of its text.
@@ -268,6 +268,7 @@ fn program_from(
         constants: _,
         supertypes: _,
         names: _,
+        index: _,
     } = table;
     Ok(Program {
         classes,

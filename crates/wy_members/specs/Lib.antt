@@ -9,6 +9,7 @@ pub mod Least
 pub mod Keys
 pub mod Words
 pub mod Within
+pub mod Alike
 pub mod Earlier
 pub mod Judging
 pub mod Known

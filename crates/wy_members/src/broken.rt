@@ -4,6 +4,7 @@
 mod again;
 mod bodies;
 pub mod breach;
+mod compared;
 mod cycle;
 mod duplicate;
 mod first;

@@ -20,6 +20,7 @@ use wy_kernel::closure::supertypes;
 use wy_kernel::form::Const;
 use wy_kernel::types::Field;
 use wy_table::names::DeclaredNames;
+use wy_table::methods::MethodIndex;
 use wy_table::table::ClassTable;
 
 fn unknown() -> Option<Const>
@@ -51,6 +52,7 @@ fn table_of_rows(alloc: Global, names: &Names, rows: Rows) -> Result<ClassTable,
     let supertypes = supertypes(alloc, rows.classes.as_slice())?;
     let constants = no_constants(alloc, rows.fields.as_slice())?;
     let declared = DeclaredNames::of(alloc, rows.classes.as_slice(), rows.fields.as_slice())?;
+    let index = MethodIndex::of(alloc, rows.methods.as_slice())?;
     let Rows {
         classes,
         methods,
@@ -63,6 +65,7 @@ fn table_of_rows(alloc: Global, names: &Names, rows: Rows) -> Result<ClassTable,
         constants,
         supertypes,
         names: declared,
+        index,
     })
 }
 

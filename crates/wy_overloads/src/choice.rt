@@ -43,7 +43,9 @@ fn chosen(lineage: &Lineage, ty: &Ty, name: &str, args: &[Ty]) -> Option<u32>
     ensures { MatchOption result ((k : ℕ) → Chosen (lineage_of lineage.now) ty.now name.now args.now
         k → ⊥) (λ k. Chosen (lineage_of lineage.now) ty.now name.now args.now k) }
 {
-    for k in 0..lineage.methods() {
+    let candidates = lineage.named(ty, name);
+    for i in 0..candidates.len() {
+        let k = candidates.at(i);
         if is_chosen(lineage, ty, name, args, k, lineage.method(k)) {
             return Some(k);
         }
@@ -85,8 +87,9 @@ fn is_most_specific(lineage: &Lineage, ty: &Ty, name: &str, args: &[Ty], m: &Met
     ensures { IsTrue result
         ↔ IsMostSpecific (lineage_of lineage.now) ty.now name.now args.now (method_of m.now) }
 {
-    for j in 0..lineage.methods() {
-        let other = lineage.method(j);
+    let candidates = lineage.named(ty, name);
+    for i in 0..candidates.len() {
+        let other = lineage.method(candidates.at(i));
         if applies(lineage, ty, name, args, other)
             && !are_below(lineage, m.params.as_slice(), other.params.as_slice())
         {
@@ -99,8 +102,9 @@ fn is_most_specific(lineage: &Lineage, ty: &Ty, name: &str, args: &[Ty], m: &Met
 fn some_applies(lineage: &Lineage, ty: &Ty, name: &str, args: &[Ty]) -> bool
     ensures { IsTrue result ↔ SomeApplies (lineage_of lineage.now) ty.now name.now args.now }
 {
-    for k in 0..lineage.methods() {
-        if applies(lineage, ty, name, args, lineage.method(k)) {
+    let candidates = lineage.named(ty, name);
+    for i in 0..candidates.len() {
+        if applies(lineage, ty, name, args, lineage.method(candidates.at(i))) {
             return true;
         }
     }

@@ -19,17 +19,20 @@ pub fn is_counted(lineage: &Lineage, ty: &Ty, k: u32, m: &Method) -> bool
     if !m.is_abstract && is_nearest(lineage, ty, k, m) {
         return true;
     }
-    has_lowest_result(lineage, ty, k, m) && !nearest_has_body(lineage, ty, m)
+    has_lowest_result(lineage, ty, k, m) && !nearest_has_body(lineage, ty, k, m)
 }
 
 // Whether a class declares method `k`, and no class nearer to the type an equal one.
 fn is_nearest(lineage: &Lineage, ty: &Ty, k: u32, m: &Method) -> bool
+    requires { IsMethod (lineage_of lineage.now) k (method_of m.now) }
     ensures { IsTrue result ↔ IsNearest (lineage_of lineage.now) ty.now k (method_of m.now) }
 {
     if !is_class(lineage, m.class) {
         return false;
     }
-    for j in 0..lineage.methods() {
+    let candidates = lineage.alike(ty, k, m);
+    for i in 0..candidates.len() {
+        let j = candidates.at(i);
         let other = lineage.method(j);
         if is_equivalent(lineage, ty, m, other) && !is_further(lineage, k, m, j, other) {
             return false;
@@ -53,9 +56,12 @@ fn is_further(lineage: &Lineage, k: u32, m: &Method, j: u32, other: &Method) -> 
 
 // Whether the result of method `k` may stand for that of each of its equals, and `k` is the first with this result.
 fn has_lowest_result(lineage: &Lineage, ty: &Ty, k: u32, m: &Method) -> bool
+    requires { IsMethod (lineage_of lineage.now) k (method_of m.now) }
     ensures { IsTrue result ↔ HasLowestResult (lineage_of lineage.now) ty.now k (method_of m.now) }
 {
-    for j in 0..lineage.methods() {
+    let candidates = lineage.alike(ty, k, m);
+    for i in 0..candidates.len() {
+        let j = candidates.at(i);
         let other = lineage.method(j);
         if is_equivalent(lineage, ty, m, other) && !has_higher_result(lineage, k, m, j, other) {
             return false;
@@ -74,11 +80,14 @@ fn has_higher_result(lineage: &Lineage, k: u32, m: &Method, j: u32, other: &Meth
     is_substitutable(lineage, &m.result, &other.result)
 }
 
-/// Whether a class declares an equal method with a body, and no class nearer to the type declares one.
-pub fn nearest_has_body(lineage: &Lineage, ty: &Ty, m: &Method) -> bool
+/// Whether a class declares an equal of method `k` with a body, and no class nearer to the type declares one.
+pub fn nearest_has_body(lineage: &Lineage, ty: &Ty, k: u32, m: &Method) -> bool
+    requires { IsMethod (lineage_of lineage.now) k (method_of m.now) }
     ensures { IsTrue result ↔ NearestHasBody (lineage_of lineage.now) ty.now (method_of m.now) }
 {
-    for j in 0..lineage.methods() {
+    let candidates = lineage.alike(ty, k, m);
+    for i in 0..candidates.len() {
+        let j = candidates.at(i);
         let other = lineage.method(j);
         if !other.is_abstract
             && is_equivalent(lineage, ty, m, other)

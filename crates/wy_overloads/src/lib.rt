@@ -2,6 +2,7 @@
 //! Nothing here reads a declaration.
 #![tactic(auto)]
 
+pub mod candidates;
 pub mod choice;
 pub mod counting;
 pub mod laws;

@@ -3,10 +3,15 @@
 
 ghost use Rattle.std.specs.Prelude.{◌<◌, length, map};
 ghost use Rattle.wy_kernel.specs.Table.{KeepsSupertypes};
-ghost use Rattle.wy_kernel.specs.View.{class_of};
+ghost use Rattle.wy_kernel.specs.View.{class_of, method_of};
 ghost use Rattle.wy_overloads.specs.Lineage.{HasTop};
+ghost use Rattle.wy_table.specs.Hierarchy.{rows_of};
+ghost use Rattle.wy_table.specs.MethodIndex.{IsIndexOf};
 
-use wy_kernel::types::{Class, Method};
+use crate::candidates::Candidates;
+use wy_kernel::types::{Base, Class, Method, Ty};
+use wy_table::hierarchy::Hierarchy;
+use wy_table::methods::MethodIndex;
 use wy_table::table::ClassTable;
 
 /// Declarations, borrowed. Classes and methods go by their places.
@@ -14,19 +19,21 @@ use wy_table::table::ClassTable;
 pub struct Lineage<'a> {
     pub classes: &'a [Class],
     pub methods: &'a [Method],
-    /// For each class, all classes and interfaces at or above it.
-    pub supertypes: &'a [Vec<u32>],
+    /// What is at or above each class.
+    pub hierarchy: &'a Hierarchy,
+    /// The methods by what they are looked for by.
+    pub index: &'a MethodIndex,
     pub ghost has_top: { ∥ HasTop (map class_of classes.now) ∥₁ },
     pub ghost keeps_supertypes: { ∥ KeepsSupertypes (map class_of classes.now)
-        (map (λ row. row.items) supertypes.now) ∥₁ },
+        (rows_of hierarchy.now) ∥₁ },
+    pub ghost is_index: { ∥ IsIndexOf index.now (map method_of methods.now) ∥₁ },
     pub ghost few_classes: { length classes.now < 4294967295 },
     pub ghost few_methods: { length methods.now < 4294967295 },
 }
 
 #[tactic(auto, unfolding(crate::specs::LineageView::lineage_of))]
 impl<'a> Lineage<'a> {
-    ghost use Rattle.std.specs.Prelude.{◌≡◌, ◌<◌, ◌↔◌, ℕ, [], length, slice_get, map, Some};
-    ghost use Rattle.std.specs.List.{Contains};
+    ghost use Rattle.std.specs.Prelude.{◌≡◌, ◌<◌, ◌↔◌, IsTrue, [], length, slice_get, map, Some};
     ghost use Rattle.wy_kernel.specs.Subtyping.{Supertype};
     ghost use Rattle.wy_kernel.specs.View.{class_of, method_of};
     ghost use Rattle.wy_kernel.specs.Builtin.{no_site};
@@ -34,6 +41,13 @@ impl<'a> Lineage<'a> {
     ghost use Rattle.wy_kernel.specs.Table.{KeepsSupertypes};
     ghost use Rattle.wy_overloads.specs.Lineage.{HasTop, hierarchy};
     ghost use Rattle.wy_overloads.specs.LineageView.{lineage_of};
+    ghost use Rattle.wy_kernel.specs.Subtyping.{class_type};
+    ghost use Rattle.wy_kernel.specs.declared.types.MethodForm.{MethodForm};
+    ghost use Rattle.wy_overloads.specs.Candidates.{numbers_of};
+    ghost use Rattle.wy_overloads.specs.Choice.{IsEquivalent, IsMember, IsMethod};
+    ghost use Rattle.wy_table.specs.Hierarchy.{rows_of};
+    ghost use Rattle.wy_table.specs.MethodIndex.{IsIndexOf};
+    ghost use Rattle.wy_table.specs.Methods.{IsAlike, IsByName, IsShared, Lists};
 
     /// The classes and the methods of a table.
     pub fn of_table(table: &'a ClassTable) -> Self
@@ -42,15 +56,22 @@ impl<'a> Lineage<'a> {
         Lineage {
             classes: &table.classes,
             methods: &table.methods,
-            supertypes: &table.supertypes,
+            hierarchy: &table.hierarchy,
+            index: &table.index,
         }
     }
 
-    /// These classes and methods, and what is at or above each class.
-    pub fn of_rows(classes: &'a [Class], methods: &'a [Method], supertypes: &'a [Vec<u32>]) -> Self
+    /// These classes and methods, what is at or above each class, and the index of the methods.
+    pub fn of_rows(
+        classes: &'a [Class],
+        methods: &'a [Method],
+        hierarchy: &'a Hierarchy,
+        index: &'a MethodIndex,
+    ) -> Self
         requires has_top { HasTop (map class_of classes.now) }
         requires keeps_supertypes { KeepsSupertypes (map class_of classes.now)
-            (map (λ row. row.items) supertypes.now) }
+            (rows_of hierarchy.now) }
+        requires is_index { IsIndexOf index.now (map method_of methods.now) }
         requires few_classes { length classes.now < no_site }
         requires few_methods { length methods.now < no_site }
         ensures { lineage_of result ≡ record {
@@ -63,7 +84,8 @@ impl<'a> Lineage<'a> {
         Lineage {
             classes,
             methods,
-            supertypes,
+            hierarchy,
+            index,
         }
     }
 
@@ -81,12 +103,12 @@ impl<'a> Lineage<'a> {
         &self.methods[n as usize]
     }
 
-    /// The classes and interfaces at or above a class.
-    pub fn supertypes(&self, n: u32) -> &[u32]
-        requires { n < length (lineage_of self.now).classes }
-        ensures { (d : ℕ) → Contains result.now d ↔ Supertype (lineage_of self.now).classes n d }
+    /// Whether class `d` is class `c` or above it.
+    pub fn is_above(&self, c: u32, d: u32) -> bool
+        requires { c < length (lineage_of self.now).classes }
+        ensures { IsTrue result ↔ Supertype (lineage_of self.now).classes c d }
     {
-        &self.supertypes[n as usize]
+        self.hierarchy.is_above(c, d)
     }
 
     pub fn classes(&self) -> u32
@@ -99,5 +121,65 @@ impl<'a> Lineage<'a> {
         ensures { result ≡ length (lineage_of self.now).methods }
     {
         self.methods.len() as u32
+    }
+
+    /// The methods to look at for those that a type has by a name.
+    pub fn named(&self, ty: &Ty, name: &str) -> Candidates<'a>
+        ensures { Lists (lineage_of self.now).methods
+            (λ k m. IsMember (lineage_of self.now).classes ty.now name.now m) (numbers_of result) }
+    {
+        Candidates {
+            by_name: self.index.named(name),
+            constructors: self.constructors_of(ty),
+        }
+    }
+
+    /// The methods to look at for those of a type that have the name and the parameter types of method `k`.
+    pub fn alike(&self, ty: &Ty, k: u32, m: &Method) -> Candidates<'a>
+        requires { IsMethod (lineage_of self.now) k (method_of m.now) }
+        ensures { Lists (lineage_of self.now).methods
+            (λ j other. IsEquivalent (lineage_of self.now).classes ty.now (method_of m.now) other)
+            (numbers_of result) }
+    {
+        Candidates {
+            by_name: self.alike_by_name(k, m),
+            constructors: self.constructors_of(ty),
+        }
+    }
+
+    /// The methods to look at for those that are called by the name of method `k` and have its parameter types.
+    pub fn alike_by_name(&self, k: u32, m: &Method) -> &'a [u32]
+        requires { IsMethod (lineage_of self.now) k (method_of m.now) }
+        ensures { Lists (lineage_of self.now).methods
+            (λ j other. IsByName other.form × IsAlike (method_of m.now) other) result.now }
+    {
+        self.index.alike(k)
+    }
+
+    /// The methods to look at for those that have the name and the parameter types of another, constructors aside.
+    pub fn shared(&self) -> &'a [u32]
+        ensures { Lists (lineage_of self.now).methods (IsShared (lineage_of self.now).methods)
+            result.now }
+    {
+        self.index.shared()
+    }
+
+    /// The methods to look at for the constructors of the class that a type is.
+    pub fn constructors_of(&self, ty: &Ty) -> &'a [u32]
+        ensures { Lists (lineage_of self.now).methods
+            (λ k m. (m.form ≡ MethodForm.Constructor) × (ty.now ≡ class_type m.class)) result.now }
+    {
+        match *ty {
+            Ty::Of {
+                base: Base::Class(class),
+                brackets: _,
+            } => self.index.constructors(class),
+            Ty::Of {
+                base: Base::Primitive(_),
+                brackets: _,
+            } => &[],
+            Ty::Void => &[],
+            Ty::Null => &[],
+        }
     }
 }

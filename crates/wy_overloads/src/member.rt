@@ -88,8 +88,9 @@ pub fn is_of_library(ty: &Ty) -> bool
 pub fn has_some(lineage: &Lineage, ty: &Ty, name: &str) -> bool
     ensures { IsTrue result ↔ HasSome (lineage_of lineage.now) ty.now name.now }
 {
-    for k in 0..lineage.methods() {
-        if is_member(lineage, ty, name, lineage.method(k)) {
+    let candidates = lineage.named(ty, name);
+    for i in 0..candidates.len() {
+        if is_member(lineage, ty, name, lineage.method(candidates.at(i))) {
             return true;
         }
     }

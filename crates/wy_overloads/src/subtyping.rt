@@ -1,4 +1,4 @@
-//! Subtyping, by the supertypes that a lineage keeps (JLS 4.10).
+//! Subtyping, by what a lineage has at or above each class (JLS 4.10).
 //! No walk over classes, and no memory.
 
 ghost use Rattle.std.specs.Prelude.{◌≡◌, ◌↔◌, IsTrue};
@@ -134,5 +134,5 @@ fn is_object(base: Base) -> bool
 pub fn is_supertype(lineage: &Lineage, a: u32, b: u32) -> bool
     ensures { IsTrue result ↔ Supertype (lineage_of lineage.now).classes a b }
 {
-    a == b || a < lineage.classes() && lineage.supertypes(a).contains(&b)
+    a == b || a < lineage.classes() && lineage.is_above(a, b)
 }

@@ -1,2 +1,9 @@
 pub mod ClassTable
 pub mod Names
+pub mod Listed
+pub mod MethodIndex
+pub mod Methods
+pub mod Hierarchy
+pub mod Numbering
+pub mod Above
+pub mod Spans

@@ -3,9 +3,13 @@
 
 ghost use Rattle.std.specs.Prelude.{map};
 ghost use Rattle.wy_kernel.specs.Table.{IsTable, KeepsSupertypes, table_with};
-ghost use Rattle.wy_kernel.specs.View.{class_of, field_of};
+ghost use Rattle.wy_kernel.specs.View.{class_of, field_of, method_of};
+ghost use Rattle.wy_table.specs.Hierarchy.{rows_of};
+ghost use Rattle.wy_table.specs.MethodIndex.{IsIndexOf};
 ghost use Rattle.wy_table.specs.Names.{KeepsNames};
 
+use crate::hierarchy::Hierarchy;
+use crate::methods::MethodIndex;
 use crate::names::DeclaredNames;
 use wy_kernel::form::Const;
 use wy_kernel::types::{Class, Field, Method};
@@ -18,25 +22,27 @@ pub struct ClassTable {
     pub fields: Vec<Field>,
     /// The value of each field that is a constant variable.
     pub constants: Vec<Option<Const>>,
-    /// For each class, all classes and interfaces at or above it.
-    pub supertypes: Vec<Vec<u32>>,
+    /// What is at or above each class.
+    pub hierarchy: Hierarchy,
     pub names: DeclaredNames,
+    /// The methods by what they are looked for by.
+    pub index: MethodIndex,
     pub ghost is_table: { ∥ IsTable
         (table_with classes.items methods.items fields.items constants.items) ∥₁ },
     pub ghost keeps_supertypes: { ∥ KeepsSupertypes (map class_of classes.items)
-        (map (λ row. row.items) supertypes.items) ∥₁ },
+        (rows_of hierarchy) ∥₁ },
     pub ghost keeps_names: { ∥ KeepsNames (map class_of classes.items)
         (map field_of fields.items) names ∥₁ },
+    pub ghost is_index: { ∥ IsIndexOf index (map method_of methods.items) ∥₁ },
 }
 
 #[tactic(auto, unfolding(crate::specs::ClassTable::table_of))]
 impl ClassTable {
-    ghost use Rattle.std.specs.Prelude.{◌≡◌, ◌<◌, ◌↔◌, ℕ, length, slice_get, option_map, map, Some};
-    ghost use Rattle.std.specs.List.{Contains, position_from};
+    ghost use Rattle.std.specs.Prelude.{◌≡◌, ◌<◌, length, slice_get, option_map, map, Some};
+    ghost use Rattle.std.specs.List.{position_from};
     ghost use Rattle.std.specs.Str.{bytes_eq};
     ghost use Rattle.wy_table.specs.ClassTable.{table_of};
     ghost use Rattle.wy_table.specs.Names.{is_field_named};
-    ghost use Rattle.wy_kernel.specs.Subtyping.{Supertype};
     ghost use Rattle.wy_kernel.specs.Table.{constant_value};
     ghost use Rattle.wy_kernel.specs.View.{class_of, field_of, method_of};
 
@@ -68,14 +74,6 @@ impl ClassTable {
             ≡ Some (option_map (λ c. constant_value c.now) result) }
     {
         self.constants[n as usize].as_ref()
-    }
-
-    /// The classes and interfaces at or above a class.
-    pub fn supertypes(&self, n: u32) -> &[u32]
-        requires { n < length (table_of self.now).classes }
-        ensures { (d : ℕ) → Contains result.now d ↔ Supertype (table_of self.now).classes n d }
-    {
-        &self.supertypes[n as usize]
     }
 
     /// The number of the class or interface of this name.

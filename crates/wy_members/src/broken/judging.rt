@@ -13,6 +13,7 @@ ghost use Rattle.wy_kernel.specs.Program.{first_source_class};
 
 use crate::broken::again::least_again;
 use crate::broken::breach::Breach;
+use crate::broken::compared::Compared;
 use crate::broken::cycle::least_cycle;
 use crate::broken::first::earlier;
 use crate::broken::least::lesser;
@@ -36,10 +37,10 @@ pub fn breach_in(
     known: &[Method],
     classes: &[&ClassSyntax],
     judged: &Lineage,
-    compared: &Lineage,
+    compared: &Compared,
 ) -> Result<Option<Breach>, AllocError>
     requires judged { AreJudged (unit_of names.now) rows.now known.now classes.now
-        (lineage_of judged.now) (lineage_of compared.now) }
+        (lineage_of judged.now) (lineage_of compared.now.lineage.now) }
     requires few { length classes.now + first_source_class < 2 ^ 32 }
     ensures { IfOk result (λ found. MatchOption found (KeepsRules (unit_of names.now)) (λ b.
         IsRefusal (unit_of names.now) b.rule b.token)) }
@@ -77,11 +78,11 @@ fn least_bad_override(
     names: &Names,
     classes: &[&ClassSyntax],
     judged: &Lineage,
-    compared: &Lineage,
+    compared: &Compared,
 ) -> Option<u32>
     requires { length classes.now + first_source_class < 2 ^ 32 }
     ensures { IsLeast (BadOverridesIn (unit_of names.now) (lineage_of judged.now).classes
-        (lineage_of compared.now) (map (λ k. class_syntax k.now) classes.now)) result }
+        (lineage_of compared.now.lineage.now) (map (λ k. class_syntax k.now) classes.now)) result }
 {
     let supertypes = supertypes::least_in_classes(names, judged, classes);
     let overriding = least_overriding(judged, compared);
@@ -92,10 +93,10 @@ fn least_bad_override(
 fn least_not_implemented(
     classes: &[&ClassSyntax],
     judged: &Lineage,
-    compared: &Lineage,
+    compared: &Compared,
 ) -> Option<u32>
     requires { length classes.now + first_source_class < 2 ^ 32 }
-    ensures { IsLeast (NotImplementedsIn (lineage_of judged.now) (lineage_of compared.now)
+    ensures { IsLeast (NotImplementedsIn (lineage_of judged.now) (lineage_of compared.now.lineage.now)
         (map (λ k. class_syntax k.now) classes.now)) result }
 {
     let declared = least_declared_abstract(judged);

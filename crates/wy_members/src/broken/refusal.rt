@@ -7,6 +7,7 @@ ghost use Rattle.wy_members.specs.Refusal.{IsRefusal, KeepsRules};
 ghost use Rattle.wy_members.specs.Rows.{AreRows};
 
 use crate::broken::breach::Breach;
+use crate::broken::compared::{Compared, first_alike};
 use crate::broken::fitting::fitting_classes;
 use crate::broken::inheriting::inheriting_methods;
 use crate::broken::judging::breach_in;
@@ -17,6 +18,7 @@ use crate::rows::Rows;
 use std::alloc::{AllocError, Global};
 use wy_kernel::closure::supertypes;
 use wy_overloads::lineage::Lineage;
+use wy_table::methods::MethodIndex;
 
 /// The rule that the declarations of a program break at their least token, and there the first, if they break one.
 pub fn refusal(alloc: Global, names: &Names, rows: &Rows) -> Result<Option<Breach>, AllocError>
@@ -30,16 +32,27 @@ pub fn refusal(alloc: Global, names: &Names, rows: &Rows) -> Result<Option<Breac
     let fitting = fitting_classes(alloc, rows.classes.as_slice())?;
     let above = supertypes(alloc, rows.classes.as_slice())?;
     let above_fitting = supertypes(alloc, fitting.as_slice())?;
+    let index = MethodIndex::of(alloc, rows.methods.as_slice())?;
+    let index_inheriting = MethodIndex::of(alloc, inheriting.as_slice())?;
     let judged = Lineage::of_rows(
         rows.classes.as_slice(),
         rows.methods.as_slice(),
         above.as_slice(),
+        &index,
     );
-    let compared = Lineage::of_rows(
+    let inherited = Lineage::of_rows(
         fitting.as_slice(),
         inheriting.as_slice(),
         above_fitting.as_slice(),
+        &index_inheriting,
     );
+    let shared = first_alike(alloc, &inherited, false)?;
+    let unfinished = first_alike(alloc, &inherited, true)?;
+    let compared = Compared {
+        lineage: &inherited,
+        shared: shared.as_slice(),
+        unfinished: unfinished.as_slice(),
+    };
     breach_in(
         alloc,
         names,

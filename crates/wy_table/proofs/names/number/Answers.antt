@@ -4,7 +4,7 @@ use Rattle.std.specs.Str.{bytes_eq}
 use Rattle.std.specs.HashMap.{get_by_text}
 use Rattle.std.proofs.lemmas.Map.Text.{hash_map_updates_text}
 use Rattle.wy_table.specs.Names.{numbered_also}
-use Rattle.wy_table.proofs.Numbering.{numbered_update, absent}
+use Rattle.wy_table.proofs.FirstNumbers.{numbered_update, absent}
 use Rattle.wy_table.proofs.names.number.Goals as goal
 
 pub returns-in_ok-insert : goal.returns-in_ok-insert

@@ -3,7 +3,7 @@ use Rattle.std.specs.HashMap.{get_by_text}
 use Rattle.std.specs.List.{position_from}
 use Rattle.std.specs.Str.{bytes_eq}
 use Rattle.wy_kernel.specs.View.{class_of}
-use Rattle.wy_table.proofs.Numbering.{first_of}
+use Rattle.wy_table.proofs.FirstNumbers.{first_of}
 use Rattle.wy_table.proofs.names.number_classes.Given as goal
 
 abbrev pub invariant-loop-left : goal.invariant-loop-left

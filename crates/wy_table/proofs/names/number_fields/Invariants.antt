@@ -2,7 +2,7 @@ use Rattle.std.proofs.Common.{◌≡◌, ◌+◌, ◌<◌, ℕ, List, length, ma
 use Rattle.std.specs.List.{position_from}
 use Rattle.wy_kernel.specs.View.{field_of}
 use Rattle.wy_table.specs.Names.{is_field_named, number_in}
-use Rattle.wy_table.proofs.Numbering.{first_of}
+use Rattle.wy_table.proofs.FirstNumbers.{first_of}
 use Rattle.wy_table.proofs.names.number_fields.Given as goal
 
 abbrev pub invariant-loop-left : goal.invariant-loop-left

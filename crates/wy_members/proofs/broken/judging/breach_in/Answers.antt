@@ -8,7 +8,7 @@ pub returns : goal.returns
 returns c =
     let unit = unit_of c.args.names.now in
     let judged = lineage_of c.args.judged.now in
-    let lower = lineage_of c.args.compared.now in
+    let lower = lineage_of c.args.compared.now.lineage.now in
     let j = c.requires.judged in
     first_of_all unit c.in_ok-duplicate.duplicate c.least_in_classes-unknown.result c.least_cycle-cycle.result c.least_bad_override-overriding.result c.least_not_implemented-unimplemented.result
     c.earlier-found.result c.earlier-found-2.result c.earlier-found-3.result c.earlier-found-4.result c.earlier.result

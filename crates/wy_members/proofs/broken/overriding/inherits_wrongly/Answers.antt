@@ -1,24 +1,20 @@
-use Rattle.std.proofs.Common.{ℕ, ◌≤◌, length, refl, arith}
-use Rattle.wy_kernel.specs.Program.{Method}
-use Rattle.wy_kernel.specs.Subtyping.{class_type}
-use Rattle.wy_kernel.specs.View.{method_of}
-use Rattle.wy_members.specs.Broken.{Inherits}
+use Rattle.std.proofs.Common.{◌<◌, length, get_or}
+use Rattle.std.proofs.Math.Logic.{∥∥₁_elim}
+use Rattle.std.proofs.Props.{props}
 use Rattle.wy_overloads.specs.LineageView.{lineage_of}
-use Rattle.wy_members.specs.Within.{StandsWrongly}
-use Rattle.wy_overloads.proofs.Members.{up_to, within}
-use Rattle.wy_overloads.proofs.Related.{both, not_below, untrue}
+use Rattle.wy_overloads.proofs.Related.{not_below}
+use Rattle.wy_members.proofs.Listed.{in_list}
+use Rattle.wy_members.proofs.Alike.{none_wrong}
 use Rattle.wy_members.proofs.broken.overriding.inherits_wrongly.Goals as goal
 
-pub loop-k-preserved : goal.loop-k-preserved
-loop-k-preserved c =
-    let t = lineage_of c.args.lineage.now in
-    up_to t (λ i other. (λ (k : ℕ) (m : Method). Inherits (lineage_of c.args.lineage.now) c.args.c k m × StandsWrongly (lineage_of c.args.lineage.now) (class_type c.args.c) m) i other → ⊥) c.loop-k.k (method_of c.method-m.result.now) c.method-m.ensures (λ i x less is. c.loop-k.invariant i x less is) (λ q. untrue _ c.if-is_inherited_wrongly.false (c.is_inherited_wrongly.ensures.1 q))
-
-pub returns-then-is_inherited_wrongly : goal.returns-then-is_inherited_wrongly
-returns-then-is_inherited_wrongly c = both _ refl (c.loop-k.k, method_of c.method-m.result.now, c.method-m.ensures, c.is_inherited_wrongly.ensures.0 c.if-is_inherited_wrongly.true)
+pub method-m-requires : goal.method-m-requires
+method-m-requires c =
+    let t = lineage_of c.args.compared.now.lineage.now in
+    let numbers = c.args.compared.now.shared.now in
+    let within : get_or numbers c.loop-k.k-index 0 < length t.methods = ∥∥₁_elim c.args.compared.now.lists_shared (hlevel props) (λ l. in_list t numbers c.loop-k.k-index l.in_range c.loop-k-test.true) in
+    within
 
 pub returns : goal.returns
 returns c =
-    let t = lineage_of c.args.lineage.now in
-    let all : length t.methods ≤ c.loop-k.k = omega (arith, c.loop-k-test.false, c.methods-k-end.ensures) in
-    not_below (λ s. c.loop-k.invariant s.0 s.1 (within t _ _ _ all s.2) s.2 s.3)
+    let compared = c.args.compared.now in
+    not_below (none_wrong (lineage_of compared.lineage.now) c.args.c compared.shared.now c.loop-k.k-index compared.lists_shared c.loop-k-test.false c.loop-k.invariant)

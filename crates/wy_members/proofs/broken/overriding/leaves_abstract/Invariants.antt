@@ -1,9 +1,7 @@
-use Rattle.std.proofs.Common.{ℕ, ◌<◌}
-use Rattle.wy_kernel.specs.Program.{Method}
-use Rattle.wy_overloads.specs.Choice.{IsMethod}
 use Rattle.wy_overloads.specs.LineageView.{lineage_of}
-use Rattle.wy_members.specs.Within.{IsLeftAbstract}
+use Rattle.wy_members.specs.Alike.{LeavesAlikeAbstract}
+use Rattle.wy_members.proofs.Listed.{EachBefore}
 use Rattle.wy_members.proofs.broken.overriding.leaves_abstract.Given as goal
 
 abbrev pub invariant-loop-k : goal.invariant-loop-k
-invariant-loop-k l = (i : ℕ) (other : Method) → i < l.k → IsMethod (lineage_of l.lineage) i other → (IsLeftAbstract (lineage_of l.lineage) l.c) i other → ⊥
+invariant-loop-k l = EachBefore (lineage_of l.compared.lineage.now) l.k-items l.k-index (λ k m. LeavesAlikeAbstract (lineage_of l.compared.lineage.now) l.c m → ⊥)

@@ -1,22 +1,17 @@
-use Rattle.std.proofs.Common.{ℕ, ◌≤◌, length, refl, arith}
-use Rattle.wy_kernel.specs.Program.{Method}
 use Rattle.wy_kernel.specs.View.{method_of}
 use Rattle.wy_overloads.specs.LineageView.{lineage_of}
 use Rattle.wy_members.specs.Within.{WrongToOverride}
-use Rattle.wy_overloads.proofs.Members.{up_to, within}
-use Rattle.wy_overloads.proofs.Related.{both, not_below, untrue}
+use Rattle.wy_overloads.proofs.Related.{not_below}
+use Rattle.wy_members.proofs.Listed.{each_listed, in_list}
+use Rattle.wy_members.proofs.Alike.{elsewhere_by_name}
 use Rattle.wy_members.proofs.broken.overriding.overrides_wrongly.Goals as goal
 
-pub loop-k-preserved : goal.loop-k-preserved
-loop-k-preserved c =
-    let t = lineage_of c.args.lineage.now in
-    up_to t (λ i other. (λ (k : ℕ) (other : Method). WrongToOverride (lineage_of c.args.lineage.now).classes (method_of c.args.m.now) other) i other → ⊥) c.loop-k.k (method_of c.method-other.result.now) c.method-other.ensures (λ i x less is. c.loop-k.invariant i x less is) (λ q. untrue _ c.if-is_wrong_to_override.false (c.is_wrong_to_override.ensures.1 q))
-
-pub returns-then-is_wrong_to_override : goal.returns-then-is_wrong_to_override
-returns-then-is_wrong_to_override c = both _ refl (c.loop-k.k, method_of c.method-other.result.now, c.method-other.ensures, c.is_wrong_to_override.ensures.0 c.if-is_wrong_to_override.true)
+pub method-other-requires : goal.method-other-requires
+method-other-requires c = in_list (lineage_of c.args.lineage.now) c.alike_by_name-j-items.result.now c.loop-j.j-index c.alike_by_name-j-items.ensures.in_range c.loop-j-test.true
 
 pub returns : goal.returns
 returns c =
     let t = lineage_of c.args.lineage.now in
-    let all : length t.methods ≤ c.loop-k.k = omega (arith, c.loop-k-test.false, c.methods-k-end.ensures) in
-    not_below (λ s. c.loop-k.invariant s.0 s.1 (within t _ _ _ all s.2) s.2 s.3)
+    let m = method_of c.args.m.now in
+    let l = c.alike_by_name-j-items.ensures in
+    not_below (λ (k, other, is, wrong). each_listed t c.alike_by_name-j-items.result.now c.loop-j.j-index (λ j x. WrongToOverride t.classes m x → ⊥) c.loop-j-test.false c.loop-j.invariant k other (l.each k other is (elsewhere_by_name t.classes m.class m other wrong.0 wrong.1, (wrong.0.member.named, wrong.0.same))) is wrong)

@@ -41,8 +41,8 @@ of_rows-judged-requires-clause-has_top c =
     let P : List Class → Type 0 = λ cs. HasTop cs in
     subst P (sym (again class_of c.as_slice-5.ensures.value c.requires.classes)) (has_top (unit_of c.args.names.now))
 
-pub of_rows-compared-requires-clause-has_top : goal.of_rows-compared-requires-clause-has_top
-of_rows-compared-requires-clause-has_top c =
+pub of_rows-inherited-requires-clause-has_top : goal.of_rows-inherited-requires-clause-has_top
+of_rows-inherited-requires-clause-has_top c =
     let unit = unit_of c.args.names.now in
     let P : List Class → Type 0 = λ cs. HasTop cs in
     let fit = fits unit _ _ c.in_ok-fitting.ensures (again class_of c.as_slice-2.ensures.value c.requires.classes) in
@@ -60,7 +60,7 @@ breach_in-requires-clause-judged c =
       written = again (λ (k : Bor memory_syntax.ClassSyntax). class_syntax k.now) c.as_slice-12.ensures.value c.in_ok-texts.ensures;
       classes = ap (λ (t : Table). t.classes) c.of_rows-judged.ensures ∙ again class_of c.as_slice-5.ensures.value c.requires.classes;
       methods = ap (λ (t : Table). t.methods) c.of_rows-judged.ensures ∙ again method_of c.as_slice-6.ensures.value c.requires.methods;
-      below = compared_is unit _ _ _ c.of_rows-compared.ensures (again class_of c.as_slice-8.ensures.value fit) (again method_of c.as_slice-9.ensures.value kept);
+      below = compared_is unit _ _ _ c.of_rows-inherited.ensures (again class_of c.as_slice-8.ensures.value fit) (again method_of c.as_slice-9.ensures.value kept);
     }
 
 pub breach_in-requires-clause-few : goal.breach_in-requires-clause-few

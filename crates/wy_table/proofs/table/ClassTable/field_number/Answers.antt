@@ -3,7 +3,7 @@ use Rattle.std.proofs.Math.Logic.{∥∥₁_elim}
 use Rattle.std.proofs.Props.{props}
 use Rattle.wy_kernel.specs.View.{class_of, field_of}
 use Rattle.wy_table.specs.ClassTable.{table_of}
-use Rattle.wy_table.proofs.Numbering.{in_range_or_nowhere}
+use Rattle.wy_table.proofs.FirstNumbers.{in_range_or_nowhere}
 use Rattle.wy_table.proofs.table.ClassTable.field_number.Goals as goal
 
 pub returns : goal.returns

@@ -1,0 +1,106 @@
+//! The methods that are compared with one another (JLS 8.4.8), and where the rules on what a class inherits begin:
+//! of all methods with one name and the same parameter types at one of them.
+
+ghost use Rattle.std.specs.Prelude.{◌↔◌, IfOk, IsTrue, false, true};
+ghost use Rattle.wy_kernel.specs.View.{method_of};
+ghost use Rattle.wy_members.specs.Alike.{HasAlike, HasEarlier, IsFound, IsSought, ListsAlike};
+ghost use Rattle.wy_overloads.specs.Choice.{IsMethod};
+ghost use Rattle.wy_overloads.specs.LineageView.{lineage_of};
+ghost use Rattle.wy_table.specs.Methods.{IsAlike, IsByName};
+
+use std::alloc::{AllocError, Global};
+use wy_kernel::types::{Method, MethodForm};
+use wy_overloads::lineage::Lineage;
+use wy_overloads::signature::are_same_types;
+
+/// What is compared, with the first of each set of methods that have one name and the same parameter types.
+#[derive(Clone, Copy)]
+pub struct Compared<'a> {
+    pub lineage: &'a Lineage<'a>,
+    /// Those of which there is another one.
+    pub shared: &'a [u32],
+    /// Those that are abstract.
+    pub unfinished: &'a [u32],
+    pub ghost lists_shared: { ∥ ListsAlike (lineage_of lineage.now)
+        (IsFound (lineage_of lineage.now) false) shared.now ∥₁ },
+    pub ghost lists_unfinished: { ∥ ListsAlike (lineage_of lineage.now)
+        (IsFound (lineage_of lineage.now) true) unfinished.now ∥₁ },
+}
+
+/// For each method that has an alike one, or each abstract one, the first that is alike to it. Linear in the number of methods.
+pub fn first_alike(
+    alloc: Global,
+    lineage: &Lineage,
+    only_abstract: bool,
+) -> Result<Vec<u32>, AllocError>
+    ensures { IfOk result (λ numbers. ListsAlike (lineage_of lineage.now)
+        (IsFound (lineage_of lineage.now) only_abstract) numbers.items) }
+{
+    let mut numbers = Vec::new(alloc);
+    for k in 0..lineage.methods() {
+        let m = lineage.method(k);
+        if is_found(lineage, only_abstract, k, m) && !has_earlier(lineage, only_abstract, k, m) {
+            numbers.push(k)?;
+        }
+    }
+    Ok(numbers)
+}
+
+fn is_found(lineage: &Lineage, only_abstract: bool, k: u32, m: &Method) -> bool
+    requires { IsMethod (lineage_of lineage.now) k (method_of m.now) }
+    ensures { IsFound (lineage_of lineage.now) only_abstract k (method_of m.now) → IsTrue result }
+{
+    is_sought(only_abstract, m) && (only_abstract || has_alike(lineage, k, m))
+}
+
+/// Whether a method is called by its name, and abstract where only such a one is looked for.
+pub fn is_sought(only_abstract: bool, m: &Method) -> bool
+    ensures { IsTrue result ↔ IsSought only_abstract (method_of m.now) }
+{
+    is_by_name(m.form) && (m.is_abstract || !only_abstract)
+}
+
+fn is_by_name(form: MethodForm) -> bool
+    ensures { IsTrue result ↔ IsByName form }
+{
+    match form {
+        MethodForm::Static => true,
+        MethodForm::Instance => true,
+        MethodForm::Constructor => false,
+        MethodForm::Fields => false,
+    }
+}
+
+// Whether another method is listed with method `k`.
+fn has_alike(lineage: &Lineage, k: u32, m: &Method) -> bool
+    requires { IsMethod (lineage_of lineage.now) k (method_of m.now) }
+    ensures { HasAlike (lineage_of lineage.now) k (method_of m.now) → IsTrue result }
+{
+    for j in lineage.alike_by_name(k, m) {
+        if *j != k {
+            return true;
+        }
+    }
+    false
+}
+
+// Whether a method with a lower number is alike to method `k`.
+fn has_earlier(lineage: &Lineage, only_abstract: bool, k: u32, m: &Method) -> bool
+    requires { IsMethod (lineage_of lineage.now) k (method_of m.now) }
+    ensures { IsTrue result ↔ HasEarlier (lineage_of lineage.now) only_abstract k (method_of m.now) }
+{
+    for j in lineage.alike_by_name(k, m) {
+        let other = lineage.method(*j);
+        if *j < k && is_sought(only_abstract, other) && is_alike(m, other) {
+            return true;
+        }
+    }
+    false
+}
+
+fn is_alike(m: &Method, other: &Method) -> bool
+    ensures { IsTrue result ↔ IsAlike (method_of m.now) (method_of other.now) }
+{
+    other.name.as_str() == m.name.as_str()
+        && are_same_types(other.params.as_slice(), m.params.as_slice())
+}
