@@ -266,7 +266,7 @@ fn program_from(
         methods,
         fields,
         constants: _,
-        supertypes: _,
+        hierarchy: _,
         names: _,
         index: _,
     } = table;

@@ -26,6 +26,9 @@ pub mod Judged
 mod Repeated
 mod Unknown
 pub mod Inherited
+pub mod Listed
+pub mod Alone
+pub mod Alike
 mod Supertypes
 mod Overriding
 mod Unimplemented

@@ -1,8 +1,8 @@
 -- Methods with one name and the same parameter types, where rules look for some of them.
-use Rattle.std.specs.Prelude.{◌≡◌, ℕ, ◌<◌, Bool, true, false, List, length}
+use Rattle.std.specs.Prelude.{◌≡◌, ◌⊎◌, ℕ, ◌<◌, Bool, true, false, List, length, slice_index_or}
 use Rattle.std.specs.List.{Contains}
-use Rattle.wy_kernel.specs.Program.{Class, Method}
-use Rattle.wy_kernel.specs.Subtyping.{class_type}
+use Rattle.wy_kernel.specs.Program.{Class, Method, object_class}
+use Rattle.wy_kernel.specs.Subtyping.{class_type, direct_supertypes}
 use Rattle.wy_kernel.specs.Table.{Table}
 use Rattle.wy_kernel.specs.declared.types.Ty.{Ty}
 use Rattle.wy_table.specs.Methods.{IsByName, IsAlike}
@@ -22,22 +22,40 @@ AreMethods t numbers = (k : ℕ) → Contains numbers k → k < length t.methods
 abbrev pub IsSought : Bool → Method → Type 0
 IsSought only_abstract m = IsByName m.form × (only_abstract ≡ true → m.is_abstract ≡ true)
 
--- another method that is called by its name is alike to method k
-abbrev pub HasAlike : Table → ℕ → Method → Type 0
-HasAlike t k m = SomeMethod t (λ j other. (j ≡ k → ⊥) × IsByName other.form × IsAlike m other)
+-- a class or an interface that others extend or implement; Object is above all
+abbrev pub IsExtended : List Class → ℕ → Type 0
+IsExtended classes d = (d ≡ object_class) ⊎ ((c : ℕ) × Contains (direct_supertypes classes c) d)
 
--- such a method, which isn't alone where any is looked for
-abbrev pub IsFound : Table → Bool → ℕ → Method → Type 0
-IsFound t only_abstract k m = IsSought only_abstract m × (only_abstract ≡ false → HasAlike t k m)
+-- the mark of class d is set, if it has one
+abbrev pub IsMarked : List Bool → ℕ → Type 0
+IsMarked marks d = d < length marks → slice_index_or marks d false ≡ true
+
+-- ---- of the methods of classes of which something holds
+
+-- another method is alike to method k
+abbrev pub HasAlike : Table → (ℕ → Type 0) → ℕ → Method → Type 0
+HasAlike t Open k m = SomeMethod t (λ j other. (j ≡ k → ⊥) × IsByName other.form × Open other.class × IsAlike m other)
+
+-- a method that is looked for, and isn't alone where any is
+abbrev pub IsFound : Table → (ℕ → Type 0) → Bool → ℕ → Method → Type 0
+IsFound t Open only_abstract k m = IsSought only_abstract m × Open m.class × (only_abstract ≡ false → HasAlike t Open k m)
+
+-- a method before method k is looked for and alike to it
+abbrev pub HasEarlier : Table → (ℕ → Type 0) → Bool → ℕ → Method → Type 0
+HasEarlier t Open only_abstract k m = SomeMethod t (λ j other. (j < k) × IsSought only_abstract other × Open other.class × IsAlike m other)
+
+-- ---- lists
 
 -- the list has a method alike to each of these, and numbers of methods only
 pub record ListsAlike (t : Table) (P : ℕ → Method → Type 0) (numbers : List ℕ) : Type 0 where
   pub each : (k : ℕ) (m : Method) → IsMethod t k m → P k m → SomeListed t numbers (λ j other. IsAlike other m)
   pub in_range : AreMethods t numbers
 
--- a method before method k is alike to it
-abbrev pub HasEarlier : Table → Bool → ℕ → Method → Type 0
-HasEarlier t only_abstract k m = SomeMethod t (λ j other. (j < k) × IsSought only_abstract other × IsAlike m other)
+-- of the methods that classes may inherit, and that are looked for, the list has one alike to each
+abbrev pub ListsFound : Table → Bool → List ℕ → Type 0
+ListsFound t only_abstract numbers = ListsAlike t (IsFound t (IsExtended t.classes) only_abstract) numbers
+
+-- ---- what is looked for with a method
 
 -- the type has a method of this kind that is equal to m
 abbrev pub IsEqualSought : Table → Ty → Bool → Method → Method → Type 0

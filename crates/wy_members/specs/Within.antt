@@ -1,5 +1,5 @@
 -- In which ways one class or one of its members breaks a rule, each at its token.
-use Rattle.std.specs.Prelude.{◌≡◌, ◌⊎◌, ◌<◌, ◌+◌, ℕ, true, false, slice_get, Bool, ◌||◌, List, Option, Some, None}
+use Rattle.std.specs.Prelude.{◌≡◌, ◌⊎◌, ◌↔◌, ◌<◌, ◌+◌, ℕ, true, false, slice_get, Bool, ◌||◌, List, Option, Some, None}
 use Rattle.std.specs.List.{Contains}
 use Rattle.wy_syntax.specs.Syntax.{Named, WrittenType, Placed, Parameter, Header, Braced, Member, ClassSyntax}
 use Rattle.wy_syntax.specs.Syntax as syntax
@@ -78,6 +78,10 @@ UnknownInClass unit k = Either (UnknownAbove unit k.above) (Either (UnknownNames
 -- class c is above itself, and has this row
 abbrev pub CycleAt : List Class → ℕ → Class → ℕ → Type 0
 CycleAt classes c row = Here (IsAboveItself classes c) row.site
+
+-- the classes that are above themselves
+abbrev pub AreCyclic : List Class → List ℕ → Type 0
+AreCyclic classes cyclic = (c : ℕ) → Contains cyclic c ↔ IsAboveItself classes c
 
 -- no class at or above class c is above itself
 abbrev pub IsJudgedIn : List Class → ℕ → Type 0

@@ -1,9 +1,10 @@
 -- The word of each modifier (JLS 3.9, 9.6.4.4).
-use Rattle.std.specs.Prelude.{◌≡◌, ℕ, List, Option, Some, codes, if◌then◌else◌, bytes_eq}
+use Rattle.std.specs.Prelude.{◌≡◌, ◌↔◌, ℕ, List, [], Option, Some, None, codes, if◌then◌else◌, bytes_eq}
 use Rattle.std.proofs.Common.{refl, sym, ap, ◌∙◌}
 use Rattle.std.proofs.lemmas.Option.{same_Some}
 use Rattle.wy_syntax.specs.declared.declaration.Modifier.{Modifier}
 use Rattle.wy_syntax.specs.declared.declaration.Modifier.TheVariants as modifier
+use Rattle.wy_members.specs.Keys.{Key}
 
 abbrev pub word_of : Modifier → List ℕ
 word_of modifier.Public = codes "public"
@@ -34,6 +35,12 @@ meant_by_its_word modifier.Final = refl
 meant_by_its_word modifier.Abstract = refl
 meant_by_its_word modifier.Override = refl
 
--- no two modifiers have one word
-pub same_modifier : (m n : Modifier) → word_of m ≡ word_of n → m ≡ n
+same_modifier : (m n : Modifier) → word_of m ≡ word_of n → m ≡ n
 same_modifier m n e = same_Some m n (sym (meant_by_its_word m) ∙ ap meant e ∙ meant_by_its_word n)
+
+-- what two modifiers share where they are the same: their word
+abbrev pub key_of_word : Modifier → Key
+key_of_word m = record { class = None; name = word_of m; params = [] }
+
+pub same_by_word : (m n : Modifier) → (m ≡ n) ↔ (key_of_word m ≡ key_of_word n)
+same_by_word m n = (λ e. ap key_of_word e, λ e. same_modifier m n (ap (λ (k : Key). k.name) e))

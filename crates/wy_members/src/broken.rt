@@ -7,6 +7,7 @@ pub mod breach;
 mod compared;
 mod cycle;
 mod duplicate;
+mod extended;
 mod first;
 mod fitting;
 mod inheriting;

@@ -16,11 +16,11 @@ use crate::initializer::initializers;
 use crate::names::Names;
 use crate::rows::Rows;
 use std::alloc::{AllocError, Global};
-use wy_kernel::closure::supertypes;
 use wy_kernel::form::Const;
 use wy_kernel::types::Field;
-use wy_table::names::DeclaredNames;
+use wy_table::hierarchy::hierarchy_of;
 use wy_table::methods::MethodIndex;
+use wy_table::names::DeclaredNames;
 use wy_table::table::ClassTable;
 
 fn unknown() -> Option<Const>
@@ -49,7 +49,7 @@ fn table_of_rows(alloc: Global, names: &Names, rows: Rows) -> Result<ClassTable,
     requires acyclic { IsAcyclic (table (unit_of names.now)).classes }
     ensures { IfOk result (λ t. table_of t ≡ table (unit_of names.now)) }
 {
-    let supertypes = supertypes(alloc, rows.classes.as_slice())?;
+    let hierarchy = hierarchy_of(alloc, rows.classes.as_slice())?;
     let constants = no_constants(alloc, rows.fields.as_slice())?;
     let declared = DeclaredNames::of(alloc, rows.classes.as_slice(), rows.fields.as_slice())?;
     let index = MethodIndex::of(alloc, rows.methods.as_slice())?;
@@ -63,7 +63,7 @@ fn table_of_rows(alloc: Global, names: &Names, rows: Rows) -> Result<ClassTable,
         methods,
         fields,
         constants,
-        supertypes,
+        hierarchy,
         names: declared,
         index,
     })

@@ -1,5 +1,5 @@
 -- Whether a class is above another is found by climbing, so that its mere truth gives the way up.
-use Rattle.std.proofs.Common.{◌≡◌, ℕ, zero, suc, ◌+◌, ◌<◌, Bool, true, false, ◌||◌, List, [], ◌∷◌, length, nat_eq, refl, sym, ◌∙◌, ap, subst, arith, ◌⊎◌, inl, inr, Some, eq-eqb, rules, ◌↔◌, below_more}
+use Rattle.std.proofs.Common.{◌≡◌, ℕ, zero, suc, ◌+◌, ◌<◌, Bool, true, false, ◌||◌, List, [], ◌∷◌, length, nat_eq, refl, sym, ◌∙◌, ap, subst, arith, ◌⊎◌, inl, inr, Some, eq-eqb, rules, ◌↔◌, below_more, get_or}
 use Rattle.std.specs.Prelude.{slice_get}
 use Rattle.std.specs.List.{Contains, list_any}
 use Rattle.std.proofs.Math.Logic.{∥∥₁_elim}
@@ -8,6 +8,8 @@ use mathlib.Core.HLevel.{Σ_prop_path}
 use Rattle.wy_kernel.specs.Program.{Class}
 use Rattle.wy_kernel.specs.Subtyping.{direct_supertypes, Supertype, itself, further}
 use Rattle.wy_kernel.specs.Table.{KeepsSupertypes}
+use Rattle.std.proofs.lemmas.Option.{slice_get-get_or}
+use Rattle.wy_table.specs.Hierarchy.{IsListed}
 
 or_right : (a b : Bool) → b ≡ true → (a || b) ≡ true
 or_right true b e = refl
@@ -92,3 +94,16 @@ row_exact classes rows k c row is d = (
   λ m. reached classes c d (∥∥₁_elim k (hlevel props) (λ k'. ∣ ((k'.each c row is).exact d).0 m ∣₁)),
   λ s. contained d row (∥∥₁_elim k (hlevel props) (λ k'. passes (nat_eq d) row d (((k'.each c row is).exact d).1 s) (eq-eqb d d refl))),
 )
+
+-- each class has a row
+rows_a_class : (classes : List Class) (rows : List (List ℕ)) → ∥ KeepsSupertypes classes rows ∥₁ → length rows ≡ length classes
+rows_a_class classes rows k = ∥∥₁_elim k (hlevel props) (λ k'. k'.a_row_a_class)
+
+-- what is listed at a class is what is at or above it
+pub listed_exact : (classes : List Class) (rows : List (List ℕ)) → ∥ KeepsSupertypes classes rows ∥₁ → (c d : ℕ) → c < length classes → IsListed rows c d ↔ Supertype classes c d
+listed_exact classes rows k c d lt =
+    let within : c < length rows = (let many = rows_a_class classes rows k in omega arith) in
+    let at : slice_get rows c ≡ Some (get_or rows c []) = slice_get-get_or rows c [] within in (
+      λ (row, is, h). (row_exact classes rows k c row is d).0 h,
+      λ s. (get_or rows c [], at, (row_exact classes rows k c (get_or rows c []) at d).1 s),
+    )

@@ -5,3 +5,4 @@ pub mod Lists
 pub mod Members
 pub mod Unique
 pub mod Hierarchies
+pub mod Listed

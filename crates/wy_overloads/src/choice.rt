@@ -8,6 +8,7 @@ ghost use Rattle.wy_constant.specs.declared.rule.Rule.{Rule};
 ghost use Rattle.wy_overloads.specs.LineageView.{lineage_of};
 
 use crate::counting::is_counted;
+use crate::likely::likely;
 use crate::lineage::Lineage;
 use crate::member::{has_some, is_member, is_of_library};
 use crate::signature::are_below;
@@ -40,6 +41,19 @@ pub fn choose(
 }
 
 fn chosen(lineage: &Lineage, ty: &Ty, name: &str, args: &[Ty]) -> Option<u32>
+    ensures { MatchOption result ((k : ℕ) → Chosen (lineage_of lineage.now) ty.now name.now args.now
+        k → ⊥) (λ k. Chosen (lineage_of lineage.now) ty.now name.now args.now k) }
+{
+    if let Some(k) = likely(lineage, ty, name, args) {
+        if is_chosen(lineage, ty, name, args, k, lineage.method(k)) {
+            return Some(k);
+        }
+    }
+    chosen_of_all(lineage, ty, name, args)
+}
+
+// The same by a look at each method, by which the time is quadratic in the number of those that are applicable.
+fn chosen_of_all(lineage: &Lineage, ty: &Ty, name: &str, args: &[Ty]) -> Option<u32>
     ensures { MatchOption result ((k : ℕ) → Chosen (lineage_of lineage.now) ty.now name.now args.now
         k → ⊥) (λ k. Chosen (lineage_of lineage.now) ty.now name.now args.now k) }
 {
@@ -76,7 +90,8 @@ fn refusal(lineage: &Lineage, ty: &Ty, name: &str, args: &[Ty]) -> Rule
     }
 }
 
-fn applies(lineage: &Lineage, ty: &Ty, name: &str, args: &[Ty], m: &Method) -> bool
+/// Whether a type has a method by this name that takes arguments of these types.
+pub fn applies(lineage: &Lineage, ty: &Ty, name: &str, args: &[Ty], m: &Method) -> bool
     ensures { IsTrue result
         ↔ Applies (lineage_of lineage.now).classes ty.now name.now args.now (method_of m.now) }
 {

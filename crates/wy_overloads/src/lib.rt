@@ -6,6 +6,7 @@ pub mod candidates;
 pub mod choice;
 pub mod counting;
 pub mod laws;
+mod likely;
 pub mod lineage;
 pub mod member;
 pub mod signature;

@@ -9,7 +9,8 @@ ghost use Rattle.wy_table.specs.Hierarchy.{rows_of};
 ghost use Rattle.wy_table.specs.MethodIndex.{IsIndexOf};
 
 use crate::candidates::Candidates;
-use wy_kernel::types::{Base, Class, Method, Ty};
+use crate::member::class_of_type;
+use wy_kernel::types::{Class, Method, Ty};
 use wy_table::hierarchy::Hierarchy;
 use wy_table::methods::MethodIndex;
 use wy_table::table::ClassTable;
@@ -169,17 +170,9 @@ impl<'a> Lineage<'a> {
         ensures { Lists (lineage_of self.now).methods
             (λ k m. (m.form ≡ MethodForm.Constructor) × (ty.now ≡ class_type m.class)) result.now }
     {
-        match *ty {
-            Ty::Of {
-                base: Base::Class(class),
-                brackets: _,
-            } => self.index.constructors(class),
-            Ty::Of {
-                base: Base::Primitive(_),
-                brackets: _,
-            } => &[],
-            Ty::Void => &[],
-            Ty::Null => &[],
+        match class_of_type(ty) {
+            Some(class) => self.index.constructors(class),
+            None => &[],
         }
     }
 }

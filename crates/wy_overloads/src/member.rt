@@ -1,6 +1,6 @@
 //! The methods that a type has: those that the classes and interfaces above it declare (JLS 8.2, 9.2, 10.7).
 
-ghost use Rattle.std.specs.Prelude.{◌≡◌, ◌↔◌, IsTrue};
+ghost use Rattle.std.specs.Prelude.{◌≡◌, ◌↔◌, ℕ, IsTrue, Some};
 ghost use Rattle.wy_kernel.specs.Subtyping.{class_type};
 ghost use Rattle.wy_kernel.specs.View.{method_of};
 ghost use Rattle.wy_overloads.specs.Choice.{DeclaredFor, HasSome, IsClass, IsMember, IsOfLibrary};
@@ -20,6 +20,24 @@ pub fn type_of_class(class: u32) -> Ty
     Ty::Of {
         base: Base::Class(class),
         brackets: 0,
+    }
+}
+
+/// The class or the interface that a type is.
+pub fn class_of_type(ty: &Ty) -> Option<u32>
+    ensures { (class : ℕ) → ty.now ≡ class_type class → result ≡ Some class }
+{
+    match *ty {
+        Ty::Of {
+            base: Base::Class(class),
+            brackets: _,
+        } => Some(class),
+        Ty::Of {
+            base: Base::Primitive(_),
+            brackets: _,
+        } => None,
+        Ty::Void => None,
+        Ty::Null => None,
     }
 }
 

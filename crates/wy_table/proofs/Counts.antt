@@ -8,11 +8,8 @@ use Rattle.wy_kernel.specs.declared.types.Class.{Class}
 use Rattle.wy_kernel.specs.declared.types.Method.{Method}
 use Rattle.wy_kernel.specs.declared.types.Field.{Field}
 use Rattle.wy_kernel.specs.declared.form.Const.{Const}
-use Rattle.wy_kernel.specs.View.{class_of, field_of}
-use Rattle.wy_kernel.specs.Table.{table_with, constant_value, IsTable, KeepsSupertypes}
-
-pub rows_of_classes : {R : Type 0} (f : R → List ℕ) (classes : List Class) (rows : List R) → ∥ KeepsSupertypes (map class_of classes) (map f rows) ∥₁ → length rows ≡ length (map class_of classes)
-rows_of_classes f classes rows k = ∥∥₁_elim k (hlevel props) (λ k'. sym (length-map rows f) ∙ k'.a_row_a_class)
+use Rattle.wy_kernel.specs.View.{field_of}
+use Rattle.wy_kernel.specs.Table.{table_with, constant_value, IsTable}
 
 pub constants_of_fields : (classes : List Class) (methods : List Method) (fields : List Field) (constants : List (Option Const)) → ∥ IsTable (table_with classes methods fields constants) ∥₁ → length constants ≡ length (map field_of fields)
 constants_of_fields classes methods fields constants g =

@@ -1,10 +1,10 @@
 //! What is declared again: an item that is the same as one before it. Which items are the same, each kind of them says.
 
 ghost use Rattle.std.specs.Prelude.{◌≡◌, ◌↔◌, ℕ, IfOk, Some, None, [], string_bytes};
-ghost use Rattle.std.proofs.Common.{ap, rules};
+ghost use Rattle.std.proofs.Common.{rules};
 ghost use Rattle.wy_members.specs.Keys.{Key as PlainKey, key_of};
 ghost use Rattle.wy_members.specs.Least.{IsAgain, IsLeast};
-ghost use Rattle.wy_members.specs.Words.{same_modifier, word_of};
+ghost use Rattle.wy_members.specs.Words.{key_of_word, same_by_word, word_of};
 
 use crate::broken::key::Key;
 use crate::broken::least::{lesser, token_where};
@@ -97,7 +97,11 @@ impl Repeats for Method {
 
     ghost place = { λ b. b.site };
 
-    ghost shared = { λ a. record { class = Some a.class; name = string_bytes a.name; params = a.params.items } };
+    ghost shared = { λ a. record {
+      class = Some a.class;
+      name = string_bytes a.name;
+      params = a.params.items;
+    } };
 
     ghost same_by_key = { Prim.search rules };
 
@@ -143,9 +147,9 @@ impl Repeats for Placed {
 
     ghost place = { λ b. b.token };
 
-    ghost shared = { λ a. record { class = None; name = word_of a.modifier; params = [] } };
+    ghost shared = { λ a. key_of_word a.modifier };
 
-    ghost same_by_key = { λ a b. (λ e. ap (λ m. record { class = None; name = word_of m; params = [] }) e, λ e. same_modifier a.modifier b.modifier (ap (λ (k : PlainKey). k.name) e)) };
+    ghost same_by_key = { λ a b. same_by_word a.modifier b.modifier };
 
     fn key(&self) -> Key<'_> {
         Key {

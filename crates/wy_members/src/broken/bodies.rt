@@ -10,18 +10,17 @@ ghost use Rattle.wy_members.specs.Within.{InClassNumbered, WantsBody, WantsNoBod
 ghost use Rattle.wy_syntax.specs.View.{block_of, class_of, header_of, member_of};
 ghost use Rattle.wy_kernel.specs.Program.{first_source_class};
 
-use crate::broken::cycle::is_judged;
+use crate::broken::cycle::{Judged, is_judged};
 use crate::broken::least::{lesser, token_where};
 use crate::written_type::has;
-use wy_overloads::lineage::Lineage;
 use wy_overloads::member::FIRST_SOURCE_CLASS;
 use wy_syntax::declaration::{ClassSyntax, Header, Member, Modifier};
 use wy_syntax::statement::Block;
 
-pub fn least_in_classes(judged: &Lineage, classes: &[&ClassSyntax]) -> Option<u32>
+pub fn least_in_classes(judged: &Judged, classes: &[&ClassSyntax]) -> Option<u32>
     requires { length classes.now + first_source_class < 2 ^ 32 }
     ensures { IsLeast (Among (map (λ k. class_of k.now) classes.now)
-        (WrongBodyAt (lineage_of judged.now).classes)) result }
+        (WrongBodyAt (lineage_of judged.now.lineage.now).classes)) result }
 {
     let mut least = None;
     for (i, class) in classes.iter().enumerate() {
@@ -31,9 +30,9 @@ pub fn least_in_classes(judged: &Lineage, classes: &[&ClassSyntax]) -> Option<u3
     least
 }
 
-fn least_in_class(judged: &Lineage, number: u32, class: &ClassSyntax) -> Option<u32>
+fn least_in_class(judged: &Judged, number: u32, class: &ClassSyntax) -> Option<u32>
     ensures { IsLeast
-        (InClassNumbered (lineage_of judged.now).classes number (class_of class.now)) result }
+        (InClassNumbered (lineage_of judged.now.lineage.now).classes number (class_of class.now)) result }
 {
     if !is_judged(judged, number) {
         return None;

@@ -1,13 +1,14 @@
 //! The methods that are compared with one another (JLS 8.4.8), and where the rules on what a class inherits begin:
 //! of all methods with one name and the same parameter types at one of them.
 
-ghost use Rattle.std.specs.Prelude.{◌↔◌, IfOk, IsTrue, false, true};
+ghost use Rattle.std.specs.Prelude.{◌<◌, ◌↔◌, ℕ, IfOk, IsTrue, false, true};
 ghost use Rattle.wy_kernel.specs.View.{method_of};
-ghost use Rattle.wy_members.specs.Alike.{HasAlike, HasEarlier, IsFound, IsSought, ListsAlike};
+ghost use Rattle.wy_members.specs.Alike.{HasAlike, HasEarlier, IsExtended, IsFound, IsMarked, IsSought, ListsFound};
 ghost use Rattle.wy_overloads.specs.Choice.{IsMethod};
 ghost use Rattle.wy_overloads.specs.LineageView.{lineage_of};
 ghost use Rattle.wy_table.specs.Methods.{IsAlike, IsByName};
 
+use crate::broken::extended::is_marked;
 use std::alloc::{AllocError, Global};
 use wy_kernel::types::{Method, MethodForm};
 use wy_overloads::lineage::Lineage;
@@ -21,36 +22,42 @@ pub struct Compared<'a> {
     pub shared: &'a [u32],
     /// Those that are abstract.
     pub unfinished: &'a [u32],
-    pub ghost lists_shared: { ∥ ListsAlike (lineage_of lineage.now)
-        (IsFound (lineage_of lineage.now) false) shared.now ∥₁ },
-    pub ghost lists_unfinished: { ∥ ListsAlike (lineage_of lineage.now)
-        (IsFound (lineage_of lineage.now) true) unfinished.now ∥₁ },
+    pub ghost lists_shared: { ∥ ListsFound (lineage_of lineage.now) false shared.now ∥₁ },
+    pub ghost lists_unfinished: { ∥ ListsFound (lineage_of lineage.now) true unfinished.now ∥₁ },
 }
 
-/// For each method that has an alike one, or each abstract one, the first that is alike to it. Linear in the number of methods.
+/// For each method that a class may inherit and that has an alike one, or each abstract one, the first that is alike to it.
+/// Linear in the number of methods.
 pub fn first_alike(
     alloc: Global,
     lineage: &Lineage,
+    marks: &[bool],
     only_abstract: bool,
 ) -> Result<Vec<u32>, AllocError>
-    ensures { IfOk result (λ numbers. ListsAlike (lineage_of lineage.now)
-        (IsFound (lineage_of lineage.now) only_abstract) numbers.items) }
+    requires { (d : ℕ) → IsExtended (lineage_of lineage.now).classes d → IsMarked marks.now d }
+    ensures { IfOk result (λ numbers.
+        ListsFound (lineage_of lineage.now) only_abstract numbers.items) }
 {
     let mut numbers = Vec::new(alloc);
     for k in 0..lineage.methods() {
         let m = lineage.method(k);
-        if is_found(lineage, only_abstract, k, m) && !has_earlier(lineage, only_abstract, k, m) {
+        if is_found(lineage, marks, only_abstract, k, m)
+            && !has_earlier(lineage, marks, only_abstract, k, m)
+        {
             numbers.push(k)?;
         }
     }
     Ok(numbers)
 }
 
-fn is_found(lineage: &Lineage, only_abstract: bool, k: u32, m: &Method) -> bool
+fn is_found(lineage: &Lineage, marks: &[bool], only_abstract: bool, k: u32, m: &Method) -> bool
     requires { IsMethod (lineage_of lineage.now) k (method_of m.now) }
-    ensures { IsFound (lineage_of lineage.now) only_abstract k (method_of m.now) → IsTrue result }
+    ensures { IsFound (lineage_of lineage.now) (IsMarked marks.now) only_abstract k
+        (method_of m.now) → IsTrue result }
 {
-    is_sought(only_abstract, m) && (only_abstract || has_alike(lineage, k, m))
+    is_sought(only_abstract, m)
+        && is_marked(marks, m.class)
+        && (only_abstract || has_alike(lineage, marks, k, m))
 }
 
 /// Whether a method is called by its name, and abstract where only such a one is looked for.
@@ -71,31 +78,47 @@ fn is_by_name(form: MethodForm) -> bool
     }
 }
 
-// Whether another method is listed with method `k`.
-fn has_alike(lineage: &Lineage, k: u32, m: &Method) -> bool
+// Whether another method of a marked class is listed with method `k`.
+fn has_alike(lineage: &Lineage, marks: &[bool], k: u32, m: &Method) -> bool
     requires { IsMethod (lineage_of lineage.now) k (method_of m.now) }
-    ensures { HasAlike (lineage_of lineage.now) k (method_of m.now) → IsTrue result }
+    ensures { HasAlike (lineage_of lineage.now) (IsMarked marks.now) k (method_of m.now)
+        → IsTrue result }
 {
     for j in lineage.alike_by_name(k, m) {
-        if *j != k {
+        if *j != k && is_marked(marks, lineage.method(*j).class) {
             return true;
         }
     }
     false
 }
 
-// Whether a method with a lower number is alike to method `k`.
-fn has_earlier(lineage: &Lineage, only_abstract: bool, k: u32, m: &Method) -> bool
+// Whether a method of a marked class with a lower number is alike to method `k`.
+fn has_earlier(lineage: &Lineage, marks: &[bool], only_abstract: bool, k: u32, m: &Method) -> bool
     requires { IsMethod (lineage_of lineage.now) k (method_of m.now) }
-    ensures { IsTrue result ↔ HasEarlier (lineage_of lineage.now) only_abstract k (method_of m.now) }
+    ensures { IsTrue result ↔ HasEarlier (lineage_of lineage.now) (IsMarked marks.now) only_abstract
+        k (method_of m.now) }
 {
     for j in lineage.alike_by_name(k, m) {
         let other = lineage.method(*j);
-        if *j < k && is_sought(only_abstract, other) && is_alike(m, other) {
+        if is_earlier(marks, only_abstract, k, m, *j, other) {
             return true;
         }
     }
     false
+}
+
+fn is_earlier(
+    marks: &[bool],
+    only_abstract: bool,
+    k: u32,
+    m: &Method,
+    j: u32,
+    other: &Method,
+) -> bool
+    ensures { IsTrue result ↔ ((j < k) × IsSought only_abstract (method_of other.now)
+        × IsMarked marks.now other.now.class × IsAlike (method_of m.now) (method_of other.now)) }
+{
+    j < k && is_sought(only_abstract, other) && is_marked(marks, other.class) && is_alike(m, other)
 }
 
 fn is_alike(m: &Method, other: &Method) -> bool

@@ -14,7 +14,7 @@ ghost use Rattle.wy_kernel.specs.Program.{first_source_class};
 use crate::broken::again::least_again;
 use crate::broken::breach::Breach;
 use crate::broken::compared::Compared;
-use crate::broken::cycle::least_cycle;
+use crate::broken::cycle::{Judged, least_cycle};
 use crate::broken::first::earlier;
 use crate::broken::least::lesser;
 use crate::broken::methods::{
@@ -36,18 +36,18 @@ pub fn breach_in(
     rows: &Rows,
     known: &[Method],
     classes: &[&ClassSyntax],
-    judged: &Lineage,
+    judged: &Judged,
     compared: &Compared,
 ) -> Result<Option<Breach>, AllocError>
     requires judged { AreJudged (unit_of names.now) rows.now known.now classes.now
-        (lineage_of judged.now) (lineage_of compared.now.lineage.now) }
+        (lineage_of judged.now.lineage.now) (lineage_of compared.now.lineage.now) }
     requires few { length classes.now + first_source_class < 2 ^ 32 }
     ensures { IfOk result (λ found. MatchOption found (KeepsRules (unit_of names.now)) (λ b.
         IsRefusal (unit_of names.now) b.rule b.token)) }
 {
     let duplicate = least_duplicate(alloc, rows, known, classes)?;
     let unknown = unknown::least_in_classes(names, classes);
-    let cycle = least_cycle(judged);
+    let cycle = least_cycle(judged.lineage);
     let overriding = least_bad_override(names, classes, judged, compared);
     let unimplemented = least_not_implemented(classes, judged, compared);
     let found = earlier(None, Rule::Duplicate, duplicate);
@@ -77,11 +77,11 @@ fn least_duplicate(
 fn least_bad_override(
     names: &Names,
     classes: &[&ClassSyntax],
-    judged: &Lineage,
+    judged: &Judged,
     compared: &Compared,
 ) -> Option<u32>
     requires { length classes.now + first_source_class < 2 ^ 32 }
-    ensures { IsLeast (BadOverridesIn (unit_of names.now) (lineage_of judged.now).classes
+    ensures { IsLeast (BadOverridesIn (unit_of names.now) (lineage_of judged.now.lineage.now).classes
         (lineage_of compared.now.lineage.now) (map (λ k. class_syntax k.now) classes.now)) result }
 {
     let supertypes = supertypes::least_in_classes(names, judged, classes);
@@ -92,12 +92,12 @@ fn least_bad_override(
 
 fn least_not_implemented(
     classes: &[&ClassSyntax],
-    judged: &Lineage,
+    judged: &Judged,
     compared: &Compared,
 ) -> Option<u32>
     requires { length classes.now + first_source_class < 2 ^ 32 }
-    ensures { IsLeast (NotImplementedsIn (lineage_of judged.now) (lineage_of compared.now.lineage.now)
-        (map (λ k. class_syntax k.now) classes.now)) result }
+    ensures { IsLeast (NotImplementedsIn (lineage_of judged.now.lineage.now)
+        (lineage_of compared.now.lineage.now) (map (λ k. class_syntax k.now) classes.now)) result }
 {
     let declared = least_declared_abstract(judged);
     let left_in = least_left_abstract(judged, compared);

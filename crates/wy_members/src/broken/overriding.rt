@@ -98,7 +98,7 @@ fn leaves_alike_abstract(lineage: &Lineage, c: u32, k: u32, m: &Method) -> bool
 }
 
 // A method alike to method `k` that a class has from a class or an interface above it: it declares none with this name and these
-// parameter types. Whether it declares one costs least, so that comes first.
+// parameter types.
 fn inherited_alike(
     lineage: &Lineage,
     c: u32,
@@ -113,11 +113,11 @@ fn inherited_alike(
         (λ j. (other : PlainMethod) × IsMethod (lineage_of lineage.now) j other
         × InheritsAlike (lineage_of lineage.now) c only_abstract (method_of m.now) j other) }
 {
+    let class = type_of_class(c);
+    let found = equal_of(lineage, &class, k, m, only_abstract)?;
     if declares_among(lineage, lineage.alike_by_name(k, m), c, m) {
         return None;
     }
-    let class = type_of_class(c);
-    let found = equal_of(lineage, &class, k, m, only_abstract)?;
     if declares_among(lineage, lineage.constructors_of(&class), c, m) {
         return None;
     }

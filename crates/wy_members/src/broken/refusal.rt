@@ -8,6 +8,8 @@ ghost use Rattle.wy_members.specs.Rows.{AreRows};
 
 use crate::broken::breach::Breach;
 use crate::broken::compared::{Compared, first_alike};
+use crate::broken::cycle::{Judged, cyclic_classes};
+use crate::broken::extended::extended;
 use crate::broken::fitting::fitting_classes;
 use crate::broken::inheriting::inheriting_methods;
 use crate::broken::judging::breach_in;
@@ -16,8 +18,8 @@ use crate::broken::text::classes_in;
 use crate::names::Names;
 use crate::rows::Rows;
 use std::alloc::{AllocError, Global};
-use wy_kernel::closure::supertypes;
 use wy_overloads::lineage::Lineage;
+use wy_table::hierarchy::hierarchy_of;
 use wy_table::methods::MethodIndex;
 
 /// The rule that the declarations of a program break at their least token, and there the first, if they break one.
@@ -30,24 +32,30 @@ pub fn refusal(alloc: Global, names: &Names, rows: &Rows) -> Result<Option<Breac
     let known = known_methods(alloc, names)?;
     let inheriting = inheriting_methods(alloc, known.as_slice())?;
     let fitting = fitting_classes(alloc, rows.classes.as_slice())?;
-    let above = supertypes(alloc, rows.classes.as_slice())?;
-    let above_fitting = supertypes(alloc, fitting.as_slice())?;
+    let above = hierarchy_of(alloc, rows.classes.as_slice())?;
+    let above_fitting = hierarchy_of(alloc, fitting.as_slice())?;
     let index = MethodIndex::of(alloc, rows.methods.as_slice())?;
     let index_inheriting = MethodIndex::of(alloc, inheriting.as_slice())?;
-    let judged = Lineage::of_rows(
+    let lineage = Lineage::of_rows(
         rows.classes.as_slice(),
         rows.methods.as_slice(),
-        above.as_slice(),
+        &above,
         &index,
     );
     let inherited = Lineage::of_rows(
         fitting.as_slice(),
         inheriting.as_slice(),
-        above_fitting.as_slice(),
+        &above_fitting,
         &index_inheriting,
     );
-    let shared = first_alike(alloc, &inherited, false)?;
-    let unfinished = first_alike(alloc, &inherited, true)?;
+    let cyclic = cyclic_classes(alloc, &lineage)?;
+    let judged = Judged {
+        lineage: &lineage,
+        cyclic: cyclic.as_slice(),
+    };
+    let marks = extended(alloc, &inherited)?;
+    let shared = first_alike(alloc, &inherited, &marks, false)?;
+    let unfinished = first_alike(alloc, &inherited, &marks, true)?;
     let compared = Compared {
         lineage: &inherited,
         shared: shared.as_slice(),

@@ -11,7 +11,7 @@ ghost use Rattle.wy_syntax.specs.Syntax.{Named as NamedSyntax};
 ghost use Rattle.wy_syntax.specs.View.{class_of, named_of};
 ghost use Rattle.wy_kernel.specs.Program.{first_source_class};
 
-use crate::broken::cycle::is_judged;
+use crate::broken::cycle::{Judged, is_judged};
 use crate::broken::least::{lesser, token_where};
 use crate::names::Names;
 use wy_kernel::types::Class;
@@ -25,10 +25,10 @@ const OBJECT: u32 = 0;
 
 const THROWABLE: u32 = 2;
 
-pub fn least_in_classes(names: &Names, judged: &Lineage, classes: &[&ClassSyntax]) -> Option<u32>
+pub fn least_in_classes(names: &Names, judged: &Judged, classes: &[&ClassSyntax]) -> Option<u32>
     requires { length classes.now + first_source_class < 2 ^ 32 }
     ensures { IsLeast (Among (map (λ k. class_of k.now) classes.now)
-        (WrongAboveAt (unit_of names.now) (lineage_of judged.now).classes)) result }
+        (WrongAboveAt (unit_of names.now) (lineage_of judged.now.lineage.now).classes)) result }
 {
     let mut least = None;
     for (i, class) in classes.iter().enumerate() {
@@ -39,11 +39,11 @@ pub fn least_in_classes(names: &Names, judged: &Lineage, classes: &[&ClassSyntax
     least
 }
 
-fn is_wrong(names: &Names, judged: &Lineage, number: u32, class: &ClassSyntax) -> bool
-    ensures { IsTrue result ↔ (IsJudgedIn (lineage_of judged.now).classes number
-        × HasWrongAbove (unit_of names.now) (lineage_of judged.now).classes (class_of class.now)) }
+fn is_wrong(names: &Names, judged: &Judged, number: u32, class: &ClassSyntax) -> bool
+    ensures { IsTrue result ↔ (IsJudgedIn (lineage_of judged.now.lineage.now).classes number
+        × HasWrongAbove (unit_of names.now) (lineage_of judged.now.lineage.now).classes (class_of class.now)) }
 {
-    is_judged(judged, number) && has_wrong_above(names, judged, class)
+    is_judged(judged, number) && has_wrong_above(names, judged.lineage, class)
 }
 
 fn has_wrong_above(names: &Names, lineage: &Lineage, class: &ClassSyntax) -> bool

@@ -1,8 +1,10 @@
-use Rattle.std.proofs.Common.{ℕ, ◌<◌}
-use Rattle.wy_overloads.specs.LineageView.{lineage_of}
+use Rattle.std.proofs.Common.{ℕ}
 use Rattle.wy_kernel.specs.Program.{Method}
-use Rattle.wy_overloads.specs.Choice.{Has}
+use Rattle.wy_overloads.specs.Choice.{IsMember}
+use Rattle.wy_overloads.specs.Candidates.{numbers_of}
+use Rattle.wy_overloads.specs.LineageView.{lineage_of}
+use Rattle.wy_overloads.proofs.Listed.{SoFar}
 use Rattle.wy_overloads.proofs.member.has_some.Given as goal
 
-abbrev pub invariant-loop-k : goal.invariant-loop-k
-invariant-loop-k l = (i : ℕ) (m : Method) → i < l.k → Has (lineage_of l.lineage) l.ty l.name i m → ⊥
+abbrev pub invariant-loop-i : goal.invariant-loop-i
+invariant-loop-i l = SoFar (lineage_of l.lineage) (numbers_of l.candidates) l.i (λ k m. IsMember (lineage_of l.lineage).classes l.ty l.name m → ⊥)

@@ -16,5 +16,5 @@ returns c =
     let k = class_of c.args.class.now in
     let Members = Among k.members (λ j m. WrongBodyIn k.is_interface m) in
     let judged = c.is_judged.ensures.0 c.if-not-is_judged.false in
-    like Members (InClassNumbered (lineage_of c.args.judged.now).classes c.args.number k) _ (λ n m. (judged, m)) (λ n m. m.1)
+    like Members (InClassNumbered (lineage_of c.args.judged.now.lineage.now).classes c.args.number k) _ (λ n m. (judged, m)) (λ n m. m.1)
     (subst (λ (ms : List Member). IsLeast (Among (map member_of ms) (λ j m. WrongBodyIn k.is_interface m)) c.least_in_members.result) c.deref.ensures.value c.least_in_members.ensures)

@@ -8,4 +8,4 @@ use Rattle.wy_members.proofs.Leasts.{Before}
 use Rattle.wy_members.proofs.broken.bodies.least_in_classes.Given as goal
 
 abbrev pub invariant-loop-i : goal.invariant-loop-i
-invariant-loop-i l = IsLeast (Before (map (λ (k : Bor ClassSyntax). class_of k.now) l.classes) (WrongBodyAt (lineage_of l.judged).classes) l.i) l.least
+invariant-loop-i l = IsLeast (Before (map (λ (k : Bor ClassSyntax). class_of k.now) l.classes) (WrongBodyAt (lineage_of l.judged.lineage.now).classes) l.i) l.least

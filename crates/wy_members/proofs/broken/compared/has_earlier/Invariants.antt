@@ -2,9 +2,9 @@ use Rattle.std.proofs.Common.{◌<◌}
 use Rattle.wy_kernel.specs.View.{method_of}
 use Rattle.wy_overloads.specs.LineageView.{lineage_of}
 use Rattle.wy_table.specs.Methods.{IsAlike}
-use Rattle.wy_members.specs.Alike.{IsSought}
+use Rattle.wy_members.specs.Alike.{IsMarked, IsSought}
 use Rattle.wy_members.proofs.Listed.{EachBefore}
 use Rattle.wy_members.proofs.broken.compared.has_earlier.Given as goal
 
 abbrev pub invariant-loop-j : goal.invariant-loop-j
-invariant-loop-j l = EachBefore (lineage_of l.lineage) l.j-items l.j-index (λ j other. (j < l.k) × IsSought l.only_abstract other × IsAlike (method_of l.m) other → ⊥)
+invariant-loop-j l = EachBefore (lineage_of l.lineage) l.j-items l.j-index (λ j other. (j < l.k) × IsSought l.only_abstract other × IsMarked l.marks other.class × IsAlike (method_of l.m) other → ⊥)

@@ -7,7 +7,7 @@ use Rattle.wy_members.proofs.broken.judging.breach_in.Goals as goal
 pub returns : goal.returns
 returns c =
     let unit = unit_of c.args.names.now in
-    let judged = lineage_of c.args.judged.now in
+    let judged = lineage_of c.args.judged.now.lineage.now in
     let lower = lineage_of c.args.compared.now.lineage.now in
     let j = c.requires.judged in
     first_of_all unit c.in_ok-duplicate.duplicate c.least_in_classes-unknown.result c.least_cycle-cycle.result c.least_bad_override-overriding.result c.least_not_implemented-unimplemented.result

@@ -10,7 +10,7 @@ use Rattle.wy_members.proofs.broken.judging.least_bad_override.Goals as goal
 
 pub returns : goal.returns
 returns c =
-    let classes = (lineage_of c.args.judged.now).classes in
+    let classes = (lineage_of c.args.judged.now.lineage.now).classes in
     let below = lineage_of c.args.compared.now.lineage.now in
     let Supertypes = Among (map (λ (k : Bor ClassSyntax). class_syntax k.now) c.args.classes.now) (WrongAboveAt (unit_of c.args.names.now) classes) in
     let Overriding = Among below.methods (OverridesAt classes below) in

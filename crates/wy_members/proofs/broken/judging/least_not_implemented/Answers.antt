@@ -9,7 +9,7 @@ use Rattle.wy_members.proofs.broken.judging.least_not_implemented.Goals as goal
 
 pub returns : goal.returns
 returns c =
-    let judged = lineage_of c.args.judged.now in
+    let judged = lineage_of c.args.judged.now.lineage.now in
     let below = lineage_of c.args.compared.now.lineage.now in
     let Declared = Among judged.methods (DeclaresAt judged.classes) in
     let Left = Among below.classes (LeavesAt judged.classes below) in

@@ -5,4 +5,4 @@ use Rattle.wy_members.proofs.Leasts.{Before}
 use Rattle.wy_members.proofs.broken.methods.least_declared_abstract.Given as goal
 
 abbrev pub invariant-loop-k : goal.invariant-loop-k
-invariant-loop-k l = IsLeast (Before (lineage_of l.judged).methods (DeclaresAt (lineage_of l.judged).classes) l.k) l.least
+invariant-loop-k l = IsLeast (Before (lineage_of l.judged.lineage.now).methods (DeclaresAt (lineage_of l.judged.lineage.now).classes) l.k) l.least

@@ -6,15 +6,15 @@ use Rattle.wy_members.proofs.Leasts.{none_yet, one_more, all_gone, where_it_hold
 use Rattle.wy_members.proofs.broken.methods.least_overriding.Goals as goal
 
 pub loop-k-init : goal.loop-k-init
-loop-k-init c = none_yet (OverridesAt (lineage_of c.args.judged.now).classes (lineage_of c.args.compared.now.lineage.now)) (lineage_of c.args.compared.now.lineage.now).methods
+loop-k-init c = none_yet (OverridesAt (lineage_of c.args.judged.now.lineage.now).classes (lineage_of c.args.compared.now.lineage.now)) (lineage_of c.args.compared.now.lineage.now).methods
 
 pub loop-k-preserved : goal.loop-k-preserved
 loop-k-preserved c =
     let x = method_of c.method-m.result.now in
-    one_more (OverridesAt (lineage_of c.args.judged.now).classes (lineage_of c.args.compared.now.lineage.now)) (lineage_of c.args.compared.now.lineage.now).methods c.loop-k.k x _ _ _ c.method-m.ensures c.loop-k.invariant
-    (where_it_holds (IsJudgedIn (lineage_of c.args.judged.now).classes x.class × OverridesWrongly (lineage_of c.args.compared.now.lineage.now) x) x.site c.is_overriding_wrong-wrong.result _ c.is_overriding_wrong-wrong.ensures c.token_where.ensures) c.lesser-least.ensures
+    one_more (OverridesAt (lineage_of c.args.judged.now.lineage.now).classes (lineage_of c.args.compared.now.lineage.now)) (lineage_of c.args.compared.now.lineage.now).methods c.loop-k.k x _ _ _ c.method-m.ensures c.loop-k.invariant
+    (where_it_holds (IsJudgedIn (lineage_of c.args.judged.now.lineage.now).classes x.class × OverridesWrongly (lineage_of c.args.compared.now.lineage.now) x) x.site c.is_overriding_wrong-wrong.result _ c.is_overriding_wrong-wrong.ensures c.token_where.ensures) c.lesser-least.ensures
 
 pub returns : goal.returns
 returns c =
     let all : length (lineage_of c.args.compared.now.lineage.now).methods ≤ c.loop-k.k = omega (arith, c.loop-k-test.false, c.methods-k-end.ensures) in
-    all_gone (OverridesAt (lineage_of c.args.judged.now).classes (lineage_of c.args.compared.now.lineage.now)) (lineage_of c.args.compared.now.lineage.now).methods c.loop-k.k _ all c.loop-k.invariant
+    all_gone (OverridesAt (lineage_of c.args.judged.now.lineage.now).classes (lineage_of c.args.compared.now.lineage.now)) (lineage_of c.args.compared.now.lineage.now).methods c.loop-k.k _ all c.loop-k.invariant

@@ -19,6 +19,13 @@ returns c =
     let Found : Ty → Type 0 = λ ty. (other : Method) × IsMethod t c.in_ok-found.found other × IsEqualSought t ty c.args.only_abstract m other in
     let found : Found (class_type c.args.c) = subst Found c.type_of_class-class.ensures c.in_ok-found.ensures in
     let Constructors : Ty → Type 0 = λ ty. Lists t.methods (λ i x. (x.form ≡ kind.Constructor) × (ty ≡ class_type x.class)) c.constructors_of.result.now in
-    let equal = found.2.1 in
-    (found.0, found.1, (found.2.0, (equal.member.named, equal.same), inherits_found t c.args.c c.in_ok-found.found m found.0 c.alike_by_name.result.now c.constructors_of.result.now c.alike_by_name.ensures (subst Constructors c.type_of_class-class.ensures c.constructors_of.ensures)
-        (λ s. untrue _ c.if-declares_among.false (c.declares_among.ensures.1 s)) (λ s. untrue _ c.if-declares_among-2.false (c.declares_among-2.ensures.1 s)) found.1 equal))
+    let equal = found.2.1 in (
+      found.0,
+      found.1,
+      (
+        found.2.0,
+        (equal.member.named, equal.same),
+        inherits_found t c.args.c c.in_ok-found.found m found.0 c.alike_by_name.result.now c.constructors_of.result.now c.alike_by_name.ensures (subst Constructors c.type_of_class-class.ensures c.constructors_of.ensures)
+            (λ s. untrue _ c.if-declares_among.false (c.declares_among.ensures.1 s)) (λ s. untrue _ c.if-declares_among-2.false (c.declares_among-2.ensures.1 s)) found.1 equal,
+      ),
+    )

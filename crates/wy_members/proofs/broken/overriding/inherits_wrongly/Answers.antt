@@ -2,7 +2,7 @@ use Rattle.std.proofs.Common.{◌<◌, length, get_or}
 use Rattle.std.proofs.Math.Logic.{∥∥₁_elim}
 use Rattle.std.proofs.Props.{props}
 use Rattle.wy_overloads.specs.LineageView.{lineage_of}
-use Rattle.wy_overloads.proofs.Related.{not_below}
+use Rattle.wy_overloads.proofs.Related.{not_below, top_in}
 use Rattle.wy_members.proofs.Listed.{in_list}
 use Rattle.wy_members.proofs.Alike.{none_wrong}
 use Rattle.wy_members.proofs.broken.overriding.inherits_wrongly.Goals as goal
@@ -17,4 +17,4 @@ method-m-requires c =
 pub returns : goal.returns
 returns c =
     let compared = c.args.compared.now in
-    not_below (none_wrong (lineage_of compared.lineage.now) c.args.c compared.shared.now c.loop-k.k-index compared.lists_shared c.loop-k-test.false c.loop-k.invariant)
+    not_below (none_wrong (lineage_of compared.lineage.now) c.args.c compared.shared.now c.loop-k.k-index (top_in compared.lineage.now) compared.lists_shared c.loop-k-test.false c.loop-k.invariant)

@@ -9,12 +9,12 @@ use Rattle.wy_members.proofs.Leasts.{none_yet, more_seen, gone_seen, where_it_ho
 use Rattle.wy_members.proofs.broken.supertypes.least_in_classes.Goals as goal
 
 pub loop-i-init : goal.loop-i-init
-loop-i-init c = none_yet (WrongAboveAt (unit_of c.args.names.now) (lineage_of c.args.judged.now).classes) (map (λ (k : Bor ClassSyntax). class_of k.now) c.args.classes.now)
+loop-i-init c = none_yet (WrongAboveAt (unit_of c.args.names.now) (lineage_of c.args.judged.now.lineage.now).classes) (map (λ (k : Bor ClassSyntax). class_of k.now) c.args.classes.now)
 
 pub loop-i-preserved : goal.loop-i-preserved
 loop-i-preserved c =
-    more_seen (λ (k : Bor ClassSyntax). class_of k.now) (WrongAboveAt (unit_of c.args.names.now) (lineage_of c.args.judged.now).classes) c.args.classes.now c.loop-i.i c.index-classes-i.result _ _ _ c.loop-i-test.true c.index-classes-i.is c.loop-i.invariant
-    (where_it_holds (IsJudgedIn (lineage_of c.args.judged.now).classes (first_source_class + c.loop-i.i) × HasWrongAbove (unit_of c.args.names.now) (lineage_of c.args.judged.now).classes (class_of c.index-classes-i.result.now)) c.index-classes-i.result.now.name.token c.is_wrong-wrong.result _ c.is_wrong-wrong.ensures c.token_where.ensures) c.lesser-least.ensures
+    more_seen (λ (k : Bor ClassSyntax). class_of k.now) (WrongAboveAt (unit_of c.args.names.now) (lineage_of c.args.judged.now.lineage.now).classes) c.args.classes.now c.loop-i.i c.index-classes-i.result _ _ _ c.loop-i-test.true c.index-classes-i.is c.loop-i.invariant
+    (where_it_holds (IsJudgedIn (lineage_of c.args.judged.now.lineage.now).classes (first_source_class + c.loop-i.i) × HasWrongAbove (unit_of c.args.names.now) (lineage_of c.args.judged.now.lineage.now).classes (class_of c.index-classes-i.result.now)) c.index-classes-i.result.now.name.token c.is_wrong-wrong.result _ c.is_wrong-wrong.ensures c.token_where.ensures) c.lesser-least.ensures
 
 pub returns : goal.returns
-returns c = gone_seen (λ (k : Bor ClassSyntax). class_of k.now) (WrongAboveAt (unit_of c.args.names.now) (lineage_of c.args.judged.now).classes) c.args.classes.now c.loop-i.i _ c.loop-i-test.false c.loop-i.invariant
+returns c = gone_seen (λ (k : Bor ClassSyntax). class_of k.now) (WrongAboveAt (unit_of c.args.names.now) (lineage_of c.args.judged.now.lineage.now).classes) c.args.classes.now c.loop-i.i _ c.loop-i-test.false c.loop-i.invariant
