@@ -1,5 +1,6 @@
 pub mod Contained
 pub mod Leasts
+pub mod Keyed
 pub mod Numbering
 pub mod Monotone
 pub mod Least

@@ -6,6 +6,8 @@ pub mod Rows
 pub mod Names
 pub mod Numbers
 pub mod Least
+pub mod Keys
+pub mod Words
 pub mod Within
 pub mod Alike
 pub mod Earlier

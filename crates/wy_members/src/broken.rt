@@ -12,6 +12,7 @@ mod first;
 mod fitting;
 mod inheriting;
 mod judging;
+mod key;
 mod known;
 mod least;
 mod methods;

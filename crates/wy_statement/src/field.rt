@@ -46,7 +46,10 @@ fn own_place(alloc: Global, is_static: bool, field: u32, token: u32) -> Result<P
 fn number_in(table: &ClassTable, class: u32, name: &str) -> u32
     ensures { result ≡ or_zero (declared_field (table_of table.now).fields class name.now) }
 {
-    table.field_number(class, name).unwrap_or(0)
+    match table.field_number(class, name) {
+        Some(field) => field,
+        None => 0,
+    }
 }
 
 fn field_number(setting: &Setting, class: u32, name: &str) -> u32

@@ -1,12 +1,17 @@
 //! What is declared again: an item that is the same as one before it. Which items are the same, each kind of them says.
 
-ghost use Rattle.std.specs.Prelude.{◌≡◌, ◌<◌, ◌↔◌, ℕ, IsTrue, Some, length, slice_get, string_bytes};
-ghost use Rattle.wy_members.specs.Least.{IsAgain, IsLeast, RepeatsEarlier};
+ghost use Rattle.std.specs.Prelude.{◌≡◌, ◌↔◌, ℕ, IfOk, Some, None, [], string_bytes};
+ghost use Rattle.std.proofs.Common.{rules};
+ghost use Rattle.wy_members.specs.Keys.{Key as PlainKey, key_of};
+ghost use Rattle.wy_members.specs.Least.{IsAgain, IsLeast};
+ghost use Rattle.wy_members.specs.Words.{key_of_word, same_by_word, word_of};
 
+use crate::broken::key::Key;
 use crate::broken::least::{lesser, token_where};
+use std::alloc::{AllocError, Global};
+use std::collections::HashSet;
 use wy_kernel::types::{Class, Field, Method};
-use wy_overloads::signature::are_same_types;
-use wy_syntax::declaration::{Parameter, Placed};
+use wy_syntax::declaration::{Modifier, Parameter, Placed};
 
 /// What may be declared again, at a token.
 pub trait Repeats {
@@ -14,35 +19,29 @@ pub trait Repeats {
 
     ghost place: { Self → ℕ };
 
-    fn repeats(&self, earlier: &Self) -> bool
-        ensures { IsTrue result ↔ same earlier.now self.now };
+    ghost shared: { Self → PlainKey };
+
+    /// What it shares with those that are the same.
+    fn key(&self) -> Key<'_>
+        ensures { key_of result ≡ shared self.now };
 
     fn token(&self) -> u32
         ensures { result ≡ place self.now };
+
+    ghost same_by_key: { (a b : Self) → same a b ↔ (shared a ≡ shared b) };
 }
 
-/// The least token of an item that is the same as one before it.
-pub fn least_again<T: Repeats>(items: &[T]) -> Option<u32>
-    ensures { IsLeast (IsAgain T.same T.place items.now) result }
+/// The least token of an item that is the same as one before it, in time and memory in proportion to them.
+pub fn least_again<T: Repeats>(alloc: Global, items: &[T]) -> Result<Option<u32>, AllocError>
+    ensures { IfOk result (IsLeast (IsAgain T.same T.place items.now)) }
 {
     let mut least = None;
-    for (j, item) in items.iter().enumerate() {
-        let repeated = repeats_earlier(items, j, item);
-        least = lesser(least, token_where(repeated, item.token()));
+    let mut seen = HashSet::new(alloc);
+    for item in items {
+        let is_new = seen.insert(item.key())?;
+        least = lesser(least, token_where(!is_new, item.token()));
     }
-    least
-}
-
-fn repeats_earlier<T: Repeats>(items: &[T], j: usize, item: &T) -> bool
-    requires { slice_get items.now j ≡ Some item.now }
-    ensures { IsTrue result ↔ RepeatsEarlier T.same items.now j item.now }
-{
-    for i in 0..j {
-        if item.repeats(&items[i]) {
-            return true;
-        }
-    }
-    false
+    Ok(least)
 }
 
 /// A class has the name of an earlier one (JLS 7.6).
@@ -51,8 +50,16 @@ impl Repeats for Class {
 
     ghost place = { λ b. b.site };
 
-    fn repeats(&self, earlier: &Self) -> bool {
-        earlier.name.as_str() == self.name.as_str()
+    ghost shared = { λ a. record { class = None; name = string_bytes a.name; params = [] } };
+
+    ghost same_by_key = { Prim.search rules };
+
+    fn key(&self) -> Key<'_> {
+        Key {
+            class: None,
+            name: self.name.as_str(),
+            params: &[],
+        }
     }
 
     fn token(&self) -> u32 {
@@ -66,8 +73,16 @@ impl Repeats for Field {
 
     ghost place = { λ b. b.site };
 
-    fn repeats(&self, earlier: &Self) -> bool {
-        earlier.class == self.class && earlier.name.as_str() == self.name.as_str()
+    ghost shared = { λ a. record { class = Some a.class; name = string_bytes a.name; params = [] } };
+
+    ghost same_by_key = { Prim.search rules };
+
+    fn key(&self) -> Key<'_> {
+        Key {
+            class: Some(self.class),
+            name: self.name.as_str(),
+            params: &[],
+        }
     }
 
     fn token(&self) -> u32 {
@@ -82,10 +97,20 @@ impl Repeats for Method {
 
     ghost place = { λ b. b.site };
 
-    fn repeats(&self, earlier: &Self) -> bool {
-        earlier.class == self.class
-            && earlier.name.as_str() == self.name.as_str()
-            && are_same_types(earlier.params.as_slice(), self.params.as_slice())
+    ghost shared = { λ a. record {
+      class = Some a.class;
+      name = string_bytes a.name;
+      params = a.params.items;
+    } };
+
+    ghost same_by_key = { Prim.search rules };
+
+    fn key(&self) -> Key<'_> {
+        Key {
+            class: Some(self.class),
+            name: self.name.as_str(),
+            params: self.params.as_slice(),
+        }
     }
 
     fn token(&self) -> u32 {
@@ -99,8 +124,16 @@ impl Repeats for Parameter {
 
     ghost place = { λ b. b.name.token };
 
-    fn repeats(&self, earlier: &Self) -> bool {
-        earlier.name.name.as_str() == self.name.name.as_str()
+    ghost shared = { λ a. record { class = None; name = string_bytes a.name.name; params = [] } };
+
+    ghost same_by_key = { Prim.search rules };
+
+    fn key(&self) -> Key<'_> {
+        Key {
+            class: None,
+            name: self.name.name.as_str(),
+            params: &[],
+        }
     }
 
     fn token(&self) -> u32 {
@@ -114,11 +147,33 @@ impl Repeats for Placed {
 
     ghost place = { λ b. b.token };
 
-    fn repeats(&self, earlier: &Self) -> bool {
-        earlier.modifier == self.modifier
+    ghost shared = { λ a. key_of_word a.modifier };
+
+    ghost same_by_key = { λ a b. same_by_word a.modifier b.modifier };
+
+    fn key(&self) -> Key<'_> {
+        Key {
+            class: None,
+            name: word(self.modifier),
+            params: &[],
+        }
     }
 
     fn token(&self) -> u32 {
         self.token
+    }
+}
+
+fn word(modifier: Modifier) -> &'static str
+    ensures { result.now ≡ word_of modifier }
+{
+    match modifier {
+        Modifier::Public => "public",
+        Modifier::Private => "private",
+        Modifier::Protected => "protected",
+        Modifier::Static => "static",
+        Modifier::Final => "final",
+        Modifier::Abstract => "abstract",
+        Modifier::Override => "@Override",
     }
 }

@@ -1,6 +1,6 @@
 //! The refusal that is due for the declarations of a program: at the least token, and there by the first rule.
 
-ghost use Rattle.std.specs.Prelude.{◌+◌, ◌<◌, ◌^◌, MatchOption, length, map};
+ghost use Rattle.std.specs.Prelude.{◌+◌, ◌<◌, ◌^◌, IfOk, MatchOption, length, map};
 ghost use Rattle.wy_members.specs.Judging.{AreJudged};
 ghost use Rattle.wy_members.specs.Least.{IsLeast};
 ghost use Rattle.wy_overloads.specs.LineageView.{lineage_of};
@@ -23,6 +23,7 @@ use crate::broken::methods::{
 use crate::broken::{bodies, duplicate, supertypes, unknown};
 use crate::names::Names;
 use crate::rows::Rows;
+use std::alloc::{AllocError, Global};
 use wy_constant::Rule;
 use wy_kernel::types::Method;
 use wy_overloads::lineage::Lineage;
@@ -30,20 +31,21 @@ use wy_syntax::declaration::ClassSyntax;
 
 /// The refusal that is due for a program whose declarations are these.
 pub fn breach_in(
+    alloc: Global,
     names: &Names,
     rows: &Rows,
     known: &[Method],
     classes: &[&ClassSyntax],
     judged: &Judged,
     compared: &Compared,
-) -> Option<Breach>
+) -> Result<Option<Breach>, AllocError>
     requires judged { AreJudged (unit_of names.now) rows.now known.now classes.now
         (lineage_of judged.now.lineage.now) (lineage_of compared.now.lineage.now) }
     requires few { length classes.now + first_source_class < 2 ^ 32 }
-    ensures { MatchOption result (KeepsRules (unit_of names.now)) (λ b.
-        IsRefusal (unit_of names.now) b.rule b.token) }
+    ensures { IfOk result (λ found. MatchOption found (KeepsRules (unit_of names.now)) (λ b.
+        IsRefusal (unit_of names.now) b.rule b.token)) }
 {
-    let duplicate = least_duplicate(rows, known, classes);
+    let duplicate = least_duplicate(alloc, rows, known, classes)?;
     let unknown = unknown::least_in_classes(names, classes);
     let cycle = least_cycle(judged.lineage);
     let overriding = least_bad_override(names, classes, judged, compared);
@@ -52,19 +54,24 @@ pub fn breach_in(
     let found = earlier(found, Rule::UnknownName, unknown);
     let found = earlier(found, Rule::Cycle, cycle);
     let found = earlier(found, Rule::BadOverride, overriding);
-    earlier(found, Rule::NotImplemented, unimplemented)
+    Ok(earlier(found, Rule::NotImplemented, unimplemented))
 }
 
-fn least_duplicate(rows: &Rows, known: &[Method], classes: &[&ClassSyntax]) -> Option<u32>
-    ensures { IsLeast
+fn least_duplicate(
+    alloc: Global,
+    rows: &Rows,
+    known: &[Method],
+    classes: &[&ClassSyntax],
+) -> Result<Option<u32>, AllocError>
+    ensures { IfOk result (IsLeast
         (RepeatsIn (map class_of rows.now.classes.items) (map field_of rows.now.fields.items)
-        (map method_of known.now) (map (λ k. class_syntax k.now) classes.now)) result }
+        (map method_of known.now) (map (λ k. class_syntax k.now) classes.now))) }
 {
-    let in_classes = least_again(&rows.classes);
-    let in_fields = least_again(&rows.fields);
-    let in_methods = least_again(known);
-    let in_text = duplicate::least_in_classes(classes);
-    lesser(lesser(in_classes, in_fields), lesser(in_methods, in_text))
+    let in_classes = least_again(alloc, &rows.classes)?;
+    let in_fields = least_again(alloc, &rows.fields)?;
+    let in_methods = least_again(alloc, known)?;
+    let in_text = duplicate::least_in_classes(alloc, classes)?;
+    Ok(lesser(lesser(in_classes, in_fields), lesser(in_methods, in_text)))
 }
 
 fn least_bad_override(

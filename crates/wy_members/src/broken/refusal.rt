@@ -61,12 +61,13 @@ pub fn refusal(alloc: Global, names: &Names, rows: &Rows) -> Result<Option<Breac
         shared: shared.as_slice(),
         unfinished: unfinished.as_slice(),
     };
-    Ok(breach_in(
+    breach_in(
+        alloc,
         names,
         rows,
         known.as_slice(),
         texts.as_slice(),
         &judged,
         &compared,
-    ))
+    )
 }

@@ -2,11 +2,15 @@ use Rattle.std.proofs.Common.{◌≡◌, ◌<◌, ℕ, List, length, ap, sym, su
 use Rattle.std.specs.Prelude.{map, option_map}
 use Rattle.std.proofs.lemmas.List.{length-map}
 use Rattle.wy_kernel.specs.declared.types.Class as memory
+use Rattle.wy_kernel.specs.declared.types.Field as memory_field
+use Rattle.wy_kernel.specs.declared.types.Method as memory_method
 use Rattle.wy_kernel.specs.Program.{Class}
 use Rattle.wy_kernel.specs.Builtin.{no_site}
 use Rattle.wy_kernel.specs.View.{class_of, method_of, field_of}
 use Rattle.wy_table.specs.ClassTable.{table_of}
 use Rattle.wy_table.specs.Hierarchy.{rows_of}
+use Rattle.wy_table.specs.MethodIndex.{IsIndexOf}
+use Rattle.wy_table.specs.Names.{KeepsNames}
 use Rattle.wy_kernel.specs.Table.{Table, IsTable, NamesAmong, KeepsSupertypes, constant_value}
 use Rattle.wy_members.specs.Declarations.{table, no_constants}
 use Rattle.wy_members.specs.Names.{unit_of}
@@ -24,6 +28,29 @@ pub invariant_of-result-clause-keeps_supertypes : goal.invariant_of-result-claus
 invariant_of-result-clause-keeps_supertypes c =
     let P : List memory.Class → Type 0 = λ xs. KeepsSupertypes (map class_of xs) (rows_of c.in_ok-hierarchy.hierarchy) in
     ∣ subst P c.as_slice.ensures.value c.in_ok-hierarchy.ensures ∣₁
+
+pub of-declared-requires-clause-classes : goal.of-declared-requires-clause-classes
+of-declared-requires-clause-classes c =
+    let few = c.requires.rows.few_classes in
+    let same : length c.as_slice-3.result.now ≡ length c.args.rows.classes.items = ap length c.as_slice-3.ensures.value in
+    omega (arith, few, same)
+
+pub of-declared-requires-clause-fields : goal.of-declared-requires-clause-fields
+of-declared-requires-clause-fields c =
+    let few = c.requires.rows.few_fields in
+    let same : length c.as_slice-4.result.now ≡ length c.args.rows.fields.items = ap length c.as_slice-4.ensures.value in
+    omega (arith, few, same)
+
+pub invariant_of-result-clause-keeps_names : goal.invariant_of-result-clause-keeps_names
+invariant_of-result-clause-keeps_names c =
+    let names = c.in_ok-declared.declared in
+    let P : List memory.Class → List memory_field.Field → Type 0 = λ cs fs. KeepsNames (map class_of cs) (map field_of fs) names in
+    ∣ subst (λ (fs : List memory_field.Field). P c.args.rows.classes.items fs) c.as_slice-4.ensures.value (subst (λ (cs : List memory.Class). P cs c.as_slice-4.result.now) c.as_slice-3.ensures.value c.in_ok-declared.ensures) ∣₁
+
+pub invariant_of-result-clause-is_index : goal.invariant_of-result-clause-is_index
+invariant_of-result-clause-is_index c =
+    let P : List memory_method.Method → Type 0 = λ ms. IsIndexOf c.in_ok-index.index (map method_of ms) in
+    ∣ subst P c.as_slice-5.ensures.value c.in_ok-index.ensures ∣₁
 
 pub invariant_of-result-clause-is_table : goal.invariant_of-result-clause-is_table
 invariant_of-result-clause-is_table c =

@@ -16,7 +16,7 @@ returns c =
     either Reserved (Either (ModifierTwice k.modifiers) Members) _ _ _
     (where_it_holds (Contains reserved_names k.name.name) k.name.token c.is_reserved.result _ (subst (λ (name : List ℕ). IsTrue c.is_reserved.result ↔ Contains reserved_names name) c.as_str.ensures.value c.is_reserved.ensures) c.token_where-name.ensures)
     (either (ModifierTwice k.modifiers) Members _ _ _
-    (again_in placed_of (λ a b. a.modifier ≡ b.modifier) (λ b. b.token) c.args.class.now.modifiers.items c.deref.result.now _ c.deref.ensures.value c.least_again-modifiers.ensures)
-    (subst (λ (ms : List Member). IsLeast (Among (map member_of ms) (λ i m. RepeatsInMember m)) c.least_in_members-members.result) c.deref-2.ensures.value c.least_in_members-members.ensures)
+    (again_in placed_of (λ a b. a.modifier ≡ b.modifier) (λ b. b.token) c.args.class.now.modifiers.items c.deref.result.now _ c.deref.ensures.value c.in_ok-modifiers.ensures)
+    (subst (λ (ms : List Member). IsLeast (Among (map member_of ms) (λ i m. RepeatsInMember m)) c.in_ok-members.members) c.deref-2.ensures.value c.in_ok-members.ensures)
     c.lesser.ensures)
     c.lesser-2.ensures

@@ -11,7 +11,7 @@ loop-class-init c = none_yet (λ i k. RepeatsInClass k) (map (λ (k : Bor ClassS
 
 pub loop-class-preserved : goal.loop-class-preserved
 loop-class-preserved c =
-    more_seen (λ (k : Bor ClassSyntax). class_of k.now) (λ i k. RepeatsInClass k) c.args.classes.now c.loop-class.class-index c.class-item.result _ _ _ c.loop-class-test.true c.class-item.is c.loop-class.invariant c.least_in_class.ensures c.lesser-least.ensures
+    more_seen (λ (k : Bor ClassSyntax). class_of k.now) (λ i k. RepeatsInClass k) c.args.classes.now c.loop-class.class-index c.class-item.result _ _ _ c.loop-class-test.true c.class-item.is c.loop-class.invariant c.in_ok-in_class.ensures c.lesser-least.ensures
 
 pub returns : goal.returns
 returns c = gone_seen (λ (k : Bor ClassSyntax). class_of k.now) (λ i k. RepeatsInClass k) c.args.classes.now c.loop-class.class-index _ c.loop-class-test.false c.loop-class.invariant

@@ -8,6 +8,6 @@ pub returns : goal.returns
 returns c =
     let h = c.args.header.now in
     either (ModifierTwice (header_of h).modifiers) (ParameterTwice (header_of h).params) _ _ _
-    (again_in placed_of (λ a b. a.modifier ≡ b.modifier) (λ b. b.token) h.modifiers.items c.deref.result.now _ c.deref.ensures.value c.least_again-modifiers.ensures)
-    (again_in parameter_of (λ a b. a.name.name ≡ b.name.name) (λ b. b.name.token) h.params.items c.deref-2.result.now _ c.deref-2.ensures.value c.least_again-params.ensures)
+    (again_in placed_of (λ a b. a.modifier ≡ b.modifier) (λ b. b.token) h.modifiers.items c.deref.result.now _ c.deref.ensures.value c.in_ok-modifiers.ensures)
+    (again_in parameter_of (λ a b. a.name.name ≡ b.name.name) (λ b. b.name.token) h.params.items c.deref-2.result.now _ c.deref-2.ensures.value c.in_ok-params.ensures)
     c.lesser.ensures

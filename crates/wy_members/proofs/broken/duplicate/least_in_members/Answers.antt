@@ -9,7 +9,7 @@ loop-member-init c = none_yet (λ i m. RepeatsInMember m) (map member_of c.args.
 
 pub loop-member-preserved : goal.loop-member-preserved
 loop-member-preserved c =
-    more_seen member_of (λ i m. RepeatsInMember m) c.args.members.now c.loop-member.member-index c.member-item.result _ _ _ c.loop-member-test.true c.member-item.is c.loop-member.invariant c.least_in_member.ensures c.lesser-least.ensures
+    more_seen member_of (λ i m. RepeatsInMember m) c.args.members.now c.loop-member.member-index c.member-item.result _ _ _ c.loop-member-test.true c.member-item.is c.loop-member.invariant c.in_ok-in_member.ensures c.lesser-least.ensures
 
 pub returns : goal.returns
 returns c = gone_seen member_of (λ i m. RepeatsInMember m) c.args.members.now c.loop-member.member-index _ c.loop-member-test.false c.loop-member.invariant

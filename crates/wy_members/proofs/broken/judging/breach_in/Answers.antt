@@ -10,9 +10,9 @@ returns c =
     let judged = lineage_of c.args.judged.now.lineage.now in
     let lower = lineage_of c.args.compared.now.lineage.now in
     let j = c.requires.judged in
-    first_of_all unit c.least_duplicate-duplicate.result c.least_in_classes-unknown.result c.least_cycle-cycle.result c.least_bad_override-overriding.result c.least_not_implemented-unimplemented.result
+    first_of_all unit c.in_ok-duplicate.duplicate c.least_in_classes-unknown.result c.least_cycle-cycle.result c.least_bad_override-overriding.result c.least_not_implemented-unimplemented.result
     c.earlier-found.result c.earlier-found-2.result c.earlier-found-3.result c.earlier-found-4.result c.earlier.result
-    (duplicates unit _ _ _ _ _ j.rows.classes j.rows.fields j.known j.written c.least_duplicate-duplicate.ensures)
+    (duplicates unit _ _ _ _ _ j.rows.classes j.rows.fields j.known j.written c.in_ok-duplicate.ensures)
     (unknowns unit _ _ j.written c.least_in_classes-unknown.ensures)
     (cycles unit _ judged.classes j.classes c.least_cycle-cycle.ensures)
     (overrides unit _ judged.classes lower _ j.classes j.below j.written c.least_bad_override-overriding.ensures)

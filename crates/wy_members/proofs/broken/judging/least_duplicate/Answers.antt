@@ -16,11 +16,11 @@ returns c =
     let Text = Among (map (λ (k : Bor ClassSyntax). class_syntax k.now) c.args.classes.now) (λ i k. RepeatsInClass k) in
     either (Either Classes Fields) (Either Methods Text) _ _ _
     (either Classes Fields _ _ _
-    (again_in class_of (λ a b. a.name ≡ b.name) (λ b. b.site) rows.classes.items c.deref.result.now _ c.deref.ensures.value c.least_again-in_classes.ensures)
-    (again_in field_of (λ a b. (a.class ≡ b.class) × (a.name ≡ b.name)) (λ b. b.site) rows.fields.items c.deref-2.result.now _ c.deref-2.ensures.value c.least_again-in_fields.ensures)
+    (again_in class_of (λ a b. a.name ≡ b.name) (λ b. b.site) rows.classes.items c.deref.result.now _ c.deref.ensures.value c.in_ok-in_classes.ensures)
+    (again_in field_of (λ a b. (a.class ≡ b.class) × (a.name ≡ b.name)) (λ b. b.site) rows.fields.items c.deref-2.result.now _ c.deref-2.ensures.value c.in_ok-in_fields.ensures)
     c.lesser.ensures)
     (either Methods Text _ _ _
-    (again_in method_of (λ a b. (a.class ≡ b.class) × (a.name ≡ b.name) × (a.params ≡ b.params)) (λ b. b.site) c.args.known.now c.args.known.now _ refl c.least_again-in_methods.ensures)
-    c.least_in_classes-in_text.ensures
+    (again_in method_of (λ a b. (a.class ≡ b.class) × (a.name ≡ b.name) × (a.params ≡ b.params)) (λ b. b.site) c.args.known.now c.args.known.now _ refl c.in_ok-in_methods.ensures)
+    c.in_ok-in_text.ensures
     c.lesser-2.ensures)
     c.lesser-3.ensures
