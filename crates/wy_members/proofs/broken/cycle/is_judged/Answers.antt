@@ -13,7 +13,8 @@ use Rattle.wy_members.proofs.broken.cycle.is_judged.Goals as goal
 pub returns-then-is_supertype : goal.returns-then-is_supertype
 returns-then-is_supertype c =
     let j = c.args.judged.now in
-    ?
+    let d = get_or j.cyclic.now c.loop-d.d-index 0 in
+    not_below (λ judged. ∥∥₁_elim j.exact (hlevel props) (λ exact. judged d (c.is_supertype.ensures.0 c.if-is_supertype.true) ((exact d).0 (Contains-get_or j.cyclic.now c.loop-d.d-index 0 c.loop-d-test.true))))
 
 pub loop-d-preserved : goal.loop-d-preserved
 loop-d-preserved c = below_more _ _ c.loop-d.invariant (λ s. untrue _ c.if-is_supertype.false (c.is_supertype.ensures.1 s))
