@@ -32,7 +32,8 @@ pub fn least_in_classes(judged: &Judged, classes: &[&ClassSyntax]) -> Option<u32
 
 fn least_in_class(judged: &Judged, number: u32, class: &ClassSyntax) -> Option<u32>
     ensures { IsLeast
-        (InClassNumbered (lineage_of judged.now.lineage.now).classes number (class_of class.now)) result }
+        (InClassNumbered (lineage_of judged.now.lineage.now).classes number
+        (class_of class.now)) result }
 {
     if !is_judged(judged, number) {
         return None;

@@ -81,8 +81,9 @@ fn least_bad_override(
     compared: &Compared,
 ) -> Option<u32>
     requires { length classes.now + first_source_class < 2 ^ 32 }
-    ensures { IsLeast (BadOverridesIn (unit_of names.now) (lineage_of judged.now.lineage.now).classes
-        (lineage_of compared.now.lineage.now) (map (λ k. class_syntax k.now) classes.now)) result }
+    ensures { IsLeast (BadOverridesIn (unit_of names.now)
+        (lineage_of judged.now.lineage.now).classes (lineage_of compared.now.lineage.now)
+        (map (λ k. class_syntax k.now) classes.now)) result }
 {
     let supertypes = supertypes::least_in_classes(names, judged, classes);
     let overriding = least_overriding(judged, compared);

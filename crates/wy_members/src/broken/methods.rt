@@ -74,7 +74,8 @@ pub fn least_left_abstract(judged: &Judged, compared: &Compared) -> Option<u32>
 
 fn is_left_incomplete(judged: &Judged, compared: &Compared, c: u32, class: &Class) -> bool
     ensures { IsTrue result ↔ (IsJudgedIn (lineage_of judged.now.lineage.now).classes c
-        × (class.now.is_abstract ≡ false) × LeavesAbstract (lineage_of compared.now.lineage.now) c) }
+        × (class.now.is_abstract ≡ false)
+        × LeavesAbstract (lineage_of compared.now.lineage.now) c) }
 {
     is_judged(judged, c) && !class.is_abstract && leaves_abstract(compared, c)
 }

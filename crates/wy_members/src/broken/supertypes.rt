@@ -41,7 +41,8 @@ pub fn least_in_classes(names: &Names, judged: &Judged, classes: &[&ClassSyntax]
 
 fn is_wrong(names: &Names, judged: &Judged, number: u32, class: &ClassSyntax) -> bool
     ensures { IsTrue result ↔ (IsJudgedIn (lineage_of judged.now.lineage.now).classes number
-        × HasWrongAbove (unit_of names.now) (lineage_of judged.now.lineage.now).classes (class_of class.now)) }
+        × HasWrongAbove (unit_of names.now) (lineage_of judged.now.lineage.now).classes
+        (class_of class.now)) }
 {
     is_judged(judged, number) && has_wrong_above(names, judged.lineage, class)
 }
