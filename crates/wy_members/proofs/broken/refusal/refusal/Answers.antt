@@ -1,4 +1,4 @@
-use Rattle.std.proofs.Common.{◌≡◌, List, Bor, length, ap, sym, subst, ◌∙◌, arith, not}
+use Rattle.std.proofs.Common.{◌≡◌, ℕ, true, false, List, Bor, length, ap, sym, subst, ◌∙◌, arith, not}
 use Rattle.std.specs.Prelude.{map, filter}
 use Rattle.std.proofs.lemmas.List.{length-map}
 use Rattle.wy_kernel.specs.declared.types.Class as memory
@@ -11,6 +11,8 @@ use Rattle.wy_syntax.specs.View.{class_of as class_syntax}
 use Rattle.wy_members.specs.Broken.{with_fitting_supertypes, known_part}
 use Rattle.wy_members.specs.Declarations.{CompilationUnit, classes_of, table}
 use Rattle.wy_overloads.specs.Lineage.{HasTop}
+use Rattle.wy_overloads.specs.LineageView.{lineage_of}
+use Rattle.wy_members.specs.Alike.{ListsFound}
 use Rattle.wy_members.specs.Names.{unit_of}
 use Rattle.wy_members.proofs.InRange.{names_among}
 use Rattle.wy_members.proofs.Judgeable.{fitting, has_top, fitting_has_top, fitting_among, compared_is, few_texts}
@@ -71,3 +73,11 @@ breach_in-requires-clause-few c =
     let many = length-map c.as_slice-15.result.now read in
     let same : length (map read c.as_slice-15.result.now) ≡ length (classes_of unit) = ap length (again read c.as_slice-15.ensures.value c.in_ok-texts.ensures) in
     omega arith
+
+pub invariant_of-compared : goal.invariant_of-compared
+invariant_of-compared c =
+    let t = lineage_of c.of_rows-inherited.result in
+    record {
+      lists_shared = ∣ subst (λ (xs : List ℕ). ListsFound t false xs) (sym c.as_slice-12.ensures.value) c.in_ok-shared.ensures ∣₁;
+      lists_unfinished = ∣ subst (λ (xs : List ℕ). ListsFound t true xs) (sym c.as_slice-13.ensures.value) c.in_ok-unfinished.ensures ∣₁;
+    }
