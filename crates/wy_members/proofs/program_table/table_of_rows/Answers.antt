@@ -29,14 +29,14 @@ invariant_of-result-clause-keeps_supertypes c =
     let P : List memory.Class → Type 0 = λ xs. KeepsSupertypes (map class_of xs) (rows_of c.in_ok-hierarchy.hierarchy) in
     ∣ subst P c.as_slice.ensures.value c.in_ok-hierarchy.ensures ∣₁
 
-pub of-declared-requires-clause-classes : goal.of-declared-requires-clause-classes
-of-declared-requires-clause-classes c =
+pub of-requires-clause-classes : goal.of-requires-clause-classes
+of-requires-clause-classes c =
     let few = c.requires.rows.few_classes in
     let same : length c.as_slice-3.result.now ≡ length c.args.rows.classes.items = ap length c.as_slice-3.ensures.value in
     omega (arith, few, same)
 
-pub of-declared-requires-clause-fields : goal.of-declared-requires-clause-fields
-of-declared-requires-clause-fields c =
+pub of-requires-clause-fields : goal.of-requires-clause-fields
+of-requires-clause-fields c =
     let few = c.requires.rows.few_fields in
     let same : length c.as_slice-4.result.now ≡ length c.args.rows.fields.items = ap length c.as_slice-4.ensures.value in
     omega (arith, few, same)

@@ -1,4 +1,4 @@
-use Rattle.std.proofs.Common.{◌≡◌, ℕ, true, false, List, Bor, length, ap, sym, subst, ◌∙◌, arith, not}
+use Rattle.std.proofs.Common.{◌≡◌, List, Bor, length, ap, sym, subst, ◌∙◌, arith, not}
 use Rattle.std.specs.Prelude.{map, filter}
 use Rattle.std.proofs.lemmas.List.{length-map}
 use Rattle.wy_kernel.specs.declared.types.Class as memory
@@ -11,8 +11,6 @@ use Rattle.wy_syntax.specs.View.{class_of as class_syntax}
 use Rattle.wy_members.specs.Broken.{with_fitting_supertypes, known_part}
 use Rattle.wy_members.specs.Declarations.{CompilationUnit, classes_of, table}
 use Rattle.wy_overloads.specs.Lineage.{HasTop}
-use Rattle.wy_overloads.specs.LineageView.{lineage_of}
-use Rattle.wy_members.specs.Alike.{ListsFound}
 use Rattle.wy_members.specs.Names.{unit_of}
 use Rattle.wy_members.proofs.InRange.{names_among}
 use Rattle.wy_members.proofs.Judgeable.{fitting, has_top, fitting_has_top, fitting_among, compared_is, few_texts}
@@ -50,34 +48,26 @@ of_rows-inherited-requires-clause-has_top c =
     let fit = fits unit _ _ c.in_ok-fitting.ensures (again class_of c.as_slice-2.ensures.value c.requires.classes) in
     subst P (sym (again class_of c.as_slice-9.ensures.value fit)) (fitting_has_top unit)
 
-pub breach_in-requires-clause-judged : goal.breach_in-requires-clause-judged
-breach_in-requires-clause-judged c =
+pub refusal_by-requires-clause-judged : goal.refusal_by-requires-clause-judged
+refusal_by-requires-clause-judged c =
     let unit = unit_of c.args.names.now in
     let fit = fits unit _ _ c.in_ok-fitting.ensures (again class_of c.as_slice-2.ensures.value c.requires.classes) in
     let keep : List Method → List Method = λ ms. filter (λ (m : Method). not m.is_private) ms in
     let kept : map method_of c.in_ok-inheriting.inheriting.items ≡ keep (table (known_part unit)).methods = c.in_ok-inheriting.ensures.value ∙ ap keep (again method_of c.as_slice.ensures.value c.in_ok-known.ensures.value) in
     record {
       rows = c.requires;
-      known = again method_of c.as_slice-14.ensures.value c.in_ok-known.ensures.value;
-      written = again (λ (k : Bor memory_syntax.ClassSyntax). class_syntax k.now) c.as_slice-15.ensures.value c.in_ok-texts.ensures;
+      known = again method_of c.as_slice-11.ensures.value c.in_ok-known.ensures.value;
+      written = again (λ (k : Bor memory_syntax.ClassSyntax). class_syntax k.now) c.as_slice-12.ensures.value c.in_ok-texts.ensures;
       classes = ap (λ (t : Table). t.classes) c.of_rows-lineage.ensures ∙ again class_of c.as_slice-7.ensures.value c.requires.classes;
       methods = ap (λ (t : Table). t.methods) c.of_rows-lineage.ensures ∙ again method_of c.as_slice-8.ensures.value c.requires.methods;
       below = compared_is unit _ _ _ c.of_rows-inherited.ensures (again class_of c.as_slice-9.ensures.value fit) (again method_of c.as_slice-10.ensures.value kept);
     }
 
-pub breach_in-requires-clause-few : goal.breach_in-requires-clause-few
-breach_in-requires-clause-few c =
+pub refusal_by-requires-clause-few : goal.refusal_by-requires-clause-few
+refusal_by-requires-clause-few c =
     let unit = unit_of c.args.names.now in
     let read : Bor memory_syntax.ClassSyntax → ClassSyntax = λ k. class_syntax k.now in
     let few = few_texts unit _ c.requires.classes c.requires.few_classes in
-    let many = length-map c.as_slice-15.result.now read in
-    let same : length (map read c.as_slice-15.result.now) ≡ length (classes_of unit) = ap length (again read c.as_slice-15.ensures.value c.in_ok-texts.ensures) in
+    let many = length-map c.as_slice-12.result.now read in
+    let same : length (map read c.as_slice-12.result.now) ≡ length (classes_of unit) = ap length (again read c.as_slice-12.ensures.value c.in_ok-texts.ensures) in
     omega arith
-
-pub invariant_of-compared : goal.invariant_of-compared
-invariant_of-compared c =
-    let t = lineage_of c.of_rows-inherited.result in
-    record {
-      lists_shared = ∣ subst (λ (xs : List ℕ). ListsFound t false xs) (sym c.as_slice-12.ensures.value) c.in_ok-shared.ensures ∣₁;
-      lists_unfinished = ∣ subst (λ (xs : List ℕ). ListsFound t true xs) (sym c.as_slice-13.ensures.value) c.in_ok-unfinished.ensures ∣₁;
-    }
