@@ -7,7 +7,7 @@ use Rattle.wy_members.proofs.broken.refusal.refusal_by.Goals as goal
 pub invariant_of-judged : goal.invariant_of-judged
 invariant_of-judged c =
     let classes = (lineage_of c.args.lineage.now).classes in
-    ∣ subst (λ (xs : List ℕ). AreCyclic classes xs) (sym c.as_slice.ensures.value) c.in_ok-cyclic.ensures ∣₁
+    record { exact = ∣ subst (λ (xs : List ℕ). AreCyclic classes xs) (sym c.as_slice.ensures.value) c.in_ok-cyclic.ensures ∣₁ }
 
 pub invariant_of-compared : goal.invariant_of-compared
 invariant_of-compared c =
