@@ -150,7 +150,7 @@ fn library_texts(alloc: Global) -> Result<Texts, AllocError>
         units: vec![in alloc; 58, 32]?,
         token: 0,
     };
-    Texts::of(alloc, vec![in alloc; text]?)
+    Ok(Texts::of(alloc, vec![in alloc; text]?)?)
 }
 
 // The texts that the forms of all bodies hold, in the order of their first tokens.

@@ -13,5 +13,5 @@ pub fn in_order(alloc: Global, texts: Texts) -> Result<Texts, AllocError>
 {
     let mut list = texts.into_list();
     list.sort_by_key(|text| text.token)?;
-    Texts::of(alloc, list)
+    Ok(Texts::of(alloc, list)?)
 }
