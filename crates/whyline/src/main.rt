@@ -9,10 +9,9 @@ use std::alloc::AllocError;
 use std::env;
 use std::io::ErrorKind;
 use std::process::ExitCode;
-use wy_framing::FrameRecorder;
+use wy_framing::{FileTraceSink, FrameRecorder};
 use wy_outside::real::{FileShelf, StdinSource, StdoutSink};
 use wy_reply::Status;
-use wy_sinks::FileTraceSink;
 use wy_top::whyline;
 
 fn main(rt: HostRuntime) -> ExitCode {

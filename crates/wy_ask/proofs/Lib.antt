@@ -3,10 +3,8 @@ pub mod Numerals
 pub mod Spellings
 pub mod Fields
 pub mod Stores
-pub mod Askables
 pub mod Named
 pub mod Rising
-pub mod Sorting
 pub mod Placing
 pub mod Storing
 pub mod Listings

@@ -10,7 +10,7 @@ use Rattle.wy_ask.specs.declared.question.Question.{Question}
 use Rattle.wy_ask.specs.declared.question.AskError.{AskError}
 use Rattle.wy_ask.specs.declared.question.AskError.TheVariants as errors
 use Rattle.wy_ask.specs.Words.{is_name, is_number, number_of, value_of, library, IsClassWord, of_source, of_library}
-use Rattle.wy_ask.specs.Questions.{Asked, Print, Event, Static, Field, Elem, Local, asked, IsNumber, Spells, print, event, static_field, object_field, element, local, field_word, at, Asks, IsUnread, Answers}
+use Rattle.wy_ask.specs.Questions.{Asked, Print, Event, Static, Field, Elem, Local, asked, IsNumber, Spells, print, event, static_field, object_field, element, local, field_word, at, Asks, IsUnread, IsReading}
 use Rattle.wy_ask.specs.Questions as written
 use Rattle.wy_ask.specs.Reading.{and_then, behind, cut, by_front, named_as, named_in, class_word, at_moment, within, numbered_in, static_in, field_in, elem_in, local_in, event_in, numbered_or_event_in, question_in, Reads}
 use Rattle.wy_ask.proofs.Fronts.{Lacks, lacks_append, lacks_all, behind_only, cut_there, cut_only}
@@ -229,7 +229,7 @@ spelled text q e =
     (λ rest is g. subst (Spells q) (sym (behind_only (codes "field:") text rest is)) (field_only rest q g))
     (λ g. numbered_or_event_only text q g))
 
-pub answered : (text : List ℕ) (r : Result Question AskError) → Reads r (question_in text) → Answers text r
+pub answered : (text : List ℕ) (r : Result Question AskError) → Reads r (question_in text) → IsReading text r
 answered text (Ok q) e = record { spelled = spelled text (asked q) e; only = λ other s. same_Some other (asked q) (sym (read other text s) ∙ e) }
 answered text (Err errors.BadQuestion) e = λ q s. none-some q (sym e ∙ read q text s)
 answered text (Err (errors.NoSuch n)) e = e

@@ -48,10 +48,10 @@ abbrev pub holder : List Recorded → ℕ → ℕ → Option Made
 holder rs n m = if nat_lt n m then made_at (slice_get rs n) else Absent
 
 abbrev pub field_slot : Program → Made → ℕ → ℕ → Option Slot
-field_slot p made n f = if has_fields_of p made.what (field p f).class then Some (slot.Field n f) else Absent
+field_slot p made n f = if has_fields_of p made.entity (field p f).class then Some (slot.Field n f) else Absent
 
 abbrev pub element_slot : Made → ℕ → ℕ → Option Slot
-element_slot made n i = if is_array (type_of_code made.what) && nat_lt i made.length then Some (slot.Elem n i) else Absent
+element_slot made n i = if is_array (type_of_code made.entity) && nat_lt i made.length then Some (slot.Elem n i) else Absent
 
 -- what the places of questions are, where they are there below their moment
 abbrev pub static_place : Program → List ℕ → List ℕ → Option Slot

@@ -2,6 +2,7 @@
 use Rattle.std.specs.Prelude.{ℕ, ◌+◌, ◌<◌, Bool, true, false, not, ◌&&◌, ◌==◌, nat_le, nat_lt, if◌then◌else◌, List, [], ◌∷◌, ◌++◌, Option, Some, count_by, filter, find, length, map, option_map, reverse, slice_get, unwrap_or}
 use Rattle.std.specs.Prelude.{None as Absent}
 use Rattle.std.specs.List.{enumerate_from}
+use Rattle.wy_kernel.specs.Order.{in_order}
 use Rattle.wy_kernel.specs.Program.{Program}
 use Rattle.wy_kernel.specs.Statements.{statements_of}
 use Rattle.wy_kernel.specs.Form.{Statement}
@@ -60,17 +61,6 @@ stored_by sets moment =
     map (λ x. Stored x moment (last_value sets x)) (each_once (map (λ r. r.slot) sets))
 
 -- ---- statements
-
--- before the first whose key is as high
-abbrev pub inserted : {X : Type 0} → (X → ℕ) → X → List X → List X
-inserted key x [] = x ∷ []
-inserted key x (y ∷ rest) =
-    if nat_le (key x) (key y) then x ∷ y ∷ rest else y ∷ inserted key x rest
-
--- by their keys; those of one key keep their order
-abbrev pub in_order : {X : Type 0} → (X → ℕ) → List X → List X
-in_order key [] = []
-in_order key (x ∷ rest) = inserted key x (in_order key rest)
 
 -- each with its place in its line, counted from 1, behind those of these lines
 abbrev pub placed : List ℕ → List Askable → List PlacedStatement

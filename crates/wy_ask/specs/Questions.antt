@@ -64,6 +64,6 @@ IsUnread text (errors.NoSuch n) = ⊥
 IsUnread text errors.NoMemory = Unit {0}
 
 -- the question of a text, and a refusal exactly where it asks none
-abbrev pub Answers : List ℕ → Result Question AskError → Type 0
-Answers text (Ok q) = Asks text (asked q)
-Answers text (Err e) = IsUnread text e
+abbrev pub IsReading : List ℕ → Result Question AskError → Type 0
+IsReading text (Ok q) = Asks text (asked q)
+IsReading text (Err e) = IsUnread text e

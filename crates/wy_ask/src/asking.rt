@@ -4,7 +4,7 @@ ghost use Rattle.std.specs.Prelude.{◌≡◌, ◌+◌, ◌++◌, ◌∷◌, ◌
 ghost use Rattle.wy_event.specs.Record.{Recorded};
 ghost use Rattle.wy_index.specs.Index.{IsIndexOf, IsIndexOfView};
 ghost use Rattle.wy_kernel.specs.Parts.{program_of};
-ghost use Rattle.wy_view.specs.View.{Answers, IsRecordOf, Keeps};
+ghost use Rattle.wy_view.specs.View.{KeepsCounts, IsRecordOf, Keeps};
 ghost use Rattle.wy_ask.specs.Held.{HasStored, HoldsBelow};
 ghost use Rattle.wy_ask.specs.Listing.{IsListedBelow, field_sets, listing, never, printed};
 
@@ -52,7 +52,7 @@ pub fn questions<V: EventView, L: Ledger>(
         → IfOk result (λ listed. listed.items ≡ listing (program_of program.now)
         program.now.lines.items rs coverage.now) }
     ensures keeps { Keeps (V.tells view.old) (V.tells view.new) }
-    ensures answers { Answers result (V.tells view.old) (V.tells view.new) }
+    ensures answers { KeepsCounts result (V.tells view.old) (V.tells view.new) }
     ensures steps { steps.new ≤ steps.old + (V.tells view.old).count }
     ensures below { IfOk result (λ listed.
         All (IsListedBelow (V.tells view.old).count) listed.items) }
@@ -128,7 +128,7 @@ fn look<V: EventView, L: Ledger>(
     ensures below { HoldsBelow (V.tells view.old).count stores.old
         → OnOk result (HoldsBelow (V.tells view.old).count stores.new) }
     ensures keeps { Keeps (V.tells view.old) (V.tells view.new) }
-    ensures answers { Answers result (V.tells view.old) (V.tells view.new) }
+    ensures answers { KeepsCounts result (V.tells view.old) (V.tells view.new) }
     ensures step { steps.new ≡ steps.old + 1 }
 {
     let event = view.event(n, steps)?;
@@ -146,7 +146,7 @@ fn stores_in<V: EventView, L: Ledger>(
         → IfOk result (λ stores. HasStored stores (field_sets rs)) }
     ensures below { IfOk result (λ stores. HoldsBelow (V.tells view.old).count stores) }
     ensures keeps { Keeps (V.tells view.old) (V.tells view.new) }
-    ensures answers { Answers result (V.tells view.old) (V.tells view.new) }
+    ensures answers { KeepsCounts result (V.tells view.old) (V.tells view.new) }
     ensures steps { steps.new ≤ steps.old + (V.tells view.old).count }
 {
     let mut stores = Stores::new(alloc);

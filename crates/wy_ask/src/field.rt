@@ -3,20 +3,15 @@
 ghost use Rattle.std.specs.Prelude.{◌≡◌, ◌<◌, ◌^◌, IfSome, length};
 ghost use Rattle.std.specs.Str.{bytes_eq};
 ghost use Rattle.wy_kernel.specs.Parts.{program_of};
-ghost use Rattle.wy_kernel.specs.Program.{class, class_of_type, full_name, is_array, type_of_code};
+ghost use Rattle.wy_kernel.specs.Program.{class, full_name};
 ghost use Rattle.wy_kernel.specs.View.{field_of};
 ghost use Rattle.wy_ask.specs.Asked.{extends, field_number, has_fields_of, is_meant};
 
 use crate::parts::{LIBRARY, behind};
 use wy_kernel::builtin::FIRST_SOURCE_CLASS;
+use wy_kernel::code::{class_of_code, is_array};
 use wy_kernel::program::Program;
 use wy_kernel::types::{Field, NONE};
-
-/// The classes stand behind this number in the code of a type.
-const CLASSES: u32 = 16;
-
-/// A pair of brackets counts this much in the code of a type.
-const BRACKETS: u32 = 1 << 24;
 
 #[tactic(auto, unfolding(wy_kernel::specs::Program::class))]
 fn class_name(program: &Program, number: u32) -> &str
@@ -98,29 +93,10 @@ fn extends(program: &Program, number: u32, other: u32) -> bool
     at == other
 }
 
-/// Whether a type code is that of an array.
-#[tactic(auto, unfolding(wy_kernel::specs::Program::type_of_code, wy_kernel::specs::Program::is_array))]
-pub fn is_array(code: u32) -> bool
-    ensures { result ≡ is_array (type_of_code code) }
-{
-    code / BRACKETS != 0
-}
-
 /// Whether an object of this type code has the fields that a class declares.
 #[tactic(auto, unfolding(crate::specs::Asked::has_fields_of))]
 pub fn has_fields_of(program: &Program, code: u32, class: u32) -> bool
     ensures { result ≡ has_fields_of (program_of program.now) code class }
 {
     !is_array(code) && extends(program, class_of_code(code), class)
-}
-
-#[tactic(auto, unfolding(wy_kernel::specs::Program::type_of_code, wy_kernel::specs::Program::class_of_type, wy_kernel::specs::Program::base_of))]
-fn class_of_code(code: u32) -> u32
-    ensures { result ≡ class_of_type (type_of_code code) }
-{
-    if code / BRACKETS != 0 || code % BRACKETS < 6 {
-        0
-    } else {
-        (code % BRACKETS).saturating_sub(CLASSES)
-    }
 }

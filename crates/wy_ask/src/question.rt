@@ -1,7 +1,7 @@
 //! Questions, and the words that ask them.
 
 ghost use Rattle.std.specs.Prelude.{◌≡◌, option_map};
-ghost use Rattle.wy_ask.specs.Questions.{Answers, asked};
+ghost use Rattle.wy_ask.specs.Questions.{IsReading, asked};
 ghost use Rattle.wy_ask.specs.Reading.{Reads, event_in, field_in, numbered_or_event_in, question_in, static_in};
 
 use crate::names::number;
@@ -69,7 +69,7 @@ impl From<AllocError> for AskError {
 
 /// The question that a text asks.
 pub fn read_question(alloc: Global, text: &str) -> Result<Question, AskError>
-    ensures { Answers text.now result }
+    ensures { IsReading text.now result }
 {
     read(alloc, text)
 }

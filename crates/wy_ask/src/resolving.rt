@@ -10,11 +10,12 @@ ghost use Rattle.wy_index.specs.Index.{IsIndexOf, owners_of};
 ghost use Rattle.wy_ask.specs.Asked.{IsOf, Resolves, element_place, event_of, field_place, holder, number_in, static_place, stored};
 ghost use Rattle.wy_ask.specs.Questions.{asked};
 
-use crate::field::{field_number, has_fields_of, is_array};
+use crate::field::{field_number, has_fields_of};
 use crate::question::{AskError, Question};
 use std::sync::ledger::Ledger;
 use wy_event::record::Slot;
 use wy_index::{Index, Made};
+use wy_kernel::code::is_array;
 use wy_kernel::program::Program;
 use wy_view::Steps;
 
@@ -148,7 +149,7 @@ fn field_place(
 {
     let made = holder(index, object, moment)?;
     let field = field_number(program, false, class, field)?;
-    if has_fields_of(program, made.what, program.field(field).class) {
+    if has_fields_of(program, made.entity, program.field(field).class) {
         Some(Slot::Field { object, field })
     } else {
         None
@@ -160,7 +161,7 @@ fn element_place(index: &Index, array: u32, element: u32, moment: u32) -> Option
         → result ≡ element_place rs array element moment }
 {
     let made = holder(index, array, moment)?;
-    if is_array(made.what) && element < made.length {
+    if is_array(made.entity) && element < made.length {
         Some(Slot::Elem {
             array,
             index: element,

@@ -1,6 +1,6 @@
 pub mod Last
 pub mod Frames
 pub mod Entries
-pub mod Standing
+pub mod CallStacks
 pub mod Chain
 pub mod Rows

@@ -8,7 +8,7 @@ use Rattle.wy_value.specs.declared.value.Value.{Value}
 use Rattle.wy_steps.specs.Sets.{nothing}
 use Rattle.wy_steps.specs.State.{Active}
 use Rattle.wy_steps.specs.State as run
-use Rattle.wy_calls.specs.Calls.{Frame, locals_of}
+use Rattle.wy_calls.specs.Calls.{CallFrame, locals_of}
 use Rattle.wy_calls.specs.declared.parts.Live.{Live}
 use Rattle.wy_calls.specs.declared.parts.Reach.{Reach}
 use Rattle.wy_calls.specs.declared.parts.Reach.TheVariants.{Around, Through}
@@ -16,7 +16,7 @@ use Rattle.wy_calls.specs.declared.parts.Entry.{Entry}
 use Rattle.wy_calls.specs.declared.parts.Begun.{Begun}
 
 -- the locals of all frames lie behind one another
-abbrev pub framed : List Live → List Value → List Frame
+abbrev pub framed : List Live → List Value → List CallFrame
 framed [] vs = []
 framed (l ∷ ls) vs = record { event = l.event; locals = drop l.base vs } ∷ framed ls (take l.base vs)
 

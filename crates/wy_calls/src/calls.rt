@@ -4,7 +4,8 @@ ghost use Rattle.std.specs.Prelude.{◌≡◌, ◌<◌, ◌+◌, IfErr, IfOk, On
 ghost use Rattle.std.specs.List.{All};
 ghost use Rattle.wy_kernel.specs.View.{present};
 ghost use Rattle.wy_steps.specs.State.{Around, Through};
-ghost use Rattle.wy_steps.specs.Steps.{depth_limit, parent};
+ghost use Rattle.wy_kernel.specs.Limits.{depth_limit};
+ghost use Rattle.wy_steps.specs.Steps.{parent};
 ghost use Rattle.wy_calls.specs.Calls.{IsUpTo, Refuses, activated, closed, ended, entered, frame_of, held, left, locals_of, nothing_runs, opened, with_local};
 
 use crate::entry::{
@@ -15,11 +16,9 @@ use crate::frame::{find, local, newest, place, running};
 use crate::parts::{Begun, Entry, Live, Reach};
 use std::alloc::{AllocError, Global};
 use std::marker::Model;
+use wy_kernel::limit::DEPTH_LIMIT;
 use wy_kernel::types::NONE;
 use wy_value::Value;
-
-/// So many calls and initializations may stand in one another.
-pub const DEPTH_LIMIT: usize = 1000;
 
 /// A scope that was opened, by how many were open around it.
 #[derive(Clone, Copy)]
@@ -39,10 +38,10 @@ pub struct Calls {
 
 impl Model for Calls {
     ghost use Rattle.std.specs.Prelude.{reverse};
-    ghost use Rattle.wy_calls.specs.Calls.{Standing};
+    ghost use Rattle.wy_calls.specs.Calls.{CallStack};
     ghost use Rattle.wy_calls.specs.Layout.{active_in, framed, scopes_in, IsStanding};
 
-    ghost Value = { Standing };
+    ghost Value = { CallStack };
 
     ghost view = { λ c. record {
       frames = framed (reverse c.frames.items) c.locals.items;

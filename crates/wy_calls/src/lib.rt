@@ -10,6 +10,6 @@ mod lookup;
 mod parts;
 mod signature;
 
-pub use calls::{Calls, DEPTH_LIMIT, Scope};
+pub use calls::{Calls, Scope};
 pub use error::CallError;
 pub use lookup::Dispatcher;

@@ -1,14 +1,11 @@
 //! Which methods a call may run, by their signatures (JLS 8.4.2, 15.12.4.4).
 
-ghost use Rattle.std.specs.Prelude.{◌≡◌, ◌<◌};
-ghost use Rattle.wy_kernel.specs.Program.{base_code, is_instance, primitive_code, runs_as, same_types, same_units, type_code};
+ghost use Rattle.std.specs.Prelude.{◌≡◌};
+ghost use Rattle.wy_kernel.specs.Program.{is_instance, runs_as, same_types, same_units};
 ghost use Rattle.wy_kernel.specs.View.{method_of};
 
-use wy_kernel::operator::Primitive;
-use wy_kernel::types::{Base, Method, MethodForm, Ty};
-
-/// A pair of brackets in the code of a type.
-const BRACKETS: u64 = 16_777_216;
+use wy_kernel::code::type_code;
+use wy_kernel::types::{Method, MethodForm, Ty};
 
 /// Whether a method is one of a class that a call of another method runs there.
 #[tactic(auto, unfolding(wy_kernel::specs::Program::runs_as))]
@@ -57,41 +54,4 @@ fn same_types(left: &[Ty], right: &[Ty]) -> bool
         right = after_b;
     }
     right.is_empty()
-}
-
-#[tactic(auto, unfolding(wy_kernel::specs::Program::type_code))]
-fn type_code(ty: Ty) -> u64
-    ensures { result ≡ type_code ty }
-{
-    match ty {
-        Ty::Void => 0,
-        Ty::Null => 0,
-        Ty::Of { base, brackets } => BRACKETS * u64::from(brackets) + base_code(base),
-    }
-}
-
-#[tactic(auto, unfolding(wy_kernel::specs::Program::base_code))]
-fn base_code(base: Base) -> u64
-    ensures code { result ≡ base_code base }
-    ensures small { result < 8589934592 }
-{
-    match base {
-        Base::Primitive(primitive) => primitive_code(primitive),
-        Base::Class(class) => 16 + u64::from(class),
-    }
-}
-
-#[tactic(auto, unfolding(wy_kernel::specs::Program::primitive_code))]
-fn primitive_code(primitive: Primitive) -> u64
-    ensures code { result ≡ primitive_code primitive }
-    ensures small { result < 6 }
-{
-    match primitive {
-        Primitive::Bool => 0,
-        Primitive::Byte => 1,
-        Primitive::Short => 2,
-        Primitive::Char => 3,
-        Primitive::Int => 4,
-        Primitive::Long => 5,
-    }
 }

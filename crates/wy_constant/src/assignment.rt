@@ -9,12 +9,11 @@ ghost use Rattle.wy_constant.specs.Widening.{widens_to};
 use crate::arithmetic::cast;
 use crate::fold::{cast_text, constant_of_value, has_int, type_of};
 use crate::simple::value_of;
+use wy_kernel::builtin::STRING;
 use wy_kernel::form::Const;
 use wy_kernel::operator::Primitive;
 use wy_kernel::types::{Base, Ty};
 use wy_value::Value;
-
-const STRING: u32 = 1;
 
 /// Whether a primitive type is another, or widens to it.
 #[tactic(auto, unfolding(crate::specs::Widening::widens_to))]

@@ -11,11 +11,11 @@ use Rattle.wy_declaration.proofs.Rows.{grown}
 -- ---- members of a class
 
 pub members_go : (found more : List Member) (d : Member) (ps qs rest : Parts) (p q : Part) (all : List plain.Member)
-    → more ≡ found ++ (d ∷ []) → ps ≡ p ∷ qs → qs ≡ q ∷ rest → member_of d ≡ member_seen p.at p.what
+    → more ≡ found ++ (d ∷ []) → ps ≡ p ∷ qs → qs ≡ q ∷ rest → member_of d ≡ member_seen p.at p.entity
     → map member_of found ++ members_in ps ≡ all → map member_of more ++ members_in qs ≡ all
 unfolding members_in
 members_go found more d ps qs rest p q all eg shape after ed h =
-    grown member_of found more d (member_seen p.at p.what) _ all eg ed (ap (λ r. map member_of found ++ r) (sym (rw (shape, after) refl)) ∙ h)
+    grown member_of found more d (member_seen p.at p.entity) _ all eg ed (ap (λ r. map member_of found ++ r) (sym (rw (shape, after) refl)) ∙ h)
 
 pub members_alone : (ps qs : Parts) (p : Part) → ps ≡ p ∷ qs → qs ≡ [] → members_in ps ≡ []
 unfolding members_in
@@ -72,7 +72,7 @@ append_one [] p rest = refl
 append_one (x ∷ xs) p rest = ap (λ z. x ∷ z) (append_one xs p rest)
 
 pub seen_go : (all left behind rest : Parts) (p q : Part) (k m : ℕ)
-    → Seen all left k → left ≡ p ∷ behind → behind ≡ q ∷ rest → k ≡ m + 1 → is_leaf kinds.Semicolon p.what ≡ false → Seen all behind m
+    → Seen all left k → left ≡ p ∷ behind → behind ≡ q ∷ rest → k ≡ m + 1 → is_leaf kinds.Semicolon p.entity ≡ false → Seen all behind m
 unfolding methods_in
 seen_go all left behind rest p q k m h shape after ek other =
     let e = next_front all left behind p k m h shape ek in
@@ -87,7 +87,7 @@ seen_go all left behind rest p q k m h shape after ek other =
     stepped before = rw (shape, after, other) refl
 
 pub seen_method : (all left behind rest before : Parts) (p q : Part) (k : ℕ)
-    → Seen all left k → left ≡ p ∷ behind → behind ≡ q ∷ rest → is_leaf kinds.Semicolon p.what ≡ true → before ≡ front all k
+    → Seen all left k → left ≡ p ∷ behind → behind ≡ q ∷ rest → is_leaf kinds.Semicolon p.entity ≡ true → before ≡ front all k
     → methods_in [] all ≡ method_in before ∷ methods_in [] behind
 unfolding methods_in
 seen_method all left behind rest before p q k h shape after is eb =
@@ -109,11 +109,11 @@ methods_go found more d ps first rest all eg shape ed h =
 
 -- ---- heads
 
-pub brace_here : (ps rest all : Parts) (p : Part) → ps ≡ p ∷ rest → is_leaf kinds.OpenBrace p.what ≡ true → behind_brace ps ≡ all → rest ≡ all
+pub brace_here : (ps rest all : Parts) (p : Part) → ps ≡ p ∷ rest → is_leaf kinds.OpenBrace p.entity ≡ true → behind_brace ps ≡ all → rest ≡ all
 unfolding behind_brace
 brace_here ps rest all p shape is h = sym (rw (shape, is) refl) ∙ h
 
-pub brace_on : (ps rest all : Parts) (p : Part) → ps ≡ p ∷ rest → is_leaf kinds.OpenBrace p.what ≡ false → behind_brace ps ≡ all → behind_brace rest ≡ all
+pub brace_on : (ps rest all : Parts) (p : Part) → ps ≡ p ∷ rest → is_leaf kinds.OpenBrace p.entity ≡ false → behind_brace ps ≡ all → behind_brace rest ≡ all
 unfolding behind_brace
 brace_on ps rest all p shape other h = sym (rw (shape, other) refl) ∙ h
 
@@ -121,17 +121,17 @@ pub brace_none : (ps all : Parts) → ps ≡ [] → behind_brace ps ≡ all → 
 unfolding behind_brace
 brace_none ps all shape h = shape ∙ sym (rw shape refl) ∙ h
 
-pub implemented_brace : (ps rest : Parts) (p : Part) (all : List plain.Named) → ps ≡ p ∷ rest → is_leaf kinds.OpenBrace p.what ≡ true → implemented_in ps ≡ all → [] ≡ all
+pub implemented_brace : (ps rest : Parts) (p : Part) (all : List plain.Named) → ps ≡ p ∷ rest → is_leaf kinds.OpenBrace p.entity ≡ true → implemented_in ps ≡ all → [] ≡ all
 unfolding implemented_in
 implemented_brace ps rest p all shape is h = sym (rw (shape, is) refl) ∙ h
 
 pub implemented_here : (ps rest : Parts) (p : Part) (all : List plain.Named)
-    → ps ≡ p ∷ rest → is_leaf kinds.OpenBrace p.what ≡ false → is_leaf kinds.Implements p.what ≡ true → implemented_in ps ≡ all → names_behind ps ≡ all
+    → ps ≡ p ∷ rest → is_leaf kinds.OpenBrace p.entity ≡ false → is_leaf kinds.Implements p.entity ≡ true → implemented_in ps ≡ all → names_behind ps ≡ all
 unfolding implemented_in
 implemented_here ps rest p all shape other is h = ap names_behind shape ∙ sym (rw (shape, other, is) refl) ∙ h
 
 pub implemented_on : (ps rest : Parts) (p : Part) (all : List plain.Named)
-    → ps ≡ p ∷ rest → is_leaf kinds.OpenBrace p.what ≡ false → is_leaf kinds.Implements p.what ≡ false → implemented_in ps ≡ all → implemented_in rest ≡ all
+    → ps ≡ p ∷ rest → is_leaf kinds.OpenBrace p.entity ≡ false → is_leaf kinds.Implements p.entity ≡ false → implemented_in ps ≡ all → implemented_in rest ≡ all
 unfolding implemented_in
 implemented_on ps rest p all shape other others h = sym (rw (shape, other, others) refl) ∙ h
 

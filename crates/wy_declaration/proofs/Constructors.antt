@@ -10,7 +10,7 @@ use Rattle.wy_syntax.proofs.Rows.{statements_before, statements_before_done}
 -- ---- statements, and the last part
 
 pub statements_go : (found more : List Statement) (s : Statement) (ps qs rest : Parts) (p q : Part) (all : plain.Statements)
-    → more ≡ found ++ (s ∷ []) → ps ≡ p ∷ qs → qs ≡ q ∷ rest → statement_of s ≡ statement p.at p.what
+    → more ≡ found ++ (s ∷ []) → ps ≡ p ∷ qs → qs ≡ q ∷ rest → statement_of s ≡ statement p.at p.entity
     → statements_before (map statement_of found) (statements_in ps) ≡ all → statements_before (map statement_of more) (statements_in qs) ≡ all
 unfolding statements_in
 statements_go found more s ps qs rest p q all eg shape after es h =

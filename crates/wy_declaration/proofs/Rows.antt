@@ -12,14 +12,6 @@ grown {A} {B} f found more x e rest all eg ex h =
     pushed [] = refl
     pushed (y ∷ ys) = ap (λ z. f y ∷ z) (pushed ys)
 
--- a list that nothing follows
-pub ended : {B : Type 0} (row rest all : List B) → rest ≡ [] → row ++ rest ≡ all → row ≡ all
-ended {B} row rest all e h = sym (ap (λ z. row ++ z) e ∙ nil row) ∙ h
-  where
-    nil : (xs : List B) → xs ++ [] ≡ xs
-    nil [] = refl
-    nil (x ∷ xs) = ap (λ z. x ∷ z) (nil xs)
-
 -- a list that was just begun
 pub nothing : {A B : Type 0} (f : A → B) (start : List A) (all : List B) → start ≡ [] → [] ≡ all → map f start ≡ all
 nothing f start all es h = ap (map f) es ∙ h

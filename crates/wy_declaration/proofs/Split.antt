@@ -22,7 +22,7 @@ pub empty : (p : Parts) → length p.trees.now < 1 → IsEmpty p
 unfolding parts_of
 empty p low = record { parts = placed_none p.at p.trees.now low; trees = views_none p.trees.now low }
 
-placed_more : (n m k : ℕ) (ts rest : Asts) (t : Ast) → ts ≡ more t rest → k ≡ n → m ≡ n + width t → placed n ts ≡ record { at = k; what = t } ∷ placed m rest
+placed_more : (n m k : ℕ) (ts rest : Asts) (t : Ast) → ts ≡ more t rest → k ≡ n → m ≡ n + width t → placed n ts ≡ record { at = k; entity = t } ∷ placed m rest
 unfolding placed
 placed_more n m k ts rest t shape ek em = rw (shape, ek, em) refl
 
@@ -67,7 +67,7 @@ placed_take : (k n : ℕ) (ts : List Tree) → placed n (views (take k ts)) ≡ 
 unfolding placed
 placed_take zero n ts = refl
 placed_take (suc k) n [] = refl
-placed_take (suc k) n (t ∷ ts) = ap (λ z. record { at = n; what = view t } ∷ z) (placed_take k (n + width (view t)) ts)
+placed_take (suc k) n (t ∷ ts) = ap (λ z. record { at = n; entity = view t } ∷ z) (placed_take k (n + width (view t)) ts)
 
 pub in_front : (p front : Parts) (k : ℕ) → front.at ≡ p.at → front.trees.now ≡ take k p.trees.now → parts_of front ≡ take k (parts_of p)
 unfolding parts_of

@@ -9,7 +9,7 @@ use Rattle.wy_declaration.specs.declared.part.Part.{Part}
 use Rattle.wy_declaration.specs.declared.part.Parts.{Parts}
 
 abbrev pub part_of : Part → syntax.Part
-part_of p = record { at = p.at; what = view p.tree.now }
+part_of p = record { at = p.at; entity = view p.tree.now }
 
 unfoldable pub parts_of : Parts → syntax.Parts
 parts_of p = placed p.at (views p.trees.now)

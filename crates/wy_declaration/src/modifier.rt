@@ -77,7 +77,7 @@ fn is_modifying(token: &Token) -> bool
 }
 
 /// The modifiers in front.
-#[tactic(auto, using(crate::proofs::Rows::grown, crate::proofs::Rows::ended), unfolding(wy_syntax::specs::Declarations::modifiers_of))]
+#[tactic(auto, using(crate::proofs::Rows::grown, wy_syntax::proofs::Heads::row_ends), unfolding(wy_syntax::specs::Declarations::modifiers_of))]
 pub fn modifiers(alloc: Global, parts: Parts) -> Result<Vec<Placed>, AllocError>
     ensures { IfOk result (λ found.
         map placed_of found.items ≡ modifiers_of (parts_of parts.entry)) }

@@ -12,7 +12,7 @@ use wy_syntax::part::{is_leaf, named};
 use wy_tree::kind::Kind;
 
 /// The names behind the first part, up to a `{`: one a comma.
-#[tactic(auto, using(crate::proofs::Rows::grown, crate::proofs::Rows::ended), unfolding(wy_syntax::specs::Declarations::names_behind))]
+#[tactic(auto, using(crate::proofs::Rows::grown, wy_syntax::proofs::Heads::row_ends), unfolding(wy_syntax::specs::Declarations::names_behind))]
 pub fn names_behind(alloc: Global, parts: Parts) -> Result<Vec<Named>, AllocError>
     ensures { IfOk result (λ found.
         map named_of found.items ≡ names_behind (parts_of parts.entry)) }

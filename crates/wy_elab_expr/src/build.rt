@@ -12,35 +12,35 @@ use wy_kernel::form::{CallForm, CondForm, Const, Expr, LibOp, Place};
 use wy_kernel::operator::{BinOp, Primitive, UnOp};
 use wy_kernel::types::{NONE, Ty};
 
-#[tactic(auto, using(crate::proofs::KernelViews::view_const))]
+#[tactic(auto, using(wy_kernel::proofs::ExpressionViews::view_const))]
 pub fn constant(value: Const) -> Expr
     ensures { expression result ≡ kernel.Const (constant_of value) }
 {
     Expr::Const { value }
 }
 
-#[tactic(auto, using(crate::proofs::KernelViews::view_str))]
+#[tactic(auto, using(wy_kernel::proofs::ExpressionViews::view_str))]
 pub fn text(text: u32) -> Expr
     ensures { expression result ≡ kernel.Str text }
 {
     Expr::Str { text }
 }
 
-#[tactic(auto, using(crate::proofs::KernelViews::view_read))]
+#[tactic(auto, using(wy_kernel::proofs::ExpressionViews::view_read))]
 pub fn read(place: Place) -> Expr
     ensures { expression result ≡ kernel.Read (place_seen place) }
 {
     Expr::Read { place }
 }
 
-#[tactic(auto, using(crate::proofs::KernelViews::view_un))]
+#[tactic(auto, using(wy_kernel::proofs::ExpressionViews::view_un))]
 pub fn unary(op: UnOp, operand: Box<Expr>) -> Expr
     ensures { expression result ≡ kernel.Un op (inner_of operand) }
 {
     Expr::Un { op, operand }
 }
 
-#[tactic(auto, using(crate::proofs::KernelViews::view_bin))]
+#[tactic(auto, using(wy_kernel::proofs::ExpressionViews::view_bin))]
 pub fn binary(op: BinOp, left: Box<Expr>, right: Box<Expr>, site: u32) -> Expr
     ensures { expression result ≡ kernel.Bin op (inner_of left) (inner_of right) site }
 {
@@ -52,28 +52,28 @@ pub fn binary(op: BinOp, left: Box<Expr>, right: Box<Expr>, site: u32) -> Expr
     }
 }
 
-#[tactic(auto, using(crate::proofs::KernelViews::view_conv))]
+#[tactic(auto, using(wy_kernel::proofs::ExpressionViews::view_conv))]
 pub fn conversion(to: Primitive, operand: Box<Expr>) -> Expr
     ensures { expression result ≡ kernel.Conv to (inner_of operand) }
 {
     Expr::Conv { to, operand }
 }
 
-#[tactic(auto, using(crate::proofs::KernelViews::view_cast))]
+#[tactic(auto, using(wy_kernel::proofs::ExpressionViews::view_cast))]
 pub fn cast(ty: Ty, operand: Box<Expr>, site: u32) -> Expr
     ensures { expression result ≡ kernel.Cast ty (inner_of operand) site }
 {
     Expr::Cast { ty, operand, site }
 }
 
-#[tactic(auto, using(crate::proofs::KernelViews::view_instance))]
+#[tactic(auto, using(wy_kernel::proofs::ExpressionViews::view_instance))]
 pub fn instance_of(ty: Ty, operand: Box<Expr>) -> Expr
     ensures { expression result ≡ kernel.InstanceOf ty (inner_of operand) }
 {
     Expr::InstanceOf { ty, operand }
 }
 
-#[tactic(auto, using(crate::proofs::KernelViews::view_cat))]
+#[tactic(auto, using(wy_kernel::proofs::ExpressionViews::view_cat))]
 pub fn join(left: Box<Expr>, right: Box<Expr>, left_ty: Ty, right_ty: Ty, site: u32) -> Expr
     ensures { expression result ≡ kernel.Cat (inner_of left)
         (inner_of right) left_ty right_ty site }
@@ -132,14 +132,14 @@ pub fn lazy(form: CondForm, left: Box<Expr>, right: Box<Expr>, site: u32) -> Exp
     }
 }
 
-#[tactic(auto, using(crate::proofs::KernelViews::view_set))]
+#[tactic(auto, using(wy_kernel::proofs::ExpressionViews::view_set))]
 pub fn set(place: Place, value: Box<Expr>, site: u32) -> Expr
     ensures { expression result ≡ kernel.Set (place_seen place) (inner_of value) site }
 {
     Expr::Set { place, value, site }
 }
 
-#[tactic(auto, using(crate::proofs::KernelViews::view_lib))]
+#[tactic(auto, using(wy_kernel::proofs::ExpressionViews::view_lib))]
 pub fn library(op: LibOp, args: Vec<Expr>, site: u32) -> Expr
     ensures { expression result ≡ kernel.Lib op (row_of (map expression args.items)) site }
 {
@@ -147,7 +147,7 @@ pub fn library(op: LibOp, args: Vec<Expr>, site: u32) -> Expr
 }
 
 /// `new` by a constructor.
-#[tactic(auto, using(crate::proofs::KernelViews::view_new, crate::proofs::Primitives::present_number))]
+#[tactic(auto, using(wy_kernel::proofs::ExpressionViews::view_new, crate::proofs::Primitives::present_number))]
 pub fn new_by(class: u32, constructor: u32, args: Vec<Expr>, site: u32) -> Expr
     requires { constructor < 4294967295 }
     ensures { expression result ≡ kernel.New class (Some constructor)
@@ -162,7 +162,7 @@ pub fn new_by(class: u32, constructor: u32, args: Vec<Expr>, site: u32) -> Expr
 }
 
 /// `new` of Object, which has no constructor to call.
-#[tactic(auto, using(crate::proofs::KernelViews::view_new, crate::proofs::Primitives::present_none))]
+#[tactic(auto, using(wy_kernel::proofs::ExpressionViews::view_new, crate::proofs::Primitives::present_none))]
 pub fn new_plain(args: Vec<Expr>, site: u32) -> Expr
     ensures { expression result ≡ kernel.New 0 None (row_of (map expression args.items)) site }
 {
@@ -174,7 +174,7 @@ pub fn new_plain(args: Vec<Expr>, site: u32) -> Expr
     }
 }
 
-#[tactic(auto, using(crate::proofs::KernelViews::view_new_array))]
+#[tactic(auto, using(wy_kernel::proofs::ExpressionViews::view_new_array))]
 pub fn new_array(
     ty: Ty,
     dims: Vec<Expr>,
@@ -277,21 +277,21 @@ pub fn step(place: Place, op: BinOp, ty: Ty, wide: Primitive, gives_old: bool, s
     }
 }
 
-#[tactic(auto, using(crate::proofs::KernelViews::view_local))]
+#[tactic(auto, using(wy_kernel::proofs::ExpressionViews::view_local))]
 pub fn local(index: u32) -> Place
     ensures { place_seen result ≡ kernel.Local index }
 {
     Place::Local { index }
 }
 
-#[tactic(auto, using(crate::proofs::KernelViews::view_static))]
+#[tactic(auto, using(wy_kernel::proofs::ExpressionViews::view_static))]
 pub fn static_field(field: u32, site: u32) -> Place
     ensures { place_seen result ≡ kernel.Static field site }
 {
     Place::Static { field, site }
 }
 
-#[tactic(auto, using(crate::proofs::KernelViews::view_field))]
+#[tactic(auto, using(wy_kernel::proofs::ExpressionViews::view_field))]
 pub fn field(object: Box<Expr>, field: u32, site: u32) -> Place
     ensures { place_seen result ≡ kernel.Field (inner_of object) field site }
 {
@@ -302,7 +302,7 @@ pub fn field(object: Box<Expr>, field: u32, site: u32) -> Place
     }
 }
 
-#[tactic(auto, using(crate::proofs::KernelViews::view_elem))]
+#[tactic(auto, using(wy_kernel::proofs::ExpressionViews::view_elem))]
 pub fn element(array: Box<Expr>, index: Box<Expr>, site: u32) -> Place
     ensures { place_seen result ≡ kernel.Elem (inner_of array) (inner_of index) site }
 {

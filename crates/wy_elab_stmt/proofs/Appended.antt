@@ -8,10 +8,10 @@ use Rattle.wy_syntax.specs.Syntax.{Declarator, WrittenType}
 use Rattle.wy_constant.specs.declared.rule.TypeError.{TypeError}
 use Rattle.wy_constant.specs.declared.rule.TypeError.TheVariants as error
 use Rattle.wy_constant.specs.Refusal.{Refusal, Fails, refused}
-use Rattle.wy_statement.specs.Making.{Making, Makes, onward, each}
-use Rattle.wy_statement.specs.Statements.{Setting}
-use Rattle.wy_statement.specs.Bodies.{field_initial, field_initials}
-use Rattle.wy_statement.proofs.Walks.{next_here}
+use Rattle.wy_elab_body.specs.Making.{Making, Makes, onward, each}
+use Rattle.wy_elab_body.specs.Statements.{Setting}
+use Rattle.wy_elab_body.specs.Bodies.{field_initial, field_initials}
+use Rattle.wy_elab_body.proofs.Walks.{next_here}
 
 -- what is made of each, in one list behind what is there already
 abbrev pub appended : {A : Type 0} → List A → Result (List (List A) × Making) Refusal → Result (List A × Making) Refusal

@@ -10,11 +10,11 @@ use Rattle.wy_constant.specs.Refusal.{Refusal, Fails}
 use Rattle.wy_constant.specs.Scope.{FixedText}
 use Rattle.wy_elab_expr.specs.Meaning.{give, onward}
 use Rattle.wy_elab_expr.specs.Views.{GetsTo}
-use Rattle.wy_statement.specs.declared.place.Role.TheVariants.{InitializerBody, FieldsBody}
-use Rattle.wy_statement.specs.Making.{Makes, begun}
-use Rattle.wy_statement.specs.Places.{has_fields_unit}
-use Rattle.wy_statement.specs.Statements.{Setting}
-use Rattle.wy_statement.specs.Bodies.{Growing, Growth, end_of, constructor_block, initializer_block, method_block, implied_body}
+use Rattle.wy_elab_body.specs.declared.place.Role.TheVariants.{InitializerBody, FieldsBody}
+use Rattle.wy_elab_body.specs.Making.{Makes, begun}
+use Rattle.wy_elab_body.specs.Places.{has_fields_unit}
+use Rattle.wy_elab_body.specs.Statements.{Setting}
+use Rattle.wy_elab_body.specs.Bodies.{Growing, Growth, end_of, constructor_block, initializer_block, method_block, implied_body}
 use Rattle.wy_elab_stmt.specs.Classes.{ClassBodies, member, with_body, whole, is_static, grown, in_initializer, in_fields, fields_body, finished}
 use Rattle.wy_elab_stmt.specs.ClassViews.{at_rest}
 

@@ -11,13 +11,13 @@ use Rattle.wy_constant.specs.Refusal.{Refusal, Fails, refused}
 use Rattle.wy_constant.specs.Scope.{FixedText}
 use Rattle.wy_elab_expr.specs.Meaning.{Gets, give, onward}
 use Rattle.wy_elab_stmt.specs.declared.growth.Growth as memory
-use Rattle.wy_statement.specs.Making.{with_texts}
-use Rattle.wy_statement.specs.Statements.{Setting}
-use Rattle.wy_statement.specs.Bodies.{Growing, Growth}
+use Rattle.wy_elab_body.specs.Making.{with_texts}
+use Rattle.wy_elab_body.specs.Statements.{Setting}
+use Rattle.wy_elab_body.specs.Bodies.{Growing, Growth}
 use Rattle.wy_kernel.specs.Program.{Body}
 use Rattle.wy_elab_stmt.specs.Classes.{ClassBodies, member, members, none_yet, implied_constructor, finished, of_class, of_interface}
 use Rattle.wy_elab_stmt.specs.ClassViews.{at_rest, both_left, growth_of}
-use Rattle.wy_statement.proofs.Walks
+use Rattle.wy_elab_body.proofs.Walks
 
 -- the texts with which the two bodies that grow were left
 pub record Stale : Type 0 where

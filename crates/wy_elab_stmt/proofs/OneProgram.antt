@@ -11,7 +11,7 @@ use Rattle.wy_members.specs.Constants.{IsTableOf, with_constants}
 use Rattle.wy_members.specs.Refusal.{OneIsDue, NoneIsDue}
 use Rattle.wy_members.specs.Laws.{OneListOfConstants}
 use Rattle.wy_elab_expr.specs.Operators.{Judgement, Settles}
-use Rattle.wy_judgement.specs.Laws.{OneJudgement}
+use Rattle.law_judgement.specs.Laws.{OneJudgement}
 use Rattle.wy_elab_stmt.specs.Program.{program}
 use Rattle.wy_elab_stmt.specs.Elaborates.{by_declarations, by_bodies, OneElaboration}
 

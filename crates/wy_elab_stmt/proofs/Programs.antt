@@ -17,15 +17,15 @@ use Rattle.wy_constant.specs.Scopes.{text_of}
 use Rattle.wy_constant.specs.declared.variable.FixedText as memory_text
 use Rattle.std.specs.declared.alloc.Global.{Global}
 use Rattle.std.specs.declared.vec.Vec.{Vec}
-use Rattle.wy_statement.specs.declared.place.Place.{Place}
+use Rattle.wy_elab_body.specs.declared.place.Place.{Place}
 use Rattle.wy_members.specs.Declarations.{CompilationUnit, classes_of}
 use Rattle.wy_elab_expr.specs.Meaning.{onward}
 use Rattle.wy_elab_expr.specs.Operators.{Judgement}
-use Rattle.wy_statement.specs.Places.{places_of}
-use Rattle.wy_statement.specs.Statements.{Setting}
+use Rattle.wy_elab_body.specs.Places.{places_of}
+use Rattle.wy_elab_body.specs.Statements.{Setting}
 use Rattle.wy_elab_stmt.specs.Classes.{ClassBodies, class_bodies}
 use Rattle.wy_elab_stmt.specs.Program.{Bodies, bodies_from, bodies_of, and_more, no_bodies, main_of, from_texts, again, with_main, program_with, program, setting, library_text, in_order}
-use Rattle.wy_statement.proofs.Walks.{next_here}
+use Rattle.wy_elab_body.proofs.Walks.{next_here}
 use Rattle.wy_elab_stmt.specs.Whole.{and_class, declared_behind, both, behind_bodies, of_library, texts_in, made_from, made, main_or_refused, program_from}
 use Rattle.wy_kernel.specs.Program.{library_statements}
 

@@ -6,11 +6,11 @@ use Rattle.wy_constant.specs.declared.rule.TypeError.TheVariants as error
 use Rattle.wy_constant.specs.Refusal.{Refusal, Fails, refused}
 use Rattle.wy_constant.specs.Scope.{FixedText}
 use Rattle.wy_elab_expr.specs.Meaning.{onward, give}
-use Rattle.wy_statement.specs.declared.making.Making as memory
-use Rattle.wy_statement.specs.Making.{Making, Makes, rejoined, resumed, with_texts}
-use Rattle.wy_statement.specs.Bodies.{body_of}
+use Rattle.wy_elab_body.specs.declared.making.Making as memory
+use Rattle.wy_elab_body.specs.Making.{Making, Makes, rejoined, resumed, with_texts}
+use Rattle.wy_elab_body.specs.Bodies.{body_of}
 use Rattle.wy_elab_stmt.specs.Classes.{whole}
-use Rattle.wy_statement.specs.Views.{making_of}
+use Rattle.wy_elab_body.specs.Views.{making_of}
 
 made_with : (start : Making) (end : ℕ) (f : Makes kernel.Statement) (m : memory.Making) (texts : List FixedText) (r : Result (kernel.Statement × Making) Refusal) →
     making_of m [] ≡ start → f (making_of m texts) ≡ r → whole start end f texts ≡ onward (λ p. give (body_of p.0 p.1 end)) (rejoined r)

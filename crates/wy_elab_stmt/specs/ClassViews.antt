@@ -3,8 +3,8 @@ use Rattle.std.specs.Prelude.{List, [], map, option_map, Result, Ok, Err}
 use Rattle.wy_kernel.specs.View.{body_of, statement}
 use Rattle.wy_constant.specs.Refusal.{Refusal}
 use Rattle.wy_constant.specs.Scope.{FixedText}
-use Rattle.wy_statement.specs.Bodies.{Growing, Growth}
-use Rattle.wy_statement.specs.Views.{making_of, bodies_seen}
+use Rattle.wy_elab_body.specs.Bodies.{Growing, Growth}
+use Rattle.wy_elab_body.specs.Views.{making_of, bodies_seen}
 use Rattle.wy_elab_stmt.specs.declared.growth.Growing as memory_growing
 use Rattle.wy_elab_stmt.specs.declared.growth.Growth as memory_growth
 use Rattle.wy_elab_stmt.specs.declared.class_body.ClassBodies as memory_bodies

@@ -7,11 +7,11 @@ use Rattle.wy_syntax.specs.Syntax.{Named, WrittenType, Declarator, Braced, State
 use Rattle.wy_syntax.specs.Syntax as source
 use Rattle.wy_members.specs.Declarations.{has}
 use Rattle.wy_elab_expr.specs.Meaning.{Gets, give, ◌>>=◌}
-use Rattle.wy_statement.specs.declared.place.Role.TheVariants.{InitializerBody, FieldsBody}
-use Rattle.wy_statement.specs.Places.{has_fields_unit, declares_constructor}
-use Rattle.wy_statement.specs.Making.{Making, Makes, begun, resumed}
-use Rattle.wy_statement.specs.Statements.{Setting}
-use Rattle.wy_statement.specs.Bodies.{Growing, Growth, nothing_yet, body_of, end_of, method_block, constructor_block, implied_constructor_block, initializer_block, field_initials, implied_body}
+use Rattle.wy_elab_body.specs.declared.place.Role.TheVariants.{InitializerBody, FieldsBody}
+use Rattle.wy_elab_body.specs.Places.{has_fields_unit, declares_constructor}
+use Rattle.wy_elab_body.specs.Making.{Making, Makes, begun, resumed}
+use Rattle.wy_elab_body.specs.Statements.{Setting}
+use Rattle.wy_elab_body.specs.Bodies.{Growing, Growth, nothing_yet, body_of, end_of, method_block, constructor_block, implied_constructor_block, initializer_block, field_initials, implied_body}
 
 -- a body from its beginning to its end
 abbrev pub whole : Making → ℕ → Makes kernel.Statement → Gets Body

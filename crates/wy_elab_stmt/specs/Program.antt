@@ -1,6 +1,7 @@
 -- The program of a text (JLS 7, 12.1): its bodies, its constant texts, its statements by number, and its main; or the rule that it breaks.
 use Rattle.std.specs.Prelude.{ℕ, suc, ◌+◌, Bool, ◌&&◌, ◌==◌, nat_le, List, [], ◌∷◌, ◌++◌, map, flat_map, length, Option, Some, None, option_and_then, Result, Ok, Err, bytes_eq, codes, if◌then◌else◌}
 use Rattle.std.specs.List.{position_from}
+use Rattle.wy_kernel.specs.Order as order
 use Rattle.wy_kernel.specs.declared.types.Ty.TheVariants.{Of}
 use Rattle.wy_kernel.specs.declared.types.Base.TheVariants.{Class as Named}
 use Rattle.wy_kernel.specs.Program.{Program, Body, Method, string_class, first_source_class, same_types, library_statements}
@@ -14,8 +15,8 @@ use Rattle.wy_constant.specs.Scope.{FixedText}
 use Rattle.wy_members.specs.Declarations.{CompilationUnit, classes_of, has, parameter_types}
 use Rattle.wy_elab_expr.specs.Operators.{Judgement}
 use Rattle.wy_elab_expr.specs.Meaning.{Gets, give, ◌>>=◌}
-use Rattle.wy_statement.specs.Places.{places_of}
-use Rattle.wy_statement.specs.Statements.{Setting}
+use Rattle.wy_elab_body.specs.Places.{places_of}
+use Rattle.wy_elab_body.specs.Statements.{Setting}
 use Rattle.wy_elab_stmt.specs.Classes.{ClassBodies, class_bodies}
 use Rattle.wy_library.specs.Library.{library_bodies, library_init_bodies}
 
@@ -48,14 +49,9 @@ bodies_of w unit = bodies_from w first_source_class (classes_of unit)
 abbrev pub library_text : FixedText
 library_text = record { units = codes ": "; token = 0 }
 
-abbrev pub inserted : FixedText → List FixedText → List FixedText
-inserted t [] = t ∷ []
-inserted t (x ∷ rest) = if nat_le t.token x.token then t ∷ x ∷ rest else x ∷ inserted t rest
-
 -- in the order of their first tokens
 unfoldable pub in_order : List FixedText → List FixedText
-in_order [] = []
-in_order (t ∷ rest) = inserted t (in_order rest)
+in_order texts = order.in_order (λ (t : FixedText). t.token) texts
 
 -- ---- main (JLS 12.1.4)
 

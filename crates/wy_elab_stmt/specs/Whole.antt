@@ -13,7 +13,7 @@ use Rattle.wy_elab_expr.specs.Meaning.{Gets, give, ◌>>=◌}
 use Rattle.wy_library.specs.Library.{library_bodies, library_init_bodies}
 use Rattle.wy_elab_stmt.specs.declared.assembly.Bodies as memory
 use Rattle.wy_elab_stmt.specs.declared.assembly.Made as memory_made
-use Rattle.wy_statement.specs.Statements.{Setting}
+use Rattle.wy_elab_body.specs.Statements.{Setting}
 use Rattle.wy_elab_stmt.specs.Classes.{ClassBodies, class_bodies}
 use Rattle.wy_elab_stmt.specs.Program.{Bodies, bodies_of, library_text, in_order}
 

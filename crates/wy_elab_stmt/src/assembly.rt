@@ -6,11 +6,11 @@ ghost use Rattle.wy_constant.specs.Refusal.{Gives};
 ghost use Rattle.wy_constant.specs.Scope.{FixedText as PlainText};
 ghost use Rattle.wy_constant.specs.declared.variable.FixedText.{FixedText as MemoryText};
 ghost use Rattle.wy_elab_expr.specs.Views.{GetsTo, Judged};
-ghost use Rattle.wy_statement.specs.Places.{places_of};
+ghost use Rattle.wy_elab_body.specs.Places.{places_of};
 ghost use Rattle.wy_elab_stmt.specs.Program.{bodies_of, library_text, main_of, no_bodies, program, setting};
-ghost use Rattle.wy_statement.specs.Statements.{Setting as PlainSetting};
+ghost use Rattle.wy_elab_body.specs.Statements.{Setting as PlainSetting};
 ghost use Rattle.wy_elab_stmt.specs.ClassViews.{class_bodies_seen};
-ghost use Rattle.wy_statement.specs.Views.{IsSetting};
+ghost use Rattle.wy_elab_body.specs.Views.{IsSetting};
 ghost use Rattle.wy_elab_stmt.specs.Whole.{all_texts, and_class, behind_bodies, bodies_view, class_behind, declared_behind, made, made_view, main_or_refused, of_library, program_from};
 ghost use Rattle.wy_table.specs.ClassTable.{table_of};
 ghost use Rattle.wy_kernel.specs.Parts.{program_of};
@@ -23,17 +23,18 @@ use crate::main_method::main_of;
 use crate::order::in_order;
 use std::alloc::{AllocError, Global};
 use wy_constant::{FixedText, Rule, TypeError};
+use wy_elab_body::class_places::places_of;
+use wy_elab_body::numbers::{LIBRARY_STATEMENTS, numbers_of};
+use wy_elab_body::place::Place;
+use wy_elab_body::setting::Setting;
 use wy_elab_expr::Texts;
 use wy_kernel::builtin::FIRST_SOURCE_CLASS;
 use wy_kernel::form::Body;
 use wy_kernel::program::Program;
 use wy_library::{library_bodies, library_init_bodies};
-use wy_statement::class_places::places_of;
-use wy_statement::numbers::{LIBRARY_STATEMENTS, numbers_of};
-use wy_statement::place::Place;
-use wy_statement::setting::Setting;
 use wy_syntax::declaration::{ClassSyntax, Declaration};
 use wy_table::table::ClassTable;
+use wy_tree::token::TOKEN_LIMIT;
 
 /// The bodies of methods by their numbers, and the initializers of classes by theirs.
 #[derive(Drop)]
@@ -299,7 +300,7 @@ pub fn elaborate_unit(
     ensures lines { IfOk result (λ p. p.lines.items ≡ lines.items) }
     ensures texts { IfOk result (λ p. length p.fixed_texts.items < 2 ^ 32) }
 {
-    if unit.len() > 1048576 {
+    if unit.len() > TOKEN_LIMIT as usize {
         return Err(TypeError::NoMemory);
     }
     let places = places_of(alloc, &table, unit)?;

@@ -3,12 +3,12 @@
 ghost use Rattle.std.specs.Prelude.{◌≡◌, ◌∷◌, ◌++◌, ℕ, List, [], IfOk, Some, true, false, not, map, option_map};
 ghost use Rattle.wy_constant.specs.Scope.{FixedText};
 ghost use Rattle.wy_elab_expr.specs.Views.{GetsTo};
-ghost use Rattle.wy_statement.specs.Bodies.{constructor_block, end_of, field_initials, implied_body, implied_constructor_block, initializer_block, method_block};
+ghost use Rattle.wy_elab_body.specs.Bodies.{constructor_block, end_of, field_initials, implied_body, implied_constructor_block, initializer_block, method_block};
 ghost use Rattle.wy_elab_stmt.specs.Classes.{class_bodies, fields_body, finished, implied_constructor, in_fields, in_initializer, is_static, member, members, none_yet, of_class, of_interface, whole};
-ghost use Rattle.wy_statement.specs.Making.{begun};
-ghost use Rattle.wy_statement.specs.Statements.{Setting as PlainSetting};
+ghost use Rattle.wy_elab_body.specs.Making.{begun};
+ghost use Rattle.wy_elab_body.specs.Statements.{Setting as PlainSetting};
 ghost use Rattle.wy_elab_stmt.specs.ClassViews.{at_rest, class_bodies_seen, growing_of, growth_of};
-ghost use Rattle.wy_statement.specs.Views.{IsSetting, bodies_seen};
+ghost use Rattle.wy_elab_body.specs.Views.{IsSetting, bodies_seen};
 ghost use Rattle.wy_kernel.specs.View.{body_of};
 ghost use Rattle.wy_syntax.specs.Syntax as plain;
 ghost use Rattle.wy_syntax.specs.View.{block_of, class_of, declarator_of, header_of, member_of, outcome_of, own_call_of, placed_of, statement_of, statements_of, type_seen};
@@ -16,14 +16,14 @@ ghost use Rattle.wy_syntax.specs.View.{block_of, class_of, declarator_of, header
 use crate::growth::{Growing, Growth, none_yet};
 use std::alloc::AllocError;
 use wy_constant::TypeError;
+use wy_elab_body::body::{constructor_block, implied_constructor_block, method_block};
+use wy_elab_body::class_places::{declares_constructor, has_fields_unit};
+use wy_elab_body::making::begun;
+use wy_elab_body::place::Role;
+use wy_elab_body::setting::Setting;
 use wy_elab_expr::Texts;
 use wy_kernel::form::Body;
 use wy_members::has_modifier;
-use wy_statement::body::{constructor_block, implied_constructor_block, method_block};
-use wy_statement::class_places::{declares_constructor, has_fields_unit};
-use wy_statement::making::begun;
-use wy_statement::place::Role;
-use wy_statement::setting::Setting;
 use wy_syntax::declaration::{ClassSyntax, Header, Member, Modifier, Outcome, OwnCall, Placed};
 use wy_syntax::name::WrittenType;
 use wy_syntax::statement::{Block, Declarator, Statement};
@@ -48,7 +48,7 @@ fn has_this(header: &Header) -> bool
     !is_static(header.modifiers.as_slice())
 }
 
-#[tactic(auto, using(wy_statement::proofs::SourceViews::view_braces))]
+#[tactic(auto, using(wy_elab_body::proofs::SourceViews::view_braces))]
 fn end_of(b: &Block) -> u32
     ensures { result ≡ end_of (block_of b.now) }
 {

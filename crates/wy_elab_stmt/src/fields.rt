@@ -1,17 +1,17 @@
 //! What the initializers of fields become that are declared together (JLS 8.3.2).
 
 ghost use Rattle.std.specs.Prelude.{◌≡◌, map};
-ghost use Rattle.wy_statement.specs.Bodies.{field_initials};
-ghost use Rattle.wy_statement.specs.Statements.{Setting as PlainSetting};
-ghost use Rattle.wy_statement.specs.Views.{IsSetting, MakesTo, making_of, statements_seen};
+ghost use Rattle.wy_elab_body.specs.Bodies.{field_initials};
+ghost use Rattle.wy_elab_body.specs.Statements.{Setting as PlainSetting};
+ghost use Rattle.wy_elab_body.specs.Views.{IsSetting, MakesTo, making_of, statements_seen};
 ghost use Rattle.wy_syntax.specs.View.{declarator_of, type_seen};
 
 use wy_constant::TypeError;
+use wy_elab_body::field::field_initial;
+use wy_elab_body::making::Making;
+use wy_elab_body::setting::Setting;
 use wy_elab_expr::Texts;
 use wy_kernel::form::Stmt;
-use wy_statement::field::field_initial;
-use wy_statement::making::Making;
-use wy_statement::setting::Setting;
 use wy_syntax::name::WrittenType;
 use wy_syntax::statement::Declarator;
 

@@ -3,25 +3,25 @@
 ghost use Rattle.std.specs.Prelude.{◌≡◌, List, [], IfOk, OnOk, map, option_map};
 ghost use Rattle.wy_constant.specs.Scope.{FixedText};
 ghost use Rattle.wy_elab_expr.specs.Views.{GetsTo};
-ghost use Rattle.wy_statement.specs.Bodies.{field_initials, implied_body, initializer_block, nothing_yet};
+ghost use Rattle.wy_elab_body.specs.Bodies.{field_initials, implied_body, initializer_block, nothing_yet};
 ghost use Rattle.wy_elab_stmt.specs.Classes.{grown, none_yet, with_body};
-ghost use Rattle.wy_statement.specs.Statements.{Setting as PlainSetting};
+ghost use Rattle.wy_elab_body.specs.Statements.{Setting as PlainSetting};
 ghost use Rattle.wy_elab_stmt.specs.ClassViews.{growing_of, growth_of};
-ghost use Rattle.wy_statement.specs.Views.{IsSetting};
+ghost use Rattle.wy_elab_body.specs.Views.{IsSetting};
 ghost use Rattle.wy_kernel.specs.View.{body_of};
 ghost use Rattle.wy_syntax.specs.View.{block_of, class_of, declarator_of, type_seen};
 
 use crate::fields::field_initials;
 use std::alloc::{AllocError, Global};
 use wy_constant::TypeError;
+use wy_elab_body::body::implied;
+use wy_elab_body::field::initializer_block;
+use wy_elab_body::make;
+use wy_elab_body::making::{Making, begun};
+use wy_elab_body::place::Role;
+use wy_elab_body::setting::Setting;
 use wy_elab_expr::Texts;
 use wy_kernel::form::{Body, Stmt};
-use wy_statement::body::implied;
-use wy_statement::field::initializer_block;
-use wy_statement::make;
-use wy_statement::making::{Making, begun};
-use wy_statement::place::Role;
-use wy_statement::setting::Setting;
 use wy_syntax::declaration::ClassSyntax;
 use wy_syntax::name::WrittenType;
 use wy_syntax::statement::{Block, Declarator};
@@ -50,7 +50,7 @@ pub fn nothing_yet(
 
 impl Growing {
     /// Puts what a block becomes behind what is there.
-    #[tactic(auto, unfolding(wy_statement::specs::Making::resumed))]
+    #[tactic(auto, unfolding(wy_elab_body::specs::Making::resumed))]
     pub fn add_block(
         &mut self,
         setting: &Setting,
@@ -69,7 +69,7 @@ impl Growing {
     }
 
     /// Puts what the initializers of fields become behind what is there.
-    #[tactic(auto, unfolding(wy_statement::specs::Making::resumed))]
+    #[tactic(auto, unfolding(wy_elab_body::specs::Making::resumed))]
     pub fn add_fields(
         &mut self,
         setting: &Setting,
@@ -90,7 +90,7 @@ impl Growing {
     }
 
     /// The whole body, which stands at the name of its class.
-    #[tactic(auto, using(wy_statement::proofs::Blocks::row_is))]
+    #[tactic(auto, using(wy_elab_body::proofs::Blocks::row_is))]
     pub fn implied_body(self, setting: &Setting, class: &ClassSyntax, role: Role) -> Body
         ensures { (w : PlainSetting) (stale : List FixedText) → IsSetting setting.now w
             → body_of result ≡ implied_body w (class_of class.now) role (growing_of self stale) }

@@ -2,7 +2,7 @@
 
 ghost use Rattle.wy_elab_stmt.specs.Elaborates.{OneElaboration};
 
-use wy_judgement::one_judgement_stands;
+use law_judgement::one_judgement_stands;
 use wy_members::laws::{one_constant_stands_for_a_field, one_refusal_is_due};
 
 /// A text becomes at most one program, or breaks one rule at one token, and never both.

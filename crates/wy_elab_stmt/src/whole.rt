@@ -8,10 +8,10 @@ ghost use Rattle.wy_tree.specs.Seen.{seen};
 ghost use Rattle.wy_tree.specs.Tokens.{token_limit};
 
 use crate::assembly::elaborate_unit;
+use law_judgement::a_table_is_judged;
 use std::alloc::{AllocError, Global};
 use wy_constant::TypeError;
 use wy_declaration::unit;
-use wy_judgement::a_table_is_judged;
 use wy_kernel::program::Program;
 use wy_members::class_table_of;
 use wy_tree::token::Spanned;

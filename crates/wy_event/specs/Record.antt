@@ -13,7 +13,7 @@ pub record Recorded : Type 0 where
   pub site : ℕ
   pub frame : Option ℕ
   pub control : Option ℕ
-  pub what : Option ℕ
+  pub entity : Option ℕ
   pub slot : Slot
   pub value : Value
   pub units : List ℕ
@@ -25,7 +25,7 @@ recorded e = record {
   site = e.site;
   frame = present e.frame;
   control = present e.control;
-  what = present e.what;
+  entity = present e.entity;
   slot = e.slot;
   value = e.value;
   units = e.units;

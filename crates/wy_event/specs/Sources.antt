@@ -33,14 +33,14 @@ is_what Absent m = false
 
 -- a New creates the fields and the elements of its object, an Init the static fields of its class
 unfoldable pub creates_as : Owners → Kind → ℕ → Option ℕ → Slot → Bool
-creates_as owner New n what (Field object f) = nat_eq object n
-creates_as owner New n what (Elem array i) = nat_eq array n
-creates_as owner Init n what (Static f) = is_what what (owner f)
-creates_as owner _ n what x = false
+creates_as owner New n entity (Field object f) = nat_eq object n
+creates_as owner New n entity (Elem array i) = nat_eq array n
+creates_as owner Init n entity (Static f) = is_what entity (owner f)
+creates_as owner _ n entity x = false
 
 -- as event n
 unfoldable pub creates : Owners → ℕ → Slot → Recorded → Bool
-creates owner n x e = creates_as owner e.kind n e.what x
+creates owner n x e = creates_as owner e.kind n e.entity x
 
 unfoldable pub is_so : (Recorded → Bool) → Option Recorded → Bool
 is_so f Absent = false

@@ -40,29 +40,42 @@ pub enum Use {
     Choice { event: u32 },
 }
 
-/// An event. Absent numbers are NONE; `units` are those of a Text.
+/// An event, whose number is its place among the events of its run, from 0. NONE stands for a number that is absent.
 #[derive(Drop)]
 pub struct Event {
     pub kind: Kind,
+    /// The token at which it stands, by its number in the source text; in library method m it is 2^31 + m.
     pub site: u32,
+    /// The Call or Init of the body that ran; a Call and an Init stand in that which made them, and NONE outside all bodies.
     pub frame: u32,
+    /// Its control parent, the greatest event that was active; NONE where none was.
     pub control: u32,
-    pub what: u32,
+    /// What it is of, by the kind: the method of a Call, the class of an Init, the type code of a New; NONE for other kinds.
+    pub entity: u32,
+    /// What it stored to; None for kinds that store nothing.
     pub slot: Slot,
+    /// The value that it stored, tested, made or gave; None where there is none, and for a Text.
     pub value: Value,
+    /// The UTF-16 units of a Text; empty for every other kind.
     pub units: Sequence<u16>,
     pub uses: Sequence<Use>,
 }
 
-/// What is known of a statement: how often it began and ended normally, the moment of its first begin,
-/// and the event that last left it.
+/// What is known of a statement. A moment is how many events there were.
 #[derive(Clone, Copy, Debug, PartialEq, Eq)]
 pub struct Cover {
+    /// How often it began.
     pub begins: u32,
+    /// How often it ended normally.
     pub ends: u32,
+    /// The moment of its first begin; NONE where it never began.
     pub first: u32,
+    /// The Jump, Return or Throw that last left it; GOING_ON where the end of the run found it going on, NONE where nothing left it.
     pub cause: u32,
 }
+
+/// The cause of a statement that the end of its run found going on.
+pub const GOING_ON: u32 = 4294967294;
 
 /// A cover for each statement, by its number.
 #[derive(Drop)]
@@ -74,11 +87,15 @@ pub struct Coverage {
 #[derive(Drop)]
 pub struct Tail {
     pub coverage: Coverage,
+    /// The number of the stop, 0 to 11: 0 where main returned, 1 where it ended by a throw, then the limits and faults in their order.
     pub stop: u8,
+    /// The Throw that ended the run; NONE where none did.
     pub last: u32,
+    /// The steps that it took, the events that it had, and the uses of all of them.
     pub steps: u32,
     pub events: u32,
     pub uses: u32,
+    /// The length of its output, in bytes.
     pub output: u32,
 }
 

@@ -8,7 +8,7 @@ use Rattle.wy_view.specs.View.{Told}
 use Rattle.wy_index.specs.Index.{IsIndexOfView, owners_of}
 use Rattle.wy_why.specs.Answer.{Rises, up_to}
 use Rattle.wy_ask.specs.Asked.{owners}
-use Rattle.wy_static.specs.Answers.{AreLinksOf}
+use Rattle.wy_static.specs.LookUps.{AreLinksOf}
 use Rattle.wy_whynot.specs.Evidence.{evidence_in}
 use Rattle.wy_explore.specs.Session.{Position, RepliesTo, Session, answer_to, looking_at}
 use Rattle.wy_explore.specs.Session as session

@@ -5,8 +5,8 @@ ghost use Rattle.wy_event.specs.Record.{Recorded};
 ghost use Rattle.wy_index.specs.Index.{IsIndexOf};
 ghost use Rattle.wy_kernel.specs.Parts.{program_of};
 ghost use Rattle.wy_kernel.specs.Program.{Program};
-ghost use Rattle.wy_static.specs.Answers.{AreLinksOf};
-ghost use Rattle.wy_view.specs.View.{Answers, Keeps};
+ghost use Rattle.wy_static.specs.LookUps.{AreLinksOf};
+ghost use Rattle.wy_view.specs.View.{KeepsCounts, Keeps};
 ghost use Rattle.wy_ask.specs.Asked.{IsOf};
 ghost use Rattle.wy_explore.specs.Commands as said;
 ghost use Rattle.wy_explore.specs.Commands.{AsksAbout};
@@ -100,7 +100,7 @@ impl Explorer {
         ensures reply_within { IfOk result (IsReplyWithin (V.tells view.old).count) }
         ensures unchanged { OnErr result (self.new ≡ self.old) }
         ensures keeps { Keeps (V.tells view.old) (V.tells view.new) }
-        ensures answers { Answers result (V.tells view.old) (V.tells view.new) }
+        ensures answers { KeepsCounts result (V.tells view.old) (V.tells view.new) }
         ensures forward { steps.old ≤ steps.new }
     {
         match command_of(line) {
@@ -137,7 +137,7 @@ impl Explorer {
         ensures reply_within { IfOk result (IsReplyWithin (V.tells view.old).count) }
         ensures unchanged { OnErr result (self.new ≡ self.old) }
         ensures keeps { Keeps (V.tells view.old) (V.tells view.new) }
-        ensures answers { Answers result (V.tells view.old) (V.tells view.new) }
+        ensures answers { KeepsCounts result (V.tells view.old) (V.tells view.new) }
         ensures forward { steps.old ≤ steps.new }
     {
         let Some(event) = event_of(alloc, word, world, view.count(), steps)? else {
@@ -227,7 +227,7 @@ impl Explorer {
             → IfOk result (Fulfils world.entry rs said.Sources self.now self.now) }
         ensures within { IfOk result (IsReplyWithin (V.tells view.old).count) }
         ensures keeps { Keeps (V.tells view.old) (V.tells view.new) }
-        ensures answers { Answers result (V.tells view.old) (V.tells view.new) }
+        ensures answers { KeepsCounts result (V.tells view.old) (V.tells view.new) }
         ensures forward { steps.old ≤ steps.new }
     {
         let Some(event) = self.cursor else {

@@ -53,7 +53,7 @@ pub record Fits (e : Recorded) : Type 0 where
   pub site : IsNumber e.site
   pub frame : IsPresent e.frame
   pub control : IsPresent e.control
-  pub what : IsPresent e.what
+  pub entity : IsPresent e.entity
   pub slot : SlotFits e.slot
   pub value : ValueFits e.value
   pub units : All IsUnit e.units
@@ -96,7 +96,7 @@ told e = record {
   site = e.site;
   frame = e.frame;
   control = e.control;
-  what = e.what;
+  entity = e.entity;
   slot = e.slot;
   value = told_value e.kind e.value;
   units = told_units e.kind e.units;

@@ -74,7 +74,7 @@ fn event_fits(event: &Event)
     let _site = event.site;
     present_fits(event.frame);
     present_fits(event.control);
-    present_fits(event.what);
+    present_fits(event.entity);
     slot_fits(event.slot);
     value_fits(event.value);
     units_fit(event.units.as_slice());

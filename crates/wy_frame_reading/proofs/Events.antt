@@ -23,26 +23,12 @@ use Rattle.wy_frame_reading.proofs.Slots.{GoodSlot, slot}
 use Rattle.wy_frame_reading.proofs.Tags.{tag_is, tagged}
 use Rattle.wy_frame_reading.proofs.Uses.{GoodUses, uses}
 use Rattle.wy_frame_reading.proofs.Values.{GoodUnits, GoodValue, units, value}
+use Rattle.wy_payload.proofs.Tags.{kind_known as known}
 
 -- ---- origins
 
 abbrev Small : ℕ → Type 0
 Small m = m < 2 ^ bits w32
-
-known : (k : Kind) → slice_get kinds (kind_number k) ≡ Some k
-known kind.Init = refl
-known kind.New = refl
-known kind.Call = refl
-known kind.Bind = refl
-known kind.Set = refl
-known kind.Test = refl
-known kind.Text = refl
-known kind.Read = refl
-known kind.Print = refl
-known kind.Return = refl
-known kind.Jump = refl
-known kind.Throw = refl
-known kind.Catch = refl
 
 placed : (b : ℕ) (k : Kind) → slice_get kinds b ≡ Some k → kind_number k ≡ b
 placed b k is = omega (arith, tag_is kind_number kinds 0 13 refl b k is)
@@ -54,32 +40,32 @@ kind_read =
     (λ k bytes are. (refl, tt, record { parts = refl; rest_bytes = are }))
 
 abbrev origin : Kind → ℕ → ℕ → ℕ → ℕ → Origin
-origin k site frame control what = record { kind = k; site = site; frame = frame; control = control; what = what }
+origin k site frame control entity = record { kind = k; site = site; frame = frame; control = control; entity = entity }
 
 -- with the numbers as they stand in memory
 abbrev pub origin_text : Origin → List ℕ
-origin_text o = kind_number o.kind ∷ number o.site ++ (number o.frame ++ (number o.control ++ number o.what))
+origin_text o = kind_number o.kind ∷ number o.site ++ (number o.frame ++ (number o.control ++ number o.entity))
 
 abbrev pub GoodOrigin : ℕ → Origin → Type 0
-GoodOrigin n o = Small o.site × IsOptional n o.frame × IsOptional n o.control × Small o.what
+GoodOrigin n o = Small o.site × IsOptional n o.frame × IsOptional n o.control × Small o.entity
 
 abbrev Numbers : Type 0
 Numbers = ℕ × (ℕ × (ℕ × ℕ))
 
 module _ (n : ℕ) where
   behind_control : (k : Kind) (site frame : ℕ) → Reads (ℕ × ℕ) Origin (λ p. IsOptional n p.0 × Small p.1) (λ p. number p.0 ++ number p.1) (λ p. origin k site frame p.0 p.1)
-      (λ bytes. optional_at n bytes >>= λ control. number_at w32 control.1 >>= λ what. Ok (origin k site frame control.0 what.0, what.1))
+      (λ bytes. optional_at n bytes >>= λ control. number_at w32 control.1 >>= λ entity. Ok (origin k site frame control.0 entity.0, entity.1))
   behind_control k site frame =
       two ℕ ℕ ℕ Origin (IsOptional n) number (λ m. m) (optional_at n) (λ a. Small) (λ a. number) (origin k site frame) _ (optional_read n)
       (λ control. one ℕ ℕ Origin Small number (λ m. m) (number_at w32) (origin k site frame control) word_32)
 
   behind_frame : (k : Kind) (site : ℕ) → Reads (ℕ × (ℕ × ℕ)) Origin (λ p. IsOptional n p.0 × (IsOptional n p.1.0 × Small p.1.1)) (λ p. number p.0 ++ (number p.1.0 ++ number p.1.1)) (λ p. origin k site p.0 p.1.0 p.1.1)
-      (λ bytes. optional_at n bytes >>= λ frame. optional_at n frame.1 >>= λ control. number_at w32 control.1 >>= λ what. Ok (origin k site frame.0 control.0 what.0, what.1))
+      (λ bytes. optional_at n bytes >>= λ frame. optional_at n frame.1 >>= λ control. number_at w32 control.1 >>= λ entity. Ok (origin k site frame.0 control.0 entity.0, entity.1))
   behind_frame k site =
       two ℕ (ℕ × ℕ) ℕ Origin (IsOptional n) number (λ m. m) (optional_at n) (λ a p. IsOptional n p.0 × Small p.1) (λ a p. number p.0 ++ number p.1) (λ frame p. origin k site frame p.0 p.1) _ (optional_read n) (λ frame. behind_control k site frame)
 
   behind_site : (k : Kind) → Reads Numbers Origin (λ p. Small p.0 × (IsOptional n p.1.0 × (IsOptional n p.1.1.0 × Small p.1.1.1))) (λ p. number p.0 ++ (number p.1.0 ++ (number p.1.1.0 ++ number p.1.1.1))) (λ p. origin k p.0 p.1.0 p.1.1.0 p.1.1.1)
-      (λ bytes. number_at w32 bytes >>= λ site. optional_at n site.1 >>= λ frame. optional_at n frame.1 >>= λ control. number_at w32 control.1 >>= λ what. Ok (origin k site.0 frame.0 control.0 what.0, what.1))
+      (λ bytes. number_at w32 bytes >>= λ site. optional_at n site.1 >>= λ frame. optional_at n frame.1 >>= λ control. number_at w32 control.1 >>= λ entity. Ok (origin k site.0 frame.0 control.0 entity.0, entity.1))
   behind_site k =
       two ℕ (ℕ × (ℕ × ℕ)) ℕ Origin Small number (λ m. m) (number_at w32) (λ a p. IsOptional n p.0 × (IsOptional n p.1.0 × Small p.1.1)) (λ a p. number p.0 ++ (number p.1.0 ++ number p.1.1)) (λ site p. origin k site p.0 p.1.0 p.1.1) _ word_32
       (λ site. behind_frame k site)
@@ -93,8 +79,8 @@ module _ (n : ℕ) where
 
   origin_read : Reads Origin Origin (GoodOrigin n) origin_text (λ o. o) (origin_at n)
   origin_read =
-      by_parts (Kind × Numbers) Origin Origin _ _ _ (GoodOrigin n) origin_text (λ o. o) (origin_at n) (λ o. (o.kind, (o.site, (o.frame, (o.control, o.what))))) (λ p. origin p.0 p.1.0 p.1.1.0 p.1.1.1.0 p.1.1.1.1) origin_parts
-      (λ o (site, frame, control, what). ((tt, (site, (frame, (control, what)))), refl, refl)) (λ p (none, (site, (frame, (control, what)))). ((site, frame, control, what), refl, refl))
+      by_parts (Kind × Numbers) Origin Origin _ _ _ (GoodOrigin n) origin_text (λ o. o) (origin_at n) (λ o. (o.kind, (o.site, (o.frame, (o.control, o.entity))))) (λ p. origin p.0 p.1.0 p.1.1.0 p.1.1.1.0 p.1.1.1.1) origin_parts
+      (λ o (site, frame, control, entity). ((tt, (site, (frame, (control, entity)))), refl, refl)) (λ p (none, (site, (frame, (control, entity)))). ((site, frame, control, entity), refl, refl))
 
 -- ---- contents
 
@@ -146,7 +132,7 @@ content_read n kind.Catch = other_content n
 -- ---- all parts
 
 abbrev event : Origin → Slot → Content → List Use → Event
-event o x c us = record { kind = o.kind; site = o.site; frame = o.frame; control = o.control; what = o.what; slot = x; value = c.value; units = c.units; uses = us }
+event o x c us = record { kind = o.kind; site = o.site; frame = o.frame; control = o.control; entity = o.entity; slot = x; value = c.value; units = c.units; uses = us }
 
 abbrev pub Parts : Type 0
 Parts = Origin × (Slot × (Content × List Use))

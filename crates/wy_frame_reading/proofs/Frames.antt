@@ -21,9 +21,10 @@ use Rattle.wy_payload.specs.declared.fault.Fault.{Fault}
 use Rattle.wy_payload.specs.declared.fault.Fault.TheVariants as fault
 use Rattle.wy_payload.specs.Reading.{◌>>=◌, Fails, Read, at_most_at, number_at, passed}
 use Rattle.wy_payload.specs.Rules.{in_range}
-use Rattle.wy_frame_reading.specs.Begins.{BeginWith, IsFrontEvent}
+use Rattle.wy_frame_reading.specs.Begins.{BeginWith, BeginsWithEvent}
 use Rattle.wy_frame_reading.specs.Fields.{event_at, frame_at, payload_at, payload_limit, whole_at}
-use Rattle.wy_frame_reading.proofs.Readers.{AreBytes, Spelled, bound, then_has}
+use Rattle.wy_payload.proofs.Readers.{then_has}
+use Rattle.wy_frame_reading.proofs.Readers.{AreBytes, Spelled, bound}
 use Rattle.wy_frame_reading.proofs.Numbers.{at_most, byte, byte_back, bytes_before}
 use Rattle.wy_frame_reading.proofs.Records.{GoodRecord, event_of, event_read, seen_again}
 
@@ -191,12 +192,12 @@ not_both : (r : Framed) (d : DamageRule) (x : Event × ℕ) → r ≡ Err d → 
 not_both (Ok y) d x failed read = absurd cc
 not_both (Err e) d x failed read = absurd cc
 
-pub found_is : (n : ℕ) (bytes : List ℕ) (found : Event × ℕ) → AreBytes bytes → frame_at n bytes ≡ Ok found → IsFrontEvent n bytes (Some found)
+pub found_is : (n : ℕ) (bytes : List ℕ) (found : Event × ℕ) → AreBytes bytes → frame_at n bytes ≡ Ok found → BeginsWithEvent n bytes (Some found)
 found_is n bytes (x, size) are is = of (IfOk-at_ok (IsFound n bytes) is (frame_front n bytes are)) where
   same : (y : Event) (k : ℕ) → frame_at n bytes ≡ Ok (y, k) → x ≡ y
   same y k also = ap (event_in x) (sym is ∙ also)
 
-  of : IsFound n bytes (x, size) → IsFrontEvent n bytes (Some (x, size))
+  of : IsFound n bytes (x, size) → BeginsWithEvent n bytes (Some (x, size))
   of (e, made, begin, long) =
       let here : recorded x ≡ e = ap recorded made ∙ seen_again e begin.fits in (
         subst (BeginWith n bytes) (sym here) begin,
@@ -204,8 +205,8 @@ found_is n bytes (x, size) are is = of (IfOk-at_ok (IsFound n bytes) is (frame_f
         λ other also. sym (ap recorded (same (event_of other) _ (frame_back n bytes other also)) ∙ seen_again other also.fits),
       )
 
-none_is : (n : ℕ) (bytes : List ℕ) (d : DamageRule) → frame_at n bytes ≡ Err d → IsFrontEvent n bytes Absent
+none_is : (n : ℕ) (bytes : List ℕ) (d : DamageRule) → frame_at n bytes ≡ Err d → BeginsWithEvent n bytes Absent
 none_is n bytes d is other begin = not_both (frame_at n bytes) d (event_of other, 5 + length (event_payload other)) is (frame_back n bytes other begin)
 
-pub fails_is : (n : ℕ) (bytes : List ℕ) (f : Fault) (d : DamageRule) → f ≡ fault.Broken d → Fails f (frame_at n bytes) → IsFrontEvent n bytes Absent
+pub fails_is : (n : ℕ) (bytes : List ℕ) (f : Fault) (d : DamageRule) → f ≡ fault.Broken d → Fails f (frame_at n bytes) → BeginsWithEvent n bytes Absent
 fails_is n bytes f d is failed = none_is n bytes d (subst (λ (g : Fault). Fails g (frame_at n bytes)) is failed)

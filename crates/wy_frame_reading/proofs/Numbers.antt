@@ -14,7 +14,8 @@ use Rattle.wy_spelling.specs.Spelling.{number}
 use Rattle.wy_payload.specs.declared.fault.DamageRule.TheVariants as rule
 use Rattle.wy_payload.specs.Reading.{◌>>=◌, Read, number_at, below_at, at_most_at}
 use Rattle.wy_frame_reading.specs.Fields.{optional_at}
-use Rattle.wy_frame_reading.proofs.Readers.{AreBytes, Reads, Spelled, bound, bytes_behind, checked, then_has}
+use Rattle.wy_payload.proofs.Readers.{then_has}
+use Rattle.wy_frame_reading.proofs.Readers.{AreBytes, Reads, Spelled, bound, bytes_behind, checked}
 
 -- a number of this width is read from its spelling
 abbrev pub ReadsNumber : Width → (ℕ → List ℕ) → Type 0

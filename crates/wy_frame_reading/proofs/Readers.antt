@@ -7,6 +7,7 @@ use Rattle.std.proofs.lemmas.List.Concat.{flat_map-cons}
 use Rattle.wy_payload.specs.declared.fault.DamageRule.{DamageRule}
 use Rattle.wy_payload.specs.Rules.{in_range}
 use Rattle.wy_payload.specs.Reading.{◌>>=◌, Read, passed, rows_from}
+use Rattle.wy_payload.proofs.Readers.{then_has}
 
 -- each is below 256
 abbrev pub AreBytes : List ℕ → Type 0
@@ -31,10 +32,6 @@ pub record Reads (A X : Type 0) (Good : A → Type 0) (spell : A → List ℕ) (
 pub bound : {A B : Type 0} (r : Result A DamageRule) (f : A → Result B DamageRule) (x : A) (y : Result B DamageRule) → r ≡ Ok x → f x ≡ y → (r >>= f) ≡ y
 bound (Ok z) f x y is same = let there : z ≡ x = cc in ap f there ∙ same
 bound (Err e) f x y is same = absurd cc
-
-pub then_has : {A B : Type 0} (r : Result A DamageRule) (f : A → Result B DamageRule) (P : A → Type 0) (Q : B → Type 0) → IfOk r P → ((x : A) → P x → IfOk (f x) Q) → IfOk (r >>= f) Q
-then_has (Ok x) f P Q h k = k x h
-then_has (Err d) f P Q h k = tt
 
 -- ---- one behind another
 

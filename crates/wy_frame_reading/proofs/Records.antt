@@ -147,10 +147,10 @@ uses_below n (u ∷ us) good = (good.0.1, uses_below n us good.1)
 
 -- a record as it stands in memory
 abbrev pub event_of : Recorded → Event
-event_of e = record { kind = e.kind; site = e.site; frame = raw e.frame; control = raw e.control; what = raw e.what; slot = e.slot; value = e.value; units = e.units; uses = e.uses }
+event_of e = record { kind = e.kind; site = e.site; frame = raw e.frame; control = raw e.control; entity = raw e.entity; slot = e.slot; value = e.value; units = e.units; uses = e.uses }
 
 abbrev parts_of : Recorded → Parts
-parts_of e = (record { kind = e.kind; site = e.site; frame = raw e.frame; control = raw e.control; what = raw e.what }, (e.slot, (content e.value e.units, e.uses)))
+parts_of e = (record { kind = e.kind; site = e.site; frame = raw e.frame; control = raw e.control; entity = raw e.entity }, (e.slot, (content e.value e.units, e.uses)))
 
 abbrev record_of : Parts → Recorded
 record_of p = recorded (parts_made p)
@@ -162,14 +162,14 @@ told_parts e is = (ap (λ r. r.value) is, ap (λ r. r.units) is)
 
 told_all : (e : Recorded) → told_value e.kind e.value ≡ e.value → told_units e.kind e.units ≡ e.units → IsTold e
 unfolding told
-told_all e v us = λ i. record { kind = e.kind; site = e.site; frame = e.frame; control = e.control; what = e.what; slot = e.slot; value = v i; units = us i; uses = e.uses }
+told_all e v us = λ i. record { kind = e.kind; site = e.site; frame = e.frame; control = e.control; entity = e.entity; slot = e.slot; value = v i; units = us i; uses = e.uses }
 
 parts_good : (n : ℕ) (e : Recorded) → GoodRecord n e → GoodParts n (parts_of e)
 parts_good n e good =
     let fits = good.fits in
     let below = good.below in
     let all = told_parts e good.told in (
-      (fits.site, raw_optional n e.frame fits.frame below.frame, raw_optional n e.control fits.control below.control, raw_small e.what fits.what),
+      (fits.site, raw_optional n e.frame fits.frame below.frame, raw_optional n e.control fits.control below.control, raw_small e.entity fits.entity),
       (
         (fits.slot, below.slot),
         (
@@ -182,18 +182,18 @@ parts_good n e good =
 parts_told : (e : Recorded) → parts_spelled (parts_of e) ≡ event_payload e
 unfolding event_payload origin_bytes
 parts_told e =
-    λ i. kind_number e.kind ∷ number e.site ++ (raw_spelled e.frame i ++ (raw_spelled e.control i ++ raw_spelled e.what i)) ++ (slot_bytes e.slot ++ (content_bytes e.kind e.value e.units ++ uses_bytes e.uses))
+    λ i. kind_number e.kind ∷ number e.site ++ (raw_spelled e.frame i ++ (raw_spelled e.control i ++ raw_spelled e.entity i)) ++ (slot_bytes e.slot ++ (content_bytes e.kind e.value e.units ++ uses_bytes e.uses))
 
 record_good : (n : ℕ) (p : Parts) → GoodParts n p → GoodRecord n (record_of p)
 unfolding recorded
-record_good n (o, (x, (c, us))) ((site, frame, control, what), ((fit, lower), (has, (all, few)))) =
+record_good n (o, (x, (c, us))) ((site, frame, control, entity), ((fit, lower), (has, (all, few)))) =
     let inner = content_has n o.kind c.value c.units has in
     record {
       fits = record {
         site = site;
         frame = present_fits o.frame frame.0;
         control = present_fits o.control control.0;
-        what = present_fits o.what what;
+        entity = present_fits o.entity entity;
         slot = fit;
         value = inner.fits;
         units = inner.units;
@@ -207,12 +207,12 @@ record_good n (o, (x, (c, us))) ((site, frame, control, what), ((fit, lower), (h
 
 record_made : (n : ℕ) (p : Parts) → GoodParts n p → parts_made p ≡ event_of (record_of p)
 unfolding recorded
-record_made n (o, (x, (c, us))) ((site, frame, control, what), others) = λ i. record {
+record_made n (o, (x, (c, us))) ((site, frame, control, entity), others) = λ i. record {
   kind = o.kind;
   site = o.site;
   frame = sym (present_raw o.frame frame.0) i;
   control = sym (present_raw o.control control.0) i;
-  what = sym (present_raw o.what what) i;
+  entity = sym (present_raw o.entity entity) i;
   slot = x;
   value = c.value;
   units = c.units;
@@ -221,7 +221,7 @@ record_made n (o, (x, (c, us))) ((site, frame, control, what), others) = λ i. r
 
 record_told : (p : Parts) → parts_spelled p ≡ event_payload (record_of p)
 unfolding event_payload origin_bytes recorded
-record_told (o, (x, (c, us))) = rw (optional_present o.frame, optional_present o.control, optional_present o.what) refl
+record_told (o, (x, (c, us))) = rw (optional_present o.frame, optional_present o.control, optional_present o.entity) refl
 
 pub event_read : (n : ℕ) → Reads Recorded Event (GoodRecord n) event_payload event_of (event_at n)
 event_read n =
@@ -236,7 +236,7 @@ seen_again e fits = λ i. record {
   site = e.site;
   frame = raw_present e.frame fits.frame i;
   control = raw_present e.control fits.control i;
-  what = raw_present e.what fits.what i;
+  entity = raw_present e.entity fits.entity i;
   slot = e.slot;
   value = e.value;
   units = e.units;

@@ -17,33 +17,13 @@ use Rattle.wy_frame_reading.specs.Fields.{element_at, field_at, local_at, slot_a
 use Rattle.wy_frame_reading.proofs.Readers.{AreBytes, Reads, by_parts, one, two}
 use Rattle.wy_frame_reading.proofs.Numbers.{IsBelow, below, word_32}
 use Rattle.wy_frame_reading.proofs.Tags.{Behind, behind_as, tag_is, tagged}
+use Rattle.wy_payload.proofs.Tags.{slot_tag, slot_number, slot_rest}
 
 -- its numbers fit, and its event is below n
 abbrev pub GoodSlot : ℕ → Slot → Type 0
 GoodSlot n x = SlotFits x × SlotBelow n x
 
 -- the bytes of a slot behind its tag
-abbrev slot_rest : Slot → List ℕ
-slot_rest slots.None = []
-slot_rest (slots.Local frame index) = number frame ++ number index
-slot_rest (slots.Static field) = number field
-slot_rest (slots.Field object field) = number object ++ number field
-slot_rest (slots.Elem array index) = number array ++ number index
-
-abbrev slot_tag : Slot → SlotTag
-slot_tag slots.None = tags.None
-slot_tag (slots.Local frame index) = tags.Local
-slot_tag (slots.Static field) = tags.Static
-slot_tag (slots.Field object field) = tags.Field
-slot_tag (slots.Elem array index) = tags.Elem
-
-abbrev slot_number : SlotTag → ℕ
-slot_number tags.None = 0
-slot_number tags.Local = 1
-slot_number tags.Static = 2
-slot_number tags.Field = 3
-slot_number tags.Elem = 4
-
 slot_is : (s : Slot) → slot_number (slot_tag s) ∷ slot_rest s ≡ slot_bytes s
 unfolding slot_bytes
 slot_is slots.None = refl

@@ -7,7 +7,8 @@ use Rattle.std.proofs.lemmas.Bool.{eqb-true}
 use Rattle.std.proofs.lemmas.Option.{slice_get-map}
 use Rattle.wy_payload.specs.Rules.{in_range}
 use Rattle.wy_payload.specs.Reading.{◌>>=◌, Read, passed, known_tag, number_at}
-use Rattle.wy_frame_reading.proofs.Readers.{AreBytes, Reads, Spelled, bound, one_after, then_has}
+use Rattle.wy_payload.proofs.Readers.{then_has}
+use Rattle.wy_frame_reading.proofs.Readers.{AreBytes, Reads, Spelled, bound, one_after}
 use Rattle.wy_frame_reading.proofs.Numbers.{byte, byte_back}
 
 -- ---- tags are their places in a list

@@ -16,9 +16,11 @@ use Rattle.wy_payload.specs.Rules.{in_range}
 use Rattle.wy_payload.specs.Reading.{passed, number_at, below_at}
 use Rattle.wy_payload.specs.Values.{bool_at, plain_at, units_at, units_tag, value_tags}
 use Rattle.wy_frame_reading.specs.Fields.{fixed_at, int_at, object_at, text_at, value_at, value_of}
-use Rattle.wy_frame_reading.proofs.Readers.{AreBytes, Reads, Spelled, bound, by_parts, counted, one, then_has}
+use Rattle.wy_payload.proofs.Readers.{then_has}
+use Rattle.wy_frame_reading.proofs.Readers.{AreBytes, Reads, Spelled, bound, by_parts, counted, one}
 use Rattle.wy_frame_reading.proofs.Numbers.{IsBelow, below, byte, byte_back, signed, word_16, word_32, word_64}
 use Rattle.wy_frame_reading.proofs.Tags.{Behind, behind_as, lettered, tag_is, tagged}
+use Rattle.wy_payload.proofs.Tags.{value_number}
 
 -- its numbers fit, and its event is below n
 abbrev pub GoodValue : ℕ → Value → Type 0
@@ -50,19 +52,6 @@ value_tag val.Null = tags.Null
 value_tag (val.Object n) = tags.Object
 value_tag (val.Text n) = tags.Text
 value_tag (val.Fixed n) = tags.Fixed
-
-abbrev value_number : ValueTag → ℕ
-value_number tags.None = 0
-value_number tags.Bool = 1
-value_number tags.Byte = 2
-value_number tags.Short = 3
-value_number tags.Char = 4
-value_number tags.Int = 5
-value_number tags.Long = 6
-value_number tags.Null = 7
-value_number tags.Object = 8
-value_number tags.Text = 9
-value_number tags.Fixed = 10
 
 value_is : (v : Value) → value_number (value_tag v) ∷ value_rest v ≡ value_bytes v
 unfolding value_bytes

@@ -4,7 +4,8 @@ use Rattle.std.specs.Prelude.{None as Absent}
 use Rattle.wy_event.specs.declared.record.Event.{Event}
 use Rattle.wy_event.specs.Record.{Recorded, recorded}
 use Rattle.wy_fitting.specs.Fits.{Fits, IsTold}
-use Rattle.wy_spelling.specs.Spelling.{event_frame, trace_limit}
+use Rattle.wy_kernel.specs.Limits.{trace_limit}
+use Rattle.wy_spelling.specs.Spelling.{event_frame}
 use Rattle.wy_view.specs.References.{RefersBelow}
 
 -- bytes begin with the frame of this record: each of its numbers fits the bytes that it is spelled in, it refers to events below n and to moments up to n, its bytes tell all of it, and a trace has room for it
@@ -17,6 +18,6 @@ pub record BeginWith (n : ℕ) (bytes : List ℕ) (e : Recorded) : Type 0 where
   pub starts : bytes ≡ event_frame e ++ rest
 
 -- they begin with the frame of this event, which is so long, and with that of no other; or with the frame of none
-abbrev pub IsFrontEvent : ℕ → List ℕ → Option (Event × ℕ) → Type 0
-IsFrontEvent n bytes (Some (e, size)) = BeginWith n bytes (recorded e) × (size ≡ length (event_frame (recorded e))) × ((other : Recorded) → BeginWith n bytes other → other ≡ recorded e)
-IsFrontEvent n bytes Absent = (other : Recorded) → ¬ BeginWith n bytes other
+abbrev pub BeginsWithEvent : ℕ → List ℕ → Option (Event × ℕ) → Type 0
+BeginsWithEvent n bytes (Some (e, size)) = BeginWith n bytes (recorded e) × (size ≡ length (event_frame (recorded e))) × ((other : Recorded) → BeginWith n bytes other → other ≡ recorded e)
+BeginsWithEvent n bytes Absent = (other : Recorded) → ¬ BeginWith n bytes other

@@ -158,8 +158,8 @@ origin_at n bytes = do
   site ← number_at w32 k.1
   frame ← optional_at n site.1
   control ← optional_at n frame.1
-  what ← number_at w32 control.1
-  Ok (record { kind = k.0; site = site.0; frame = frame.0; control = control.0; what = what.0 }, what.1)
+  entity ← number_at w32 control.1
+  Ok (record { kind = k.0; site = site.0; frame = frame.0; control = control.0; entity = entity.0 }, entity.1)
 
 -- the units of a Text, and the value of every other event
 unfoldable pub content_at : ℕ → Kind → List ℕ → Read Content
@@ -176,7 +176,7 @@ event_at n bytes = do
   slot ← slot_at n o.1
   c ← content_at n o.0.kind slot.1
   uses ← uses_at n c.1
-  Ok (record { kind = o.0.kind; site = o.0.site; frame = o.0.frame; control = o.0.control; what = o.0.what; slot = slot.0; value = c.0.value; units = c.0.units; uses = uses.0 }, uses.1)
+  Ok (record { kind = o.0.kind; site = o.0.site; frame = o.0.frame; control = o.0.control; entity = o.0.entity; slot = slot.0; value = c.0.value; units = c.0.units; uses = uses.0 }, uses.1)
 
 -- ---- frames
 

@@ -1,38 +1,26 @@
 //! What the frame of an event holds.
 
-ghost use Rattle.std.specs.Prelude.{◌≡◌, slice_get};
 ghost use Rattle.wy_payload.specs.Reading.{Gives, rows_from};
-ghost use Rattle.wy_payload.specs.Events.{kinds, use_tag};
 ghost use Rattle.wy_frame_reading.specs.Fields.{choice_at, content_at, event_at, kind_at, origin_at, place_at, use_at, use_of, uses_at, used_value_at};
 
-use crate::field::{at_most, below, optional, u8_at, u32_at};
+use crate::field::optional;
 use crate::slot::slot;
 use crate::value::value;
 use std::alloc::Global;
 use wy_event::record::{Event, Kind, Use};
 use wy_event::sequence::Sequence;
-use wy_payload::event::{Content, Origin, UseTag};
+use wy_payload::event::{Content, Origin, UseTag, kind_of, tag_of};
 use wy_payload::fault::{DamageRule, Fault};
+use wy_payload::field::{at_most, below, u8_at, u32_at};
 use wy_payload::value::units;
 use wy_value::Value;
-
-fn tag_of(b: u8) -> Option<UseTag>
-    ensures { result ≡ use_tag b }
-{
-    match b {
-        1 => Some(UseTag::Place),
-        2 => Some(UseTag::Value),
-        3 => Some(UseTag::Choice),
-        _ => None,
-    }
-}
 
 #[tactic(auto, unfolding(crate::specs::Fields::place_at))]
 fn place(n: u32, bytes: &[u8]) -> Result<(Use, &[u8]), Fault>
     ensures { Gives (λ x. (x.0, x.1.now)) result (place_at n bytes.now) }
 {
     let (slot, rest) = slot(n, bytes)?;
-    let (moment, rest) = at_most(n, rest)?;
+    let (moment, rest) = at_most(n as usize, rest)?;
     Ok((Use::Place { slot, moment }, rest))
 }
 
@@ -40,7 +28,7 @@ fn place(n: u32, bytes: &[u8]) -> Result<(Use, &[u8]), Fault>
 fn used_value(n: u32, bytes: &[u8]) -> Result<(Use, &[u8]), Fault>
     ensures { Gives (λ x. (x.0, x.1.now)) result (used_value_at n bytes.now) }
 {
-    let (event, rest) = below(n, bytes)?;
+    let (event, rest) = below(n as usize, bytes)?;
     Ok((Use::Value { event }, rest))
 }
 
@@ -48,7 +36,7 @@ fn used_value(n: u32, bytes: &[u8]) -> Result<(Use, &[u8]), Fault>
 fn choice(n: u32, bytes: &[u8]) -> Result<(Use, &[u8]), Fault>
     ensures { Gives (λ x. (x.0, x.1.now)) result (choice_at n bytes.now) }
 {
-    let (event, rest) = below(n, bytes)?;
+    let (event, rest) = below(n as usize, bytes)?;
     Ok((Use::Choice { event }, rest))
 }
 
@@ -93,27 +81,6 @@ fn uses(alloc: Global, n: u32, bytes: &[u8]) -> Result<(Vec<Use>, &[u8]), Fault>
     uses_behind(alloc, n, count, rest)
 }
 
-fn kind_of(b: u8) -> Option<Kind>
-    ensures { result ≡ slice_get kinds b }
-{
-    match b {
-        0 => Some(Kind::Init),
-        1 => Some(Kind::New),
-        2 => Some(Kind::Call),
-        3 => Some(Kind::Bind),
-        4 => Some(Kind::Set),
-        5 => Some(Kind::Test),
-        6 => Some(Kind::Text),
-        7 => Some(Kind::Read),
-        8 => Some(Kind::Print),
-        9 => Some(Kind::Return),
-        10 => Some(Kind::Jump),
-        11 => Some(Kind::Throw),
-        12 => Some(Kind::Catch),
-        _ => None,
-    }
-}
-
 #[tactic(auto, unfolding(crate::specs::Fields::kind_at))]
 fn kind(bytes: &[u8]) -> Result<(Kind, &[u8]), Fault>
     ensures { Gives (λ x. (x.0, x.1.now)) result (kind_at bytes.now) }
@@ -131,14 +98,14 @@ fn read_origin(n: u32, bytes: &[u8]) -> Result<(Origin, &[u8]), Fault>
     let (site, rest) = u32_at(rest)?;
     let (frame, rest) = optional(n, rest)?;
     let (control, rest) = optional(n, rest)?;
-    let (what, rest) = u32_at(rest)?;
+    let (entity, rest) = u32_at(rest)?;
     Ok((
         Origin {
             kind,
             site,
             frame,
             control,
-            what,
+            entity,
         },
         rest,
     ))
@@ -182,7 +149,7 @@ pub fn event(alloc: Global, n: u32, bytes: &[u8]) -> Result<(Event, &[u8]), Faul
         site: origin.site,
         frame: origin.frame,
         control: origin.control,
-        what: origin.what,
+        entity: origin.entity,
         slot,
         value: content.value,
         units: content.units,

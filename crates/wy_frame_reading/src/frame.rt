@@ -2,14 +2,15 @@
 
 ghost use Rattle.std.specs.Prelude.{◌≡◌, ◌≤◌, IfOk};
 ghost use Rattle.wy_payload.specs.Reading.{Gives};
-ghost use Rattle.wy_frame_reading.specs.Begins.{IsFrontEvent};
+ghost use Rattle.wy_frame_reading.specs.Begins.{BeginsWithEvent};
 ghost use Rattle.wy_frame_reading.specs.Fields.{frame_at, payload_at, payload_limit, whole_at};
 
 use crate::event::event;
-use crate::field::{ranged, u8_at, u32_at};
+use crate::field::ranged;
 use std::alloc::{AllocError, Global};
 use wy_event::record::Event;
 use wy_payload::fault::{DamageRule, Fault};
+use wy_payload::field::{u8_at, u32_at};
 
 const LETTER: u8 = b'E';
 
@@ -63,7 +64,7 @@ fn front_event(alloc: Global, n: u32, bytes: &[u8]) -> Result<(Event, u32), Faul
 /// Where bytes begin with the frame of an event whose references are below n and whose moments are at most n, the event
 /// and the length of its frame. None exactly where they begin with no such frame.
 pub fn read_event(alloc: Global, bytes: &[u8], n: u32) -> Result<Option<(Event, u32)>, AllocError>
-    ensures { IfOk result (λ found. IsFrontEvent n bytes.now found) }
+    ensures { IfOk result (λ found. BeginsWithEvent n bytes.now found) }
 {
     match front_event(alloc, n, bytes) {
         Ok(found) => Ok(Some(found)),

@@ -1,33 +1,18 @@
 //! Slots behind their tags.
 
-ghost use Rattle.std.specs.Prelude.{◌≡◌, slice_get};
 ghost use Rattle.wy_payload.specs.Reading.{Gives};
-ghost use Rattle.wy_payload.specs.Places.{slot_tags};
 ghost use Rattle.wy_frame_reading.specs.Fields.{element_at, field_at, local_at, slot_at, slot_of, static_at};
 
-use crate::field::{below, u8_at, u32_at};
 use wy_event::record::Slot;
 use wy_payload::fault::{DamageRule, Fault};
-use wy_payload::slot::SlotTag;
-
-fn tag_of(b: u8) -> Option<SlotTag>
-    ensures { result ≡ slice_get slot_tags b }
-{
-    match b {
-        0 => Some(SlotTag::None),
-        1 => Some(SlotTag::Local),
-        2 => Some(SlotTag::Static),
-        3 => Some(SlotTag::Field),
-        4 => Some(SlotTag::Elem),
-        _ => None,
-    }
-}
+use wy_payload::field::{below, u8_at, u32_at};
+use wy_payload::slot::{SlotTag, tag_of};
 
 #[tactic(auto, unfolding(crate::specs::Fields::local_at))]
 fn local(n: u32, bytes: &[u8]) -> Result<(Slot, &[u8]), Fault>
     ensures { Gives (λ x. (x.0, x.1.now)) result (local_at n bytes.now) }
 {
-    let (frame, rest) = below(n, bytes)?;
+    let (frame, rest) = below(n as usize, bytes)?;
     let (index, rest) = u32_at(rest)?;
     Ok((Slot::Local { frame, index }, rest))
 }
@@ -44,7 +29,7 @@ fn static_field(bytes: &[u8]) -> Result<(Slot, &[u8]), Fault>
 fn object_field(n: u32, bytes: &[u8]) -> Result<(Slot, &[u8]), Fault>
     ensures { Gives (λ x. (x.0, x.1.now)) result (field_at n bytes.now) }
 {
-    let (object, rest) = below(n, bytes)?;
+    let (object, rest) = below(n as usize, bytes)?;
     let (field, rest) = u32_at(rest)?;
     Ok((Slot::Field { object, field }, rest))
 }
@@ -53,7 +38,7 @@ fn object_field(n: u32, bytes: &[u8]) -> Result<(Slot, &[u8]), Fault>
 fn element(n: u32, bytes: &[u8]) -> Result<(Slot, &[u8]), Fault>
     ensures { Gives (λ x. (x.0, x.1.now)) result (element_at n bytes.now) }
 {
-    let (array, rest) = below(n, bytes)?;
+    let (array, rest) = below(n as usize, bytes)?;
     let (index, rest) = u32_at(rest)?;
     Ok((Slot::Elem { array, index }, rest))
 }

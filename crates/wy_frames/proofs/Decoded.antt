@@ -3,12 +3,13 @@ use Rattle.std.proofs.Common.{◌≡◌, ℕ, ◌≤◌, List, length, drop, Res
 use Rattle.wy_kernel.specs.declared.program.Program.{Program}
 use Rattle.wy_event.specs.declared.record.Head.{Head}
 use Rattle.wy_event.specs.declared.record.Trace.{Trace}
-use Rattle.wy_spelling.specs.Spelling.{opening, trace_limit}
+use Rattle.wy_kernel.specs.Limits.{trace_limit}
+use Rattle.wy_spelling.specs.Spelling.{opening}
 use Rattle.wy_frames.specs.declared.error.TraceError.{TraceError}
 use Rattle.wy_frames.specs.declared.error.TraceError.TheVariants.{Cut, Damaged, BadSeal, NoMemory}
 use Rattle.wy_frames.specs.declared.decoder.Decoder.{Decoder}
 use Rattle.wy_frames.specs.declared.scanner.Scanner.{Scanner}
-use Rattle.wy_frames.specs.Standing.{Standing}
+use Rattle.wy_frames.specs.Progress.{Progress}
 use Rattle.wy_frames.specs.Scanning.{Stays}
 use Rattle.wy_frames.specs.Heads.{head_of}
 use Rattle.wy_frames.specs.Decoding.{Decodes, IsTrace}
@@ -18,13 +19,13 @@ use Rattle.wy_frames.proofs.Openings.{opening_is_long, payload_is_long}
 pub opening_is_short : (h : Head) → length h.input ≤ 16777216 → length h.source ≤ 1048576 → length (opening h) ≤ trace_limit
 opening_is_short h a b = omega (arith, opening_is_long h, payload_is_long h, a, b)
 
-all_stand : (d : Decoder) (p : Program) (head : Head) (fed : List ℕ) (t : Standing) → Decodes d p head fed t → AllStand p head fed t
+all_stand : (d : Decoder) (p : Program) (head : Head) (fed : List ℕ) (t : Progress) → Decodes d p head fed t → AllStand p head fed t
 all_stand d p head fed t h = record { rest = d.scanner.rest.items; leaves = h.scans.leaves; waits = h.scans.waits }
 
 with_head : (p : Program) (bytes : List ℕ) (head : Head) (end : ℕ) (r : Result Trace TraceError) → head_of bytes ≡ Ok (head, end) → IsReadBehind p head (drop end bytes) r → IsReadAs p bytes r
 with_head p bytes head end r e h = rw e h
 
-pub finished : (d : Decoder) (p : Program) (bytes : List ℕ) (head : Head) (end : ℕ) (fed : List ℕ) (t : Standing) (r : Result Trace TraceError) → head_of bytes ≡ Ok (head, end) → fed ≡ drop end bytes → Decodes d p head fed t → IsTrace r head fed t → ReadsAs r p bytes
+pub finished : (d : Decoder) (p : Program) (bytes : List ℕ) (head : Head) (end : ℕ) (fed : List ℕ) (t : Progress) (r : Result Trace TraceError) → head_of bytes ≡ Ok (head, end) → fed ≡ drop end bytes → Decodes d p head fed t → IsTrace r head fed t → ReadsAs r p bytes
 finished d p bytes head end fed t (Ok x) e is h has = with_head p bytes head end (Ok x) e (subst (λ (l : List ℕ). IsReadBehind p head l (Ok x)) is (t, all_stand d p head fed t h, has))
 finished d p bytes head end fed t (Err (Cut byte)) e is h has = with_head p bytes head end (Err (Cut byte)) e (subst (λ (l : List ℕ). IsReadBehind p head l (Err (Cut byte))) is (inr (t, all_stand d p head fed t h, has.1, ap Cut has.0)))
 finished d p bytes head end fed t (Err NoMemory) e is h has = tt

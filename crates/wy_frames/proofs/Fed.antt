@@ -8,7 +8,7 @@ use Rattle.wy_frames.specs.declared.error.TraceError.{TraceError}
 use Rattle.wy_frames.specs.declared.past.Past.{Past}
 use Rattle.wy_frames.specs.declared.stage.ReadEvent.{ReadEvent}
 use Rattle.wy_frames.specs.declared.scanner.Scanner.{Scanner}
-use Rattle.wy_frames.specs.Standing.{Standing, start}
+use Rattle.wy_frames.specs.Progress.{Progress, start}
 use Rattle.wy_frames.specs.Holds.{Holds}
 use Rattle.wy_frames.specs.Scan.{Leaves, Refused, Rests}
 use Rattle.wy_frames.specs.Scanning.{Scans}
@@ -23,7 +23,7 @@ pub record Handed (s : Scanner) (p : Program) (head : Head) (piece : List ℕ) (
   pub past_is : past ≡ s.past
   pub bytes_is : bytes ≡ s.rest.items ++ piece
 
-module _ (s : Scanner) (p : Program) (head : Head) (fed piece : List ℕ) (t : Standing) (r : Ranges) (steps : ℕ) (past : Past) (bytes : List ℕ) (h : Scans s p head fed t) (handed : Handed s p head piece r steps past bytes) where
+module _ (s : Scanner) (p : Program) (head : Head) (fed piece : List ℕ) (t : Progress) (r : Ranges) (steps : ℕ) (past : Past) (bytes : List ℕ) (h : Scans s p head fed t) (handed : Handed s p head piece r steps past bytes) where
   pub stands : Holds past t
   stands = rw handed.past_is h.holds
 
@@ -35,7 +35,7 @@ module _ (s : Scanner) (p : Program) (head : Head) (fed piece : List ℕ) (t : S
 
   pub scanned : (n : Scanner) (old new : List ReadEvent) (q : Past) (rest : List ℕ) → (x : Rests r steps (start head) (fed ++ piece) t old new q rest)
       → n.program ≡ s.program → n.steps ≡ s.steps → n.ranges ≡ Some r → n.past ≡ q → n.rest.items ≡ rest → n.failure ≡ s.failure
-      → (u : Standing) × (more : List ReadEvent) × Scans n p head (fed ++ piece) u × (u.placed ≡ t.placed ++ more) × (new ≡ old ++ more)
+      → (u : Progress) × (more : List ReadEvent) × Scans n p head (fed ++ piece) u × (u.placed ≡ t.placed ++ more) × (new ≡ old ++ more)
   scanned n old new q rest x program is_steps ranges is_past is_rest failure = (
     x.0.standing,
     x.0.more,
@@ -53,6 +53,6 @@ module _ (s : Scanner) (p : Program) (head : Head) (fed piece : List ℕ) (t : S
   )
 
 -- all bytes, those of the head too
-pub cut_at : (s : Scanner) (p : Program) (head : Head) (fed : List ℕ) (t : Standing) → Scans s p head fed t → s.past.at + length s.rest.items ≡ length (opening head ++ fed)
+pub cut_at : (s : Scanner) (p : Program) (head : Head) (fed : List ℕ) (t : Progress) → Scans s p head fed t → s.past.at + length s.rest.items ≡ length (opening head ++ fed)
 unfolding start
 cut_at s p head fed t h = ap (λ n. n + length s.rest.items) h.holds.counts.at ∙ sym (length-append t.before s.rest.items) ∙ ap length (kept (ranges_of p) head.steps (start head) fed t s.rest.items h.leaves)

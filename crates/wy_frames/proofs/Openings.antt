@@ -1,7 +1,8 @@
 -- The magic and the frame of a head, and how long they are.
 use Rattle.std.proofs.Common.{◌≡◌, ◌+◌, ◌≤◌, ◌∷◌, [], ◌++◌, length, length-append, refl, arith}
 use Rattle.wy_event.specs.declared.record.Head.{Head}
-use Rattle.wy_spelling.specs.Spelling.{magic, number, head_payload, head_frame, opening, trace_limit}
+use Rattle.wy_kernel.specs.Limits.{trace_limit}
+use Rattle.wy_spelling.specs.Spelling.{magic, number, head_payload, head_frame, opening}
 
 pub opening_is : (h : Head) → opening h ≡ ((magic ++ 72 ∷ []) ++ number (length (head_payload h))) ++ head_payload h
 unfolding opening head_frame

@@ -9,7 +9,7 @@ use Rattle.wy_payload.specs.declared.ranges.Ranges.{Ranges}
 use Rattle.wy_frames.specs.declared.stage.Stage.{Stage}
 use Rattle.wy_frames.specs.declared.stage.Stage.TheVariants as stages
 use Rattle.wy_frames.specs.Frames.{Frame, opening_length, said_length, frame_of_length, frame_of}
-use Rattle.wy_frames.specs.Standing.{Standing, Next, Violates, Unsealed, next_at, next_of, open_next, covered_next, ended_next, start}
+use Rattle.wy_frames.specs.Progress.{Progress, Next, Violates, Unsealed, next_at, next_of, open_next, covered_next, ended_next, start}
 use Rattle.wy_frames.specs.Scan.{Waits, Goes, turn_next, turn_frame, turn, without_frame, is_passed, Leaves, frame, nothing}
 use Rattle.wy_frames.proofs.Scans.{inner_is, some_is, turn_with}
 
@@ -42,7 +42,7 @@ frame_more bytes more f e =
     let long : ltb (length (bytes ++ more)) opening_length ≡ false = le-ltb _ _ (omega (arith, within, length-append bytes more)) in
     rw (long, said_more bytes more within) (length_more (said_length bytes) bytes more f outer.1)
 
-at_stage : (r : Ranges) (steps : ℕ) (s : Standing) (stage : Stage) (f : Frame) (rest : List ℕ) → next_at r steps s stage (with_rest f rest) ≡ next_at r steps s stage f
+at_stage : (r : Ranges) (steps : ℕ) (s : Progress) (stage : Stage) (f : Frame) (rest : List ℕ) → next_at r steps s stage (with_rest f rest) ≡ next_at r steps s stage f
 unfolding next_at open_next covered_next ended_next
 at_stage r steps s stages.Open f rest = refl
 at_stage r steps s (stages.Covered c) f rest = refl
@@ -51,20 +51,20 @@ at_stage r steps s (stages.Sealed t seal) f rest = refl
 
 -- ---- turns with more behind them
 
-pub no_frame : (at : ℕ) (b : Bool) (t : Standing) (others : List ℕ) → without_frame at b ≡ Goes t others → ⊥
+pub no_frame : (at : ℕ) (b : Bool) (t : Progress) (others : List ℕ) → without_frame at b ≡ Goes t others → ⊥
 no_frame at true t others e = cc
 no_frame at false t others e = cc
 
-pub next_goes : (s : Standing) (rest : List ℕ) (n : Next) (t : Standing) (others : List ℕ) → turn_next s rest n ≡ Goes t others → (n ≡ Ok t) × (rest ≡ others)
+pub next_goes : (s : Progress) (rest : List ℕ) (n : Next) (t : Progress) (others : List ℕ) → turn_next s rest n ≡ Goes t others → (n ≡ Ok t) × (rest ≡ others)
 next_goes s rest (Ok u) t others e = (cc, cc)
 next_goes s rest (Err (Violates r)) t others e = absurd cc
 next_goes s rest (Err Unsealed) t others e = absurd cc
 
-pub turn_is : (r : Ranges) (steps : ℕ) (s : Standing) (bytes : List ℕ) → turn r steps s bytes ≡ turn_frame (next_of r steps s) s bytes (frame_of bytes)
+pub turn_is : (r : Ranges) (steps : ℕ) (s : Progress) (bytes : List ℕ) → turn r steps s bytes ≡ turn_frame (next_of r steps s) s bytes (frame_of bytes)
 unfolding turn
 turn_is r steps s bytes = refl
 
-goes_more : (r : Ranges) (steps : ℕ) (s : Standing) (bytes more : List ℕ) (t : Standing) (others : List ℕ) (o : Option Frame) → frame_of bytes ≡ o → turn_frame (next_of r steps s) s bytes o ≡ Goes t others → turn r steps s (bytes ++ more) ≡ Goes t (others ++ more)
+goes_more : (r : Ranges) (steps : ℕ) (s : Progress) (bytes more : List ℕ) (t : Progress) (others : List ℕ) (o : Option Frame) → frame_of bytes ≡ o → turn_frame (next_of r steps s) s bytes o ≡ Goes t others → turn r steps s (bytes ++ more) ≡ Goes t (others ++ more)
 goes_more r steps s bytes more t others Absent is e = absurd (no_frame (length s.before) (is_passed s.stage bytes) t others e)
 goes_more r steps s bytes more t others (Some f) is e =
     let went = next_goes s f.rest (next_of r steps s f) t others e in
@@ -72,12 +72,12 @@ goes_more r steps s bytes more t others (Some f) is e =
     ∙ ap (turn_next s (f.rest ++ more)) (at_stage r steps s s.stage f (f.rest ++ more) ∙ went.0)
     ∙ ap (λ l. Goes t (l ++ more)) went.1
 
-pub turn_more : (r : Ranges) (steps : ℕ) (s : Standing) (bytes more : List ℕ) (t : Standing) (others : List ℕ) → turn r steps s bytes ≡ Goes t others → turn r steps s (bytes ++ more) ≡ Goes t (others ++ more)
+pub turn_more : (r : Ranges) (steps : ℕ) (s : Progress) (bytes more : List ℕ) (t : Progress) (others : List ℕ) → turn r steps s bytes ≡ Goes t others → turn r steps s (bytes ++ more) ≡ Goes t (others ++ more)
 turn_more r steps s bytes more t others e =
     let opened : turn_frame (next_of r steps s) s bytes (frame_of bytes) ≡ Goes t others = sym (turn_is r steps s bytes) ∙ e in
     goes_more r steps s bytes more t others (frame_of bytes) refl opened
 
-pub leaves_more : (r : Ranges) (steps : ℕ) (from : Standing) (bytes more : List ℕ) (t : Standing) (rest : List ℕ) → Leaves r steps from bytes t rest → Leaves r steps from (bytes ++ more) t (rest ++ more)
+pub leaves_more : (r : Ranges) (steps : ℕ) (from : Progress) (bytes more : List ℕ) (t : Progress) (rest : List ℕ) → Leaves r steps from bytes t rest → Leaves r steps from (bytes ++ more) t (rest ++ more)
 leaves_more r steps from bytes more _ _ nothing = nothing
 leaves_more r steps from bytes more _ _ (frame s rest t others before e) = frame s (rest ++ more) t (others ++ more) (leaves_more r steps from bytes more s rest before) (turn_more r steps s rest more t others e)
 

@@ -11,7 +11,7 @@ use Rattle.wy_frames.specs.declared.error.TraceError.TheVariants.{Cut, Damaged, 
 use Rattle.wy_frames.specs.declared.stage.ReadEvent.{ReadEvent}
 use Rattle.wy_frames.specs.declared.stage.Stage.{Stage}
 use Rattle.wy_frames.specs.Frames.{Frame, opening_length, said_length, frame_of_length, frame_of}
-use Rattle.wy_frames.specs.Standing.{Standing, Next, next_of}
+use Rattle.wy_frames.specs.Progress.{Progress, Next, next_of}
 use Rattle.wy_frames.specs.Holds.{Holds, Refuses, Stands}
 use Rattle.wy_frames.specs.Scan.{Fails, turn_next, turn, without_frame, is_passed, Leaves, frame, IsRefused, Refused, Reached, Rests}
 
@@ -46,15 +46,15 @@ rest_is_shorter bytes f e =
 
 -- ---- turns
 
-pub turn_with : (r : Ranges) (steps : ℕ) (s : Standing) (bytes : List ℕ) (f : Frame) → frame_of bytes ≡ Some f → turn r steps s bytes ≡ turn_next s f.rest (next_of r steps s f)
+pub turn_with : (r : Ranges) (steps : ℕ) (s : Progress) (bytes : List ℕ) (f : Frame) → frame_of bytes ≡ Some f → turn r steps s bytes ≡ turn_next s f.rest (next_of r steps s f)
 unfolding turn
 turn_with r steps s bytes f e = rw e refl
 
-pub turn_without : (r : Ranges) (steps : ℕ) (s : Standing) (bytes : List ℕ) → frame_of bytes ≡ Absent → turn r steps s bytes ≡ without_frame (length s.before) (is_passed s.stage bytes)
+pub turn_without : (r : Ranges) (steps : ℕ) (s : Progress) (bytes : List ℕ) → frame_of bytes ≡ Absent → turn r steps s bytes ≡ without_frame (length s.before) (is_passed s.stage bytes)
 unfolding turn
 turn_without r steps s bytes e = rw e refl
 
-module _ (r : Ranges) (steps : ℕ) (from s : Standing) (fed : List ℕ) (old : List ReadEvent) where
+module _ (r : Ranges) (steps : ℕ) (from s : Progress) (fed : List ℕ) (old : List ReadEvent) where
   pub at_first : (p : Past) (bytes : List ℕ) → Holds p s → Leaves r steps from fed s bytes → Reached r steps from fed s old old p bytes
   at_first p bytes h l = record { standing = s; holds = h; leaves = l; more = []; placed = sym (append-nil s.placed); kept = sym (append-nil old) }
 

@@ -8,28 +8,28 @@ use Rattle.wy_frames.specs.declared.error.TraceError.{TraceError}
 use Rattle.wy_frames.specs.declared.error.TraceError.TheVariants.{Cut, NoMemory}
 use Rattle.wy_frames.specs.declared.stage.Stage.TheVariants as stages
 use Rattle.wy_frames.specs.declared.decoder.Decoder.{Decoder}
-use Rattle.wy_frames.specs.Standing.{Standing, event_in}
+use Rattle.wy_frames.specs.Progress.{Progress, event_in}
 use Rattle.wy_frames.specs.Ends.{IsUnsealed}
 use Rattle.wy_frames.specs.Scanning.{Scans, Stays}
 
 -- a scanner has read so, and the events are kept
-pub record Decodes (d : Decoder) (p : Program) (head : Head) (fed : List ℕ) (t : Standing) : Type 0 where
+pub record Decodes (d : Decoder) (p : Program) (head : Head) (fed : List ℕ) (t : Progress) : Type 0 where
   pub scans : Scans d.scanner p head fed t
   pub kept : d.placed.items ≡ t.placed
   pub head_kept : d.head ≡ head
 
 abbrev pub Decoded : Result Unit TraceError → Decoder → Program → Head → List ℕ → Type 0
-Decoded (Ok u) d p head fed = (t : Standing) × Decodes d p head fed t
+Decoded (Ok u) d p head fed = (t : Progress) × Decodes d p head fed t
 Decoded (Err e) d p head fed = Stays d.scanner p head fed e
 
 -- the frames that stand, up to the seal, are this trace
-pub record HasTrace (x : Trace) (head : Head) (t : Standing) : Type 0 where
+pub record HasTrace (x : Trace) (head : Head) (t : Progress) : Type 0 where
   pub head_is : x.head ≡ head
   pub events : x.events ≡ map event_in t.placed
   pub seal : List ℕ
   pub sealed : t.stage ≡ stages.Sealed x.tail seal
 
-abbrev pub IsTrace : Result Trace TraceError → Head → List ℕ → Standing → Type 0
+abbrev pub IsTrace : Result Trace TraceError → Head → List ℕ → Progress → Type 0
 IsTrace (Ok x) head fed t = HasTrace x head t
 IsTrace (Err (Cut byte)) head fed t = (byte ≡ length (opening head ++ fed)) × IsUnsealed t.stage
 IsTrace (Err NoMemory) head fed t = Unit {0}

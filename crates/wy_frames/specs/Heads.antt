@@ -12,10 +12,10 @@ use Rattle.wy_frames.specs.declared.error.TraceError.TheVariants.{Cut, Damaged, 
 use Rattle.wy_frames.specs.Frames.{Frame, frame_of}
 
 -- the answer, unless memory ran out
-abbrev pub Answers : {A : Type 0} → Result A TraceError → Result A TraceError → Type 0
-Answers (Ok x) due = due ≡ Ok x
-Answers (Err NoMemory) due = Unit {0}
-Answers (Err e) due = due ≡ Err e
+abbrev pub GivesDue : {A : Type 0} → Result A TraceError → Result A TraceError → Type 0
+GivesDue (Ok x) due = due ≡ Ok x
+GivesDue (Err NoMemory) due = Unit {0}
+GivesDue (Err e) due = due ≡ Err e
 
 -- how many bytes at the front agree
 unfoldable pub agreeing : List ℕ → List ℕ → ℕ

@@ -1,6 +1,6 @@
 pub mod Frames
 pub mod Pieces
-pub mod Standing
+pub mod Progress
 pub mod Holds
 pub mod Scan
 pub mod Ends

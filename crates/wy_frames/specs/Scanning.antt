@@ -13,7 +13,7 @@ use Rattle.wy_frames.specs.declared.stage.Stage.TheVariants as stages
 use Rattle.wy_frames.specs.declared.stage.ReadEvent.{ReadEvent}
 use Rattle.wy_frames.specs.declared.scanner.Scanner.{Scanner}
 use Rattle.wy_frames.specs.Ends.{IsUnsealed}
-use Rattle.wy_frames.specs.Standing.{Standing, start}
+use Rattle.wy_frames.specs.Progress.{Progress, start}
 use Rattle.wy_frames.specs.Holds.{Holds}
 use Rattle.wy_frames.specs.Scan.{Waits, turn, Leaves, Refused}
 
@@ -22,7 +22,7 @@ abbrev pub KnowsRanges : Scanner → Type 0
 KnowsRanges s = IfSome s.ranges (λ r. r ≡ ranges_of s.program.now)
 
 -- of the bytes behind the head, so much stands, and no frame more is whole
-pub record Scans (s : Scanner) (p : Program) (head : Head) (fed : List ℕ) (t : Standing) : Type 0 where
+pub record Scans (s : Scanner) (p : Program) (head : Head) (fed : List ℕ) (t : Progress) : Type 0 where
   pub program : s.program.now ≡ p
   pub steps : s.steps ≡ head.steps
   pub knows : KnowsRanges s
@@ -37,20 +37,20 @@ pub record Stays (s : Scanner) (p : Program) (head : Head) (fed : List ℕ) (e :
   pub refused : Refused (ranges_of p) head.steps (start head) fed e
 
 -- with a piece more, these events more stand, or the bytes are refused
-abbrev pub Scanned : Result Unit TraceError → List ReadEvent → List ReadEvent → Scanner → Program → Head → List ℕ → Standing → Type 0
-Scanned (Ok u) old new s p head fed before = (t : Standing) × (more : List ReadEvent) × Scans s p head fed t × (t.placed ≡ before.placed ++ more) × (new ≡ old ++ more)
+abbrev pub Scanned : Result Unit TraceError → List ReadEvent → List ReadEvent → Scanner → Program → Head → List ℕ → Progress → Type 0
+Scanned (Ok u) old new s p head fed before = (t : Progress) × (more : List ReadEvent) × Scans s p head fed t × (t.placed ≡ before.placed ++ more) × (new ≡ old ++ more)
 Scanned (Err e) old new s p head fed before = Refused (ranges_of p) head.steps (start head) fed e
 
-abbrev pub Fed : Result Unit TraceError → List ReadEvent → List ReadEvent → Scanner → Program → Head → List ℕ → Standing → Type 0
-Fed (Ok u) old new s p head fed before = (t : Standing) × (more : List ReadEvent) × Scans s p head fed t × (t.placed ≡ before.placed ++ more) × (new ≡ old ++ more)
+abbrev pub Fed : Result Unit TraceError → List ReadEvent → List ReadEvent → Scanner → Program → Head → List ℕ → Progress → Type 0
+Fed (Ok u) old new s p head fed before = (t : Progress) × (more : List ReadEvent) × Scans s p head fed t × (t.placed ≡ before.placed ++ more) × (new ≡ old ++ more)
 Fed (Err e) old new s p head fed before = Stays s p head fed e
 
-abbrev pub Feeds : Result (Vec ReadEvent) TraceError → Scanner → Program → Head → List ℕ → Standing → Type 0
-Feeds (Ok placed) s p head fed before = (t : Standing) × Scans s p head fed t × (t.placed ≡ before.placed ++ placed.items)
+abbrev pub Feeds : Result (Vec ReadEvent) TraceError → Scanner → Program → Head → List ℕ → Progress → Type 0
+Feeds (Ok placed) s p head fed before = (t : Progress) × Scans s p head fed t × (t.placed ≡ before.placed ++ placed.items)
 Feeds (Err e) s p head fed before = Stays s p head fed e
 
 -- the frames end with the seal, and else the bytes are cut
-abbrev pub Finishes : Result (Tail × List ℕ) TraceError → Head → List ℕ → Standing → Type 0
+abbrev pub Finishes : Result (Tail × List ℕ) TraceError → Head → List ℕ → Progress → Type 0
 Finishes (Ok x) head fed t = t.stage ≡ stages.Sealed x.0 x.1
 Finishes (Err (Cut byte)) head fed t = (byte ≡ length (opening head ++ fed)) × IsUnsealed t.stage
 Finishes (Err NoMemory) head fed t = Unit {0}

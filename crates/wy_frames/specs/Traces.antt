@@ -7,24 +7,24 @@ use Rattle.wy_spelling.specs.Spelling.{opening}
 use Rattle.wy_payload.specs.Ranges.{ranges_of}
 use Rattle.wy_frames.specs.declared.error.TraceError.{TraceError}
 use Rattle.wy_frames.specs.declared.error.TraceError.TheVariants.{Cut, NoMemory}
-use Rattle.wy_frames.specs.Standing.{Standing, start}
+use Rattle.wy_frames.specs.Progress.{Progress, start}
 use Rattle.wy_frames.specs.Ends.{IsUnsealed}
 use Rattle.wy_frames.specs.Scan.{Waits, turn, Leaves, Refused}
 use Rattle.wy_frames.specs.Heads.{head_of}
 use Rattle.wy_frames.specs.Decoding.{HasTrace}
 
 -- all whole frames of the bytes behind a head stand, and nothing is wrong with them
-pub record AllStand (p : Program) (head : Head) (fed : List ℕ) (t : Standing) : Type 0 where
+pub record AllStand (p : Program) (head : Head) (fed : List ℕ) (t : Progress) : Type 0 where
   pub rest : List ℕ
   pub leaves : Leaves (ranges_of p) head.steps (start head) fed t rest
   pub waits : turn (ranges_of p) head.steps t rest ≡ Waits
 
 -- they end before the seal
 abbrev pub IsCut : Program → Head → List ℕ → TraceError → Type 0
-IsCut p head fed e = (t : Standing) × AllStand p head fed t × IsUnsealed t.stage × (e ≡ Cut (length (opening head ++ fed)))
+IsCut p head fed e = (t : Progress) × AllStand p head fed t × IsUnsealed t.stage × (e ≡ Cut (length (opening head ++ fed)))
 
 abbrev pub IsReadBehind : Program → Head → List ℕ → Result Trace TraceError → Type 0
-IsReadBehind p head fed (Ok x) = (t : Standing) × AllStand p head fed t × HasTrace x head t
+IsReadBehind p head fed (Ok x) = (t : Progress) × AllStand p head fed t × HasTrace x head t
 IsReadBehind p head fed (Err e) = Refused (ranges_of p) head.steps (start head) fed e ⊎ IsCut p head fed e
 
 -- the first thing that is wrong with the head, or what is read behind it

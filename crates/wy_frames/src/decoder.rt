@@ -1,9 +1,10 @@
 //! A trace that comes in pieces, with its events.
 
 ghost use Rattle.std.specs.Prelude.{◌≡◌, ◌≤◌, ◌++◌, [], ℕ, List, length, map, Some, Err, IfOk};
-ghost use Rattle.wy_spelling.specs.Spelling.{opening, trace_limit};
+ghost use Rattle.wy_kernel.specs.Limits.{trace_limit};
+ghost use Rattle.wy_spelling.specs.Spelling.{opening};
 ghost use Rattle.wy_kernel.specs.declared.program.Program.{Program};
-ghost use Rattle.wy_frames.specs.Standing.{event_in};
+ghost use Rattle.wy_frames.specs.Progress.{event_in};
 
 use crate::error::TraceError;
 use crate::scanner::Scanner;
@@ -29,7 +30,7 @@ fn events_of(alloc: Global, placed: Vec<ReadEvent>) -> Result<Vec<Event>, AllocE
 }
 
 impl<'a> Decoder<'a> {
-    ghost use Rattle.wy_frames.specs.Standing.{Standing, start};
+    ghost use Rattle.wy_frames.specs.Progress.{Progress, start};
     ghost use Rattle.wy_frames.specs.Decoding.{Decoded, Decodes, IsTrace};
     ghost use Rattle.wy_event.specs.declared.record.Head.{Head};
     ghost use Rattle.wy_frames.specs.declared.error.TraceError.{TraceError};
@@ -49,7 +50,7 @@ impl<'a> Decoder<'a> {
 
     /// Takes a piece more.
     pub fn feed(&mut self, piece: &[u8]) -> Result<(), TraceError>
-        ensures fed { (p : Program) (head : Head) (fed : List ℕ) (t : Standing)
+        ensures fed { (p : Program) (head : Head) (fed : List ℕ) (t : Progress)
             → Decodes self.old p head fed t → Decoded result self.new p head (fed ++ piece.now) }
         ensures again { (e : TraceError) → self.old.scanner.failure ≡ Some e
             → (result ≡ Err e) × (self.new ≡ self.old) }
@@ -59,7 +60,7 @@ impl<'a> Decoder<'a> {
 
     /// The trace, where it has come whole.
     pub fn finish(self) -> Result<Trace, TraceError>
-        ensures read { (p : Program) (head : Head) (fed : List ℕ) (t : Standing)
+        ensures read { (p : Program) (head : Head) (fed : List ℕ) (t : Progress)
             → Decodes self.entry p head fed t → IsTrace result head fed t }
         ensures again { (e : TraceError) → self.entry.scanner.failure ≡ Some e → result ≡ Err e }
     {

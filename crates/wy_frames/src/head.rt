@@ -1,8 +1,8 @@
 //! The head of a trace: the magic, and the frame behind it.
 
 ghost use Rattle.std.specs.Prelude.{◌≡◌, ◌≤◌, ℕ, drop, length, Some};
-ghost use Rattle.wy_spelling.specs.Spelling.{trace_limit};
-ghost use Rattle.wy_frames.specs.Heads.{Answers, agreeing, head_in, head_of, magic_length};
+ghost use Rattle.wy_kernel.specs.Limits.{trace_limit};
+ghost use Rattle.wy_frames.specs.Heads.{GivesDue, agreeing, head_in, head_of, magic_length};
 ghost use Rattle.wy_frames.specs.Frames.{frame_of};
 ghost use Rattle.wy_frames.specs.Pieces.{frame_in};
 
@@ -35,7 +35,7 @@ fn agreeing_bytes(wanted: &[u8], bytes: &[u8]) -> usize
 
 fn in_frame(alloc: Global, piece: &Piece<'_>) -> Result<(Head, u32), TraceError>
     requires { length piece.now.whole.now ≤ trace_limit }
-    ensures { (size : ℕ) → Answers result (head_in size (Some (frame_in piece.now))) }
+    ensures { (size : ℕ) → GivesDue result (head_in size (Some (frame_in piece.now))) }
 {
     if piece.letter != b'H' {
         return Err(TraceError::Damaged {
@@ -56,7 +56,7 @@ fn in_frame(alloc: Global, piece: &Piece<'_>) -> Result<(Head, u32), TraceError>
 fn behind(alloc: Global, bytes: &[u8], rest: &[u8]) -> Result<(Head, u32), TraceError>
     requires whole { rest.now ≡ drop magic_length bytes.now }
     requires short { length bytes.now ≤ trace_limit }
-    ensures { Answers result (head_in (length bytes.now) (frame_of rest.now)) }
+    ensures { GivesDue result (head_in (length bytes.now) (frame_of rest.now)) }
 {
     match split(rest) {
         Some(piece) => in_frame(alloc, &piece),
@@ -70,7 +70,7 @@ fn behind(alloc: Global, bytes: &[u8], rest: &[u8]) -> Result<(Head, u32), Trace
 #[tactic(auto, unfolding(crate::specs::Heads::head_of))]
 pub fn read_head(alloc: Global, bytes: &[u8]) -> Result<(Head, u32), TraceError>
     requires { length bytes.now ≤ trace_limit }
-    ensures { Answers result (head_of bytes.now) }
+    ensures { GivesDue result (head_of bytes.now) }
 {
     let count = agreeing_bytes(&MAGIC, bytes);
     if count == MAGIC.len() {

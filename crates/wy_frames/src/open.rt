@@ -2,8 +2,9 @@
 
 ghost use Rattle.std.specs.Prelude.{◌≡◌, ◌≤◌, ◌<◌, ◌^◌, ◌++◌, ℕ, List, length};
 ghost use Rattle.sha2.specs.Hashers.{Holds256};
-ghost use Rattle.wy_spelling.specs.Spelling.{head_payload, number, opening, trace_limit};
-ghost use Rattle.wy_frames.specs.Standing.{start};
+ghost use Rattle.wy_kernel.specs.Limits.{trace_limit};
+ghost use Rattle.wy_spelling.specs.Spelling.{head_payload, number, opening};
+ghost use Rattle.wy_frames.specs.Progress.{start};
 ghost use Rattle.wy_frames.specs.Holds.{Holds};
 
 use crate::past::Past;

@@ -1,7 +1,8 @@
 //! All bytes of a trace at once.
 
 ghost use Rattle.std.specs.Prelude.{◌≡◌, ◌≤◌, true, length};
-ghost use Rattle.wy_spelling.specs.Spelling.{opening, trace_limit};
+ghost use Rattle.wy_kernel.specs.Limits.{trace_limit};
+ghost use Rattle.wy_spelling.specs.Spelling.{opening};
 ghost use Rattle.wy_frames.specs.Traces.{ReadsAs};
 
 use crate::decoder::Decoder;
@@ -9,20 +10,17 @@ use crate::error::TraceError;
 use crate::head::read_head;
 use std::alloc::Global;
 use wy_event::record::{Head, Trace};
+use wy_kernel::limit::{INPUT_LIMIT, SOURCE_LIMIT};
 use wy_kernel::program::Program;
-
-const INPUT: usize = 16777216;
-
-const SOURCE: usize = 1048576;
 
 #[tactic(auto, using(crate::proofs::Decoded::opening_is_short))]
 fn is_short(head: &Head) -> bool
     ensures { result ≡ true → length (opening head.now) ≤ trace_limit }
 {
-    if head.input.as_slice().len() > INPUT {
+    if head.input.as_slice().len() > INPUT_LIMIT as usize {
         return false;
     }
-    if head.source.as_slice().len() > SOURCE {
+    if head.source.as_slice().len() > SOURCE_LIMIT as usize {
         return false;
     }
     true

@@ -2,7 +2,7 @@
 
 ghost use Rattle.std.specs.Prelude.{◌≡◌, ◌++◌, ℕ, List, IfOk, IfErr, OnOk, OnErr, Err};
 ghost use Rattle.std.specs.Option.{option_to_list};
-ghost use Rattle.wy_frames.specs.Standing.{Standing};
+ghost use Rattle.wy_frames.specs.Progress.{Progress};
 ghost use Rattle.wy_frames.specs.Holds.{Holds};
 ghost use Rattle.wy_frames.specs.Scan.{Leaves, Refused, Rests, is_passed};
 
@@ -44,11 +44,11 @@ impl Past {
         bytes: &'a [u8],
         placed: &mut Vec<ReadEvent>,
     ) -> Result<&'a [u8], TraceError>
-        ensures ok { IfOk result (λ rest. (from s : Standing) (fed : List ℕ) → Holds self.old s
+        ensures ok { IfOk result (λ rest. (from s : Progress) (fed : List ℕ) → Holds self.old s
             → Leaves ranges.now steps from fed s bytes.now
             → Rests ranges.now steps from fed s placed.old.items placed.new.items
             self.new rest.now) }
-        ensures err { IfErr result (λ e. (from s : Standing) (fed : List ℕ) → Holds self.old s
+        ensures err { IfErr result (λ e. (from s : Progress) (fed : List ℕ) → Holds self.old s
             → Leaves ranges.now steps from fed s bytes.now → Refused ranges.now steps from fed e) }
     {
         let mut rest = bytes;

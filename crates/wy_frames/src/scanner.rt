@@ -1,7 +1,8 @@
 //! A trace that comes in pieces, read without keeping its events.
 
 ghost use Rattle.std.specs.Prelude.{◌≡◌, ◌≤◌, ◌++◌, [], ℕ, List, length, Some, IfOk, OnErr, Err, ◌+◌};
-ghost use Rattle.wy_spelling.specs.Spelling.{opening, trace_limit};
+ghost use Rattle.wy_kernel.specs.Limits.{trace_limit};
+ghost use Rattle.wy_spelling.specs.Spelling.{opening};
 ghost use Rattle.wy_kernel.specs.declared.program.Program.{Program};
 ghost use Rattle.wy_frames.specs.Ends.{IsEndOf};
 
@@ -39,7 +40,7 @@ fn end_of(stage: Stage) -> Option<(Tail, [u8; 32])>
 }
 
 impl<'a> Scanner<'a> {
-    ghost use Rattle.wy_frames.specs.Standing.{Standing, start};
+    ghost use Rattle.wy_frames.specs.Progress.{Progress, start};
     ghost use Rattle.wy_frames.specs.Scanning.{Fed, Feeds, Finishes, KnowsRanges, Scanned, Scans};
     ghost use Rattle.wy_payload.specs.Ranges.{ranges_of};
     ghost use Rattle.wy_event.specs.declared.record.Head.{Head};
@@ -85,7 +86,7 @@ impl<'a> Scanner<'a> {
     }
 
     fn scan(&mut self, piece: &[u8], placed: &mut Vec<ReadEvent>) -> Result<(), TraceError>
-        ensures { (p : Program) (head : Head) (fed : List ℕ) (t : Standing)
+        ensures { (p : Program) (head : Head) (fed : List ℕ) (t : Progress)
             → Scans self.old p head fed t
             → Scanned result placed.old.items placed.new.items self.new p head
             (fed ++ piece.now) t }
@@ -106,7 +107,7 @@ impl<'a> Scanner<'a> {
 
     /// Takes a piece more, and puts the events whose frames end in it behind others.
     pub fn feed_into(&mut self, piece: &[u8], placed: &mut Vec<ReadEvent>) -> Result<(), TraceError>
-        ensures fed { (p : Program) (head : Head) (fed : List ℕ) (t : Standing)
+        ensures fed { (p : Program) (head : Head) (fed : List ℕ) (t : Progress)
             → Scans self.old p head fed t
             → Fed result placed.old.items placed.new.items self.new p head (fed ++ piece.now) t }
         ensures again { (e : TraceError) → self.old.failure ≡ Some e
@@ -126,7 +127,7 @@ impl<'a> Scanner<'a> {
 
     /// Takes a piece more. It gives the events whose frames end in the piece, in their order.
     pub fn feed(&mut self, piece: &[u8]) -> Result<Vec<ReadEvent>, TraceError>
-        ensures fed { (p : Program) (head : Head) (fed : List ℕ) (t : Standing)
+        ensures fed { (p : Program) (head : Head) (fed : List ℕ) (t : Progress)
             → Scans self.old p head fed t → Feeds result self.new p head (fed ++ piece.now) t }
         ensures again { (e : TraceError) → self.old.failure ≡ Some e
             → (result ≡ Err e) × (self.new ≡ self.old) }
@@ -148,7 +149,7 @@ impl<'a> Scanner<'a> {
 
     /// The end of the trace and its seal, where it has come whole.
     pub fn finish(mut self) -> Result<(Tail, [u8; 32]), TraceError>
-        ensures read { (p : Program) (head : Head) (fed : List ℕ) (t : Standing)
+        ensures read { (p : Program) (head : Head) (fed : List ℕ) (t : Progress)
             → Scans self.entry p head fed t → Finishes result head fed t }
         ensures again { (e : TraceError) → self.entry.failure ≡ Some e → result ≡ Err e }
     {

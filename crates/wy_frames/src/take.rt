@@ -5,7 +5,7 @@ ghost use Rattle.std.specs.Str.{bytes_eq};
 ghost use Rattle.sha2.specs.Hashers.{Holds256};
 ghost use Rattle.sha2.specs.Sha256.{sha256};
 ghost use Rattle.wy_payload.specs.Ranges.{known_of};
-ghost use Rattle.wy_frames.specs.Standing.{Standing, coverage_next, covered_next, end_next, ended_next, event_next, next_of, open_next, seal_next};
+ghost use Rattle.wy_frames.specs.Progress.{Progress, coverage_next, covered_next, end_next, ended_next, event_next, next_of, open_next, seal_next};
 ghost use Rattle.wy_frames.specs.Pieces.{frame_in};
 ghost use Rattle.wy_frames.specs.Holds.{Counts, Holds, TakesEvent, TakesFrame, TakesNext, damaged_at};
 
@@ -18,11 +18,10 @@ use sha2::Digest;
 use std::alloc::{AllocError, Global};
 use std::mem;
 use wy_event::record::{Coverage, Tail};
+use wy_kernel::limit::OUTPUT_LIMIT;
 use wy_payload::closing::Totals;
 use wy_payload::fault::{DamageRule, Fault};
 use wy_payload::ranges::Ranges;
-
-const OUTPUT: u32 = 16777216;
 
 const SEAL_LENGTH: usize = 32;
 
@@ -88,14 +87,14 @@ impl Past {
         payload: &[u8],
     ) -> Result<ReadEvent, TraceError>
         requires { self.old.stage ≡ Stage.Open }
-        ensures { (s : Standing) → Counts self.old s
+        ensures { (s : Progress) → Counts self.old s
             → TakesEvent result self.new s (event_next ranges.now s whole.now payload.now) }
     {
         let written = match whole_event(alloc, ranges, &self.known, self.output, payload) {
             Ok(written) => written,
             Err(fault) => return Err(self.damaged(fault)),
         };
-        if written.output > OUTPUT {
+        if written.output as usize > OUTPUT_LIMIT {
             return Err(TraceError::NoMemory);
         }
         let uses = sum(self.uses, written.event.uses.as_slice().len())?;
@@ -118,7 +117,7 @@ impl Past {
         whole: &[u8],
         payload: &[u8],
     ) -> Result<(), TraceError>
-        ensures { (s : Standing) → Counts self.old s
+        ensures { (s : Progress) → Counts self.old s
             → TakesFrame result self.new s (coverage_next ranges.now s whole.now payload.now) }
     {
         let coverage = match whole_coverage(alloc, ranges.statements, &self.known, payload) {
@@ -138,7 +137,7 @@ impl Past {
         whole: &[u8],
         payload: &[u8],
     ) -> Result<(), TraceError>
-        ensures { (s : Standing) → Counts self.old s
+        ensures { (s : Progress) → Counts self.old s
             → TakesFrame result self.new s (end_next steps s coverage whole.now payload.now) }
     {
         if self.known.len() > u32::MAX as usize {
@@ -160,7 +159,7 @@ impl Past {
 
     /// Takes the frame of the seal, behind the end.
     pub fn take_seal(&mut self, tail: Tail, whole: &[u8], payload: &[u8]) -> Result<(), TraceError>
-        ensures { (s : Standing) → Counts self.old s
+        ensures { (s : Progress) → Counts self.old s
             → TakesFrame result self.new s (seal_next s tail whole.now payload.now) }
     {
         if payload.len() != SEAL_LENGTH {
@@ -182,7 +181,7 @@ impl Past {
         piece: Piece<'_>,
     ) -> Result<Option<ReadEvent>, TraceError>
         requires { self.old.stage ≡ Stage.Open }
-        ensures { (s : Standing) → Counts self.old s
+        ensures { (s : Progress) → Counts self.old s
             → TakesNext result self.new s (open_next ranges.now s (frame_in piece.entry)) }
     {
         if piece.letter == b'E' {
@@ -206,7 +205,7 @@ impl Past {
         coverage: Coverage,
         piece: Piece<'_>,
     ) -> Result<Option<ReadEvent>, TraceError>
-        ensures { (s : Standing) → Counts self.old s
+        ensures { (s : Progress) → Counts self.old s
             → TakesNext result self.new s (covered_next steps s coverage (frame_in piece.entry)) }
     {
         if piece.letter != b'T' {
@@ -219,7 +218,7 @@ impl Past {
     }
 
     fn take_ended(&mut self, tail: Tail, piece: Piece<'_>) -> Result<Option<ReadEvent>, TraceError>
-        ensures { (s : Standing) → Counts self.old s
+        ensures { (s : Progress) → Counts self.old s
             → TakesNext result self.new s (ended_next s tail (frame_in piece.entry)) }
     {
         if piece.letter != b'S' {
@@ -239,7 +238,7 @@ impl Past {
         steps: u32,
         piece: Piece<'_>,
     ) -> Result<Option<ReadEvent>, TraceError>
-        ensures { (s : Standing) → Holds self.old s
+        ensures { (s : Progress) → Holds self.old s
             → TakesNext result self.new s (next_of ranges.now steps s (frame_in piece.entry)) }
     {
         match mem::replace(&mut self.stage, Stage::Open) {

@@ -4,7 +4,7 @@ ghost use Rattle.std.specs.Prelude.{◌≡◌, ◌≤◌, ◌<◌, ◌^◌, leng
 ghost use Rattle.wy_value.specs.Encoding.{utf8_of};
 ghost use Rattle.wy_payload.specs.Reading.{Gives, all_of};
 ghost use Rattle.wy_payload.specs.Events.{event_at};
-ghost use Rattle.wy_payload.specs.Values.{output_limit};
+ghost use Rattle.wy_kernel.specs.Limits.{output_limit};
 ghost use Rattle.wy_payload.specs.Closing.{coverage_at, head_at, tail_at};
 ghost use Rattle.wy_payload.specs.Ranges.{known_of};
 
@@ -81,9 +81,13 @@ pub fn known_in(alloc: Global, event: &Event) -> Result<Known, AllocError>
     ensures { IfOk result (λ k. k ≡ known_of event.now) }
 {
     match event.kind {
-        Kind::Init => Ok(Known::Init { class: event.what }),
-        Kind::New => Ok(Known::New { code: event.what }),
-        Kind::Call => Ok(Known::Call { method: event.what }),
+        Kind::Init => Ok(Known::Init {
+            class: event.entity,
+        }),
+        Kind::New => Ok(Known::New { code: event.entity }),
+        Kind::Call => Ok(Known::Call {
+            method: event.entity,
+        }),
         Kind::Text => {
             let printed = to_utf8(alloc, event.units.as_slice())?;
             Ok(Known::Text {

@@ -6,32 +6,32 @@ use Rattle.wy_outside.specs.Counts.{Rose}
 use Rattle.wy_outside.specs.Sink.{appended, is_failed}
 use Rattle.wy_outside.specs.declared.sink.SinkError.{SinkError}
 use Rattle.wy_outside.specs.declared.sink.SinkError.TheVariants.{Failed}
-use Rattle.wy_record.specs.Answers.{Mirrors, HaveFront}
+use Rattle.wy_record.specs.Recorders.{Mirrors, HavePrefix}
 use Rattle.wy_record.specs.declared.recorder.RecordError.{RecordError}
 use Rattle.wy_record.specs.declared.recorder.RecordError.TheVariants.{SinkFault, Differs, NoMemory}
 use Rattle.wy_framing.specs.Served.{RoseOnlyAt, RoseIn, behind}
 
 -- what is as it was has nothing of the piece
-pub same_has_front : (piece : List ℕ) (mirrors : Mirrors) → HaveFront piece mirrors mirrors
+pub same_has_front : (piece : List ℕ) (mirrors : Mirrors) → HavePrefix piece mirrors mirrors
 same_has_front piece [] = tt
 same_has_front piece (None ∷ rest) = same_has_front piece rest
 same_has_front piece (Some bytes ∷ rest) = ((0, sym (append-nil bytes)), same_has_front piece rest)
 
-one_more : (piece : List ℕ) (n : ℕ) (mirror : Option (List ℕ)) (olds news : Mirrors) → HaveFront piece olds news → HaveFront piece (mirror ∷ olds) (appended mirror (take n piece) ∷ news)
+one_more : (piece : List ℕ) (n : ℕ) (mirror : Option (List ℕ)) (olds news : Mirrors) → HavePrefix piece olds news → HavePrefix piece (mirror ∷ olds) (appended mirror (take n piece) ∷ news)
 one_more piece n None olds news rest = rest
 one_more piece n (Some bytes) olds news rest = ((n, refl), rest)
 
 -- the first one has a front, and those behind it have theirs
-joined : {X : Type 0} (f : X → Option (List ℕ)) (piece : List ℕ) (n : ℕ) (xs rest : List X) (x : X) (new : Option (List ℕ)) (news : Mirrors) → xs ≡ x ∷ rest → new ≡ appended (f x) (take n piece) → HaveFront piece (map f rest) news → HaveFront piece (map f xs) (new ∷ news)
+joined : {X : Type 0} (f : X → Option (List ℕ)) (piece : List ℕ) (n : ℕ) (xs rest : List X) (x : X) (new : Option (List ℕ)) (news : Mirrors) → xs ≡ x ∷ rest → new ≡ appended (f x) (take n piece) → HavePrefix piece (map f rest) news → HavePrefix piece (map f xs) (new ∷ news)
 joined {X} f piece n xs rest x new news is grown fronts =
-    let P : Option (List ℕ) → Type 0 = λ m. HaveFront piece (f x ∷ map f rest) (m ∷ news) in
-    let Q : List X → Type 0 = λ ys. HaveFront piece (map f ys) (new ∷ news) in
+    let P : Option (List ℕ) → Type 0 = λ m. HavePrefix piece (f x ∷ map f rest) (m ∷ news) in
+    let Q : List X → Type 0 = λ ys. HavePrefix piece (map f ys) (new ∷ news) in
     subst Q (sym is) (subst P (sym grown) (one_more piece n (f x) (map f rest) news fronts))
 
-pub refused_here : {X : Type 0} (f : X → Option (List ℕ)) (piece : List ℕ) (xs rest : List X) (x : X) (new : Option (List ℕ)) → xs ≡ x ∷ rest → ((n : ℕ) × (n ≤ length piece) × (new ≡ appended (f x) (take n piece))) → HaveFront piece (map f xs) (new ∷ map f rest)
+pub refused_here : {X : Type 0} (f : X → Option (List ℕ)) (piece : List ℕ) (xs rest : List X) (x : X) (new : Option (List ℕ)) → xs ≡ x ∷ rest → ((n : ℕ) × (n ≤ length piece) × (new ≡ appended (f x) (take n piece))) → HavePrefix piece (map f xs) (new ∷ map f rest)
 refused_here f piece xs rest x new is (n, most, grown) = joined f piece n xs rest x new (map f rest) is grown (same_has_front piece (map f rest))
 
-pub refused_later : {X : Type 0} (f : X → Option (List ℕ)) (piece : List ℕ) (xs rest : List X) (x : X) (new : Option (List ℕ)) (news : Mirrors) → xs ≡ x ∷ rest → new ≡ appended (f x) piece → HaveFront piece (map f rest) news → HaveFront piece (map f xs) (new ∷ news)
+pub refused_later : {X : Type 0} (f : X → Option (List ℕ)) (piece : List ℕ) (xs rest : List X) (x : X) (new : Option (List ℕ)) (news : Mirrors) → xs ≡ x ∷ rest → new ≡ appended (f x) piece → HavePrefix piece (map f rest) news → HavePrefix piece (map f xs) (new ∷ news)
 refused_later f piece xs rest x new news is grown fronts = joined f piece (length piece) xs rest x new news is (grown ∙ ap (λ t. appended (f x) t) (sym (take-length piece))) fronts
 
 -- ---- counts

@@ -1,3 +1,4 @@
 pub mod Fronts
 pub mod Room
 pub mod Traces
+pub mod Written

@@ -16,7 +16,8 @@ use Rattle.wy_event.specs.declared.record.Cover.{Cover}
 use Rattle.wy_event.specs.declared.record.Head.{Head}
 use Rattle.wy_event.specs.declared.record.Tail.{Tail}
 use Rattle.wy_event.specs.Record.{Recorded, recorded}
-use Rattle.wy_spelling.specs.Spelling.{trace_limit, number, optional, origin_bytes, slot_bytes, value_bytes, content_bytes, units_bytes, use_bytes, uses_bytes, event_payload, event_frame, cover_bytes, coverage_payload, coverage_frame, end_frame, tail_frames, magic, head_payload, head_frame, opening, tail_payload, count_bytes}
+use Rattle.wy_kernel.specs.Limits.{trace_limit}
+use Rattle.wy_spelling.specs.Spelling.{number, optional, origin_bytes, slot_bytes, value_bytes, content_bytes, units_bytes, use_bytes, uses_bytes, event_payload, event_frame, cover_bytes, coverage_payload, coverage_frame, end_frame, tail_frames, magic, head_payload, head_frame, opening, tail_payload, count_bytes}
 
 -- parts of at most n bytes each
 at_most : {X : Type 0} (f : X → List ℕ) (n : ℕ) → ((x : X) → length (f x) ≤ n) → (xs : List X) → length (flat_map f xs) ≤ n * length xs
@@ -73,7 +74,7 @@ optional_most (Some n) = omega arith
 
 origin_most : (e : Recorded) → length (origin_bytes e) ≤ 17
 unfolding origin_bytes
-origin_most e = omega (arith, optional_most e.frame, optional_most e.control, optional_most e.what, length-append (number e.site) (optional e.frame ++ (optional e.control ++ optional e.what)), length-append (optional e.frame) (optional e.control ++ optional e.what), length-append (optional e.control) (optional e.what))
+origin_most e = omega (arith, optional_most e.frame, optional_most e.control, optional_most e.entity, length-append (number e.site) (optional e.frame ++ (optional e.control ++ optional e.entity)), length-append (optional e.frame) (optional e.control ++ optional e.entity), length-append (optional e.control) (optional e.entity))
 
 payload_most : (e : Recorded) → length (event_payload e) ≤ 39 + 2 * length e.units + 14 * length e.uses
 unfolding event_payload

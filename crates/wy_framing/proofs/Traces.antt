@@ -4,7 +4,7 @@ use Rattle.std.proofs.Math.Logic.{∥∥₁_elim, ∥∥₁_map}
 use Rattle.std.proofs.Props.{props}
 use Rattle.sha2.specs.Sha256.{sha256}
 use Rattle.wy_event.specs.declared.record.Tail.{Tail}
-use Rattle.wy_record.specs.Answers.{Mirrors, FaultsAs, HaveFront, HaveClosing, MirrorsTake, MirrorsClose, with_more, opened}
+use Rattle.wy_record.specs.Recorders.{Mirrors, FaultsAs, HavePrefix, HaveClosing, MirrorsTake, MirrorsClose, with_more, opened}
 use Rattle.wy_record.specs.declared.recorder.RecordError.{RecordError}
 use Rattle.wy_record.specs.declared.recorder.RecordError.TheVariants.{SinkFault, Differs, NoMemory}
 use Rattle.wy_record.specs.declared.recorder.Phase.{Phase}
@@ -55,9 +55,9 @@ first_held H G piece olds news empty grown begun more =
 
 -- ---- the refusals before anything is put
 
-pub opened_has_front : (piece : List ℕ) (mirrors : Mirrors) → opened mirrors ≡ mirrors → HaveFront piece (opened mirrors) mirrors
+pub opened_has_front : (piece : List ℕ) (mirrors : Mirrors) → opened mirrors ≡ mirrors → HavePrefix piece (opened mirrors) mirrors
 opened_has_front piece mirrors empty =
-    let P : Mirrors → Type 0 = λ m. HaveFront piece m mirrors in
+    let P : Mirrors → Type 0 = λ m. HavePrefix piece m mirrors in
     subst P (sym empty) (same_has_front piece mirrors)
 
 pub opened_takes : (r : Result Unit RecordError) (piece : List ℕ) (olds news : Mirrors) → opened olds ≡ olds → MirrorsTake r piece olds news → MirrorsTake r piece (opened olds) news
@@ -90,7 +90,7 @@ closed_more piece close [] closed = refl
 closed_more piece close (None ∷ rest) closed = ap (λ m. None ∷ m) (closed_more piece close rest closed)
 closed_more piece close (Some bytes ∷ rest) closed = ap (λ p. Some (bytes ++ p) ∷ with_more piece rest) closed.0 ∙ ap (λ m. Some (bytes ++ close bytes) ∷ m) (closed_more piece close rest closed.1)
 
-front_closes : (piece : List ℕ) (close : List ℕ → List ℕ) (olds news : Mirrors) → AllClosed piece close olds → HaveFront piece olds news → HaveClosing close olds news
+front_closes : (piece : List ℕ) (close : List ℕ → List ℕ) (olds news : Mirrors) → AllClosed piece close olds → HavePrefix piece olds news → HaveClosing close olds news
 unfolding AllClosed
 front_closes piece close [] [] closed front = tt
 front_closes piece close [] (new ∷ news) closed front = absurd front

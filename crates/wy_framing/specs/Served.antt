@@ -2,7 +2,7 @@
 use Rattle.std.specs.Prelude.{◌≡◌, ℕ, zero, suc, ◌+◌, ◌-◌, ◌^◌, ◌<◌, min, List, [], ◌∷◌, slice_get, Some, Result, Ok, Err}
 use Rattle.std.specs.Prelude.{None as Absent}
 use Rattle.wy_outside.specs.Counts.{Rose, last_count}
-use Rattle.wy_record.specs.Answers.{Mirrors}
+use Rattle.wy_record.specs.Recorders.{Mirrors}
 use Rattle.wy_record.specs.declared.recorder.RecordError.{RecordError}
 use Rattle.wy_record.specs.declared.recorder.RecordError.TheVariants.{SinkFault, Differs, NoMemory}
 

@@ -1,9 +1,16 @@
-//! A recorder that writes a trace: each event as its frame, to each of its mirrors, and at the end
-//! the seal of what was written. It reads no trace.
+//! A recorder that writes a trace, each event as its frame and at the end the seal, to each of its mirrors; and where a trace
+//! is written: the trait of trace sinks, one in memory that tells every byte and fails at the calls that it is told to, and a real
+//! file, the trusted edge. Nothing here reads a trace.
 #![tactic(auto)]
 
+mod file;
+mod memory;
 mod piece;
 mod recorder;
 mod serve;
+mod sink;
 
+pub use file::{FileTraceSink, put_through, write_block};
+pub use memory::MemoryTraceSink;
 pub use recorder::FrameRecorder;
+pub use sink::TraceSink;

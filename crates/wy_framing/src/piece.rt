@@ -2,7 +2,8 @@
 ghost use Rattle.std.specs.Prelude.{◌≡◌, ◌≤◌, ◌++◌, length, IfOk};
 ghost use Rattle.std.specs.Bool.{OnTrue};
 ghost use Rattle.wy_event.specs.Record.{recorded};
-ghost use Rattle.wy_spelling.specs.Spelling.{event_frame, opening, seal_frame, tail_frames, trace_limit};
+ghost use Rattle.wy_kernel.specs.Limits.{trace_limit};
+ghost use Rattle.wy_spelling.specs.Spelling.{event_frame, opening, seal_frame, tail_frames};
 
 use std::alloc::{AllocError, Global};
 use wy_event::record::{Event, Head, Tail};

@@ -2,17 +2,17 @@
 ghost use Rattle.std.specs.Prelude.{◌≡◌, ◌≢◌, ◌<◌, ◌^◌, [], ℕ, List, Option, Some, false, map, vec_len};
 ghost use Rattle.sha2.specs.Hashers.{Holds256};
 ghost use Rattle.wy_record.specs.declared.recorder.Phase.{Phase};
-ghost use Rattle.wy_record.specs.Answers.{opened};
+ghost use Rattle.wy_record.specs.Recorders.{opened};
 ghost use Rattle.wy_spelling.specs.Spelling.{closing, event_frame, opening};
 ghost use Rattle.wy_framing.specs.Served.{AreHeld, AreLow, total};
 
+use crate::TraceSink;
 use crate::piece::{frame_of, opening_of, tail_of, with_seal};
 use crate::serve::{Act, serve_all};
 use sha2::{Digest, Sha256};
 use std::alloc::{AllocError, Global};
 use wy_event::record::{Event, Head, Tail};
 use wy_record::{Phase, RecordError, Recorder};
-use wy_sinks::TraceSink;
 
 /// Writes the trace of a run to each of its mirrors. What it wrote is hashed as it is written, and
 /// never read back.

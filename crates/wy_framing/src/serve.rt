@@ -2,13 +2,13 @@
 ghost use Rattle.std.specs.Prelude.{◌≡◌, ◌<◌, ◌^◌, ℕ, length, map, vec_len};
 ghost use Rattle.wy_outside.specs.Counts.{RoseAt};
 ghost use Rattle.wy_outside.specs.Sink.{is_failed, Appends};
-ghost use Rattle.wy_record.specs.Answers.{MirrorsTake, opened};
-ghost use Rattle.wy_sinks.specs.Told.{emptied};
+ghost use Rattle.wy_record.specs.Recorders.{MirrorsTake, opened};
+ghost use Rattle.wy_framing.specs.Told.{emptied};
 ghost use Rattle.wy_framing.specs.Served.{behind, RoseIn};
 
+use crate::TraceSink;
 use wy_outside::sink::SinkError;
 use wy_record::RecordError;
-use wy_sinks::TraceSink;
 
 /// What is done at a mirror, beside the bytes that are put.
 #[derive(Clone, Copy, Debug, PartialEq, Eq)]

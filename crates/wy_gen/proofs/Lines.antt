@@ -3,7 +3,7 @@ use Rattle.std.proofs.Common.{◌≡◌, ◌∙◌, ℕ, suc, ◌+◌, ◌-◌, 
 use Rattle.std.specs.Fmt.{decimal}
 use Rattle.std.specs.List.{range_with_len}
 use Rattle.std.proofs.lemmas.List.{append_assoc}
-use Rattle.wy_gen.specs.Source.{opening, loop_head, closing, lines, ended, method, call, below, source, divisor, addend}
+use Rattle.wy_gen.specs.Generated.{opening, loop_head, closing, lines, ended, method, call, below, source, divisor, addend}
 
 -- the k-th line is written, and the lines behind it are left
 pub one_more : (line : ℕ → List ℕ) (before now whole : List ℕ) (k n : ℕ) → k < n → now ≡ (before ++ line k) ++ codes "\n"

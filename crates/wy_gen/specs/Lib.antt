@@ -1,1 +1,1 @@
-pub mod Source
+pub mod Generated

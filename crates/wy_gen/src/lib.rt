@@ -2,7 +2,7 @@
 #![tactic(auto)]
 
 ghost use Rattle.std.specs.Prelude.{◌≡◌, ◌<◌, ◌≤◌, ◌++◌, IfOk, OnOk, map, string_bytes};
-ghost use Rattle.wy_gen.specs.Source.{below, call, ended, method, source};
+ghost use Rattle.wy_gen.specs.Generated.{below, call, ended, method, source};
 
 use std::alloc::{AllocError, Global};
 
@@ -33,7 +33,7 @@ fn put_methods(text: &mut String, n: u32) -> Result<(), AllocError>
     Ok(())
 }
 
-#[tactic(auto, using(crate::proofs::Lines::two_halves), unfolding(crate::specs::Source::divisor, crate::specs::Source::addend))]
+#[tactic(auto, using(crate::proofs::Lines::two_halves), unfolding(crate::specs::Generated::divisor, crate::specs::Generated::addend))]
 fn put_method(text: &mut String, n: u32, k: u32) -> Result<(), AllocError>
     requires { (k < n) × (n ≤ 2000) }
     ensures { OnOk result (string_bytes text.new ≡ string_bytes text.old ++ method n k) }
@@ -55,7 +55,7 @@ fn put_calls(text: &mut String, n: u32) -> Result<(), AllocError>
     Ok(())
 }
 
-#[tactic(auto, unfolding(crate::specs::Source::call))]
+#[tactic(auto, unfolding(crate::specs::Generated::call))]
 fn put_call(text: &mut String, k: u32) -> Result<(), AllocError>
     ensures { OnOk result (string_bytes text.new ≡ string_bytes text.old ++ call k) }
 {

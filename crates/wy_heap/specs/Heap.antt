@@ -11,10 +11,6 @@ use Rattle.wy_heap.specs.Plan.{Plan, field_at, fields_of, position_of}
 use Rattle.wy_heap.specs.Layout.{plan_with}
 use Rattle.wy_heap.specs.Block.{block_at}
 
--- elements, and units, that a run makes in all
-abbrev pub heap_limit : ℕ
-heap_limit = 16777216
-
 -- what the heap knows of its program
 unfoldable pub plan : Heap → Plan
 plan h = plan_with h.layouts.fields.items h.layouts.above.items

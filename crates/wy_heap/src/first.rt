@@ -1,18 +1,13 @@
 //! The values that fields and elements have first (JLS 4.12.5).
 
 ghost use Rattle.std.specs.Prelude.{◌≡◌};
-ghost use Rattle.wy_kernel.specs.Program.{base_of, element_type, type_of_code};
+ghost use Rattle.wy_kernel.specs.Program.{element_type, type_of_code};
 ghost use Rattle.wy_steps.specs.Steps.{default_primitive, default_value};
 
+use wy_kernel::code::{BRACKETS_UNIT, base_of};
 use wy_kernel::operator::Primitive;
 use wy_kernel::types::{Base, Ty};
 use wy_value::Value;
-
-/// The code of a type is its base's, and this many times its brackets.
-const BRACKETS: u32 = 16777216;
-
-/// The code of a class is its number and this.
-pub const CLASSES: u32 = 16;
 
 #[tactic(auto, unfolding(wy_steps::specs::Steps::default_primitive))]
 fn first_of_primitive(primitive: Primitive) -> Value
@@ -50,27 +45,12 @@ pub fn first_of_type(ty: &Ty) -> Value
     }
 }
 
-#[tactic(auto, unfolding(wy_kernel::specs::Program::base_of))]
-fn base_of(code: u32) -> Base
-    ensures { result ≡ base_of code }
-{
-    match code {
-        0 => Base::Primitive(Primitive::Bool),
-        1 => Base::Primitive(Primitive::Byte),
-        2 => Base::Primitive(Primitive::Short),
-        3 => Base::Primitive(Primitive::Char),
-        4 => Base::Primitive(Primitive::Int),
-        5 => Base::Primitive(Primitive::Long),
-        _ => Base::Class(code.saturating_sub(CLASSES)),
-    }
-}
-
 /// The first value of the elements of an array, by the code of its type.
 pub fn first_of_element(code: u32) -> Value
     ensures { result ≡ default_value (element_type (type_of_code code)) }
 {
-    if code / BRACKETS <= 1 {
-        first_of_base(base_of(code % BRACKETS))
+    if code / BRACKETS_UNIT <= 1 {
+        first_of_base(base_of(code % BRACKETS_UNIT))
     } else {
         Value::Null
     }

@@ -5,15 +5,14 @@ ghost use Rattle.wy_heap.specs.Block.{AreApart, AreFirst, block_at};
 ghost use Rattle.wy_heap.specs.Layouts.{plan_in};
 
 use crate::block::Block;
-use crate::first::{CLASSES, first_of_element};
+use crate::first::first_of_element;
 use crate::layout::Layouts;
 use std::alloc::{AllocError, Global};
 use wy_event::record::Slot;
+use wy_kernel::code::FIRST_CLASS_CODE;
+use wy_kernel::limit::{ELEMENT_LIMIT, UNIT_LIMIT};
 use wy_kernel::program::Program;
 use wy_value::Value;
-
-/// The greatest number of elements, and of units, that a run makes in all.
-const LIMIT: u32 = 16777216;
 
 /// An array or a text wasn't made.
 #[derive(Clone, Copy, Debug, PartialEq, Eq)]
@@ -76,7 +75,8 @@ impl Heap {
     ghost use Rattle.std.specs.Prelude.{◌≡◌, ◌≤◌, ◌<◌, ◌+◌, ◌↔◌, ℕ, IfOk, OnOk, OnErr, IsErrOf, IsSome, MatchBool, Some, None, true, false, length, nat_le, option_map};
     ghost use Rattle.wy_heap.specs.Block.{block_at};
     ghost use Rattle.wy_heap.specs.Changes.{IsNew, Keeps, MakesArray, MakesClass, MakesObject, MakesText, Writes};
-    ghost use Rattle.wy_heap.specs.Heap.{code, element_count, element_place, field_place, held, heap_limit, is_live, is_made, plan, size, static_place, text, unit_count};
+    ghost use Rattle.wy_kernel.specs.Limits.{element_limit, unit_limit};
+    ghost use Rattle.wy_heap.specs.Heap.{code, element_count, element_place, field_place, held, is_live, is_made, plan, size, static_place, text, unit_count};
     ghost use Rattle.wy_kernel.specs.Parts.{program_of};
 
     /// A heap for the runs of a program. Its other calls go by what it takes from the program here.
@@ -213,7 +213,7 @@ impl Heap {
         ensures { result ≡ code self.now number }
     {
         match self.block(number) {
-            Block::Object { class, .. } => Some(CLASSES + class),
+            Block::Object { class, .. } => Some(FIRST_CLASS_CODE + class),
             Block::Array { code, .. } => Some(code),
             Block::Text { .. } => None,
             Block::Nothing => None,
@@ -303,23 +303,23 @@ impl Heap {
     /// Whether so many elements more are within the limit.
     #[tactic(auto, unfolding(crate::specs::Heap::element_count))]
     pub fn has_room_for_elements(&self, many: u32) -> bool
-        ensures { result ≡ nat_le (element_count self.now + many) heap_limit }
+        ensures { result ≡ nat_le (element_count self.now + many) element_limit }
     {
-        u64::from(self.elements) + u64::from(many) <= u64::from(LIMIT)
+        u64::from(self.elements) + u64::from(many) <= u64::from(ELEMENT_LIMIT)
     }
 
     /// Whether so many units more are within the limit.
     #[tactic(auto, unfolding(crate::specs::Heap::unit_count))]
     pub fn has_room_for_units(&self, many: usize) -> bool
-        ensures { result ≡ nat_le (unit_count self.now + many) heap_limit }
+        ensures { result ≡ nat_le (unit_count self.now + many) unit_limit }
     {
-        self.units.len().saturating_add(many) <= LIMIT as usize
+        self.units.len().saturating_add(many) <= UNIT_LIMIT as usize
     }
 
     /// Makes an array of a type by its code, with the number of its event.
     pub fn make_array(&mut self, number: u32, code: u32, length: u32) -> Result<(), HeapError>
         ensures limit { IsErrOf result HeapError.HeapLimit
-            ↔ (heap_limit < element_count self.old + length) }
+            ↔ (element_limit < element_count self.old + length) }
         ensures made { OnOk result (MakesArray number code length self.old self.new) }
         ensures refused { OnErr result (Keeps self.old self.new) }
     {
@@ -331,7 +331,7 @@ impl Heap {
     }
 
     fn add_array(&mut self, number: u32, code: u32, length: u32) -> Result<(), AllocError>
-        requires { element_count self.old + length ≤ heap_limit }
+        requires { element_count self.old + length ≤ element_limit }
         ensures made { OnOk result (MakesArray number code length self.old self.new) }
         ensures refused { OnErr result (Keeps self.old self.new) }
     {
@@ -351,7 +351,7 @@ impl Heap {
     /// Makes a text, with the number of its event.
     pub fn make_text(&mut self, number: u32, units: &[u16]) -> Result<(), HeapError>
         ensures limit { IsErrOf result HeapError.HeapLimit
-            ↔ (heap_limit < unit_count self.old + length units.now) }
+            ↔ (unit_limit < unit_count self.old + length units.now) }
         ensures made { OnOk result (MakesText number units.now self.old self.new) }
         ensures refused { OnErr result (Keeps self.old self.new) }
     {
@@ -363,7 +363,7 @@ impl Heap {
     }
 
     fn add_text(&mut self, number: u32, units: &[u16]) -> Result<(), AllocError>
-        requires { unit_count self.old + length units.now ≤ heap_limit }
+        requires { unit_count self.old + length units.now ≤ unit_limit }
         ensures made { OnOk result (MakesText number units.now self.old self.new) }
         ensures refused { OnErr result (Keeps self.old self.new) }
     {

@@ -22,7 +22,7 @@ pub few_postings : (n : ℕ) (rs : List Recorded) → length (gathered posting_o
 few_postings n [] = omega arith
 few_postings n (r ∷ rs) = omega (arith, length-append (posting_of n r) (gathered posting_of (suc n) rs), few_if {X = Posting} (is_write r.kind) (record { slot = r.slot; event = n }), few_postings (suc n) rs)
 
--- what was looked at is a front of what is told
+-- what was looked at is a prefix of what is told
 pub told_more : (o : Option (List Recorded)) (rs : List Recorded) (r : Recorded) (n : ℕ) → IfSome o (λ t. rs ≡ take n t) → IfSome o (λ t. slice_get t n ≡ Some r) → IfSome o (λ t. rs ++ r ∷ [] ≡ take (n + 1) t)
 told_more None rs r n front next = tt
 told_more (Some t) rs r n front next =

@@ -79,32 +79,32 @@ module _ (test : Recorded → Bool) where
 
 -- ---- what made a slot
 
-creates_static : (owner : Owners) (k : Kind) (n f : ℕ) (what : Option ℕ) → creates_as owner k n what (slot.Static f) ≡ (is_init k && is_what what (owner f))
+creates_static : (owner : Owners) (k : Kind) (n f : ℕ) (entity : Option ℕ) → creates_as owner k n entity (slot.Static f) ≡ (is_init k && is_what entity (owner f))
 unfolding creates_as
-creates_static owner kind.Init n f what = refl
-creates_static owner _ n f what = refl
+creates_static owner kind.Init n f entity = refl
+creates_static owner _ n f entity = refl
 
-creates_field : (owner : Owners) (k : Kind) (n o f : ℕ) (what : Option ℕ) → creates_as owner k n what (slot.Field o f) ≡ (is_new k && nat_eq o n)
+creates_field : (owner : Owners) (k : Kind) (n o f : ℕ) (entity : Option ℕ) → creates_as owner k n entity (slot.Field o f) ≡ (is_new k && nat_eq o n)
 unfolding creates_as
-creates_field owner kind.New n o f what = refl
-creates_field owner _ n o f what = refl
+creates_field owner kind.New n o f entity = refl
+creates_field owner _ n o f entity = refl
 
-creates_element : (owner : Owners) (k : Kind) (n a i : ℕ) (what : Option ℕ) → creates_as owner k n what (slot.Elem a i) ≡ (is_new k && nat_eq a n)
+creates_element : (owner : Owners) (k : Kind) (n a i : ℕ) (entity : Option ℕ) → creates_as owner k n entity (slot.Elem a i) ≡ (is_new k && nat_eq a n)
 unfolding creates_as
-creates_element owner kind.New n a i what = refl
-creates_element owner _ n a i what = refl
+creates_element owner kind.New n a i entity = refl
+creates_element owner _ n a i entity = refl
 
-creates_local : (owner : Owners) (k : Kind) (n f i : ℕ) (what : Option ℕ) → creates_as owner k n what (slot.Local f i) ≡ false
+creates_local : (owner : Owners) (k : Kind) (n f i : ℕ) (entity : Option ℕ) → creates_as owner k n entity (slot.Local f i) ≡ false
 unfolding creates_as
-creates_local owner kind.New n f i what = refl
-creates_local owner kind.Init n f i what = refl
-creates_local owner _ n f i what = refl
+creates_local owner kind.New n f i entity = refl
+creates_local owner kind.Init n f i entity = refl
+creates_local owner _ n f i entity = refl
 
-creates_nothing : (owner : Owners) (k : Kind) (n : ℕ) (what : Option ℕ) → creates_as owner k n what slot.None ≡ false
+creates_nothing : (owner : Owners) (k : Kind) (n : ℕ) (entity : Option ℕ) → creates_as owner k n entity slot.None ≡ false
 unfolding creates_as
-creates_nothing owner kind.New n what = refl
-creates_nothing owner kind.Init n what = refl
-creates_nothing owner _ n what = refl
+creates_nothing owner kind.New n entity = refl
+creates_nothing owner kind.Init n entity = refl
+creates_nothing owner _ n entity = refl
 
 -- an object's slots are created by its New
 by_object : (owner : Owners) (rs : List Recorded) (x : Slot) (o m : ℕ) → ((k : ℕ) (n : ℕ) (r : Recorded) → n ≡ k → creates owner n x r ≡ (is_new r.kind && nat_eq o n))
@@ -138,23 +138,23 @@ unfolding creates
 by_class owner rs f m = go (first_from (is_init_of (owner f)) 0 rs) refl
   where
     go : (first : Option ℕ) → first_from (is_init_of (owner f)) 0 rs ≡ first → creation owner rs (slot.Static f) m ≡ earlier m first
-    go None is = creation_none owner rs (slot.Static f) m (λ k s lt at. creates_static owner s.kind k f s.what ∙ none_passes (is_init_of (owner f)) 0 rs is k s at)
+    go None is = creation_none owner rs (slot.Static f) m (λ k s lt at. creates_static owner s.kind k f s.entity ∙ none_passes (is_init_of (owner f)) 0 rs is k s at)
     go (Some e) is =
         let first = first_passes (is_init_of (owner f)) 0 rs e is in
         let number : e ≡ first.place = first.number ∙ zero-add first.place in
         let at : slice_get rs e ≡ Some first.one = ap (slice_get rs) number ∙ first.there in
         ⊎_elim
-        (λ (lt : e < m). creation_at owner rs (slot.Static f) m e first.one lt at (creates_static owner first.one.kind e f first.one.what ∙ first.passes) (λ k s below at_k. creates_static owner s.kind k f s.what ∙ first.none_before k s (omega (arith, below, number)) at_k) ∙ sym (ap (λ b. if b then Some e else None) (lt-ltb e m lt)))
-        (λ (ge : m ≤ e). creation_none owner rs (slot.Static f) m (λ k s lt at_k. creates_static owner s.kind k f s.what ∙ first.none_before k s (omega (arith, lt, ge, number)) at_k) ∙ sym (ap (λ b. if b then Some e else None) (le-ltb e m ge)))
+        (λ (lt : e < m). creation_at owner rs (slot.Static f) m e first.one lt at (creates_static owner first.one.kind e f first.one.entity ∙ first.passes) (λ k s below at_k. creates_static owner s.kind k f s.entity ∙ first.none_before k s (omega (arith, below, number)) at_k) ∙ sym (ap (λ b. if b then Some e else None) (lt-ltb e m lt)))
+        (λ (ge : m ≤ e). creation_none owner rs (slot.Static f) m (λ k s lt at_k. creates_static owner s.kind k f s.entity ∙ first.none_before k s (omega (arith, lt, ge, number)) at_k) ∙ sym (ap (λ b. if b then Some e else None) (le-ltb e m ge)))
         (cases_lt e m)
 
 pub creation_is : (owner : Owners) (rs : List Recorded) (x : Slot) (m : ℕ) → creation owner rs x m ≡ earlier m (maker_of owner rs x)
 unfolding creates
-creation_is owner rs slot.None m = creation_none owner rs slot.None m (λ k s lt at. creates_nothing owner s.kind k s.what)
-creation_is owner rs (slot.Local f i) m = creation_none owner rs (slot.Local f i) m (λ k s lt at. creates_local owner s.kind k f i s.what)
+creation_is owner rs slot.None m = creation_none owner rs slot.None m (λ k s lt at. creates_nothing owner s.kind k s.entity)
+creation_is owner rs (slot.Local f i) m = creation_none owner rs (slot.Local f i) m (λ k s lt at. creates_local owner s.kind k f i s.entity)
 creation_is owner rs (slot.Static f) m = by_class owner rs f m
-creation_is owner rs (slot.Field o f) m = by_object owner rs (slot.Field o f) o m (λ k n r e. creates_field owner r.kind n o f r.what)
-creation_is owner rs (slot.Elem a i) m = by_object owner rs (slot.Elem a i) a m (λ k n r e. creates_element owner r.kind n a i r.what)
+creation_is owner rs (slot.Field o f) m = by_object owner rs (slot.Field o f) o m (λ k n r e. creates_field owner r.kind n o f r.entity)
+creation_is owner rs (slot.Elem a i) m = by_object owner rs (slot.Elem a i) a m (λ k n r e. creates_element owner r.kind n a i r.entity)
 
 pub creation_from : (owner : Owners) (rs : List Recorded) (x : Slot) (m : ℕ) (o : Option ℕ) → o ≡ maker_of owner rs x → creation owner rs x m ≡ earlier m o
 creation_from owner rs x m o is = creation_is owner rs x m ∙ ap (earlier m) (sym is)

@@ -43,11 +43,11 @@ length_of _ = 0
 
 -- the type code of an object or array, and the length of an array
 abbrev pub made_as : Kind → ℕ → Value → Option Made
-made_as kind.New what value = Some (record { what = what; length = length_of value })
-made_as _ what value = Absent
+made_as kind.New entity value = Some (record { entity = entity; length = length_of value })
+made_as _ entity value = Absent
 
 abbrev pub made_by : Recorded → Option Made
-made_by r = made_as r.kind (number r.what) r.value
+made_by r = made_as r.kind (number r.entity) r.value
 
 abbrev pub made_at : Option Recorded → Option Made
 made_at Absent = Absent
@@ -78,10 +78,10 @@ is_init kind.Init = true
 is_init _ = false
 
 abbrev pub is_call_of : ℕ → Recorded → Bool
-is_call_of method r = is_call r.kind && is_what r.what method
+is_call_of method r = is_call r.kind && is_what r.entity method
 
 abbrev pub is_init_of : ℕ → Recorded → Bool
-is_init_of class r = is_init r.kind && is_what r.what class
+is_init_of class r = is_init r.kind && is_what r.entity class
 
 -- the first record that passes, from number n on
 abbrev pub first_from : (Recorded → Bool) → ℕ → List Recorded → Option ℕ
@@ -107,13 +107,13 @@ initializer_number class = if nat_lt class 2147483647 then first_initializer + c
 
 -- the body that an event begins: its method's number, or that of its class's initializer
 abbrev pub body_as : Kind → ℕ → ℕ
-body_as kind.Call what = what
-body_as kind.Init what = initializer_number what
-body_as _ what = NONE
+body_as kind.Call entity = entity
+body_as kind.Init entity = initializer_number entity
+body_as _ entity = NONE
 
 abbrev pub body_of : Option Recorded → ℕ
 body_of Absent = NONE
-body_of (Some r) = body_as r.kind (number r.what)
+body_of (Some r) = body_as r.kind (number r.entity)
 
 -- the body that is kept for a frame
 abbrev pub body_at : List ℕ → Option ℕ → ℕ
@@ -126,7 +126,7 @@ caller_in rs (Some frame) = body_of (slice_get rs frame)
 
 -- the hit that record n is at a site, in a body
 abbrev pub hit_from : ℕ → ℕ → ℕ → Recorded → List Hit
-hit_from caller site n r = one_if (is_hit r.kind && (r.site == site)) (record { event = n; kind = r.kind; what = number r.what; caller = caller; value = r.value })
+hit_from caller site n r = one_if (is_hit r.kind && (r.site == site)) (record { event = n; kind = r.kind; entity = number r.entity; caller = caller; value = r.value })
 
 abbrev pub hit_at : List Recorded → ℕ → ℕ → Recorded → List Hit
 hit_at rs site n r = hit_from (caller_in rs r.frame) site n r

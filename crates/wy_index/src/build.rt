@@ -59,7 +59,7 @@ fn note_call(calls: &mut BTreeMap<u32, u32>, n: u32, event: &Event) -> Result<()
         (if is_call_of q (recorded event.now) then Some n else None)) }
 {
     if is_call(event.kind) {
-        note_first(calls, event.what, n)?;
+        note_first(calls, event.entity, n)?;
     }
     Ok(())
 }
@@ -71,7 +71,7 @@ fn note_init(inits: &mut BTreeMap<u32, u32>, n: u32, event: &Event) -> Result<()
         (if is_init_of q (recorded event.now) then Some n else None)) }
 {
     if is_init(event.kind) {
-        note_first(inits, event.what, n)?;
+        note_first(inits, event.entity, n)?;
     }
     Ok(())
 }
@@ -122,7 +122,7 @@ fn note_hit(
         let hit = Hit {
             event: n,
             kind: event.kind,
-            what: event.what,
+            entity: event.entity,
             caller,
             value: event.value,
         };

@@ -15,7 +15,7 @@ use wy_value::Value;
 pub struct Hit {
     pub event: u32,
     pub kind: Kind,
-    pub what: u32,
+    pub entity: u32,
     pub caller: u32,
     pub value: Value,
 }
@@ -23,7 +23,7 @@ pub struct Hit {
 /// What a New made: its type code, and the length of an array.
 #[derive(Clone, Copy, Debug, PartialEq, Eq)]
 pub struct Made {
-    pub what: u32,
+    pub entity: u32,
     pub length: u32,
 }
 
@@ -46,7 +46,7 @@ pub(crate) fn made_by(event: &Event) -> Option<Made>
 {
     match event.kind {
         Kind::New => Some(Made {
-            what: event.what,
+            entity: event.entity,
             length: length_of(event.value),
         }),
         _ => None,
@@ -59,8 +59,8 @@ pub(crate) fn body_of(event: &Event) -> u32
     ensures { result ≡ body_of (Some (recorded event.now)) }
 {
     match event.kind {
-        Kind::Call => event.what,
-        Kind::Init if event.what < NONE - FIRST_INITIALIZER => FIRST_INITIALIZER + event.what,
+        Kind::Call => event.entity,
+        Kind::Init if event.entity < NONE - FIRST_INITIALIZER => FIRST_INITIALIZER + event.entity,
         _ => NONE,
     }
 }

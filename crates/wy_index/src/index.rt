@@ -7,7 +7,7 @@ ghost use Rattle.wy_event.specs.Sources.{creation, last_write, written};
 ghost use Rattle.wy_kernel.specs.Program.{field};
 ghost use Rattle.wy_kernel.specs.Parts.{program_of};
 ghost use Rattle.wy_view.specs.Counts.{RoseAtMost};
-ghost use Rattle.wy_view.specs.View.{Answers, IsRecordOf, Keeps, ReadsOnce};
+ghost use Rattle.wy_view.specs.View.{KeepsCounts, IsRecordOf, Keeps, ReadsOnce};
 ghost use Rattle.wy_index.specs.Found.{earlier, first_from, hits_in, is_call_of, is_init_of, made_at, made_new, maker_of, prints_in};
 ghost use Rattle.wy_index.specs.Findings.{HasFound};
 ghost use Rattle.wy_index.specs.Finds.{IsLastBefore, IsRecent};
@@ -56,7 +56,7 @@ fn look<V: EventView, L: Ledger>(
         ((r : Recorded) × HasFound found.new (rs ++ r ∷ []) × IsRecordOf (V.tells view.old) n r) }
     ensures keeps { Keeps (V.tells view.old) (V.tells view.new) }
     ensures reads { ReadsOnce (V.tells view.old) (V.tells view.new) }
-    ensures answers { Answers result (V.tells view.old) (V.tells view.new) }
+    ensures answers { KeepsCounts result (V.tells view.old) (V.tells view.new) }
     ensures step { steps.new ≡ steps.old + 1 }
 {
     let event = view.event(n, steps)?;
@@ -98,7 +98,7 @@ impl Index {
         ensures keeps { Keeps (V.tells view.old) (V.tells view.new) }
         ensures reads { RoseAtMost (V.tells view.old).count
             (V.tells view.old).reads (V.tells view.new).reads }
-        ensures answers { Answers result (V.tells view.old) (V.tells view.new) }
+        ensures answers { KeepsCounts result (V.tells view.old) (V.tells view.new) }
         ensures forward { steps.old ≤ steps.new }
         ensures steps { steps.new ≤ steps.old + (V.tells view.old).count }
     {

@@ -1,18 +1,17 @@
--- A search through lists of statements, one after another.
-use Rattle.std.proofs.Common.{◌≡◌, ℕ, suc, ◌+◌, ◌<◌, Bool, refl, sym, ap, ◌∙◌, List, [], ◌++◌, ◌∷◌, length, map, drop, get_or, Option, Some, cond, Bor, find, add-one, drop-cons}
+-- A search through statements and those within them, one after another.
+use Rattle.std.proofs.Common.{◌≡◌, ℕ, suc, ◌+◌, ◌<◌, Bool, refl, sym, ap, ◌∙◌, List, ◌++◌, ◌∷◌, length, map, drop, get_or, Option, Some, cond, Bor, find, add-one, drop-cons}
 use Rattle.std.specs.Prelude.{None as Absent}
 use Rattle.std.specs.Prelude.{option_map}
+use Rattle.std.specs.List.{flat_map}
 use Rattle.std.specs.Option.{option_or}
 use Rattle.std.proofs.lemmas.List.Folds.{find-append}
 use Rattle.std.proofs.lemmas.Bool.{eq-eqb, ne_eqb}
 use Rattle.wy_kernel.specs.declared.form.Stmt.{Stmt}
-use Rattle.wy_kernel.specs.declared.form.StmtForm.{StmtForm}
-use Rattle.wy_kernel.specs.declared.form.Catch.{Catch}
 use Rattle.wy_kernel.specs.declared.form.Body.{Body}
 use Rattle.wy_kernel.specs.Form as plain
-use Rattle.wy_kernel.specs.Statements.{has_number, statements, statements_within, statements_of_all, statements_of_catches, statements_of_body, statements_of_bodies}
-use Rattle.wy_kernel.specs.View.{act, body_of, clause, clauses_of, statement, statements_of}
-use Rattle.wy_kernel.proofs.Views.{view_statement, view_clause}
+use Rattle.wy_kernel.specs.Statements.{has_number, statements, statements_within, statements_of_body, statements_of_bodies}
+use Rattle.wy_kernel.specs.View.{act, body_of, statement}
+use Rattle.wy_kernel.proofs.Views.{view_statement}
 
 abbrev pub seen : Option (Bor Stmt) → Option plain.Statement
 seen o = option_map (λ (b : Bor Stmt). statement b.now) o
@@ -31,11 +30,14 @@ found_here s n e = ap Some (view_statement s) ∙ sym (ap (λ x. find (has_numbe
 pub found_within : (s : Stmt) (n : ℕ) (r : Option plain.Statement) → (s.number ≡ n → ⊥) → r ≡ find (has_number n) (statements_within (act s.form)) → r ≡ find (has_number n) (statements (statement s))
 found_within s n r e f = f ∙ sym (ap (λ x. find (has_number n) (statements x)) (view_statement s) ∙ ap (λ b. cond b (Some (plain.Stmt s.number s.site s.askable s.reach (act s.form))) (find (has_number n) (statements_within (act s.form)))) (ne_eqb s.number n e))
 
-pub in_form : (n : ℕ) (form : StmtForm) (f : plain.Act) (r : Option plain.Statement) → act form ≡ f → r ≡ find (has_number n) (statements_within f) → r ≡ find (has_number n) (statements_within (act form))
-in_form n form f r is e = e ∙ ap (λ x. find (has_number n) (statements_within x)) (sym is)
+-- what was found in the first of those that are left, which have the answer, is the answer
+module _ (p : plain.Statement → Bool) (within : List plain.Statement) (left rest : List plain.Statement) (s : plain.Statement) (first : left ≡ s ∷ rest) (has : find p within ≡ find p (flat_map statements left)) where
+  pub found_in_first : (o : Option (Bor Stmt)) (b : Bor Stmt) → o ≡ Some b → seen o ≡ find p (statements s) → Some (statement b.now) ≡ find p within
+  found_in_first o b there e = found_before p (statements s) (flat_map statements rest) o b there e ∙ sym (has ∙ ap (λ l. find p (flat_map statements l)) first)
 
-pub leaf : (n : ℕ) (form : StmtForm) (f : plain.Act) → act form ≡ f → statements_within f ≡ [] → Absent ≡ find (has_number n) (statements_within (act form))
-leaf n form f is e = ap (find (has_number n)) (sym (ap statements_within is ∙ e))
+  -- where it was not, the others have the answer
+  pub others_have : (o : Option (Bor Stmt)) → o ≡ Absent → seen o ≡ find p (statements s) → find p within ≡ find p (flat_map statements rest)
+  others_have o none e = has ∙ ap (λ l. find p (flat_map statements l)) first ∙ sym (found_behind p (statements s) (flat_map statements rest) o (find p (flat_map statements rest)) none e refl)
 
 module _ {X : Type 0} (p : plain.Statement → Bool) (first : X → List plain.Statement) (all : List X → List plain.Statement) (more : (x : X) (rest : List X) → all (x ∷ rest) ≡ first x ++ all rest) where
   left_at : (xs : List X) (i : ℕ) (x : X) → i < length xs → x ≡ get_or xs i x → find p (all xs) ≡ find p (all (drop i xs)) → find p (all xs) ≡ find p (first x ++ all (drop (i + 1) xs))
@@ -50,20 +52,8 @@ module _ {X : Type 0} (p : plain.Statement → Bool) (first : X → List plain.S
   pub go_on : (xs : List X) (i : ℕ) (x : X) (o : Option (Bor Stmt)) → i < length xs → x ≡ get_or xs i x → find p (all xs) ≡ find p (all (drop i xs)) → o ≡ Absent → seen o ≡ find p (first x) → find p (all xs) ≡ find p (all (drop (i + 1) xs))
   go_on xs i x o within is e there f = left_at xs i x within is e ∙ sym (found_behind p (first x) (all (drop (i + 1) xs)) o (find p (all (drop (i + 1) xs))) there f refl)
 
-abbrev pub of_parts : List Stmt → List plain.Statement
-of_parts xs = statements_of_all (statements_of (map statement xs))
-
-abbrev pub of_clauses : List Catch → List plain.Statement
-of_clauses xs = statements_of_catches (clauses_of (map clause xs))
-
 abbrev pub of_bodies : List (Option Body) → List plain.Statement
 of_bodies xs = statements_of_bodies (map (option_map body_of) xs)
-
-pub more_parts : (x : Stmt) (rest : List Stmt) → of_parts (x ∷ rest) ≡ statements (statement x) ++ of_parts rest
-more_parts x rest = refl
-
-pub more_clauses : (c : Catch) (rest : List Catch) → of_clauses (c ∷ rest) ≡ statements (statement c.block) ++ of_clauses rest
-more_clauses c rest = ap statements_of_catches (view_clause c _)
 
 pub more_bodies : (b : Option Body) (rest : List (Option Body)) → of_bodies (b ∷ rest) ≡ statements_of_body (option_map body_of b) ++ of_bodies rest
 more_bodies b rest = refl

@@ -1,8 +1,12 @@
 pub mod Indexed
 pub mod Supertypes
 pub mod Views
+pub mod ExpressionViews
 pub mod Found
 pub mod Numbered
 pub mod Builtins
 pub mod Taking
 pub mod Closing
+pub mod Substatements
+pub mod Climbing
+pub mod Sorting

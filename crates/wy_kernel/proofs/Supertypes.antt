@@ -25,7 +25,7 @@ or_cases true b e = inl refl
 or_cases false b e = inr e
 
 -- an element that passes a test
-found : (p : ℕ → Bool) (xs : List ℕ) → list_any p xs ≡ true → (x : ℕ) × Contains xs x × (p x ≡ true)
+pub found : (p : ℕ → Bool) (xs : List ℕ) → list_any p xs ≡ true → (x : ℕ) × Contains xs x × (p x ≡ true)
 found p [] e = absurd (cc)
 found p (x ∷ xs) e =
     elim (or_cases (p x) (list_any p xs) e) [
@@ -33,7 +33,7 @@ found p (x ∷ xs) e =
       | inr h ↦ (let f = found p xs h in (f.0, (suc f.1.0, (let lt : f.1.0 < length xs = f.1.1 in omega arith), f.1.2), f.2))
     ]
 
-passes : (p : ℕ → Bool) (xs : List ℕ) (x : ℕ) → Contains xs x → p x ≡ true → list_any p xs ≡ true
+pub passes : (p : ℕ → Bool) (xs : List ℕ) (x : ℕ) → Contains xs x → p x ≡ true → list_any p xs ≡ true
 passes p [] x (k, lt, e) h = absurd (omega arith)
 passes p (y ∷ ys) x (zero, lt, e) h = or_left (p y) (list_any p ys) (ap p e ∙ h)
 passes p (y ∷ ys) x (suc k, lt, e) h = or_right (p y) (list_any p ys) (passes p ys x (k, omega arith, e) h)
@@ -74,13 +74,13 @@ none_contained : {A : Type 0} (c : ℕ) → Contains [] c → A
 none_contained c (k, lt, e) = absurd (omega arith)
 
 -- only a class of the list has direct supertypes
-in_range : (classes : List Class) (c d : ℕ) → Contains (direct_supertypes classes c) d → c < length classes
+pub in_range : (classes : List Class) (c d : ℕ) → Contains (direct_supertypes classes c) d → c < length classes
 unfolding direct_supertypes
 in_range [] c d h = none_contained d h
 in_range (k ∷ classes) zero d h = omega arith
 in_range (k ∷ classes) (suc c) d h = let lt : c < length classes = in_range classes c d h in omega arith
 
-distinct_with : (x : ℕ) (xs : List ℕ) → ((y : ℕ) → Contains xs y → x ≡ y → ⊥) → AllByRecursion (λ y. nat_eq x y ≡ false) xs
+pub distinct_with : (x : ℕ) (xs : List ℕ) → ((y : ℕ) → Contains xs y → x ≡ y → ⊥) → AllByRecursion (λ y. nat_eq x y ≡ false) xs
 distinct_with x [] h = tt
 distinct_with x (y ∷ ys) h =
     (let differs : x ≡ y → ⊥ = h y (0, omega arith, refl) in search (rules), distinct_with x ys (λ z c. h z (suc c.0, (let lt : c.0 < length ys = c.1 in omega arith), c.2)))

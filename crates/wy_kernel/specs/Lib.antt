@@ -7,3 +7,6 @@ pub mod Subtyping
 pub mod Builtin
 pub mod Table
 pub mod Rows
+pub mod Substatements
+pub mod Limits
+pub mod Order

@@ -115,6 +115,17 @@ is_source c = not (nat_lt c first_source_class)
 unfoldable pub full_name : Program → ℕ → List ℕ
 full_name p c = if is_source c then (class p c).name else codes "java.lang." ++ (class p c).name
 
+-- ---- primitive types
+
+-- the keyword of a primitive type (JLS 4.2)
+unfoldable pub primitive_name : Primitive → List ℕ
+primitive_name prim.Bool = codes "boolean"
+primitive_name prim.Byte = codes "byte"
+primitive_name prim.Short = codes "short"
+primitive_name prim.Char = codes "char"
+primitive_name prim.Int = codes "int"
+primitive_name prim.Long = codes "long"
+
 -- ---- types as numbers
 
 unfoldable pub primitive_code : Primitive → ℕ

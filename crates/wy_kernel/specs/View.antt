@@ -81,6 +81,11 @@ expression = fold-Expr plain.Expression plain.Place expression_step place_step
 unfoldable pub place : Place → plain.Place
 place = fold-Place plain.Expression plain.Place expression_step place_step
 
+-- a part that may be absent
+abbrev pub part_seen : Option (Box Expr Global) → plain.Part
+part_seen Absent = plain.absent
+part_seen (Some e) = plain.the (expression e.value)
+
 abbrev pub test_of : Option Expr → plain.Part
 test_of Absent = plain.absent
 test_of (Some e) = plain.the (expression e)

@@ -14,13 +14,13 @@ use std::alloc::{AllocError, Global};
 /// The classes of a source are numbered from here on, behind those of the library.
 pub const FIRST_SOURCE_CLASS: u32 = 18;
 
-const OBJECT: u32 = 0;
+pub const OBJECT: u32 = 0;
 
-const STRING: u32 = 1;
+pub const STRING: u32 = 1;
 
-const THROWABLE: u32 = 2;
+pub const THROWABLE: u32 = 2;
 
-const EXCEPTION: u32 = 3;
+pub const EXCEPTION: u32 = 3;
 
 const RUNTIME_EXCEPTION: u32 = 5;
 

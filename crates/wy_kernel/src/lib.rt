@@ -4,8 +4,12 @@
 
 pub mod builtin;
 pub mod closure;
+pub mod code;
 pub mod form;
+pub mod limit;
 pub mod operator;
 pub mod program;
 mod search;
+pub mod statements;
+pub mod substatement;
 pub mod types;

@@ -3,7 +3,9 @@
 ghost use Rattle.std.specs.Prelude.{◌≡◌, ◌≤◌, ◌==◌, not, length};
 ghost use Rattle.std.specs.Char.{digit_value};
 ghost use Rattle.std.specs.List.{prefix_len};
-ghost use Rattle.wy_tree.specs.Bytes.{is_line_end, is_blank, is_digit, begins_word, goes_on_word, goes_on_number, is_octal_digit, line_ends};
+ghost use Rattle.wy_tree.specs.Bytes.{is_line_end, is_blank, goes_on_number, goes_on_word, is_octal_digit, line_ends};
+
+use wy_tree::word::goes_on_word;
 
 pub fn is_line_end(byte: u8) -> bool
     ensures { result ≡ is_line_end byte }
@@ -17,28 +19,10 @@ pub fn is_blank(byte: u8) -> bool
     byte == b' ' || byte == b'\t' || byte == 12 || is_line_end(byte)
 }
 
-pub fn is_digit(byte: u8) -> bool
-    ensures { result ≡ is_digit byte }
-{
-    byte >= b'0' && byte <= b'9'
-}
-
 pub fn is_octal_digit(byte: u8) -> bool
     ensures { result ≡ is_octal_digit byte }
 {
     byte >= b'0' && byte <= b'7'
-}
-
-pub fn begins_word(byte: u8) -> bool
-    ensures { result ≡ begins_word byte }
-{
-    (byte >= b'a' && byte <= b'z') || (byte >= b'A' && byte <= b'Z') || byte == b'_' || byte == b'$'
-}
-
-pub fn goes_on_word(byte: u8) -> bool
-    ensures { result ≡ goes_on_word byte }
-{
-    begins_word(byte) || is_digit(byte)
 }
 
 pub fn goes_on_number(byte: u8) -> bool

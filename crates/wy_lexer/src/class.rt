@@ -5,7 +5,8 @@ ghost use Rattle.wy_tree.specs.Bytes.{begins_with, is_digit};
 ghost use Rattle.wy_tree.specs.Pieces.{class_of, is_literal_class};
 ghost use Rattle.wy_lexer.specs.Reading.{class_seen};
 
-use crate::bytes::{begins_word, is_blank, is_digit};
+use crate::bytes::is_blank;
+use wy_tree::word::{begins_word, is_digit};
 
 /// What a first byte and the one behind it begin.
 #[derive(Clone, Copy, Debug, Drop, PartialEq, Eq)]

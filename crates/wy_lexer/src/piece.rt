@@ -13,9 +13,10 @@ use crate::bytes::{line_length, number_length, word_length};
 use crate::class::{Class, class_of};
 use crate::literal::{char_literal, text_literal};
 use crate::number::number_of;
-use crate::words::{is_key, is_sign};
+use crate::words::is_sign;
 use std::alloc::{AllocError, Global};
 use wy_tree::token::Token;
+use wy_tree::word::is_key;
 
 /// What stands at a place.
 #[derive(Drop)]

@@ -8,13 +8,8 @@ ghost use Rattle.wy_kernel.specs.Program.{library_methods, first_source_class};
 use crate::form::{call_on_this, other};
 use crate::make::{alone, body, evaluated, local, site_of, statement};
 use std::alloc::{AllocError, Global};
+use wy_kernel::builtin::{EXCEPTION, STRING, THROWABLE};
 use wy_kernel::form::{Body, CallForm, Expr, StmtForm};
-
-const STRING: u32 = 1;
-
-const THROWABLE: u32 = 2;
-
-const EXCEPTION: u32 = 3;
 
 // The number of the constructor without a message.
 fn first_constructor(class: u32) -> u32

@@ -7,9 +7,8 @@ ghost use Rattle.wy_library.specs.Library as library;
 use crate::form::{boxed, equal, on_this, other, this};
 use crate::make::{alone, body, local, returned, site_of, statement};
 use std::alloc::{AllocError, Global};
+use wy_kernel::builtin::OBJECT;
 use wy_kernel::form::{Body, LibOp};
-
-const OBJECT: u32 = 0;
 
 /// `toString`
 pub fn object_to_string(alloc: Global) -> Result<Option<Body>, AllocError>

@@ -12,11 +12,8 @@ use crate::form::{
 };
 use crate::make::{alone, body, evaluated, guarded, local, reaching, returned, site_of, statement};
 use std::alloc::{AllocError, Global};
+use wy_kernel::builtin::{STRING, THROWABLE};
 use wy_kernel::form::{Body, CallForm, Expr, LibOp, Place, StmtForm};
-
-const STRING: u32 = 1;
-
-const THROWABLE: u32 = 2;
 
 /// The constructor without a message.
 pub fn plain_throwable(alloc: Global) -> Result<Option<Body>, AllocError>

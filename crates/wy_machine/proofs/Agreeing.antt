@@ -7,7 +7,7 @@ use borrow.Author.Count.{below_more}
 use Rattle.wy_event.specs.Record.{Recorded}
 use Rattle.wy_record.specs.declared.recorder.RecordError.{RecordError}
 use Rattle.wy_record.specs.declared.recorder.RecordError.TheVariants.{SinkFault, Differs, NoMemory}
-use Rattle.wy_record.specs.Answers.{DiffersFor}
+use Rattle.wy_record.specs.Recorders.{DiffersFor}
 use Rattle.wy_machine.specs.Differences.{AgreeBelow, DiffersAsFirst}
 
 -- ---- what an event is among those of a list

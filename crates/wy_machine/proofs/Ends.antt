@@ -15,7 +15,7 @@ use Rattle.wy_state.specs.Agrees.{Comes, Shape}
 use Rattle.wy_state.specs.Seen.{blank, covered_of}
 use Rattle.wy_work.specs.declared.turn.Signal.{Signal}
 use Rattle.wy_work.specs.declared.turn.Signal.TheVariants as signal
-use Rattle.wy_work.specs.Frames.{outcome_at}
+use Rattle.wy_work.specs.Tasks.{outcome_at}
 use Rattle.wy_machine.specs.Ended.{IsEndFor, IsEndOf, events_of, last_thrown, whole}
 use Rattle.wy_machine.specs.Going.{last_at, stop_at}
 use Rattle.wy_machine.specs.declared.ended.Ended.{Ended}

@@ -11,13 +11,13 @@ use Rattle.wy_operands.specs.Values.{Values}
 use Rattle.wy_state.specs.declared.parts.Halt.{Halt}
 use Rattle.wy_state.specs.declared.parts.Halt.TheVariants as halt
 use Rattle.wy_state.specs.Agrees.{Shape, Comes, Onward}
-use Rattle.wy_work.specs.declared.frame.Frame.{Frame}
+use Rattle.wy_work.specs.declared.task.Task.{Task}
 use Rattle.wy_work.specs.declared.turn.Signal.{Signal}
-use Rattle.wy_work.specs.Frames.{Standing, Ends, after, around, goes, outcome_at, pushed, then_all}
+use Rattle.wy_work.specs.Tasks.{MachineState, Ends, after, around, goes, outcome_at, pushed, then_all}
 use Rattle.wy_machine.specs.Going.{GoesOn, Reaches}
 
 -- the run that was before a machine is the one that ended so
-abbrev pub Before : Program → Standing → Signal → Outcome nothing Values → Type 0
+abbrev pub Before : Program → MachineState → Signal → Outcome nothing Values → Type 0
 Before p m x o = Comes p m.state (then_all p m (outcome_at x m.values)) o
 
 comes_on : {X : Type 0} {p : Program} {m n : Shape} {f g : Run nothing X} {o : Outcome nothing X} → Onward p m f n g → Comes p m f o → Comes p n g o
@@ -28,7 +28,7 @@ comes_on a c = record {
 }
 
 -- a turn, and how it ended
-module _ (p : Program) (m n : Standing) (f : Frame) (x : Signal) (o : Outcome nothing Values) (before : Before p (pushed f m) x o) where
+module _ (p : Program) (m n : MachineState) (f : Task) (x : Signal) (o : Outcome nothing Values) (before : Before p (pushed f m) x o) where
   pub turned : (r : Result (Unit {0}) Halt) (q : Result Signal AllocError) → Ends p f (outcome_at x m.values) m r n → Reaches r q → IfOk q (λ y. Before p n y o)
   turned (Ok u) (Ok y) ends is = subst (λ y. Before p n y o) (sym is) (comes_on ends before)
   turned (Err (halt.Left why)) (Ok y) ends is = subst (λ y. Before p n y o) (sym is) (comes_on ends before)
@@ -41,7 +41,7 @@ module _ (p : Program) (m n : Standing) (f : Frame) (x : Signal) (o : Outcome no
   turned_to r q y is ends reached = subst (λ z. IfOk z (λ y. Before p n y o)) is (turned r q ends reached)
 
 -- where nothing is left to do, the run ended
-pub ended : (p : Program) (m : Standing) (x : Signal) (o : Outcome nothing Values) → m.work ≡ [] → Before p m x o → Comes p m.state (outcome_at x m.values) o
+pub ended : (p : Program) (m : MachineState) (x : Signal) (o : Outcome nothing Values) → m.work ≡ [] → Before p m x o → Comes p m.state (outcome_at x m.values) o
 ended p m x o none before = subst (λ fs. Comes p m.state (λ s. after p (around m) fs (outcome_at x m.values s)) o) none before
 
 -- nothing is taken off exactly where there is nothing
@@ -53,7 +53,7 @@ nothing_popped {X = X} r (x ∷ xs) none some = absurd (never (subst IsSome none
     never is = cc
 
 -- the whole run was gone through
-pub came : (p q : Program) (m n : Standing) (r : Result Signal AllocError) (x : Signal) (o : Outcome nothing Values) → q ≡ p → r ≡ Ok x → GoesOn q m r n → Comes p m.state (goes p m) o → Comes p n.state (outcome_at x n.values) o
+pub came : (p q : Program) (m n : MachineState) (r : Result Signal AllocError) (x : Signal) (o : Outcome nothing Values) → q ≡ p → r ≡ Ok x → GoesOn q m r n → Comes p m.state (goes p m) o → Comes p n.state (outcome_at x n.values) o
 came p q m n r x o same is gone start =
     let gone_here : GoesOn p m r n = subst (λ z. GoesOn z m r n) same gone in
     subst (λ z. IfOk z (λ x. Comes p n.state (outcome_at x n.values) o)) is (gone_here o start)

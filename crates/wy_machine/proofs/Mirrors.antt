@@ -7,7 +7,7 @@ use Rattle.std.proofs.lemmas.List.Folds.{concat-append}
 use Rattle.wy_event.specs.Record.{Recorded}
 use Rattle.std.specs.List.{concat}
 use Rattle.wy_event.specs.declared.record.Tail.{Tail}
-use Rattle.wy_record.specs.Answers.{HaveClosing, HaveFront, Mirrors, with_more, opened}
+use Rattle.wy_record.specs.Recorders.{HaveClosing, HavePrefix, Mirrors, with_more, opened}
 use Rattle.wy_machine.specs.Traces.{BeginTrace, closed}
 
 pub with_nothing : (ms : Mirrors) → with_more [] ms ≡ ms
@@ -41,7 +41,7 @@ pub whole : (closing : List ℕ → List ℕ) (x y : List ℕ) (old started note
 whole closing x y old started noted finished first second third =
     third ∙ ap (map (option_map (λ b. b ++ closing b))) (second ∙ ap (with_more y) first ∙ with_both x y (opened old)) ∙ closed_is closing (x ++ y) old
 
--- ---- a first part of what was given
+-- ---- a prefix of what was given
 
 -- the first k of a list are as many of a longer one
 abbrev StartsSo : List ℕ → List ℕ → Type 0
@@ -53,8 +53,8 @@ starts_more [] y (suc k) = (0, refl)
 starts_more (b ∷ x) y ℕ.zero = (0, refl)
 starts_more (b ∷ x) y (suc k) = let (j, is) = starts_more x y k in (suc j, ap (λ l. b ∷ l) is)
 
--- a front of a piece is one of a longer piece
-pub front_more : (x y : List ℕ) (old new : Mirrors) → HaveFront x old new → HaveFront (x ++ y) old new
+-- a prefix of a piece is one of a longer piece
+pub front_more : (x y : List ℕ) (old new : Mirrors) → HavePrefix x old new → HavePrefix (x ++ y) old new
 front_more x y [] [] has = tt
 front_more x y [] (_ ∷ new) has = absurd has
 front_more x y (Absent ∷ old) [] has = absurd has
@@ -66,14 +66,14 @@ front_more x y (Some b ∷ old) (Some c ∷ new) ((k, is), rest) =
     let (j, same) = starts_more x y k in
     ((j, is ∙ ap (λ l. b ++ l) same), front_more x y old new rest)
 
--- a whole piece is a front of it
-pub front_whole : (x : List ℕ) (old : Mirrors) → HaveFront x old (with_more x old)
+-- a whole piece is a prefix of it
+pub front_whole : (x : List ℕ) (old : Mirrors) → HavePrefix x old (with_more x old)
 front_whole x [] = tt
 front_whole x (Absent ∷ old) = front_whole x old
 front_whole x (Some b ∷ old) = ((length x, ap (λ l. b ++ l) (sym (take-length x))), front_whole x old)
 
--- a front of what comes behind a piece is, with this, one of both
-pub front_behind : (x y : List ℕ) (old new : Mirrors) → HaveFront y (with_more x old) new → HaveFront (x ++ y) old new
+-- a prefix of what comes behind a piece is, with this, one of both
+pub front_behind : (x y : List ℕ) (old new : Mirrors) → HavePrefix y (with_more x old) new → HavePrefix (x ++ y) old new
 front_behind x y [] [] has = tt
 front_behind x y [] (_ ∷ new) has = absurd has
 front_behind x y (Absent ∷ old) [] has = absurd has
@@ -84,8 +84,8 @@ front_behind x y (Some b ∷ old) (Absent ∷ new) has = absurd has
 front_behind x y (Some b ∷ old) (Some c ∷ new) ((k, is), rest) =
     ((length x + k, is ∙ append_assoc b x (take k y) ∙ ap (λ l. b ++ l) (sym (take-append-add x y k))), front_behind x y old new rest)
 
--- so is a front of what closes it
-pub front_closing : (closing : List ℕ → List ℕ) (x : List ℕ) (old new : Mirrors) → HaveClosing closing (with_more x (opened old)) new → HaveFront (x ++ closing x) (opened old) new
+-- so is a prefix of what closes it
+pub front_closing : (closing : List ℕ → List ℕ) (x : List ℕ) (old new : Mirrors) → HaveClosing closing (with_more x (opened old)) new → HavePrefix (x ++ closing x) (opened old) new
 front_closing closing x [] [] has = tt
 front_closing closing x [] (_ ∷ new) has = absurd has
 front_closing closing x (Absent ∷ old) [] has = absurd has
@@ -105,11 +105,11 @@ module _ {E : Type 0} (seen : E → Recorded) (frame : Recorded → List ℕ) wh
   joined xs ys =
       ap (λ rs. concat (map frame rs)) (map-append seen xs ys) ∙ ap concat (map-append frame (map seen xs) (map seen ys)) ∙ concat-append (map frame (map seen xs)) (map frame (map seen ys))
 
-  pub front_of_events : (es : List E) (i : ℕ) (e : E) (old noted new : Mirrors) → i < length es → get_or es i e ≡ e → noted ≡ with_more (spelled (take i es)) old → HaveFront (frame (seen e)) noted new → HaveFront (spelled es) old new
+  pub front_of_events : (es : List E) (i : ℕ) (e : E) (old noted new : Mirrors) → i < length es → get_or es i e ≡ e → noted ≡ with_more (spelled (take i es)) old → HavePrefix (frame (seen e)) noted new → HavePrefix (spelled es) old new
   front_of_events es i e old noted new below is so_far has =
-      let more : HaveFront (spelled (take i es) ++ frame (seen e)) old new = front_behind (spelled (take i es)) (frame (seen e)) old new (subst (λ (ms : Mirrors). HaveFront (frame (seen e)) ms new) so_far has) in
-      let first : HaveFront (spelled (take (i + 1) es)) old new = subst (λ (bytes : List ℕ). HaveFront bytes old new) (sym (one_more seen frame es i e below is)) more in
-      subst (λ (bytes : List ℕ). HaveFront bytes old new) (sym (joined (take (i + 1) es) (drop (i + 1) es)) ∙ ap spelled (take-append-drop (i + 1) es)) (front_more (spelled (take (i + 1) es)) (spelled (drop (i + 1) es)) old new first)
+      let more : HavePrefix (spelled (take i es) ++ frame (seen e)) old new = front_behind (spelled (take i es)) (frame (seen e)) old new (subst (λ (ms : Mirrors). HavePrefix (frame (seen e)) ms new) so_far has) in
+      let first : HavePrefix (spelled (take (i + 1) es)) old new = subst (λ (bytes : List ℕ). HavePrefix bytes old new) (sym (one_more seen frame es i e below is)) more in
+      subst (λ (bytes : List ℕ). HavePrefix bytes old new) (sym (joined (take (i + 1) es) (drop (i + 1) es)) ∙ ap spelled (take-append-drop (i + 1) es)) (front_more (spelled (take (i + 1) es)) (spelled (drop (i + 1) es)) old new first)
 
 -- ---- where a recording is refused
 
@@ -119,16 +119,16 @@ any_error (Err e) P h = h
 
 module _ (closing : Tail → List ℕ → List ℕ) (IsEnd : Tail → Type 0) (x y : List ℕ) (old : Mirrors) where
   -- at its opening
-  pub begun_opening : (new : Mirrors) → HaveFront x (opened old) new → BeginTrace closing IsEnd (x ++ y) old new
+  pub begun_opening : (new : Mirrors) → HavePrefix x (opened old) new → BeginTrace closing IsEnd (x ++ y) old new
   begun_opening new has = inl (front_more x y (opened old) new has)
 
   -- where memory is wanting for the run
   pub begun_alone : (new : Mirrors) → new ≡ with_more x (opened old) → BeginTrace closing IsEnd (x ++ y) old new
-  begun_alone new is = begun_opening new (subst (HaveFront x (opened old)) (sym is) (front_whole x (opened old)))
+  begun_alone new is = begun_opening new (subst (HavePrefix x (opened old)) (sym is) (front_whole x (opened old)))
 
   -- at an event
-  pub begun_events : (started new : Mirrors) → started ≡ with_more x (opened old) → HaveFront y started new → BeginTrace closing IsEnd (x ++ y) old new
-  begun_events started new is has = inl (front_behind x y (opened old) new (subst (λ (ms : Mirrors). HaveFront y ms new) is has))
+  pub begun_events : (started new : Mirrors) → started ≡ with_more x (opened old) → HavePrefix y started new → BeginTrace closing IsEnd (x ++ y) old new
+  begun_events started new is has = inl (front_behind x y (opened old) new (subst (λ (ms : Mirrors). HavePrefix y ms new) is has))
 
   -- at its end
   pub begun_end : (end : Tail) (started noted new : Mirrors) → IsEnd end → started ≡ with_more x (opened old) → noted ≡ with_more y started → HaveClosing (closing end) noted new → BeginTrace closing IsEnd (x ++ y) old new

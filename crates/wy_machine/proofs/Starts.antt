@@ -12,17 +12,18 @@ use Rattle.wy_heap.specs.declared.heap.Heap.{Heap}
 use Rattle.wy_heap.specs.Changes.{IsNew}
 use Rattle.wy_steps.specs.Sets.{nothing}
 use Rattle.wy_steps.specs.State.{Carried, Run, Outcome, Done, Left, Stopped, go_on, ◌>>=◌, ◌>>◌, return}
-use Rattle.wy_steps.specs.Steps.{held_of, has_init, depth_limit}
+use Rattle.wy_kernel.specs.Limits.{depth_limit}
+use Rattle.wy_steps.specs.Steps.{held_of, has_init}
 use Rattle.wy_meaning.specs.World.{World}
 use Rattle.wy_meaning.specs.Place.{initialize}
 use Rattle.wy_meaning.specs.Run.{start, outcome, main_run, world}
 use Rattle.wy_calls.specs.Calls.{nothing_runs}
 use Rattle.wy_state.specs.Agrees.{Agrees, Comes}
 use Rattle.wy_state.specs.Seen.{blank, covered_of}
-use Rattle.wy_work.specs.declared.frame.Frame.TheVariants as frame
-use Rattle.wy_work.specs.declared.frame.Step.TheVariants as step
+use Rattle.wy_work.specs.declared.task.Task.TheVariants as task
+use Rattle.wy_work.specs.declared.task.Step.TheVariants as step
 use Rattle.wy_operands.specs.Values.{Values}
-use Rattle.wy_work.specs.Frames.{Standing, goes, main_called, pushed}
+use Rattle.wy_work.specs.Tasks.{MachineState, goes, main_called, pushed}
 use Rattle.wy_work.proofs.Runs.{world_program}
 use Rattle.wy_machine.specs.Start.{untouched}
 use Rattle.wy_machine.specs.Ended.{whole}
@@ -73,7 +74,7 @@ starts p input budget h new cs n same keeps kept none = record {
     untouched_all : (cs : List Cover) → cs ≡ replicate n untouched → (k : ℕ) → k < length cs → (start {A = nothing} input budget).coverage k ≡ covered_of (get_or cs k blank)
     untouched_all cs same k below = rw (same, get_or-replicate n k untouched blank (within cs same k below)) refl
 
--- a first part that leaves no value, and the rest
+-- a prefix that leaves no value, and the rest
 first_part : (x : Outcome nothing (Unit {0})) (k : Run nothing (Carried nothing)) →
     go_on (go_on x (λ u. return [])) (λ (vs : Values) s. go_on (k s) (λ v. return (v ∷ vs))) ≡ go_on (go_on x (λ u. k)) (λ v. return (v ∷ []))
 unfolding go_on return
@@ -93,8 +94,8 @@ module _ (p : Program) (input : List ℕ) (budget : ℕ) where
   in_turn = ap (λ q. go_on (go_on (begun q) (λ u. return [])) (λ (vs : Values) s. go_on (main_called w s) (λ v. return (v ∷ vs)))) (sym (world_program p depth_limit)) ∙ first_part (begun w.program) (main_called w)
 
   -- all of the run is before a machine that starts
-  pub all_before : (m : Standing) → Agrees p m.state (start input budget) → m.depth ≡ depth_limit → m.values ≡ [] →
-      m.work ≡ frame.Plain (step.Initialize (method p p.main).class (class p (method p p.main).class).site) ∷ frame.Plain step.Main ∷ [] → Comes p m.state (goes p m) (whole p input budget)
+  pub all_before : (m : MachineState) → Agrees p m.state (start input budget) → m.depth ≡ depth_limit → m.values ≡ [] →
+      m.work ≡ task.Plain (step.Initialize (method p p.main).class (class p (method p p.main).class).site) ∷ task.Plain step.Main ∷ [] → Comes p m.state (goes p m) (whole p input budget)
   unfolding go_on return
   all_before m agrees deep none work = record {
     state = start input budget;
@@ -103,8 +104,8 @@ module _ (p : Program) (input : List ℕ) (budget : ℕ) where
   }
 
   -- where two frames were pushed
-  pub pushed_before : (m n l : Standing) (c site : ℕ) → Agrees p m.state (start input budget) → m.depth ≡ depth_limit → m.values ≡ [] → m.work ≡ [] →
-      c ≡ (method p p.main).class → site ≡ (class p c).site → n ≡ pushed (frame.Plain step.Main) m → l ≡ pushed (frame.Plain (step.Initialize c site)) n → Comes p l.state (goes p l) (whole p input budget)
+  pub pushed_before : (m n l : MachineState) (c site : ℕ) → Agrees p m.state (start input budget) → m.depth ≡ depth_limit → m.values ≡ [] → m.work ≡ [] →
+      c ≡ (method p p.main).class → site ≡ (class p c).site → n ≡ pushed (task.Plain step.Main) m → l ≡ pushed (task.Plain (step.Initialize c site)) n → Comes p l.state (goes p l) (whole p input budget)
   pushed_before m n l c site agrees deep none work same at first second =
-      subst (λ x. Comes p x.state (goes p x) (whole p input budget)) (sym (second ∙ ap (pushed (frame.Plain (step.Initialize c site))) first))
-      (all_before (pushed (frame.Plain (step.Initialize c site)) (pushed (frame.Plain step.Main) m)) agrees deep none (rw (work, at, same) refl))
+      subst (λ x. Comes p x.state (goes p x) (whole p input budget)) (sym (second ∙ ap (pushed (task.Plain (step.Initialize c site))) first))
+      (all_before (pushed (task.Plain (step.Initialize c site)) (pushed (task.Plain step.Main) m)) agrees deep none (rw (work, at, same) refl))

@@ -3,7 +3,7 @@ use Rattle.std.proofs.Common.{◌≡◌, ◌↔◌, ◌∙◌, Bool, true, false
 use Rattle.wy_event.specs.declared.record.Cover.{Cover}
 use Rattle.wy_event.specs.declared.record.Tail.{Tail}
 use Rattle.wy_kernel.specs.View.{present}
-use Rattle.wy_comparing.proofs.Events.{present_once}
+use Rattle.wy_record.proofs.Events.{present_once}
 use Rattle.wy_meaning.specs.Kept.{covered_of, kept_tail}
 use Rattle.wy_machine.specs.Audits.{SameCounts}
 

@@ -15,10 +15,10 @@ use Rattle.wy_state.specs.Agrees.{Comes}
 use Rattle.wy_state.specs.Seen.{stop_of}
 use Rattle.wy_work.specs.declared.turn.Signal.{Signal}
 use Rattle.wy_work.specs.declared.turn.Signal.TheVariants as signal
-use Rattle.wy_work.specs.Frames.{Standing, goes, outcome_at}
+use Rattle.wy_work.specs.Tasks.{MachineState, goes, outcome_at}
 
 -- the run that the machine had before it is the one that ended so
-abbrev pub GoesOn : Program → Standing → Result Signal AllocError → Standing → Type 0
+abbrev pub GoesOn : Program → MachineState → Result Signal AllocError → MachineState → Type 0
 GoesOn p m result n = (o : Outcome nothing Values) → Comes p m.state (goes p m) o → IfOk result (λ signal. Comes p n.state (outcome_at signal n.values) o)
 
 -- what a turn came to

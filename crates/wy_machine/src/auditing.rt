@@ -8,10 +8,9 @@ ghost use Rattle.wy_meaning.specs.Kept.{kept_tail};
 
 use crate::recording::record;
 use std::alloc::{AllocError, Global};
-use wy_comparing::CompareRecorder;
 use wy_event::record::{Cover, Event, Tail, Trace};
 use wy_kernel::program::Program;
-use wy_record::RecordError;
+use wy_record::{CompareRecorder, RecordError};
 
 /// What an audit finds.
 #[derive(Clone, Copy, Debug, PartialEq, Eq)]

@@ -11,7 +11,7 @@ ghost use Rattle.wy_state.specs.Agrees.{Comes, shape};
 ghost use Rattle.wy_state.specs.Seen.{stop_of};
 ghost use Rattle.wy_steps.specs.Sets.{nothing};
 ghost use Rattle.wy_steps.specs.State.{Outcome};
-ghost use Rattle.wy_work.specs.Frames.{outcome_at};
+ghost use Rattle.wy_work.specs.Tasks.{outcome_at};
 
 use crate::ended::Ended;
 use crate::thrown::thrown;

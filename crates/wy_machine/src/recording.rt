@@ -7,7 +7,7 @@ ghost use Rattle.wy_fitting.specs.Fits.{AllFit};
 ghost use Rattle.wy_kernel.specs.Parts.{program_of};
 ghost use Rattle.wy_machine.specs.Ended.{IsEndOf, IsTailOf};
 ghost use Rattle.wy_meaning.specs.Run as meaning;
-ghost use Rattle.wy_record.specs.Answers.{FaultsAs, MirrorsTake};
+ghost use Rattle.wy_record.specs.Recorders.{FaultsAs, MirrorsTake};
 ghost use Rattle.wy_record.specs.declared.recorder.Phase.TheVariants.{Done, Failed, Ready, Recording};
 ghost use Rattle.wy_machine.specs.Differences.{AgreeBelow, DiffersAsFirst};
 ghost use Rattle.wy_machine.specs.Traces.{BeginTrace, IsLeft, closed};
@@ -24,7 +24,7 @@ use wy_record::{MemoryRecorder, RecordError, Recorder};
 /// Runs a program with the input and the steps of a head, and hands the head, each event in order
 /// and the end to a recorder, which is done then; the expected events are for one that compares.
 /// The events are kept until the run has ended. Where a call is refused, the recorder has failed, and
-/// each mirror has a first part of the trace; where memory is wanting for the run, it has the head
+/// each mirror has a prefix of the trace; where memory is wanting for the run, it has the head
 /// alone and goes on recording.
 pub fn record<R: Recorder>(
     alloc: Global,

@@ -6,23 +6,21 @@ ghost use Rattle.wy_machine.specs.Ended.{whole};
 ghost use Rattle.wy_machine.specs.Start.{untouched};
 ghost use Rattle.wy_meaning.specs.Run.{start};
 ghost use Rattle.wy_state.specs.Agrees.{Agrees, Comes, shape};
-ghost use Rattle.wy_work.specs.Frames.{goes};
+ghost use Rattle.wy_work.specs.Tasks.{goes};
 ghost use Rattle.wy_work.specs.Machines.{standing};
 
 use std::alloc::{AllocError, Global};
 use wy_calls::Calls;
 use wy_event::record::Cover;
 use wy_heap::Heap;
+use wy_kernel::limit::DEPTH_LIMIT;
 use wy_kernel::program::Program;
 use wy_kernel::types::NONE;
 use wy_operands::Operands;
 use wy_record::Recorder;
 use wy_state::state::State;
-use wy_work::frame::Step;
 use wy_work::machine::Machine;
-
-/// So many calls and initializations may stand in one another.
-const DEPTH_LIMIT: u32 = 1000;
+use wy_work::task::Step;
 
 /// A machine that has all of a run before it.
 pub fn start<'a, R: Recorder + Drop>(
@@ -47,7 +45,7 @@ pub fn start<'a, R: Recorder + Drop>(
     let site = program.class(class).site;
     let mut machine = Machine {
         state: state(alloc, program, input, steps, recorder)?,
-        depth: DEPTH_LIMIT,
+        depth: DEPTH_LIMIT as u32,
         work: Vec::new(alloc),
         stack: Operands::new(alloc),
         saved: Vec::new(alloc),

@@ -10,11 +10,11 @@ ghost use Rattle.wy_steps.specs.State as run;
 
 use std::alloc::AllocError;
 use wy_event::record::Thrown;
+use wy_kernel::code::{class_of_type, type_of_code};
 use wy_kernel::types::NONE;
 use wy_record::Recorder;
 use wy_state::parts::Throw;
 use wy_state::state::State;
-use wy_state::subtype::{class_of_type, type_of_code};
 use wy_value::Value;
 
 /// The class of the object of a Throw and its site, and neither where there is no Throw.

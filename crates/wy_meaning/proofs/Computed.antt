@@ -16,7 +16,7 @@ use Rattle.wy_event.specs.Numbers.{Numbers}
 use Rattle.wy_steps.specs.Sets.{nothing as carries_nothing}
 use Rattle.wy_steps.specs.State.{Covered}
 use Rattle.wy_meaning.specs.Run.{Tail}
-use Rattle.wy_kernel.specs.Program.{class, method, field, body, init_body, fixed_text, local_site, is_source, full_name, primitive_code, base_code, type_code, base_of, type_of_code, element_type, class_of_type, is_array, is_one_of, is_above, class_below, is_subclass, same_primitive, base_below, is_object, brackets_below, is_below, same_units, same_types, is_instance, runs_as, declared_in, or_above, find_method, dispatch}
+use Rattle.wy_kernel.specs.Program.{class, method, field, body, init_body, fixed_text, local_site, is_source, full_name, primitive_name, primitive_code, base_code, type_code, base_of, type_of_code, element_type, class_of_type, is_array, is_one_of, is_above, class_below, is_subclass, same_primitive, base_below, is_object, brackets_below, is_below, same_units, same_types, is_instance, runs_as, declared_in, or_above, find_method, dispatch}
 use Rattle.wy_event.specs.Numbers.{none, only, union, union_of}
 use Rattle.wy_event.specs.Record.{recorded, same_slot}
 use Rattle.wy_kernel.specs.View.{present}
@@ -26,7 +26,7 @@ use Rattle.wy_steps.specs.Steps.{constant, with_value, joined, joined_all, value
 use Rattle.wy_meaning.specs.Array.{make_array, for_each, subarrays, is_negative, any_negative, make_arrays, create_array, first_site, rest_sites, set_elements, create_filled, new_array}
 use Rattle.wy_meaning.specs.Call.{call_uses, bound, bind_all, is_void, end_body, at_return, run_body, frame_of_call, call_method, at_failure, initialize_above, initialization, text_equals, call_on_text, call_form, call_on, call_static, construct, create}
 use Rattle.wy_meaning.specs.Expression.{constant_value, part_or, update, unary, binary, convert, cast, instance_of, arm, conditional, call, eval, locate, eval_part, eval_row}
-use Rattle.wy_meaning.specs.Library.{text_arg, int_in, unit_or_fail, part_or_fail, int_or_fail, parse, absolute, greater, lesser, byte_value, read_byte, primitive_name, base_name, brackets_text, type_name, number_of_object, hexadecimal, library_one, library_two, library_three, library, library_form}
+use Rattle.wy_meaning.specs.Library.{text_arg, int_in, unit_or_fail, part_or_fail, int_or_fail, parse, absolute, greater, lesser, byte_value, read_byte, base_name, brackets_text, type_name, number_of_object, hexadecimal, library_one, library_two, library_three, library, library_form}
 use Rattle.wy_meaning.specs.Place.{initialize_source, initialize, local_spot, static_spot, field_spot, index_in, checked_index, element_spot, find, lacks_value, fetch, read_place, assign, may_store, check_store, store, set_place, promoted, operated, primitive_of, divided, update_place}
 use Rattle.wy_meaning.specs.Run.{call_body, init_block, world, main_run, start, outcome, end, stop_number, stop_of, last_of_stop, last_of_reason, last_of, covers, tail_of, history, events, output, tail, final_store}
 use Rattle.wy_meaning.specs.Statement.{statement, tested, evaluated, declaration, if_form, turns, while_form, do_form, for_test, for_form, jump, return_form, throw_form, caught, handle, at_throw, finally, try_form, print_form, other_or, exec, exec_act, exec_other, exec_all, exec_catches}
@@ -58,7 +58,7 @@ numbers_in f i ℕ.zero = []
 numbers_in f i (ℕ.suc n) = if f i then i ∷ numbers_in f (ℕ.suc i) n else numbers_in f (ℕ.suc i) n
 
 abbrev pub event : Kind → ℕ → Option ℕ → Option ℕ → Option ℕ → Slot → Value → List ℕ → List Use → Recorded
-event k site f c w x v us ps = record { kind = k; site = site; frame = f; control = c; what = w; slot = x; value = v; units = us; uses = ps }
+event k site f c w x v us ps = record { kind = k; site = site; frame = f; control = c; entity = w; slot = x; value = v; units = us; uses = ps }
 
 abbrev pub cover : ℕ → ℕ → Option ℕ → ℕ → Covered
 cover b e f c = record { begins = b; ends = e; first = f; cause = c }

@@ -16,13 +16,14 @@ use Rattle.wy_value.specs.declared.value.Value.TheVariants as val
 use Rattle.wy_event.specs.declared.record.Kind.TheVariants as kind
 use Rattle.wy_event.specs.declared.record.Slot.TheVariants as slot
 use Rattle.wy_event.specs.declared.record.Use.TheVariants as used
+use Rattle.wy_kernel.specs.Limits.{event_limit, use_limit, element_limit, unit_limit, output_limit}
 use Rattle.wy_steps.specs.Steps.{going_on, never_left}
 use Rattle.wy_meaning.proofs.Computed.{told, event, cover, class_named, method_named, body_with}
 use Rattle.wy_meaning.proofs.Builtin.{program}
 use Rattle.std.specs.Prelude.{length, nat_le}
 use Rattle.wy_steps.specs.Sets.{Sets, nothing as carries_nothing}
 use Rattle.wy_steps.specs.State.{Carried, State, Stop, EventLimit, UseLimit, ElementLimit, UnitLimit, OutputLimit, DepthLimit, Outcome, Stopped, Run, go_on, ◌>>=◌, ◌>>◌, return, stop, choose}
-use Rattle.wy_steps.specs.Steps.{event_limit, use_limit, element_limit, unit_limit, output_limit, room_for, noting, note, with_elements, take_elements, with_units, take_units, room_for_output, write_out, value_of}
+use Rattle.wy_steps.specs.Steps.{room_for, noting, note, with_elements, take_elements, with_units, take_units, room_for_output, write_out, value_of}
 use Rattle.wy_meaning.specs.World.{World, plain}
 use Rattle.wy_meaning.specs.Text.{make_text, print}
 use Rattle.wy_meaning.specs.Array.{make_array}

@@ -11,7 +11,7 @@ use Rattle.wy_kernel.specs.declared.types.Ty.{Ty}
 use Rattle.wy_kernel.specs.declared.types.Ty.TheVariants.{Of}
 use Rattle.wy_kernel.specs.declared.form.LibOp.{LibOp}
 use Rattle.wy_kernel.specs.declared.form.LibOp.TheVariants as op
-use Rattle.wy_kernel.specs.Program.{Program, full_name, same_units}
+use Rattle.wy_kernel.specs.Program.{primitive_name, Program, full_name, same_units}
 use Rattle.wy_value.specs.declared.value.Value.{Value}
 use Rattle.wy_value.specs.declared.value.Value.TheVariants.{None as Nothing, Bool as Boolean, Char, Int, Long, Object, Text, Fixed}
 use Rattle.wy_value.specs.Number.{wrapped}
@@ -78,14 +78,6 @@ read_byte site = do
   b ← next_byte
   e ← note (plain kind.Read site (byte_value b)) (constant Nothing)
   return (value_of e (byte_value b))
-
-unfoldable pub primitive_name : Primitive → List ℕ
-primitive_name prim.Bool = codes "boolean"
-primitive_name prim.Byte = codes "byte"
-primitive_name prim.Short = codes "short"
-primitive_name prim.Char = codes "char"
-primitive_name prim.Int = codes "int"
-primitive_name prim.Long = codes "long"
 
 unfoldable pub base_name : Program → Base → List ℕ
 base_name p (Basic q) = primitive_name q

@@ -9,7 +9,8 @@ use Rattle.wy_value.specs.declared.value.Value.TheVariants.{Int, Object}
 use Rattle.wy_event.specs.Record.{Recorded}
 use Rattle.wy_steps.specs.Sets.{Sets}
 use Rattle.wy_steps.specs.State.{Carried, Store, Noted, Covered, State, Stop, StepLimit, EventLimit, UseLimit, ElementLimit, UnitLimit, OutputLimit, DepthLimit, Unassigned, FellOff, InitFailed, Reason, Jumped, Returned, Threw, Outcome, Done, Left, Stopped, Run, ◌>>=◌, ◌>>◌, return, stop}
-use Rattle.wy_steps.specs.Steps.{constant, value_of, depth_limit, never_left}
+use Rattle.wy_kernel.specs.Limits.{depth_limit}
+use Rattle.wy_steps.specs.Steps.{constant, value_of, never_left}
 use Rattle.wy_meaning.specs.World.{World, object_in, type_in}
 use Rattle.wy_meaning.specs.Place.{initialize}
 use Rattle.wy_meaning.specs.Call.{call_method, initialization}

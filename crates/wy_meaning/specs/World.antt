@@ -25,16 +25,16 @@ pub record World (A : Sets) : Type 0 where
 -- ---- drafts of events
 
 unfoldable pub plain : Kind → ℕ → Value → Draft
-plain k site v = record { kind = k; site = site; what = Absent; slot = Nowhere; value = v; units = [] }
+plain k site v = record { kind = k; site = site; entity = Absent; slot = Nowhere; value = v; units = [] }
 
 unfoldable pub about : Kind → ℕ → ℕ → Value → Draft
-about k site what v = record { kind = k; site = site; what = Some what; slot = Nowhere; value = v; units = [] }
+about k site entity v = record { kind = k; site = site; entity = Some entity; slot = Nowhere; value = v; units = [] }
 
 unfoldable pub into : Kind → ℕ → Slot → Value → Draft
-into k site x v = record { kind = k; site = site; what = Absent; slot = x; value = v; units = [] }
+into k site x v = record { kind = k; site = site; entity = Absent; slot = x; value = v; units = [] }
 
 unfoldable pub spelling : ℕ → List ℕ → Draft
-spelling site units = record { kind = kind.Text; site = site; what = Absent; slot = Nowhere; value = Nothing; units = units }
+spelling site units = record { kind = kind.Text; site = site; entity = Absent; slot = Nowhere; value = Nothing; units = units }
 
 -- ---- exceptions of the machine (JLS 11.1.1): a New and a Throw at the failing form, and no constructor
 
@@ -90,7 +90,7 @@ object_in _ = 0
 
 unfoldable pub type_in : Option Recorded → Ty
 type_in Absent = OfNull
-type_in (Some e) = type_of_code (code_of e.what)
+type_in (Some e) = type_of_code (code_of e.entity)
 
 -- the run-time type of a reference
 unfoldable pub type_of : {A : Sets} → Value → Run A Ty

@@ -23,6 +23,8 @@ use Rattle.wy_members.specs.Within.{StandsWrongly, InheritsWrongly, LeavesAbstra
 use Rattle.wy_members.specs.Alike.{AreByName, AreMethods, HasAlike, HasEarlier, IsExtended, IsFound, IsSought, ListsFound, SomeListed, InheritsAlike, InheritsAlikeWrongly, LeavesAlikeAbstract}
 use Rattle.wy_members.proofs.Alone.{never_wrong_alone}
 use Rattle.wy_members.proofs.Listed.{EachBefore, each_listed}
+use Rattle.wy_overloads.proofs.Members.{same_method as one_method}
+use Rattle.wy_overloads.proofs.Listed.{declared_so as name_or_constructor}
 
 -- ---- alike methods
 
@@ -35,16 +37,7 @@ through m n o a b = (b.0 ∙ a.0, b.1 ∙ a.1)
 equal_along : (classes : List Class) (type : Ty) (m n other : Method) → IsAlike m n → IsEquivalent classes type n other → IsEquivalent classes type m other
 equal_along classes type m n other a e = record { member = record { named = e.member.named ∙ a.0; declared = e.member.declared }; same = e.same ∙ a.1 }
 
-pub one_method : (t : Table) (k : ℕ) (m other : Method) → IsMethod t k m → IsMethod t k other → m ≡ other
-one_method t k m other e f = let g : Some m ≡ Some other = sym e ∙ f in cc
-
 -- ---- a method that a type has is called by its name, or is a constructor of the class that the type is
-
-pub name_or_constructor : (classes : List Class) (type : Ty) (class : ℕ) (form : MethodForm) → DeclaredFor classes type class form → IsByName form ⊎ ((form ≡ kind.Constructor) × (type ≡ class_type class))
-name_or_constructor classes type class kind.Static d = inl tt
-name_or_constructor classes type class kind.Instance d = inl tt
-name_or_constructor classes type class kind.Constructor d = inr (refl, d)
-name_or_constructor classes type class kind.Fields d = absurd d
 
 same_class : (c d : ℕ) → class_type c ≡ class_type d → d ≡ c
 same_class c d e = cc

@@ -39,11 +39,11 @@ tested test P sound (x ∷ xs) e = All-cons P x xs (sound x (left (test x) (list
     right true b h = h
     right false b h = absurd (cc)
 
-all_flat : {X Y : Type 0} (f : X → List Y) (P : Y → Type 0) → ((x : X) → All P (f x)) → (xs : List X) → All P (flat_map f xs)
+pub all_flat : {X Y : Type 0} (f : X → List Y) (P : Y → Type 0) → ((x : X) → All P (f x)) → (xs : List X) → All P (flat_map f xs)
 all_flat f P h [] = λ k d lt. absurd (omega arith)
 all_flat f P h (x ∷ xs) = All-append P (f x) (flat_map f xs) (h x) (all_flat f P h xs)
 
-all_filtered : {X Y : Type 0} (f : X → Option Y) (P : Y → Type 0) → ((x : X) (y : Y) → f x ≡ Some y → P y) → (xs : List X) → All P (filter_map f xs)
+pub all_filtered : {X Y : Type 0} (f : X → Option Y) (P : Y → Type 0) → ((x : X) (y : Y) → f x ≡ Some y → P y) → (xs : List X) → All P (filter_map f xs)
 all_filtered f P h [] = λ k d lt. absurd (omega arith)
 all_filtered f P h (x ∷ xs) = by (f x) refl (all_filtered f P h xs)
   where
@@ -51,7 +51,7 @@ all_filtered f P h (x ∷ xs) = by (f x) refl (all_filtered f P h xs)
     by None e rest = rest
     by (Some y) e rest = All-cons P y (filter_map f xs) (h x y e) rest
 
-all_by_class : {Y : Type 0} (f : ℕ → ClassSyntax → List Y) (P : Y → Type 0) (many : ℕ) → ((i : ℕ) (k : ClassSyntax) → i < many → All P (f i k)) → (c : ℕ) (ks : List ClassSyntax) → c + length ks ≤ many →
+pub all_by_class : {Y : Type 0} (f : ℕ → ClassSyntax → List Y) (P : Y → Type 0) (many : ℕ) → ((i : ℕ) (k : ClassSyntax) → i < many → All P (f i k)) → (c : ℕ) (ks : List ClassSyntax) → c + length ks ≤ many →
     All P (flat_map (λ p. f p.0 p.1) (enumerate_from c ks))
 all_by_class f P many h c [] le = λ k d lt. absurd (omega arith)
 all_by_class f P many h c (x ∷ ks) le = All-append P (f c x) (flat_map (λ p. f p.0 p.1) (enumerate_from (c + 1) ks)) (h c x (omega arith)) (all_by_class f P many h (c + 1) ks (omega arith))
@@ -62,18 +62,18 @@ pub many_classes : (unit : CompilationUnit) → length (table unit).classes ≡ 
 unfolding table
 many_classes unit = length-append builtin.classes (class_rows unit unit) ∙ ap (λ n. n + length (class_rows unit unit)) how_many.0 ∙ ap (λ n. 18 + n) (length-map (classes_of unit) (class_row unit))
 
-many_names : (unit : CompilationUnit) → length (class_names unit) ≡ length (table unit).classes
+pub many_names : (unit : CompilationUnit) → length (class_names unit) ≡ length (table unit).classes
 many_names unit =
     length-append (map name_of builtin.classes) (written_names unit)
     ∙ ap (λ n. n + length (written_names unit)) (length-map builtin.classes name_of ∙ how_many.0)
     ∙ ap (λ n. 18 + n) (length-map (classes_of unit) (λ (k : ClassSyntax). k.name.name))
     ∙ sym (many_classes unit)
 
-denoted_below : (unit : CompilationUnit) (name : List ℕ) → IfSome (denoted unit name) (λ c. c < length (table unit).classes)
+pub denoted_below : (unit : CompilationUnit) (name : List ℕ) → IfSome (denoted unit name) (λ c. c < length (table unit).classes)
 unfolding denoted
 denoted_below unit name = position_below (bytes_eq name) (class_names unit) (length (table unit).classes) (denoted unit name) (let e = many_names unit in omega arith) refl
 
-class_below : (unit : CompilationUnit) (name : List ℕ) → class_or_object unit name < length (table unit).classes
+pub class_below : (unit : CompilationUnit) (name : List ℕ) → class_or_object unit name < length (table unit).classes
 class_below unit name = by (denoted unit name) (denoted_below unit name)
   where
     by : (o : Option ℕ) → IfSome o (λ c. c < length (table unit).classes) → unwrap_or o object_class < length (table unit).classes
@@ -82,17 +82,17 @@ class_below unit name = by (denoted unit name) (denoted_below unit name)
 
 -- ---- types
 
-type_in_range : (unit : CompilationUnit) (ty : WrittenType) (more : ℕ) → IsTypeOf (length (table unit).classes) (type_with unit ty more)
+pub type_in_range : (unit : CompilationUnit) (ty : WrittenType) (more : ℕ) → IsTypeOf (length (table unit).classes) (type_with unit ty more)
 type_in_range unit ty more = by ty.base
   where
     by : (b : syntax.Base) → IsTypeOf (length (table unit).classes) (Of (base_type unit b) (ty.brackets + more))
     by (syntax.Basic p) = tt
     by (syntax.Class name) = class_below unit name
 
-types_in_range : (unit : CompilationUnit) (params : List Parameter) → All (IsTypeOf (length (table unit).classes)) (types_of unit params)
+pub types_in_range : (unit : CompilationUnit) (params : List Parameter) → All (IsTypeOf (length (table unit).classes)) (types_of unit params)
 types_in_range unit params = All-map (IsTypeOf (length (table unit).classes)) (λ (p : Parameter). type_with unit p.ty p.brackets) params (λ k d lt. type_in_range unit (get_or params k d).ty (get_or params k d).brackets)
 
-result_in_range : (unit : CompilationUnit) (ty : Option WrittenType) → IsTypeOf (length (table unit).classes) (result_type unit ty)
+pub result_in_range : (unit : CompilationUnit) (ty : Option WrittenType) → IsTypeOf (length (table unit).classes) (result_type unit ty)
 result_in_range unit None = tt
 result_in_range unit (Some ty) = type_in_range unit ty 0
 
@@ -157,20 +157,20 @@ acyclic unit keeps c d h s = by (slice_get (table unit).classes c) refl h
 
 -- ---- methods
 
-type_test : Ty → Bool
+pub type_test : Ty → Bool
 type_test (Of (base.Class c) brackets) = nat_lt c 18
 type_test (Of (base.Primitive p) brackets) = true
 type_test Void = true
 type_test Null = true
 
-type_tested : (many : ℕ) → 18 ≤ many → (ty : Ty) → type_test ty ≡ true → IsTypeOf many ty
+pub type_tested : (many : ℕ) → 18 ≤ many → (ty : Ty) → type_test ty ≡ true → IsTypeOf many ty
 unfolding type_test
 type_tested many le (Of (base.Class c) brackets) e = grind (arith, nat_tests)
 type_tested many le (Of (base.Primitive p) brackets) e = tt
 type_tested many le Void e = tt
 type_tested many le Null e = tt
 
-method_test : Method → Bool
+pub method_test : Method → Bool
 method_test m = nat_lt m.class 18 && (list_all type_test m.params && type_test m.result)
 
 both_left : (a b : Bool) → (a && b) ≡ true → a ≡ true

@@ -7,13 +7,11 @@ use Rattle.std.proofs.lemmas.Option.{slice_get-get_or}
 use Rattle.wy_kernel.specs.Program.{Method}
 use Rattle.wy_kernel.specs.Table.{Table}
 use Rattle.wy_overloads.specs.Choice.{IsMethod}
+use Rattle.wy_overloads.proofs.Members.{same_method as one_method}
 
 -- it holds of each method that stands in the list before a place
 abbrev pub EachBefore : Table → List ℕ → ℕ → (ℕ → Method → Type 0) → Type 0
 EachBefore t numbers n P = (i : ℕ) → i < n → (m : Method) → IsMethod t (get_or numbers i 0) m → P (get_or numbers i 0) m
-
-one_method : (t : Table) (k : ℕ) (m other : Method) → IsMethod t k m → IsMethod t k other → m ≡ other
-one_method t k m other e f = let g : Some m ≡ Some other = sym e ∙ f in cc
 
 pub one_listed : (t : Table) (numbers : List ℕ) (n : ℕ) (P : ℕ → Method → Type 0) (m : Method) → IsMethod t (get_or numbers n 0) m → EachBefore t numbers n P → P (get_or numbers n 0) m → EachBefore t numbers (n + 1) P
 one_listed t numbers n P m there before here =

@@ -6,7 +6,9 @@ use Rattle.std.specs.List.{position, position_from, position_or_len}
 use Rattle.std.proofs.lemmas.Bool.Decides.{nat_tests}
 use Rattle.std.specs.Map.{update}
 use Rattle.std.proofs.lemmas.Slice.Eq.{bytes_eq-Decides}
-use Rattle.wy_members.specs.Numbers.{numbered_also, numbered_all}
+use Rattle.wy_table.specs.Names.{numbered_also}
+use Rattle.wy_table.proofs.FirstNumbers.{absent, not_also}
+use Rattle.wy_members.specs.Numbers.{numbered_all}
 
 same_names : (a b : List ℕ) → bytes_eq a b ≡ true → a ≡ b
 same_names a b e = (bytes_eq-Decides a b).0 e
@@ -19,10 +21,6 @@ bytes_eq_sym a b = let ab = bytes_eq-Decides a b in let ba = bytes_eq-Decides b 
     by_cases true q f g = sym (f refl)
     by_cases false true f g = g refl
     by_cases false false f g = refl
-
-not_also : (o : Option ℕ) (next : ℕ) → o ≡ numbered_also o false next
-not_also (Some n) next = refl
-not_also None next = refl
 
 updated : (f : List ℕ → Option ℕ) (name q : List ℕ) (next : ℕ) (b : Bool) → bytes_eq name q ≡ b → f name ≡ None → cond b (Some next) (f q) ≡ numbered_also (f q) b next
 updated f name q next true e none = sym (ap (λ o. numbered_also o true next) (ap f (sym (same_names name q e)) ∙ none))
@@ -51,10 +49,6 @@ numbered_behind name number next [] back = ap (λ n. numbered_all name number n 
 numbered_behind name number next (x ∷ front) back =
     let o = numbered_also number (bytes_eq name x) next in
     ap (λ n. numbered_all name (numbered_all name o (next + 1) front) n back) (omega arith) ∙ numbered_behind name o (next + 1) front back
-
-pub absent : (o : Option ℕ) → is_some o ≡ false → o ≡ None
-absent None e = refl
-absent (Some n) e = cc
 
 -- those of two lists, the second behind the first
 pub numbered_whole : (name : List ℕ) (at_first front_number number : Option ℕ) (front back : List (List ℕ)) (many : ℕ) → at_first ≡ None → many ≡ length front →

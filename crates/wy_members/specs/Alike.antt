@@ -9,6 +9,8 @@ use Rattle.wy_table.specs.Methods.{IsByName, IsAlike}
 use Rattle.wy_overloads.specs.Choice.{IsMethod, IsEquivalent, Equivalent}
 use Rattle.wy_members.specs.Broken.{Inherits}
 use Rattle.wy_members.specs.Within.{SomeMethod, IsLeftAbstract, StandsWrongly}
+use Rattle.wy_members.specs.declared.broken.compared.Sought.{Sought}
+use Rattle.wy_members.specs.declared.broken.compared.Sought.TheVariants as sought
 
 -- some method of the list
 abbrev pub SomeListed : Table → List ℕ → (ℕ → Method → Type 0) → Type 0
@@ -17,6 +19,11 @@ SomeListed t numbers Q = SomeMethod t (λ k m. Contains numbers k × Q k m)
 -- the list has numbers of methods only
 abbrev pub AreMethods : Table → List ℕ → Type 0
 AreMethods t numbers = (k : ℕ) → Contains numbers k → k < length t.methods
+
+-- whether abstract methods alone are sought
+abbrev pub abstract_alone : Sought → Bool
+abstract_alone sought.Each = false
+abstract_alone sought.Abstract = true
 
 -- a method that is called by its name, and is abstract where only such a one is looked for
 abbrev pub IsSought : Bool → Method → Type 0

@@ -11,8 +11,8 @@ ghost use Rattle.wy_members.specs.Names.{unit_of};
 use crate::names::{Names, next_number};
 use crate::written_type::{has, parameter_types, result_type};
 use std::alloc::{AllocError, Global};
+use wy_kernel::builtin::FIRST_SOURCE_CLASS;
 use wy_kernel::types::{Method, MethodForm, Ty};
-use wy_overloads::member::FIRST_SOURCE_CLASS;
 use wy_syntax::declaration::{ClassSyntax, Declaration, Header, Member, Modifier, Outcome};
 use wy_syntax::statement::Declarator;
 

@@ -8,7 +8,8 @@ ghost use Rattle.wy_kernel.specs.Builtin.{no_site};
 ghost use Rattle.wy_kernel.specs.View.{class_of};
 ghost use Rattle.wy_syntax.specs.View.{declaration_of};
 ghost use Rattle.wy_members.specs.Declarations.{class_names, denoted, name_of, written_names};
-ghost use Rattle.wy_members.specs.Numbers.{numbered_all, numbered_also};
+ghost use Rattle.wy_table.specs.Names.{numbered_also};
+ghost use Rattle.wy_members.specs.Numbers.{numbered_all};
 
 use std::alloc::{AllocError, Global};
 use std::collections::HashMap;

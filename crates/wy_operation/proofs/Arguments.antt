@@ -22,7 +22,7 @@ use Rattle.wy_meaning.specs.World.{World, about, class_code, fail, throwing, is_
 use Rattle.wy_operation.specs.Around.{Ends}
 use Rattle.wy_operation.proofs.Exceptions.{fails}
 use Rattle.wy_operation.proofs.Runs.{answers_as, done_first}
-use Rattle.wy_state.specs.Agrees.{Shape, Onward, Answers, itself}
+use Rattle.wy_state.specs.Agrees.{Shape, Onward, StepGives, itself}
 use Rattle.wy_state.specs.Seen.{given, made_of}
 use Rattle.wy_state.specs.declared.parts.Halt.{Halt}
 use Rattle.wy_state.proofs.Onward.{answers_after, onward_as, onward_same, onward_then}
@@ -34,7 +34,7 @@ use Rattle.wy_operation.proofs.TextRuns.{answers_bind, refused_as}
 use Rattle.wy_operation.proofs.TextForms.{made_as, units_done}
 
 -- what fails, whatever would have been carried
-failed : (w : World nothing) (c site : ℕ) {X : Type 0} (view : X → Carried nothing) (p : Program) (e : Halt) (m n : Shape) (v : Carried nothing) → Ends p e m (fail w c site v) n → Answers p view (Err e) m (fail w c site v) n
+failed : (w : World nothing) (c site : ℕ) {X : Type 0} (view : X → Carried nothing) (p : Program) (e : Halt) (m n : Shape) (v : Carried nothing) → Ends p e m (fail w c site v) n → StepGives p view (Err e) m (fail w c site v) n
 failed w c site view p e m n v a = refused_as p (itself {X = Carried nothing}) view e m n (fail w c site v) (fails w c site (Carried nothing) p e m n v a)
 
 module _ (w : World nothing) (site : ℕ) (all : Carried nothing) where
@@ -110,32 +110,32 @@ module _ (w : World nothing) (site : ℕ) (all : Carried nothing) where
 
 module _ {X : Type 0} (p : Program) (w : World nothing) (m n : Shape) (site : ℕ) (all : Carried nothing) (view : X → Carried nothing) where
   -- a text that is there, and what comes of its units
-  pub there : (r : Result X Halt) (v : Value) (k : List ℕ → Run nothing (Carried nothing)) (xs : List ℕ) → is_text v ≡ true → Onward p m (units_of w v) m (return xs) → Answers p view r m (k xs) n → Answers p view r m (text_arg w site all v >>= k) n
+  pub there : (r : Result X Halt) (v : Value) (k : List ℕ → Run nothing (Carried nothing)) (xs : List ℕ) → is_text v ≡ true → Onward p m (units_of w v) m (return xs) → StepGives p view r m (k xs) n → StepGives p view r m (text_arg w site all v >>= k) n
   unfolding ◌>>=◌
   there r v k xs is a b =
       answers_as p view r m n (text_arg w site all v >>= k) (units_of w v >>= k) (λ s. ap (λ o. go_on o k) (there_is w site all v is s))
       (answers_bind p view r m m n (units_of w v) xs k a b)
 
-  failed_first : (e : Halt) (c : ℕ) (f : Run nothing (List ℕ)) (k : List ℕ → Run nothing (Carried nothing)) → ((s : State nothing) → f s ≡ fail w c site all s) → Ends p e m (fail w c site all) n → Answers p view (Err e) m (f >>= k) n
+  failed_first : (e : Halt) (c : ℕ) (f : Run nothing (List ℕ)) (k : List ℕ → Run nothing (Carried nothing)) → ((s : State nothing) → f s ≡ fail w c site all s) → Ends p e m (fail w c site all) n → StepGives p view (Err e) m (f >>= k) n
   unfolding ◌>>=◌
   failed_first e c f k same a =
       answers_after p m n (fail w c site all) (itself {X = List ℕ}) view k (f >>= k) e (λ s. ap (λ o. go_on o k) (same s)) (fails w c site (List ℕ) p e m n all a)
 
   -- one that is not there
-  pub missing : (e : Halt) (v : Value) (k : List ℕ → Run nothing (Carried nothing)) → is_text v ≡ false → Ends p e m (fail w null_pointer site all) n → Answers p view (Err e) m (text_arg w site all v >>= k) n
+  pub missing : (e : Halt) (v : Value) (k : List ℕ → Run nothing (Carried nothing)) → is_text v ≡ false → Ends p e m (fail w null_pointer site all) n → StepGives p view (Err e) m (text_arg w site all v >>= k) n
   missing e v k is a = failed_first e null_pointer (text_arg w site all v) k (missing_is w site all v is) a
 
-  pub not_object : (e : Halt) (v : Value) (k : ℕ → Run nothing (Carried nothing)) → ((i : ℕ) → v ≡ Object i → ⊥) → Ends p e m (fail w null_pointer site all) n → Answers p view (Err e) m (object_of w site all v >>= k) n
+  pub not_object : (e : Halt) (v : Value) (k : ℕ → Run nothing (Carried nothing)) → ((i : ℕ) → v ≡ Object i → ⊥) → Ends p e m (fail w null_pointer site all) n → StepGives p view (Err e) m (object_of w site all v >>= k) n
   unfolding ◌>>=◌
   not_object e v k none a =
       answers_after p m n (fail w null_pointer site all) (itself {X = ℕ}) view k (object_of w site all v >>= k) e (λ s. ap (λ o. go_on o k) (not_object_is w site all v none s)) (fails w null_pointer site ℕ p e m n all a)
 
-  pub parses : (r : Result X Halt) (v : Value) (xs : List ℕ) → is_text v ≡ true → Onward p m (units_of w v) m (return xs) → Answers p view r m (int_or_fail w site all (int_of xs)) n → Answers p view r m (parse w site all v) n
+  pub parses : (r : Result X Halt) (v : Value) (xs : List ℕ) → is_text v ≡ true → Onward p m (units_of w v) m (return xs) → StepGives p view r m (int_or_fail w site all (int_of xs)) n → StepGives p view r m (parse w site all v) n
   parses r v xs is a b =
       answers_as p view r m n (parse w site all v) (units_of w v >>= (λ units. int_or_fail w site all (int_of units))) (parsed_is w site all v is)
       (answers_bind p view r m m n (units_of w v) xs (λ units. int_or_fail w site all (int_of units)) a b)
 
-  pub unparsed : (e : Halt) (v : Value) → is_text v ≡ false → Ends p e m (fail w number_format site all) n → Answers p view (Err e) m (parse w site all v) n
+  pub unparsed : (e : Halt) (v : Value) → is_text v ≡ false → Ends p e m (fail w number_format site all) n → StepGives p view (Err e) m (parse w site all v) n
   unparsed e v is a = answers_as p view (Err e) m n (parse w site all v) (fail w number_format site all) (unparsed_is w site all v is) (failed w number_format site view p e m n all a)
 
 module _ (p : Program) (w : World nothing) (m : Shape) (site : ℕ) (all : Carried nothing) (v : Value) (xs : List ℕ) (is : is_text v ≡ true) (units : Onward p m (units_of w v) m (return xs)) where
@@ -185,18 +185,18 @@ module _ (p : Program) (w : World nothing) (m : Shape) (site : ℕ) (us own : Li
   array_goes i k z v is a same =
       rw is (onward_then (onward_as (λ s. refl) (done_first (length_of i) of_length k a)) (gives p m us (Int z) (Int (pos k)) (ap Int same)))
 
-  pub array_fails : (n : Shape) (e : Halt) (v : Value) → ((i : ℕ) → v ≡ Object i → ⊥) → Ends p e m (fail w null_pointer site all) n → Answers p (found_of us) (Err e) m (library_one w op.ArrayLength site all (given v own)) n
+  pub array_fails : (n : Shape) (e : Halt) (v : Value) → ((i : ℕ) → v ≡ Object i → ⊥) → Ends p e m (fail w null_pointer site all) n → StepGives p (found_of us) (Err e) m (library_one w op.ArrayLength site all (given v own)) n
   unfolding library_one with_value
   array_fails n e v none a = not_object p w m n site all (found_of us) e v _ none a
 
   module _ (n : Shape) (v : Value) (r : Result Found Halt) (t : Ty) (typed : Onward p m (type_of v) m (return t)) where
-    pub class_named : (xs : List ℕ) → xs ≡ type_name w.program t → Answers p (found_of us) r m (make_text site xs all) n → Answers p (found_of us) r m (library_one w op.ClassText site all (given v own)) n
+    pub class_named : (xs : List ℕ) → xs ≡ type_name w.program t → StepGives p (found_of us) r m (make_text site xs all) n → StepGives p (found_of us) r m (library_one w op.ClassText site all (given v own)) n
     unfolding library_one
     class_named xs is a =
         answers_bind p (found_of us) r m m n (type_of v) t (λ ty. make_text site (type_name w.program ty) all) typed
         (made_as p (found_of us) r m n site all xs (type_name w.program t) is a)
 
-    pub object_named : (xs : List ℕ) → xs ≡ type_name w.program t ++ codes "@" ++ hexadecimal (number_of_object v) → Answers p (found_of us) r m (make_text site xs all) n → Answers p (found_of us) r m (library_one w op.ObjectText site all (given v own)) n
+    pub object_named : (xs : List ℕ) → xs ≡ type_name w.program t ++ codes "@" ++ hexadecimal (number_of_object v) → StepGives p (found_of us) r m (make_text site xs all) n → StepGives p (found_of us) r m (library_one w op.ObjectText site all (given v own)) n
     unfolding library_one
     object_named xs is a =
         answers_bind p (found_of us) r m m n (type_of v) t (λ ty. make_text site (type_name w.program ty ++ codes "@" ++ hexadecimal (number_of_object v)) all) typed
@@ -212,17 +212,17 @@ module _ (p : Program) (w : World nothing) (m : Shape) (site : ℕ) (us : List U
   unfolding int_or_fail with_value
   int_goes z found is = subst (λ (o : Option ℤ). Onward p m (int_or_fail w site operands o) m (return (given (Int z) us))) is (onward_same p m _)
 
-  pub int_fails : (n : Shape) (e : Halt) (found : Option ℤ) → Absent ≡ found → Ends p e m (fail w number_format site operands) n → Answers p (found_of us) (Err e) m (int_or_fail w site operands found) n
+  pub int_fails : (n : Shape) (e : Halt) (found : Option ℤ) → Absent ≡ found → Ends p e m (fail w number_format site operands) n → StepGives p (found_of us) (Err e) m (int_or_fail w site operands found) n
   unfolding int_or_fail
-  int_fails n e found is a = subst (λ (o : Option ℤ). Answers p (found_of us) (Err e) m (int_or_fail w site operands o) n) is (failed w number_format site (found_of us) p e m n operands a)
+  int_fails n e found is a = subst (λ (o : Option ℤ). StepGives p (found_of us) (Err e) m (int_or_fail w site operands o) n) is (failed w number_format site (found_of us) p e m n operands a)
 
   pub unit_goes : (u : ℕ) (found : Option ℕ) → Some u ≡ found → Onward p m (unit_or_fail w site operands found) m (return (given (Char u) us))
   unfolding unit_or_fail with_value
   unit_goes u found is = subst (λ (o : Option ℕ). Onward p m (unit_or_fail w site operands o) m (return (given (Char u) us))) is (onward_same p m _)
 
-  pub unit_fails : (n : Shape) (e : Halt) (found : Option ℕ) → Absent ≡ found → Ends p e m (fail w string_index site operands) n → Answers p (found_of us) (Err e) m (unit_or_fail w site operands found) n
+  pub unit_fails : (n : Shape) (e : Halt) (found : Option ℕ) → Absent ≡ found → Ends p e m (fail w string_index site operands) n → StepGives p (found_of us) (Err e) m (unit_or_fail w site operands found) n
   unfolding unit_or_fail
-  unit_fails n e found is a = subst (λ (o : Option ℕ). Answers p (found_of us) (Err e) m (unit_or_fail w site operands o) n) is (failed w string_index site (found_of us) p e m n operands a)
+  unit_fails n e found is a = subst (λ (o : Option ℕ). StepGives p (found_of us) (Err e) m (unit_or_fail w site operands o) n) is (failed w string_index site (found_of us) p e m n operands a)
 
 -- ---- two arguments
 
@@ -241,7 +241,7 @@ module _ (p : Program) (w : World nothing) (m : Shape) (site : ℕ) (a b : Value
   unfolding library_two ◌>>=◌ go_on
   compared_with_none is none s = rw (there_is w site both a is s, units_done w a s, missing_is w site both b none s) (fail_then site _ w null_pointer both s)
 
-  pub compare_fails : (n : Shape) (e : Halt) → is_text a ≡ true → is_text b ≡ false → Ends p e m (fail w null_pointer site both) n → Answers p (found_of us) (Err e) m (library_two w op.Compare site both (given a one) (given b two)) n
+  pub compare_fails : (n : Shape) (e : Halt) → is_text a ≡ true → is_text b ≡ false → Ends p e m (fail w null_pointer site both) n → StepGives p (found_of us) (Err e) m (library_two w op.Compare site both (given a one) (given b two)) n
   compare_fails n e is none h = answers_as p (found_of us) (Err e) m n _ (fail w null_pointer site both) (compared_with_none is none) (failed w null_pointer site (found_of us) p e m n both h)
 
   pub compare_goes : (xs ys : List ℕ) (z : ℤ) → is_text a ≡ true → is_text b ≡ true → Onward p m (units_of w a) m (return xs) → Onward p m (units_of w b) m (return ys) → z ≡ wrapped w32 (difference xs ys) → Onward p m (library_two w op.Compare site both (given a one) (given b two)) m (return (given (Int z) us))
@@ -257,10 +257,10 @@ unfolding int_in
 int_is v z is = rw is refl
 
 module _ {X : Type 0} (p : Program) (w : World nothing) (m n : Shape) (site : ℕ) (c : Carried nothing) (view : X → Carried nothing) where
-  pub part_as : (r : Result X Halt) (found other : Option (List ℕ)) → found ≡ other → Answers p view r m (part_or_fail w site c found) n → Answers p view r m (part_or_fail w site c other) n
-  part_as r found other is a = subst (λ (o : Option (List ℕ)). Answers p view r m (part_or_fail w site c o) n) is a
+  pub part_as : (r : Result X Halt) (found other : Option (List ℕ)) → found ≡ other → StepGives p view r m (part_or_fail w site c found) n → StepGives p view r m (part_or_fail w site c other) n
+  part_as r found other is a = subst (λ (o : Option (List ℕ)). StepGives p view r m (part_or_fail w site c o) n) is a
 
-  pub part_fails : (e : Halt) → Ends p e m (fail w string_index site c) n → Answers p view (Err e) m (part_or_fail w site c Absent) n
+  pub part_fails : (e : Halt) → Ends p e m (fail w string_index site c) n → StepGives p view (Err e) m (part_or_fail w site c Absent) n
   unfolding part_or_fail
   part_fails e a = failed w string_index site view p e m n c a
 
@@ -294,7 +294,7 @@ module _ (p : Program) (m k : Shape) (site : ℕ) (b : Option ℕ) (first : Onwa
   read_goes n us e a =
       onward_as read_is (onward_then (done_first next_byte reading b first) (rw is (onward_as noted_is (done_first read_value read_done (made_of e) a))))
 
-  pub read_halts : (n : Shape) (us : List Use) (e : Halt) → Answers p made_of (Err e) k read_value n → Answers p (found_of us) (Err e) m (read_byte site) n
+  pub read_halts : (n : Shape) (us : List Use) (e : Halt) → StepGives p made_of (Err e) k read_value n → StepGives p (found_of us) (Err e) m (read_byte site) n
   read_halts n us e a =
       answers_as p (found_of us) (Err e) m n (read_byte site) (next_byte >>= reading) read_is
       (answers_bind p (found_of us) (Err e) m k n next_byte b reading first

@@ -20,7 +20,7 @@ use Rattle.wy_operation.specs.Subarrays.{element_set, subarray}
 use Rattle.wy_operation.specs.declared.operand.Part.{Part}
 use Rattle.wy_operation.proofs.Exceptions.{fails, note_new_as}
 use Rattle.wy_operation.proofs.Runs.{answers_as, answers_next, done_first}
-use Rattle.wy_state.specs.Agrees.{Shape, Onward, Answers, itself}
+use Rattle.wy_state.specs.Agrees.{Shape, Onward, StepGives, itself}
 use Rattle.wy_state.specs.Seen.{given, made_of, valued}
 use Rattle.wy_state.specs.Steps as steps
 use Rattle.wy_state.specs.declared.parts.Halt.{Halt}
@@ -55,7 +55,7 @@ module _ (p : Program) (m l : Shape) (start : Run nothing (Unit {0})) (f : ℕ �
   pub each_next : (k : Shape) → i < n → Onward p l (f i) k (return tt) → Onward p m start k (for_each (i + 1) (n - (i + 1)) f)
   each_next k less a = onward_then before (onward_as (turn_is less) (done_first (f i) (λ _. for_each (i + 1) (n - (i + 1)) f) tt a))
 
-  pub each_halts : (k : Shape) (e : Halt) → i < n → Answers p (itself {X = Unit {0}}) (Err e) l (f i) k → Answers p (itself {X = Unit {0}}) (Err e) m start k
+  pub each_halts : (k : Shape) (e : Halt) → i < n → StepGives p (itself {X = Unit {0}}) (Err e) l (f i) k → StepGives p (itself {X = Unit {0}}) (Err e) m start k
   each_halts k e less a = answers_next p itself (Err e) m l k _ _ before (answers_after p l k (f i) itself itself (λ _. for_each (i + 1) (n - (i + 1)) f) _ e (turn_is less) a)
 
   pub each_done : n ≤ i → Onward p m start l (return tt)
@@ -83,19 +83,19 @@ module _ (p : Program) (w : World nothing) (site : ℕ) (ty : Ty) (d : Carried n
   unfolding value_of
   subarray_is s = rw is refl
 
-  pub array_halts : (m n : Shape) (e : Halt) → Answers p made_of (Err e) m made_first n → Answers p (itself {X = Unit {0}}) (Err e) m (subarray w site ty d ds parent i) n
+  pub array_halts : (m n : Shape) (e : Halt) → StepGives p made_of (Err e) m made_first n → StepGives p (itself {X = Unit {0}}) (Err e) m (subarray w site ty d ds parent i) n
   array_halts m n e a = answers_after p m n made_first made_of itself then_stored _ e subarray_is a
 
   module _ (m l : Shape) (a : ℕ) (made : Onward p m made_first l (return (made_of a))) where
     subarray_starts : Onward p m (subarray w site ty d ds parent i) l (then_stored (made_of a))
     subarray_starts = onward_as subarray_is (done_first made_first then_stored (made_of a) made)
 
-    pub write_halts : (n : Shape) (e : Halt) → Answers p made_of (Err e) l (stored a) n → Answers p (itself {X = Unit {0}}) (Err e) m (subarray w site ty d ds parent i) n
+    pub write_halts : (n : Shape) (e : Halt) → StepGives p made_of (Err e) l (stored a) n → StepGives p (itself {X = Unit {0}}) (Err e) m (subarray w site ty d ds parent i) n
     write_halts n e b = answers_next p itself (Err e) m l n _ _ subarray_starts (answers_after p l n (stored a) made_of itself (λ _. filled a) _ e (λ s. refl) b)
 
-    pub subarray_goes : (k n : Shape) (e : ℕ) (t : Ty) (r : Result (Unit {0}) Halt) → t ≡ element_type ty → Onward p l (stored a) k (return (made_of e)) → Answers p itself r k (subarrays w site t ds a size) n → Answers p itself r m (subarray w site ty d ds parent i) n
+    pub subarray_goes : (k n : Shape) (e : ℕ) (t : Ty) (r : Result (Unit {0}) Halt) → t ≡ element_type ty → Onward p l (stored a) k (return (made_of e)) → StepGives p itself r k (subarrays w site t ds a size) n → StepGives p itself r m (subarray w site ty d ds parent i) n
     subarray_goes k n e t r below b c =
-        answers_next p itself r m k n _ _ (onward_then subarray_starts (done_first (stored a) (λ _. filled a) (made_of e) b)) (subst (λ u. Answers p itself r k (subarrays w site u ds a size) n) below c)
+        answers_next p itself r m k n _ _ (onward_then subarray_starts (done_first (stored a) (λ _. filled a) (made_of e) b)) (subst (λ u. StepGives p itself r k (subarrays w site u ds a size) n) below c)
 
 pub none_of : (p : Program) (m : Shape) (w : World nothing) (site : ℕ) (ty : Ty) (ds : List Part) (parent n : ℕ) → length ds ≡ 0 → Onward p m (subarrays w site ty (map carried ds) parent n) m (return tt)
 unfolding subarrays
@@ -129,7 +129,7 @@ all_joined (d ∷ ds) = refl
 
 module _ (p : Program) (w : World nothing) (site : ℕ) (ty : Ty) (ds : List (Carried nothing)) where
   pub create_fails : (m n : Shape) (e : Halt) (us : List Use) → (joined_all ds).uses ≡ us → any_negative ds ≡ true → Ends p e m (fail w negative_size site (given Nothing us)) n →
-      Answers p (itself {X = Carried nothing}) (Err e) m (create_array w ty (map return ds) site) n
+      StepGives p (itself {X = Carried nothing}) (Err e) m (create_array w ty (map return ds) site) n
   unfolding choose
   create_fails m n e us all negative a = answers_as p itself (Err e) m n _ _ same (fails w negative_size site (Carried nothing) p e m n (given Nothing us) a)
     where
@@ -147,7 +147,7 @@ module _ (p : Program) (w : World nothing) (site : ℕ) (ty : Ty) (ds : List (Ca
     unfolding choose make_arrays ◌>>◌
     outer_is s = create_is w ty ds site s ∙ rw (fine, are, is) refl
 
-    pub outer_halts : (m n : Shape) (e : Halt) → Answers p made_of (Err e) m made_outer n → Answers p (itself {X = Carried nothing}) (Err e) m (create_array w ty (map return ds) site) n
+    pub outer_halts : (m n : Shape) (e : Halt) → StepGives p made_of (Err e) m made_outer n → StepGives p (itself {X = Carried nothing}) (Err e) m (create_array w ty (map return ds) site) n
     outer_halts m n e a = answers_after p m n made_outer made_of itself then_filled _ e outer_is a
 
     module _ (m l n : Shape) (a : ℕ) (t : Ty) (below : t ≡ element_type ty) (made : Onward p m made_outer l (return (made_of a))) where
@@ -158,7 +158,7 @@ module _ (p : Program) (w : World nothing) (site : ℕ) (ty : Ty) (ds : List (Ca
       unfolding value_of
       outer_starts = rw below (onward_as outer_is (done_first made_outer then_filled (made_of a) made))
 
-      pub inner_halts : (e : Halt) → Answers p (itself {X = Unit {0}}) (Err e) l inner n → Answers p (itself {X = Carried nothing}) (Err e) m (create_array w ty (map return ds) site) n
+      pub inner_halts : (e : Halt) → StepGives p (itself {X = Unit {0}}) (Err e) l inner n → StepGives p (itself {X = Carried nothing}) (Err e) m (create_array w ty (map return ds) site) n
       inner_halts e b = answers_next p itself (Err e) m l n _ _ outer_starts (answers_after p l n inner itself itself (λ _. return (valued a (Object a))) _ e (λ s. refl) b)
 
       pub create_goes : Onward p l inner n (return tt) → Onward p m (create_array w ty (map return ds) site) n (return (valued a (Object a)))

@@ -11,7 +11,7 @@ use Rattle.wy_operation.specs.Binding.{binding}
 use Rattle.wy_operation.specs.Operands.{carried}
 use Rattle.wy_operation.specs.declared.operand.Part.{Part}
 use Rattle.wy_operation.proofs.Runs.{answers_next, done_first}
-use Rattle.wy_state.specs.Agrees.{Shape, Onward, Answers, itself}
+use Rattle.wy_state.specs.Agrees.{Shape, Onward, StepGives, itself}
 use Rattle.wy_state.specs.Seen.{made_of}
 use Rattle.wy_state.specs.declared.parts.Halt.{Halt}
 use Rattle.wy_state.proofs.Onward.{answers_after, onward_as, onward_same, onward_then}
@@ -36,5 +36,5 @@ module _ (p : Program) (b : Body) (f : ℕ) (ps : List Part) (m l : Shape) (i : 
     pub bind_next : (e : ℕ) → Onward p l one k (return (made_of e)) → Onward p m start k rest
     bind_next e a = onward_then before (onward_as turn_is (done_first one (λ _. rest) (made_of e) a))
 
-    pub bind_halts : (e : Halt) → Answers p made_of (Err e) l one k → Answers p (itself {X = Unit {0}}) (Err e) m start k
+    pub bind_halts : (e : Halt) → StepGives p made_of (Err e) l one k → StepGives p (itself {X = Unit {0}}) (Err e) m start k
     bind_halts e a = answers_next p itself (Err e) m l k _ _ before (answers_after p l k one made_of itself (λ _. rest) _ e turn_is a)

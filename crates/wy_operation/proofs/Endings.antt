@@ -9,14 +9,15 @@ use Rattle.wy_event.specs.declared.record.Use.{Use}
 use Rattle.wy_steps.specs.Sets.{nothing}
 use Rattle.wy_steps.specs.State as run
 use Rattle.wy_steps.specs.State.{State, Carried, Run, Outcome, Done, Reach, Around, Through, EventLimit, UseLimit, FellOff, go_on, ◌>>=◌, return, leave, stop, choose}
-use Rattle.wy_steps.specs.Steps.{Made, activating, constant, entered, event_limit, frame, go_in, made, note, noting, room_for, use_limit, value_of, with_event}
+use Rattle.wy_kernel.specs.Limits.{event_limit, use_limit}
+use Rattle.wy_steps.specs.Steps.{Made, activating, constant, entered, frame, go_in, made, note, noting, room_for, value_of, with_event}
 use Rattle.wy_meaning.specs.World.{World, fail, is_null, is_true, null_pointer, plain, throwing}
 use Rattle.wy_meaning.specs.Call.{end_body}
 use Rattle.wy_meaning.specs.Statement.{jump, return_form, tested, throw_form}
 use Rattle.wy_operation.specs.Around.{Ends, Leaves}
 use Rattle.wy_operation.proofs.Exceptions.{fails, throws}
 use Rattle.wy_operation.proofs.Runs.{answers_as, done_first}
-use Rattle.wy_state.specs.Agrees.{Shape, Onward, Answers, itself}
+use Rattle.wy_state.specs.Agrees.{Shape, Onward, StepGives, itself}
 use Rattle.wy_state.specs.Seen.{given, made_of, valued}
 use Rattle.wy_state.specs.Steps.{activate, activate_through}
 use Rattle.wy_state.specs.declared.parts.Halt.{Halt}
@@ -47,7 +48,7 @@ module _ (site reach : ℕ) (v : Value) (us : List Use) where
     pub test_goes : (l : Shape) (e : ℕ) (b : Bool) → b ≡ is_true v → Onward p m test_event l (return (made_of e)) → Onward p l (activate_through e reach) n (return tt) → Onward p m (tested site reach (return (given v us))) n (return b)
     test_goes l e b is noted active = rw is (onward_as test_is (onward_then (done_first test_event then_true (made_of e) noted) (done_first (activate_through e reach) (λ _. return (is_true v)) tt active)))
 
-    pub test_halts : (e : Halt) → Answers p made_of (Err e) m test_event n → Answers p (itself {X = Bool}) (Err e) m (tested site reach (return (given v us))) n
+    pub test_halts : (e : Halt) → StepGives p made_of (Err e) m test_event n → StepGives p (itself {X = Bool}) (Err e) m (tested site reach (return (given v us))) n
     test_halts e a = answers_after p m n test_event made_of itself then_true _ e test_is a
 
     -- ---- those of an expression
@@ -67,7 +68,7 @@ module _ (site reach : ℕ) (v : Value) (us : List Use) where
     pub around_goes : (l : Shape) (e : ℕ) → Onward p m test_event l (return (made_of e)) → Onward p l (activate Around e) n (return tt) → Onward p m (activating Around test_event) n (return (made_of e))
     around_goes l e noted active = onward_as around_is (onward_then (done_first test_event then_active (made_of e) noted) (done_first (activate Around e) (λ _. return (made_of e)) tt active))
 
-    pub around_halts : (e : Halt) → Answers p made_of (Err e) m test_event n → Answers p made_of (Err e) m (activating Around test_event) n
+    pub around_halts : (e : Halt) → StepGives p made_of (Err e) m test_event n → StepGives p made_of (Err e) m (activating Around test_event) n
     around_halts e a = answers_after p m n test_event made_of made_of then_active _ e around_is a
 
 -- ---- jumps and returns
@@ -83,7 +84,7 @@ module _ (p : Program) (m n : Shape) (site : ℕ) where
   pub jump_goes : (target e : ℕ) → Onward p m jump_event n (return (made_of e)) → Leaves p (Left (Jumped target e)) m (jump site target) n
   jump_goes target e a = onward_as (jump_is target) (done_first jump_event (λ e. leave (run.Jumped target e.number)) (made_of e) a)
 
-  pub jump_halts : (target : ℕ) (e : Halt) → Answers p made_of (Err e) m jump_event n → Leaves p e m (jump site target) n
+  pub jump_halts : (target : ℕ) (e : Halt) → StepGives p made_of (Err e) m jump_event n → Leaves p e m (jump site target) n
   jump_halts target e a = answers_after p m n jump_event made_of itself _ _ e (jump_is target) a
 
   module _ (v : Value) (us : List Use) where
@@ -98,7 +99,7 @@ module _ (p : Program) (m n : Shape) (site : ℕ) where
     unfolding value_of
     return_goes e a = onward_as return_is (done_first return_event (λ e. leave (run.Returned e.number (value_of e v))) (made_of e) a)
 
-    pub return_halts : (e : Halt) → Answers p made_of (Err e) m return_event n → Leaves p e m (return_form site (return (given v us))) n
+    pub return_halts : (e : Halt) → StepGives p made_of (Err e) m return_event n → Leaves p e m (return_form site (return (given v us))) n
     return_halts e a = answers_after p m n return_event made_of itself _ _ e return_is a
 
     -- ---- a throw of a value
@@ -126,7 +127,7 @@ module _ (p : Program) (m n : Shape) (site : ℕ) where
   unfolding end_body constant
   end_is s = refl
 
-  pub end_goes : (r : Result ℕ Halt) (b : Bool) → b ≡ true → Answers p made_of r m end_event n → Answers p (λ e. valued e Nothing) r m (end_body b site) n
+  pub end_goes : (r : Result ℕ Halt) (b : Bool) → b ≡ true → StepGives p made_of r m end_event n → StepGives p (λ e. valued e Nothing) r m (end_body b site) n
   unfolding value_of
   end_goes (Ok e) b is a = rw is (onward_as end_is (done_first end_event (λ e. return (value_of e Nothing)) (made_of e) a))
   end_goes (Err e) b is a = rw is (answers_after p m n end_event made_of (λ e. valued e Nothing) _ _ e end_is a)

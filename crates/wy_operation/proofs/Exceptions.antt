@@ -12,7 +12,7 @@ use Rattle.wy_steps.specs.Steps.{Draft, Made, creating, held_by, made, next_even
 use Rattle.wy_meaning.specs.World.{World, about, class_code, fail, plain, throwing}
 use Rattle.wy_operation.specs.Around.{Ends}
 use Rattle.wy_operation.proofs.Runs.{done_first}
-use Rattle.wy_state.specs.Agrees.{Shape, Onward, Answers, itself}
+use Rattle.wy_state.specs.Agrees.{Shape, Onward, StepGives, itself}
 use Rattle.wy_state.specs.Seen.{given, made_of, valued}
 use Rattle.wy_state.specs.declared.parts.Halt.{Halt}
 use Rattle.wy_state.specs.declared.parts.Halt.TheVariants.{Left}
@@ -33,7 +33,7 @@ module _ (p : Program) (m n : Shape) (site : ℕ) (v : Value) (us : List Use) wh
   unfolding value_of
   throw_goes e a = onward_as (throwing_is site (given v us)) (done_first _ (thrown v) (made_of e) a)
 
-  pub throw_halts : (e : Halt) → Answers p made_of (Err e) m (note (plain kind.Throw site v) (given v us)) n → Ends p e m (throwing site (given v us)) n
+  pub throw_halts : (e : Halt) → StepGives p made_of (Err e) m (note (plain kind.Throw site v) (given v us)) n → Ends p e m (throwing site (given v us)) n
   throw_halts e a = answers_after p m n _ made_of (itself {X = ⊥}) (thrown v) _ e (throwing_is site (given v us)) a
 
 -- what throws goes on with nothing, whatever would come after it
@@ -46,7 +46,7 @@ throwing_typed {X = X} site v s = cases (note (plain kind.Throw site v.value) v 
     cases (run.Left why t) = refl
     cases (run.Stopped why t) = refl
 
-pub throws : (X : Type 0) (p : Program) (e : Halt) (m n : Shape) (site : ℕ) (v : Carried nothing) → Ends p e m (throwing site v) n → Answers p (itself {X = X}) (Err e) m (throwing site v) n
+pub throws : (X : Type 0) (p : Program) (e : Halt) (m n : Shape) (site : ℕ) (v : Carried nothing) → Ends p e m (throwing site v) n → StepGives p (itself {X = X}) (Err e) m (throwing site v) n
 throws X p e m n site v a = answers_after p m n _ (itself {X = ⊥}) itself (λ x. absurd x) _ e (throwing_typed site v) a
 
 -- ---- an exception of a class
@@ -65,7 +65,7 @@ module _ (w : World nothing) (c site : ℕ) where
       cases (run.Left why t) = refl
       cases (run.Stopped why t) = refl
 
-  pub fails : (X : Type 0) (p : Program) (e : Halt) (m n : Shape) (v : Carried nothing) → Ends p e m (fail w c site v) n → Answers p (itself {X = X}) (Err e) m (fail w c site v) n
+  pub fails : (X : Type 0) (p : Program) (e : Halt) (m n : Shape) (v : Carried nothing) → Ends p e m (fail w c site v) n → StepGives p (itself {X = X}) (Err e) m (fail w c site v) n
   fails X p e m n v a = answers_after p m n _ (itself {X = ⊥}) itself (λ x. absurd x) _ e (fail_typed v) a
 
 -- a record is made of the uses alone
@@ -85,5 +85,5 @@ module _ (p : Program) (m n : Shape) (w : World nothing) (is : w.program ≡ p) 
   unfolding value_of
   fail_goes l e h a b = answers_then itself p h m l n _ _ (onward_as starts (done_first _ _ (made_of e) a)) b
 
-  pub fail_halts : (h : Halt) → Answers p made_of (Err h) m new_exception n → Ends p h m (fail w c site (given v us)) n
+  pub fail_halts : (h : Halt) → StepGives p made_of (Err h) m new_exception n → Ends p h m (fail w c site (given v us)) n
   fail_halts h a = answers_after p m n _ made_of (itself {X = ⊥}) _ _ h starts a

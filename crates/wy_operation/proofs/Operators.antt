@@ -16,7 +16,7 @@ use Rattle.wy_operation.specs.Around.{Ends}
 use Rattle.wy_operation.specs.Operands.{Pair}
 use Rattle.wy_operation.proofs.Exceptions.{fails}
 use Rattle.wy_operation.proofs.Runs.{answers_next, done_first}
-use Rattle.wy_state.specs.Agrees.{Shape, Onward, Answers, itself}
+use Rattle.wy_state.specs.Agrees.{Shape, Onward, StepGives, itself}
 use Rattle.wy_state.specs.Seen.{given}
 use Rattle.wy_state.specs.declared.parts.Halt.{Halt}
 use Rattle.wy_state.proofs.Onward.{onward_as, onward_same, onward_then}
@@ -31,7 +31,7 @@ module _ (p : Program) (w : World nothing) (site : ℕ) (c : Carried nothing) (u
   unfolding divided with_value
   divided_goes m v some = rw (some, is) (onward_same p m (return (given v us)))
 
-  pub divided_fails : (m n : Shape) (e : Halt) → gives ≡ Absent → Ends p e m (fail w arithmetic site (given Nothing us)) n → Answers p (itself {X = Carried nothing}) (Err e) m (divided w site c gives) n
+  pub divided_fails : (m n : Shape) (e : Halt) → gives ≡ Absent → Ends p e m (fail w arithmetic site (given Nothing us)) n → StepGives p (itself {X = Carried nothing}) (Err e) m (divided w site c gives) n
   unfolding divided
   divided_fails m n e none a = rw (none, is) (fails w arithmetic site (Carried nothing) p e m n (given Nothing us) a)
 
@@ -56,7 +56,7 @@ module _ (p : Program) (m : Shape) (w : World nothing) (is : w.program ≡ p) (t
   unfolding choose
   cast_fits site null below = onward_then (cast_starts site) (rw (null, below_is ∙ below) (onward_same p m (return (given v us))))
 
-  pub cast_fails : (site : ℕ) (n : Shape) (e : Halt) → is_null v ≡ false → is_below p found ty ≡ false → Ends p e m (fail w class_cast site (given v us)) n → Answers p (itself {X = Carried nothing}) (Err e) m (cast w ty (return (given v us)) site) n
+  pub cast_fails : (site : ℕ) (n : Shape) (e : Halt) → is_null v ≡ false → is_below p found ty ≡ false → Ends p e m (fail w class_cast site (given v us)) n → StepGives p (itself {X = Carried nothing}) (Err e) m (cast w ty (return (given v us)) site) n
   unfolding choose
   cast_fails site n e null below a = answers_next p itself (Err e) m m n _ _ (cast_starts site) (rw (null, below_is ∙ below) (fails w class_cast site (Carried nothing) p e m n (given v us) a))
 

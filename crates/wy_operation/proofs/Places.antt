@@ -24,7 +24,7 @@ use Rattle.wy_operation.specs.Spots.{Stored, is_primitive, spot_of}
 use Rattle.wy_operation.proofs.Exceptions.{fails}
 use Rattle.wy_operation.proofs.Operators.{pair_is}
 use Rattle.wy_operation.proofs.Runs.{answers_next, done_first}
-use Rattle.wy_state.specs.Agrees.{Shape, Agrees, Comes, Onward, Answers, itself}
+use Rattle.wy_state.specs.Agrees.{Shape, Agrees, Comes, Onward, StepGives, itself}
 use Rattle.wy_state.specs.Seen.{given, made_of, valued}
 use Rattle.wy_state.specs.Steps.{value_of_slot}
 use Rattle.wy_state.specs.declared.parts.Halt.{Halt}
@@ -73,7 +73,7 @@ no_object w site operands _ other s = refl
 module _ (p : Program) (m : Shape) (w : World nothing) (site : ℕ) where
   -- what comes after an object that is none
   none_first : {Y : Type 0} (n : Shape) (e : Halt) (c : Carried nothing) (v : Value) (k : ℕ → Run nothing Y) (f : Run nothing Y) → ((s : State nothing) → f s ≡ (object_of w site c v >>= k) s) →
-      ((i : ℕ) → v ≡ Object i → ⊥) → Ends p e m (fail w null_pointer site c) n → Answers p (itself {X = Y}) (Err e) m f n
+      ((i : ℕ) → v ≡ Object i → ⊥) → Ends p e m (fail w null_pointer site c) n → StepGives p (itself {X = Y}) (Err e) m f n
   unfolding ◌>>=◌
   none_first n e c v k f same none a =
       answers_after p m n (fail w null_pointer site c) itself itself k f e (λ s. same s ∙ ap (λ o. go_on o k) (no_object w site c v none s)) (fails w null_pointer site ℕ p e m n c a)
@@ -90,7 +90,7 @@ module _ (p : Program) (m : Shape) (w : World nothing) (site : ℕ) where
     unfolding field_spot object_of ◌>>=◌ go_on return
     field_goes n v is = rw is (onward_same p m _)
 
-    pub field_fails : (n : Shape) (e : Halt) (v : Value) → ((i : ℕ) → v ≡ Object i → ⊥) → Ends p e m (fail w null_pointer site (given v us)) n → Answers p (itself {X = Spot nothing}) (Err e) m (field_spot w f site (given v us)) n
+    pub field_fails : (n : Shape) (e : Halt) (v : Value) → ((i : ℕ) → v ≡ Object i → ⊥) → Ends p e m (fail w null_pointer site (given v us)) n → StepGives p (itself {X = Spot nothing}) (Err e) m (field_spot w f site (given v us)) n
     field_fails n e v none a = none_first n e (given v us) v (in_object (given v us)) _ (field_is v) none a
 
   -- ---- elements
@@ -109,7 +109,7 @@ module _ (p : Program) (m : Shape) (w : World nothing) (site : ℕ) where
     unfolding element_spot
     element_is s = rw (pair_is array index us o, o.is_left, o.is_right) refl
 
-    pub element_null : (n : Shape) (e : Halt) → ((i : ℕ) → array ≡ Object i → ⊥) → Ends p e m (fail w null_pointer site (given Nothing us)) n → Answers p (itself {X = Spot nothing}) (Err e) m (element_spot w site o.first o.second) n
+    pub element_null : (n : Shape) (e : Halt) → ((i : ℕ) → array ≡ Object i → ⊥) → Ends p e m (fail w null_pointer site (given Nothing us)) n → StepGives p (itself {X = Spot nothing}) (Err e) m (element_spot w site o.first o.second) n
     element_null n e none a = none_first n e (given Nothing us) array in_array _ element_is none a
 
     module _ (k length : ℕ) (is : array ≡ Object k) (long : Onward p m (length_of k) m (return length)) where
@@ -125,7 +125,7 @@ module _ (p : Program) (m : Shape) (w : World nothing) (site : ℕ) where
       unfolding checked_index
       checked_out out s = rw out refl
 
-      pub element_out : (n : Shape) (e : Halt) → index_in length index ≡ Absent → Ends p e m (fail w array_index site (given Nothing us)) n → Answers p (itself {X = Spot nothing}) (Err e) m (element_spot w site o.first o.second) n
+      pub element_out : (n : Shape) (e : Halt) → index_in length index ≡ Absent → Ends p e m (fail w array_index site (given Nothing us)) n → StepGives p (itself {X = Spot nothing}) (Err e) m (element_spot w site o.first o.second) n
       element_out n e out a =
           answers_next p itself (Err e) m m n _ _ element_starts
           (answers_after p m n (fail w array_index site (given Nothing us)) itself itself (at_index k) _ e (checked_out out) (fails w array_index site ℕ p e m n (given Nothing us) a))
@@ -148,7 +148,7 @@ module _ (p : Program) (m n : Shape) (site : ℕ) (x : Slot) (v : Value) (us : L
   assign_is : (s : State nothing) → assign site o.spot o.right s ≡ (set_event >>= (λ e. return (value_of e v))) s
   assign_is s = assign_as site o.spot o.right x v (given v us) o.is_slot o.is_right stored_is s
 
-  pub assign_goes : (r : Result ℕ Halt) → Answers p made_of r m set_event n → Answers p (λ e. valued e v) r m (assign site o.spot o.right) n
+  pub assign_goes : (r : Result ℕ Halt) → StepGives p made_of r m set_event n → StepGives p (λ e. valued e v) r m (assign site o.spot o.right) n
   unfolding value_of
   assign_goes (Ok e) a = onward_as assign_is (done_first set_event (λ e. return (value_of e v)) (made_of e) a)
   assign_goes (Err e) a = answers_after p m n set_event made_of (λ e. valued e v) (λ e. return (value_of e v)) _ e assign_is a
@@ -214,7 +214,7 @@ module _ (p : Program) (m : Shape) (w : World nothing) (is : w.program ≡ p) (s
     unfolding choose
     check_fits may = onward_then check_starts (rw (may_is ∙ may) (onward_same p m (return tt)))
 
-    pub check_fails : (n : Shape) (e : Halt) → may_store p (element_type array) value v ≡ false → Ends p e m (fail w array_store site (given Nothing us)) n → Answers p (itself {X = Unit {0}}) (Err e) m check n
+    pub check_fails : (n : Shape) (e : Halt) → may_store p (element_type array) value v ≡ false → Ends p e m (fail w array_store site (given Nothing us)) n → StepGives p (itself {X = Unit {0}}) (Err e) m check n
     unfolding choose
     check_fails n e may b = answers_next p itself (Err e) m m n _ _ check_starts (rw (may_is ∙ may) (fails w array_store site (Unit {0}) p e m n (given Nothing us) b))
 
@@ -222,8 +222,8 @@ module _ (p : Program) (m : Shape) (w : World nothing) (is : w.program ≡ p) (s
   unfolding store ◌>>◌
   store_is s = rw o.is_slot refl
 
-  pub store_halts : (n : Shape) (e : Halt) → Answers p (itself {X = Unit {0}}) (Err e) m check n → Answers p (λ e. valued e v) (Err e) m (store w site o.spot o.right) n
+  pub store_halts : (n : Shape) (e : Halt) → StepGives p (itself {X = Unit {0}}) (Err e) m check n → StepGives p (λ e. valued e v) (Err e) m (store w site o.spot o.right) n
   store_halts n e a = answers_after p m n check itself (λ e. valued e v) (λ _. assign site o.spot o.right) _ e store_is a
 
-  pub store_goes : (l n : Shape) (r : Result ℕ Halt) → Onward p m check l (return tt) → Answers p (λ e. valued e v) r l (assign site o.spot o.right) n → Answers p (λ e. valued e v) r m (store w site o.spot o.right) n
+  pub store_goes : (l n : Shape) (r : Result ℕ Halt) → Onward p m check l (return tt) → StepGives p (λ e. valued e v) r l (assign site o.spot o.right) n → StepGives p (λ e. valued e v) r m (store w site o.spot o.right) n
   store_goes l n r a b = answers_next p (λ e. valued e v) r m l n _ _ (onward_as store_is (done_first check (λ _. assign site o.spot o.right) tt a)) b

@@ -18,7 +18,7 @@ use Rattle.wy_meaning.specs.Text.{concatenated, line_end, print, print_value, sh
 use Rattle.wy_meaning.specs.World.{World, is_text, spelling, units_in, units_of}
 use Rattle.wy_operation.specs.Operands.{Pair}
 use Rattle.wy_operation.proofs.Runs.{answers_as, done_first}
-use Rattle.wy_state.specs.Agrees.{Shape, Onward, Answers, itself}
+use Rattle.wy_state.specs.Agrees.{Shape, Onward, StepGives, itself}
 use Rattle.wy_state.specs.Seen.{given, made_of}
 use Rattle.wy_state.specs.Steps as steps
 use Rattle.wy_state.specs.declared.parts.Halt.{Halt}
@@ -79,14 +79,14 @@ module _ (site : ℕ) (units : List ℕ) (v : Value) (us : List Use) where
       cases (run.Stopped why t) = refl
 
   module _ (p : Program) (m n : Shape) where
-    pub makes_text : (r : Result ℕ Halt) → Answers p made_of r m (steps.make_text site units us) n → Answers p text_of_event r m (meaning.make_text site units (given v us)) n
+    pub makes_text : (r : Result ℕ Halt) → StepGives p made_of r m (steps.make_text site units us) n → StepGives p text_of_event r m (meaning.make_text site units (given v us)) n
     unfolding value_of
     makes_text (Ok e) a = onward_as made_is (done_first (steps.make_text site units us) text_of_made (made_of e) a)
     makes_text (Err e) a = answers_after p m n (steps.make_text site units us) made_of text_of_event text_of_made (meaning.make_text site units (given v us)) e made_is a
 
 module _ {X : Type 0} (p : Program) (view : X → Carried nothing) (r : Result X Halt) (m n : Shape) (site : ℕ) (c : Carried nothing) where
-  pub made_as : (xs ys : List ℕ) → xs ≡ ys → Answers p view r m (meaning.make_text site xs c) n → Answers p view r m (meaning.make_text site ys c) n
-  made_as xs ys is a = subst (λ (zs : List ℕ). Answers p view r m (meaning.make_text site zs c) n) is a
+  pub made_as : (xs ys : List ℕ) → xs ≡ ys → StepGives p view r m (meaning.make_text site xs c) n → StepGives p view r m (meaning.make_text site ys c) n
+  made_as xs ys is a = subst (λ (zs : List ℕ). StepGives p view r m (meaning.make_text site zs c) n) is a
 
 -- ---- texts that are spelled
 
@@ -139,17 +139,17 @@ module _ (p : Program) (w : World nothing) (m n : Shape) (site : ℕ) (left righ
   unfolding joined_texts joined
   joined_is s = rw (o.is_left, o.is_right, o.are_joined) refl
 
-  pub left_halts : (e : Halt) → Answers p (itself {X = List ℕ}) (Err e) m (spelled_as w left) n → Answers p text_of_event (Err e) m (joined_texts w site o.first o.second) n
+  pub left_halts : (e : Halt) → StepGives p (itself {X = List ℕ}) (Err e) m (spelled_as w left) n → StepGives p text_of_event (Err e) m (joined_texts w site o.first o.second) n
   left_halts e a = answers_after p m n (spelled_as w left) (itself {X = List ℕ}) text_of_event after_left (joined_texts w site o.first o.second) e joined_is a
 
   module _ (xs : List ℕ) (first : Onward p m (spelled_as w left) m (return xs)) where
-    pub right_halts : (e : Halt) → Answers p (itself {X = List ℕ}) (Err e) m (spelled_as w right) n → Answers p text_of_event (Err e) m (joined_texts w site o.first o.second) n
+    pub right_halts : (e : Halt) → StepGives p (itself {X = List ℕ}) (Err e) m (spelled_as w right) n → StepGives p text_of_event (Err e) m (joined_texts w site o.first o.second) n
     right_halts e a =
         answers_as p text_of_event (Err e) m n (joined_texts w site o.first o.second) (spelled_as w left >>= after_left) joined_is
         (answers_bind p text_of_event (Err e) m m n (spelled_as w left) xs after_left first
         (answers_after p m n (spelled_as w right) (itself {X = List ℕ}) text_of_event (behind xs) (after_left xs) e (λ s. refl) a))
 
-    pub joins : (r : Result ℕ Halt) (ys both : List ℕ) → Onward p m (spelled_as w right) m (return ys) → both ≡ xs ++ ys → Answers p text_of_event r m (meaning.make_text site both (given Nothing us)) n → Answers p text_of_event r m (joined_texts w site o.first o.second) n
+    pub joins : (r : Result ℕ Halt) (ys both : List ℕ) → Onward p m (spelled_as w right) m (return ys) → both ≡ xs ++ ys → StepGives p text_of_event r m (meaning.make_text site both (given Nothing us)) n → StepGives p text_of_event r m (joined_texts w site o.first o.second) n
     joins r ys both second is a =
         answers_as p text_of_event r m n (joined_texts w site o.first o.second) (spelled_as w left >>= after_left) joined_is
         (answers_bind p text_of_event r m m n (spelled_as w left) xs after_left first
@@ -205,11 +205,11 @@ module _ (p : Program) (w : World nothing) (m n : Shape) (ends_line : Bool) (sit
   unfolding printed
   printed_is s = refl
 
-  pub spelling_halts : (e : Halt) → Answers p (itself {X = List ℕ}) (Err e) m (spelled_as w v) n → Answers p (itself {X = Unit {0}}) (Err e) m (printed w ends_line site (given v us)) n
+  pub spelling_halts : (e : Halt) → StepGives p (itself {X = List ℕ}) (Err e) m (spelled_as w v) n → StepGives p (itself {X = Unit {0}}) (Err e) m (printed w ends_line site (given v us)) n
   spelling_halts e a = answers_after p m n (spelled_as w v) (itself {X = List ℕ}) itself printing (printed w ends_line site (given v us)) e printed_is a
 
-  pub prints : (r : Result (Unit {0}) Halt) (units bytes : List ℕ) → Onward p m (spelled_as w v) m (return units) → bytes ≡ utf8_of units ++ line_end ends_line → Answers p itself r m (print site bytes (given v us)) n → Answers p itself r m (printed w ends_line site (given v us)) n
+  pub prints : (r : Result (Unit {0}) Halt) (units bytes : List ℕ) → Onward p m (spelled_as w v) m (return units) → bytes ≡ utf8_of units ++ line_end ends_line → StepGives p itself r m (print site bytes (given v us)) n → StepGives p itself r m (printed w ends_line site (given v us)) n
   prints r units bytes first is a =
       answers_as p itself r m n (printed w ends_line site (given v us)) (spelled_as w v >>= printing) printed_is
       (answers_bind p itself r m m n (spelled_as w v) units printing first
-      (subst (λ (bs : List ℕ). Answers p itself r m (print site bs (given v us)) n) is a))
+      (subst (λ (bs : List ℕ). StepGives p itself r m (print site bs (given v us)) n) is a))

@@ -19,7 +19,7 @@ use Rattle.wy_operation.specs.Spots.{Stored}
 use Rattle.wy_operation.specs.Updated.{Places, updated}
 use Rattle.wy_operation.proofs.Operators.{divided_fails, divided_goes}
 use Rattle.wy_operation.proofs.Runs.{answers_next, done_first, go_on-go_on}
-use Rattle.wy_state.specs.Agrees.{Shape, Onward, Answers, itself}
+use Rattle.wy_state.specs.Agrees.{Shape, Onward, StepGives, itself}
 use Rattle.wy_state.specs.Seen.{given}
 use Rattle.wy_state.specs.declared.parts.Halt.{Halt}
 use Rattle.wy_state.proofs.Onward.{answers_after, onward_as, onward_then}
@@ -59,7 +59,7 @@ module _ (p : Program) (w : World nothing) (op : BinOp) (ty : Ty) (wide : Primit
   update_said : (s : State nothing) → update s ≡ (new_value >>= set_to) s
   update_said s = updated_as w op ty wide site o.spot o.old o.value left right (given Nothing ops) o.is_left o.is_right operands_are s
 
-  pub update_fails : (m n : Shape) (e : Halt) → operated op wide left right ≡ Absent → Ends p e m (fail w arithmetic site (given Nothing ops)) n → Answers p (itself {X = Carried nothing}) (Err e) m update n
+  pub update_fails : (m n : Shape) (e : Halt) → operated op wide left right ≡ Absent → Ends p e m (fail w arithmetic site (given Nothing ops)) n → StepGives p (itself {X = Carried nothing}) (Err e) m update n
   update_fails m n e none a = answers_after p m n new_value itself itself set_to _ e update_said (divided_fails p w site _ ops refl _ m n e none a)
 
   module _ (v u : Value) (is : operated op wide left right ≡ Some v) (of_type : u ≡ primitive_of ty v) where
@@ -73,5 +73,5 @@ module _ (p : Program) (w : World nothing) (op : BinOp) (ty : Ty) (wide : Primit
     pub update_goes : (m n : Shape) (c : Carried nothing) → Onward p m (assign site o.spot (given u ops)) n (return c) → Onward p m update n (return c)
     update_goes m n c a = onward_then (update_starts m) a
 
-    pub update_halts : (m n : Shape) (e : Halt) → Answers p (itself {X = Carried nothing}) (Err e) m (assign site o.spot (given u ops)) n → Answers p (itself {X = Carried nothing}) (Err e) m update n
+    pub update_halts : (m n : Shape) (e : Halt) → StepGives p (itself {X = Carried nothing}) (Err e) m (assign site o.spot (given u ops)) n → StepGives p (itself {X = Carried nothing}) (Err e) m update n
     update_halts m n e a = answers_next p itself (Err e) m m n _ _ (update_starts m) a

@@ -8,3 +8,4 @@ pub mod Clauses
 pub mod Operated
 pub mod Found
 pub mod Words
+pub mod Gives

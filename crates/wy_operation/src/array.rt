@@ -7,7 +7,7 @@ ghost use Rattle.wy_meaning.specs.Array.{any_negative, create_array, make_array,
 ghost use Rattle.wy_operation.specs.Around.{Keeps};
 ghost use Rattle.wy_operation.specs.Operands.{carried};
 ghost use Rattle.wy_operation.specs.Subarrays.{element_set, subarray};
-ghost use Rattle.wy_state.specs.Agrees.{shape, Answers, itself};
+ghost use Rattle.wy_state.specs.Agrees.{shape, StepGives, itself};
 ghost use Rattle.wy_state.specs.Seen.{given, made_of, valued};
 ghost use Rattle.wy_steps.specs.Sets.{nothing};
 ghost use Rattle.wy_steps.specs.State.{Carried, return};
@@ -16,11 +16,11 @@ ghost use Rattle.wy_steps.specs.Steps.{joined_all};
 use crate::exception::{NEGATIVE_SIZE, fail};
 use crate::operand::{Part, is_negative, natural_of};
 use wy_event::record::{Kind, Slot, Use};
+use wy_kernel::code::{element_type, short_code};
 use wy_kernel::types::Ty;
 use wy_record::Recorder;
 use wy_state::parts::{Draft, Halt};
 use wy_state::state::State;
-use wy_state::subtype::{element_type, type_code};
 use wy_value::Value;
 
 /// A type has no more pairs of brackets (JVMS 4.4.1).
@@ -35,11 +35,11 @@ pub fn make_array<R: Recorder>(
     uses: &[Use],
 ) -> Result<u32, Halt>
     ensures step { (p : kernel.Program) (w : World nothing) (v : Value) → w.program ≡ p
-        → Answers p made_of result (shape R.keeps R.kept state.old)
+        → StepGives p made_of result (shape R.keeps R.kept state.old)
         (make_array w site ty length (given v uses.now)) (shape R.keeps R.kept state.new) }
     ensures around { Keeps result state.old.calls state.new.calls }
 {
-    match type_code(ty) {
+    match short_code(ty) {
         Some(code) => state.note_array(site, code, length, uses),
         None => Err(Halt::Memory),
     }
@@ -55,7 +55,7 @@ pub fn create_array<R: Recorder>(
 ) -> Result<u32, Halt>
     ensures step { (p : kernel.Program) (w : World nothing)
         → (joined_all (map carried dims.now)).uses ≡ all.now → w.program ≡ p
-        → Answers p (λ e. valued e (Value.Object e)) result (shape R.keeps R.kept state.old)
+        → StepGives p (λ e. valued e (Value.Object e)) result (shape R.keeps R.kept state.old)
         (create_array w ty (map return (map carried dims.now)) site)
         (shape R.keeps R.kept state.new) }
     ensures around { Keeps result state.old.calls state.new.calls }
@@ -98,7 +98,7 @@ fn subarrays<R: Recorder>(
     count: u32,
 ) -> Result<(), Halt>
     ensures step { (p : kernel.Program) (w : World nothing) → w.program ≡ p
-        → Answers p itself result (shape R.keeps R.kept state.old)
+        → StepGives p itself result (shape R.keeps R.kept state.old)
         (subarrays w site ty (map carried dims.now) parent count) (shape R.keeps R.kept state.new) }
     ensures around { Keeps result state.old.calls state.new.calls }
 {
@@ -123,7 +123,7 @@ fn subarray<R: Recorder>(
     index: u32,
 ) -> Result<(), Halt>
     ensures step { (p : kernel.Program) (w : World nothing) → w.program ≡ p
-        → Answers p itself result (shape R.keeps R.kept state.old)
+        → StepGives p itself result (shape R.keeps R.kept state.old)
         (subarray w site ty (carried first.entry) (map carried rest.now) parent index)
         (shape R.keeps R.kept state.new) }
     ensures around { Keeps result state.old.calls state.new.calls }
@@ -150,7 +150,7 @@ pub fn set_element<R: Recorder>(
 ) -> Result<u32, Halt>
     ensures step { (p : kernel.Program) (c : Carried nothing) → c.value ≡ value
         → Use.Value array ∷ c.uses ≡ uses.now
-        → Answers p made_of result (shape R.keeps R.kept state.old)
+        → StepGives p made_of result (shape R.keeps R.kept state.old)
         (element_set site (made_of array) index c) (shape R.keeps R.kept state.new) }
     ensures around { Keeps result state.old.calls state.new.calls }
 {

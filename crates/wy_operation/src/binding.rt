@@ -7,7 +7,7 @@ ghost use Rattle.wy_meaning.specs.Call.{bind_all};
 ghost use Rattle.wy_operation.specs.Around.{Keeps};
 ghost use Rattle.wy_operation.specs.Binding.{binding};
 ghost use Rattle.wy_operation.specs.Operands.{carried};
-ghost use Rattle.wy_state.specs.Agrees.{shape, Answers, itself};
+ghost use Rattle.wy_state.specs.Agrees.{shape, StepGives, itself};
 ghost use Rattle.wy_state.specs.Seen.{made_of};
 
 use crate::operand::Part;
@@ -24,7 +24,7 @@ pub fn bind_all<R: Recorder>(
     frame: u32,
     parts: &[Part<'_>],
 ) -> Result<(), Halt>
-    ensures step { (p : Program) → Answers p itself result (shape R.keeps R.kept state.old)
+    ensures step { (p : Program) → StepGives p itself result (shape R.keeps R.kept state.old)
         (bind_all (body_of body.now) frame 0 (map carried parts.now))
         (shape R.keeps R.kept state.new) }
     ensures around { Keeps result state.old.calls state.new.calls }
@@ -46,7 +46,7 @@ fn bind<R: Recorder>(
     index: u32,
     part: Part<'_>,
 ) -> Result<u32, Halt>
-    ensures step { (p : Program) → Answers p made_of result (shape R.keeps R.kept state.old)
+    ensures step { (p : Program) → StepGives p made_of result (shape R.keeps R.kept state.old)
         (binding (body_of body.now) frame index (carried part.entry))
         (shape R.keeps R.kept state.new) }
     ensures around { Keeps result state.old.calls state.new.calls }

@@ -6,7 +6,7 @@ ghost use Rattle.wy_meaning.specs.World.{World};
 ghost use Rattle.wy_meaning.specs.Call.{end_body};
 ghost use Rattle.wy_meaning.specs.Statement.{jump, return_form, throw_form};
 ghost use Rattle.wy_operation.specs.Around.{Keeps, KeepsAt, Leaves};
-ghost use Rattle.wy_state.specs.Agrees.{shape, Answers};
+ghost use Rattle.wy_state.specs.Agrees.{shape, StepGives};
 ghost use Rattle.wy_state.specs.Seen.{given, valued};
 ghost use Rattle.wy_steps.specs.Sets.{nothing};
 ghost use Rattle.wy_steps.specs.State.{return};
@@ -71,7 +71,7 @@ pub fn end_body<R: Recorder>(
     returns_none: bool,
     site: u32,
 ) -> Result<u32, Halt>
-    ensures step { (p : Program) → Answers p (λ e. valued e Value.None) result
+    ensures step { (p : Program) → StepGives p (λ e. valued e Value.None) result
         (shape R.keeps R.kept state.old) (end_body returns_none site)
         (shape R.keeps R.kept state.new) }
     ensures around { Keeps result state.old.calls state.new.calls }

@@ -6,7 +6,7 @@ ghost use Rattle.wy_meaning.specs.World.{World};
 ghost use Rattle.wy_meaning.specs.Place.{divided};
 ghost use Rattle.wy_operation.specs.Around.{Keeps};
 ghost use Rattle.wy_operation.specs.Operands.{Pair};
-ghost use Rattle.wy_state.specs.Agrees.{shape, Answers};
+ghost use Rattle.wy_state.specs.Agrees.{shape, StepGives};
 ghost use Rattle.wy_state.specs.Seen.{given};
 ghost use Rattle.wy_steps.specs.Sets.{nothing};
 ghost use Rattle.wy_steps.specs.Steps.{joined};
@@ -40,7 +40,7 @@ pub fn binary<R: Recorder>(
     site: u32,
 ) -> Result<Value, Halt>
     ensures step { (p : Program) (w : World nothing) (o : Pair left right uses.now) → w.program ≡ p
-        → Answers p (λ v. given v uses.now) result (shape R.keeps R.kept state.old)
+        → StepGives p (λ v. given v uses.now) result (shape R.keeps R.kept state.old)
         (divided w site (joined Value.None o.first o.second) (binary_of op left right))
         (shape R.keeps R.kept state.new) }
     ensures around { Keeps result state.old.calls state.new.calls }

@@ -8,7 +8,7 @@ ghost use Rattle.wy_meaning.specs.Place.{assign, check_store, element_spot, fetc
 ghost use Rattle.wy_operation.specs.Around.{Keeps};
 ghost use Rattle.wy_operation.specs.Operands.{Pair};
 ghost use Rattle.wy_operation.specs.Spots.{Stored, is_primitive, spot_of};
-ghost use Rattle.wy_state.specs.Agrees.{shape, Answers, itself};
+ghost use Rattle.wy_state.specs.Agrees.{shape, StepGives, itself};
 ghost use Rattle.wy_state.specs.Seen.{given, valued};
 ghost use Rattle.wy_steps.specs.Sets.{nothing};
 ghost use Rattle.wy_steps.specs.State.{Carried};
@@ -17,19 +17,19 @@ use crate::exception::{ARRAY_INDEX, ARRAY_STORE, NULL_POINTER, fail};
 use crate::operand::is_null;
 use std::alloc::{AllocError, Global};
 use wy_event::record::{Kind, Slot, Use};
+use wy_kernel::code::element_type;
 use wy_kernel::program::Program;
 use wy_kernel::types::{Base, Ty};
 use wy_record::Recorder;
 use wy_state::below::is_below;
 use wy_state::parts::{Draft, Halt, Limit};
 use wy_state::state::State;
-use wy_state::subtype::element_type;
 use wy_value::Value;
 
 /// The value in a slot, and the slot as its use; a local that has no value stops the run.
 pub fn fetch<R: Recorder>(state: &State<'_, R>, slot: Slot) -> Result<(Value, Use), Halt>
     ensures { (p : kernel.Program) (parts : Carried nothing)
-        → Answers p (λ r. given r.0 (parts.uses ++ r.1 ∷ [])) result
+        → StepGives p (λ r. given r.0 (parts.uses ++ r.1 ∷ [])) result
         (shape R.keeps R.kept state.now) (fetch (spot_of slot parts))
         (shape R.keeps R.kept state.now) }
 {
@@ -61,7 +61,7 @@ pub fn field_slot<R: Recorder>(
     site: u32,
 ) -> Result<Slot, Halt>
     ensures step { (p : kernel.Program) (w : World nothing) → w.program ≡ p
-        → Answers p (λ x. spot_of x (given value uses.now)) result
+        → StepGives p (λ x. spot_of x (given value uses.now)) result
         (shape R.keeps R.kept state.old) (field_spot w field site (given value uses.now))
         (shape R.keeps R.kept state.new) }
     ensures around { Keeps result state.old.calls state.new.calls }
@@ -81,7 +81,7 @@ pub fn element_slot<R: Recorder>(
     site: u32,
 ) -> Result<Slot, Halt>
     ensures step { (p : kernel.Program) (w : World nothing) (o : Pair array index uses.now)
-        → w.program ≡ p → Answers p (λ x. spot_of x (given Value.None uses.now)) result
+        → w.program ≡ p → StepGives p (λ x. spot_of x (given Value.None uses.now)) result
         (shape R.keeps R.kept state.old) (element_spot w site o.first o.second)
         (shape R.keeps R.kept state.new) }
     ensures around { Keeps result state.old.calls state.new.calls }
@@ -119,7 +119,7 @@ pub fn assign<R: Recorder>(
     site: u32,
 ) -> Result<u32, Halt>
     ensures step { (p : kernel.Program) (o : Stored slot value uses.now)
-        → Answers p (λ e. valued e value) result (shape R.keeps R.kept state.old)
+        → StepGives p (λ e. valued e value) result (shape R.keeps R.kept state.old)
         (assign site o.spot o.right) (shape R.keeps R.kept state.new) }
     ensures around { Keeps result state.old.calls state.new.calls }
 {
@@ -137,7 +137,7 @@ pub fn store<R: Recorder>(
 ) -> Result<u32, Halt>
     ensures step { (w : World nothing) (o : Stored slot value uses.now)
         → w.program ≡ program_of program.now
-        → Answers (program_of program.now) (λ e. valued e value) result
+        → StepGives (program_of program.now) (λ e. valued e value) result
         (shape R.keeps R.kept state.old) (store w site o.spot o.right)
         (shape R.keeps R.kept state.new) }
     ensures around { Keeps result state.old.calls state.new.calls }
@@ -157,7 +157,7 @@ fn check_store<R: Recorder>(
 ) -> Result<(), Halt>
     ensures step { (w : World nothing) (o : Stored slot value uses.now)
         → w.program ≡ program_of program.now
-        → Answers (program_of program.now) itself result (shape R.keeps R.kept state.old)
+        → StepGives (program_of program.now) itself result (shape R.keeps R.kept state.old)
         (check_store w site o.spot o.right slot) (shape R.keeps R.kept state.new) }
     ensures around { Keeps result state.old.calls state.new.calls }
 {

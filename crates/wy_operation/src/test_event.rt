@@ -6,7 +6,7 @@ ghost use Rattle.wy_kernel.specs.Program.{Program};
 ghost use Rattle.wy_meaning.specs.Statement.{tested};
 ghost use Rattle.wy_meaning.specs.World.{plain};
 ghost use Rattle.wy_operation.specs.Around.{Keeps};
-ghost use Rattle.wy_state.specs.Agrees.{shape, Answers, itself};
+ghost use Rattle.wy_state.specs.Agrees.{shape, StepGives, itself};
 ghost use Rattle.wy_state.specs.Seen.{given, made_of};
 ghost use Rattle.wy_steps.specs.State.{Around, return};
 ghost use Rattle.wy_steps.specs.Steps.{activating, note};
@@ -26,7 +26,7 @@ pub fn test<R: Recorder>(
     value: Value,
     uses: &[Use],
 ) -> Result<bool, Halt>
-    ensures step { (p : Program) → Answers p itself result (shape R.keeps R.kept state.old)
+    ensures step { (p : Program) → StepGives p itself result (shape R.keeps R.kept state.old)
         (tested site reach (return (given value uses.now))) (shape R.keeps R.kept state.new) }
     ensures around { Keeps result state.old.calls state.new.calls }
 {
@@ -42,7 +42,7 @@ pub fn test_around<R: Recorder>(
     value: Value,
     uses: &[Use],
 ) -> Result<u32, Halt>
-    ensures step { (p : Program) → Answers p made_of result (shape R.keeps R.kept state.old)
+    ensures step { (p : Program) → StepGives p made_of result (shape R.keeps R.kept state.old)
         (activating Around (note (plain kind.Test site value) (given value uses.now)))
         (shape R.keeps R.kept state.new) }
     ensures around { Keeps result state.old.calls state.new.calls }

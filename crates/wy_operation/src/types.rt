@@ -6,7 +6,7 @@ ghost use Rattle.wy_kernel.specs.Parts.{program_of};
 ghost use Rattle.wy_meaning.specs.World.{World};
 ghost use Rattle.wy_meaning.specs.Expression.{cast, instance_of};
 ghost use Rattle.wy_operation.specs.Around.{Keeps};
-ghost use Rattle.wy_state.specs.Agrees.{shape, Answers, Meets};
+ghost use Rattle.wy_state.specs.Agrees.{shape, StepGives, Meets};
 ghost use Rattle.wy_state.specs.Seen.{given};
 ghost use Rattle.wy_steps.specs.Sets.{nothing};
 ghost use Rattle.wy_steps.specs.State.{return};
@@ -33,7 +33,7 @@ pub fn cast<R: Recorder>(
     site: u32,
 ) -> Result<(), Halt>
     ensures step { (w : World nothing) → w.program ≡ program_of program.now
-        → Answers (program_of program.now) (λ u. given value uses.now) result
+        → StepGives (program_of program.now) (λ u. given value uses.now) result
         (shape R.keeps R.kept state.old) (cast w ty (return (given value uses.now)) site)
         (shape R.keeps R.kept state.new) }
     ensures around { Keeps result state.old.calls state.new.calls }

@@ -7,7 +7,7 @@ ghost use Rattle.wy_meaning.specs.Place.{operated, primitive_of, promoted};
 ghost use Rattle.wy_operation.specs.Around.{Keeps};
 ghost use Rattle.wy_operation.specs.Operated.{DoneAs, right_operand};
 ghost use Rattle.wy_operation.specs.Updated.{Places, updated};
-ghost use Rattle.wy_state.specs.Agrees.{shape, Answers};
+ghost use Rattle.wy_state.specs.Agrees.{shape, StepGives};
 ghost use Rattle.wy_state.specs.Seen.{valued};
 ghost use Rattle.wy_steps.specs.Sets.{nothing};
 
@@ -44,7 +44,7 @@ pub fn update<R: Recorder>(
 ) -> Result<(Value, u32), Halt>
     ensures step { (p : Program) (w : World nothing)
         (o : Places slot old right operands.now uses.now)
-        → w.program ≡ p → Answers p (λ r. valued r.1 r.0) result (shape R.keeps R.kept state.old)
+        → w.program ≡ p → StepGives p (λ r. valued r.1 r.0) result (shape R.keeps R.kept state.old)
         (updated w form.op form.ty form.wide form.site o.spot o.old o.value)
         (shape R.keeps R.kept state.new) }
     ensures around { Keeps result state.old.calls state.new.calls }

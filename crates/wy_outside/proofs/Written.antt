@@ -4,7 +4,7 @@ use Rattle.std.proofs.Math.Seq.{take-add, take-length}
 use Rattle.std.specs.Io.KnownBytes.{Appends, Keeps}
 
 -- first p and then q were appended
-both_appended : (a b c : Option (List ℕ)) (p q : List ℕ) → Appends a b p → Appends b c q → Appends a c (p ++ q)
+pub both_appended : (a b c : Option (List ℕ)) (p q : List ℕ) → Appends a b p → Appends b c q → Appends a c (p ++ q)
 both_appended None b c p q first second = tt
 both_appended (Some xs) None c p q first second = absurd first
 both_appended (Some xs) (Some ys) None p q first second = absurd second

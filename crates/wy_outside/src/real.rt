@@ -5,6 +5,6 @@ mod shelf;
 mod sink;
 mod source;
 
-pub use shelf::{FileShelf, read_front};
+pub use shelf::{FileShelf, read_prefix};
 pub use sink::{StdoutSink, write_whole};
 pub use source::{StdinSource, read_some};

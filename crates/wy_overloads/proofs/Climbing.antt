@@ -10,37 +10,7 @@ use Rattle.wy_kernel.specs.Subtyping.{direct_supertypes, Supertype, itself, furt
 use Rattle.wy_kernel.specs.Table.{KeepsSupertypes}
 use Rattle.std.proofs.lemmas.Option.{slice_get-get_or}
 use Rattle.wy_table.specs.Hierarchy.{IsListed}
-
-or_right : (a b : Bool) → b ≡ true → (a || b) ≡ true
-or_right true b e = refl
-or_right false b e = e
-
-or_left : (a b : Bool) → a ≡ true → (a || b) ≡ true
-or_left true b e = refl
-or_left false b e = absurd (cc)
-
-or_cases : (a b : Bool) → (a || b) ≡ true → (a ≡ true) ⊎ (b ≡ true)
-or_cases true b e = inl refl
-or_cases false b e = inr e
-
--- an element that passes a test
-pub found : (p : ℕ → Bool) (xs : List ℕ) → list_any p xs ≡ true → (x : ℕ) × Contains xs x × (p x ≡ true)
-found p [] e = absurd (cc)
-found p (x ∷ xs) e =
-    elim (or_cases (p x) (list_any p xs) e) [
-      | inl h ↦ (x, (0, omega arith, refl), h)
-      | inr h ↦ (let f = found p xs h in (f.0, (suc f.1.0, (let lt : f.1.0 < length xs = f.1.1 in omega arith), f.1.2), f.2))
-    ]
-
-pub passes : (p : ℕ → Bool) (xs : List ℕ) (x : ℕ) → Contains xs x → p x ≡ true → list_any p xs ≡ true
-passes p [] x (k, lt, e) h = absurd (omega arith)
-passes p (y ∷ ys) x (zero, lt, e) h = or_left (p y) (list_any p ys) (ap p e ∙ h)
-passes p (y ∷ ys) x (suc k, lt, e) h = or_right (p y) (list_any p ys) (passes p ys x (k, omega arith, e) h)
-
-contained : (x : ℕ) (xs : List ℕ) → list_any (nat_eq x) xs ≡ true → Contains xs x
-contained x xs e =
-    let f = found (nat_eq x) xs e in let same : nat_eq x f.0 ≡ true = f.2 in let is : f.0 ≡ x = search rules in
-    let P : ℕ → Type 0 = λ y. Contains xs y in subst P is f.1
+use Rattle.wy_kernel.proofs.Supertypes.{found, passes, contained}
 
 -- d stands so many steps above c
 climbs : List Class → ℕ → ℕ → ℕ → Bool

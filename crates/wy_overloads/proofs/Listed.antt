@@ -15,8 +15,8 @@ use Rattle.wy_kernel.specs.Subtyping.{class_type}
 use Rattle.wy_kernel.specs.Table.{Table}
 use Rattle.wy_kernel.proofs.Supertypes.{contained}
 use Rattle.wy_table.specs.declared.methods.MethodIndex.{MethodIndex}
-use Rattle.wy_table.specs.MethodIndex.{IsIndexOf, named_in, constructors_in, alike_in, shared_in}
-use Rattle.wy_table.specs.Methods.{Lists, IsAlike, IsByName, IsConstructorOf, IsNamed, IsShared}
+use Rattle.wy_table.specs.MethodIndex.{IsIndexOf, named_in, constructors_in, alike_in}
+use Rattle.wy_table.specs.Methods.{Lists, IsAlike, IsByName, IsConstructorOf, IsNamed}
 use Rattle.wy_overloads.specs.Choice.{DeclaredFor, IsEquivalent, IsMember, IsMethod}
 
 -- ---- what a list has
@@ -65,12 +65,9 @@ module _ (index : MethodIndex) (methods : List Method) (g : ∥ IsIndexOf index 
   pub alike_listed : (k : ℕ) (m : Method) → slice_get methods k ≡ Some m → Lists methods (λ j other. IsByName other.form × IsAlike m other) (alike_in index k)
   alike_listed k m is = untruncated methods _ _ (∥∥₁_elim g (hlevel props) (λ g'. ∣ g'.alike k m is ∣₁))
 
-  pub shared_listed : Lists methods (IsShared methods) (shared_in index)
-  shared_listed = untruncated methods _ _ (∥∥₁_elim g (hlevel props) (λ g'. ∣ g'.shared ∣₁))
-
 -- ---- which methods a type has
 
-declared_so : (classes : List Class) (type : Ty) (class : ℕ) (form : MethodForm) → DeclaredFor classes type class form → IsByName form ⊎ ((form ≡ kind.Constructor) × (type ≡ class_type class))
+pub declared_so : (classes : List Class) (type : Ty) (class : ℕ) (form : MethodForm) → DeclaredFor classes type class form → IsByName form ⊎ ((form ≡ kind.Constructor) × (type ≡ class_type class))
 declared_so classes type class kind.Static d = inl tt
 declared_so classes type class kind.Instance d = inl tt
 declared_so classes type class kind.Constructor d = inr (refl, d)

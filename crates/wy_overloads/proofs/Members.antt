@@ -12,7 +12,7 @@ no_class_beyond classes c le h =
     let P : Option Class → Type 0 = λ o. MatchOption o ⊥ (λ declaration. declaration.is_interface ≡ false) in
     subst P (slice_get_past classes c le) h
 
-same_method : (t : Table) (k : ℕ) (m other : Method) → IsMethod t k m → IsMethod t k other → m ≡ other
+pub same_method : (t : Table) (k : ℕ) (m other : Method) → IsMethod t k m → IsMethod t k other → m ≡ other
 same_method t k m other e f = let g : Some m ≡ Some other = sym e ∙ f in cc
 
 -- what holds of the methods before one and of that one holds of the methods up to it

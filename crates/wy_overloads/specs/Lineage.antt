@@ -9,5 +9,5 @@ abbrev pub HasTop : List Class → Type 0
 HasTop classes = direct_supertypes classes 0 ≡ []
 
 -- what a table says of its classes and methods
-abbrev pub hierarchy : Table → Table
-hierarchy t = record { classes = t.classes; methods = t.methods; fields = []; constants = [] }
+abbrev pub classes_and_methods : Table → Table
+classes_and_methods t = record { classes = t.classes; methods = t.methods; fields = []; constants = [] }

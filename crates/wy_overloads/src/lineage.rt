@@ -40,7 +40,7 @@ impl<'a> Lineage<'a> {
     ghost use Rattle.wy_kernel.specs.Builtin.{no_site};
     ghost use Rattle.wy_table.specs.ClassTable.{table_of};
     ghost use Rattle.wy_kernel.specs.Table.{KeepsSupertypes};
-    ghost use Rattle.wy_overloads.specs.Lineage.{HasTop, hierarchy};
+    ghost use Rattle.wy_overloads.specs.Lineage.{HasTop, classes_and_methods};
     ghost use Rattle.wy_overloads.specs.LineageView.{lineage_of};
     ghost use Rattle.wy_kernel.specs.Subtyping.{class_type};
     ghost use Rattle.wy_kernel.specs.declared.types.MethodForm.{MethodForm};
@@ -48,11 +48,11 @@ impl<'a> Lineage<'a> {
     ghost use Rattle.wy_overloads.specs.Choice.{IsEquivalent, IsMember, IsMethod};
     ghost use Rattle.wy_table.specs.Hierarchy.{rows_of};
     ghost use Rattle.wy_table.specs.MethodIndex.{IsIndexOf};
-    ghost use Rattle.wy_table.specs.Methods.{IsAlike, IsByName, IsShared, Lists};
+    ghost use Rattle.wy_table.specs.Methods.{IsAlike, IsByName, Lists};
 
     /// The classes and the methods of a table.
     pub fn of_table(table: &'a ClassTable) -> Self
-        ensures { lineage_of result ≡ hierarchy (table_of table.now) }
+        ensures { lineage_of result ≡ classes_and_methods (table_of table.now) }
     {
         Lineage {
             classes: &table.classes,
@@ -155,14 +155,6 @@ impl<'a> Lineage<'a> {
             (λ j other. IsByName other.form × IsAlike (method_of m.now) other) result.now }
     {
         self.index.alike(k)
-    }
-
-    /// The methods to look at for those that have the name and the parameter types of another, constructors aside.
-    pub fn shared(&self) -> &'a [u32]
-        ensures { Lists (lineage_of self.now).methods (IsShared (lineage_of self.now).methods)
-            result.now }
-    {
-        self.index.shared()
     }
 
     /// The methods to look at for the constructors of the class that a type is.

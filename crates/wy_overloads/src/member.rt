@@ -8,10 +8,8 @@ ghost use Rattle.wy_overloads.specs.LineageView.{lineage_of};
 
 use crate::lineage::Lineage;
 use crate::subtyping::{is_below, is_reference};
+use wy_kernel::builtin::FIRST_SOURCE_CLASS;
 use wy_kernel::types::{Base, Method, MethodForm, Ty};
-
-/// The number of the first class of the text.
-pub const FIRST_SOURCE_CLASS: u32 = 18;
 
 /// The type of a class or an interface.
 pub fn type_of_class(class: u32) -> Ty

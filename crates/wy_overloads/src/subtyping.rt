@@ -9,11 +9,10 @@ ghost use Rattle.wy_overloads.specs.LineageView.{lineage_of};
 
 use crate::lineage::Lineage;
 use wy_constant::widens;
+use wy_kernel::builtin::OBJECT;
 use wy_kernel::operator::Primitive;
 use wy_kernel::types::{Base, Ty};
 use wy_table::table::ClassTable;
-
-const OBJECT: u32 = 0;
 
 /// Whether type `a` is below type `b`.
 pub fn subtype(table: &ClassTable, a: &Ty, b: &Ty) -> bool

@@ -14,7 +14,7 @@ use Rattle.wy_tree.specs.declared.grammar.Row.{Row}
 use Rattle.wy_tree.specs.declared.grammar.Row.TheVariants as rows
 use Rattle.wy_tree.specs.declared.grammar.Item.{Item}
 use Rattle.wy_tree.specs.declared.grammar.Item.TheVariants.{One, Part, Parts}
-use Rattle.wy_parser.specs.Prediction.{front}
+use Rattle.wy_parser.specs.Prediction.{first_kind}
 use Rattle.wy_parser.proofs.Truth.{and_left, and_right, both, is_false}
 use Rattle.wy_parser.proofs.Firsts.{within, every, implied, front_first}
 use Rattle.wy_parser.proofs.Follows.{meets, after_unary}
@@ -32,8 +32,8 @@ barred _ t k = false
 abbrev pub clear : {items : List Item} {ts : Asts} → Match items ts → List Tok → Type 0
 clear done s = Unit {0}
 clear (token e w) s = clear w s
-clear (part {x} {t} {items} {ts} v w) s = (barred x t (front (tokens_all ts ++ s)) ≡ false) × clear w s
-clear (chosen {r} {way} {items} {ts} y w) s = (lets y (front (tokens_all ts ++ s)) ≡ true) × clear w s
+clear (part {x} {t} {items} {ts} v w) s = (barred x t (first_kind (tokens_all ts ++ s)) ≡ false) × clear w s
+clear (chosen {r} {way} {items} {ts} y w) s = (lets y (first_kind (tokens_all ts ++ s)) ≡ true) × clear w s
 
 -- sorts and rows without such trees among their parts
 abbrev plain_sort : Sort → Bool
@@ -96,21 +96,21 @@ plain_way y e = refl
 pub clear_plain : (items : List Item) (ts : Asts) (w : Match items ts) → plain items ≡ true → (s : List Tok) → clear w s
 clear_plain _ _ done e s = tt
 clear_plain _ _ (token {items} {ts} f w) e s = clear_plain items ts w e s
-clear_plain _ _ (part {x} {t} {items} {ts} v w) e s = (barred_plain x t (front (tokens_all ts ++ s)) (and_left (plain_sort x) (plain items) e), clear_plain items ts w (and_right (plain_sort x) (plain items) e) s)
+clear_plain _ _ (part {x} {t} {items} {ts} v w) e s = (barred_plain x t (first_kind (tokens_all ts ++ s)) (and_left (plain_sort x) (plain items) e), clear_plain items ts w (and_right (plain_sort x) (plain items) e) s)
 clear_plain _ _ (chosen {r} {way} {items} {ts} y w) e s =
     let f = and_left (plain_row r) (plain items) e in
-    (lets_plain y (front (tokens_all ts ++ s)) f, clear_plain (way ++ items) ts w (plain_append way items (plain_way y f) (and_right (plain_row r) (plain items) e)) s)
+    (lets_plain y (first_kind (tokens_all ts ++ s)) f, clear_plain (way ++ items) ts w (plain_append way items (plain_way y f) (and_right (plain_row r) (plain items) e)) s)
 
 -- no else follows, or the last part is not open
 abbrev closes : Asts → List Tok → Type 0
-closes ts s = (ends_open ts && same (front s) kinds.Else) ≡ false
+closes ts s = (ends_open ts && same (first_kind s) kinds.Else) ≡ false
 
 closes_later : (t : Ast) (ts : Asts) (s : List Tok) → closes (more t ts) s → closes ts s
 closes_later t none s e = refl
 closes_later t (more u ts) s e = e
 
-last_part : (x : Sort) (t : Ast) (all : List Item) (ts : Asts) (w : Match all ts) → x ≡ sorts.Stmt → all ≡ [] → (s : List Tok) → closes (more t ts) s → (barred x t (front (tokens_all ts ++ s)) ≡ false) × clear w s
-last_part x t _ _ done q r s c = (ap (λ z. barred z t (front s)) q ∙ c, tt)
+last_part : (x : Sort) (t : Ast) (all : List Item) (ts : Asts) (w : Match all ts) → x ≡ sorts.Stmt → all ≡ [] → (s : List Tok) → closes (more t ts) s → (barred x t (first_kind (tokens_all ts ++ s)) ≡ false) × clear w s
+last_part x t _ _ done q r s c = (ap (λ z. barred z t (first_kind s)) q ∙ c, tt)
 last_part x t _ _ (token e w) q r s c = absurd (cc)
 last_part x t _ _ (part v w) q r s c = absurd (cc)
 last_part x t _ _ (chosen y w) q r s c = absurd (cc)
@@ -127,7 +127,7 @@ clear_last [] _ _ (part {x} {t} {items = all} {ts} v w) q e s c = last_part x t 
 clear_last (One d ∷ items) _ _ (part v w) q e s c = absurd (cc)
 clear_last (Part y ∷ items) _ _ (part {x} {t} {items = all} {ts} v w) q e s c =
     let h : y ≡ x = cc in (
-      barred_plain x t (front (tokens_all ts ++ s)) (subst (λ z. plain_sort z ≡ true) h (and_left (plain_sort y) (plain items) e)),
+      barred_plain x t (first_kind (tokens_all ts ++ s)) (subst (λ z. plain_sort z ≡ true) h (and_left (plain_sort y) (plain items) e)),
       clear_last items all ts w (let h : all ≡ items ++ (Part sorts.Stmt ∷ []) = cc in h) (and_right (plain_sort y) (plain items) e) s (closes_later t ts s c),
     )
 clear_last (Parts row ∷ items) _ _ (part v w) q e s c = absurd (cc)
@@ -138,7 +138,7 @@ clear_last (Parts row ∷ items) _ _ (chosen {r} {way} {items = all} {ts} y w) q
     let h : row ≡ r = cc in
     let g : all ≡ items ++ (Part sorts.Stmt ∷ []) = cc in
     let f = subst (λ z. plain_row z ≡ true) h (and_left (plain_row row) (plain items) e) in (
-      lets_plain y (front (tokens_all ts ++ s)) f,
+      lets_plain y (first_kind (tokens_all ts ++ s)) f,
       clear_last (way ++ items) (way ++ all) ts w (ap (λ z. way ++ z) g ∙ sym (append_assoc way items (Part sorts.Stmt ∷ []))) (plain_append way items (plain_way y f) (and_right (plain_row row) (plain items) e)) s c,
     )
 
@@ -167,16 +167,16 @@ bar_right true b false e = no_bar b false refl
 bar_right true b true e = absurd (cc)
 bar_right false b c e = e
 
-clear_local : (ts : Asts) (w : Match (rule sorts.Local) ts) (s : List Tok) → meets sorts.Local (front s) ≡ true → clear w s
+clear_local : (ts : Asts) (w : Match (rule sorts.Local) ts) (s : List Tok) → meets sorts.Local (first_kind s) ≡ true → clear w s
 clear_local ts (chosen grammar.a_declaration w) s m = (refl, clear_plain _ ts w refl s)
-clear_local _ (chosen grammar.a_statement (part {t} v done)) s m = (refl, (no_bar (is_open t) (same (front s) kinds.Else) (is_false (same (front s) kinds.Else) (local_without_else (front s) m)), tt))
+clear_local _ (chosen grammar.a_statement (part {t} v done)) s m = (refl, (no_bar (is_open t) (same (first_kind s) kinds.Else) (is_false (same (first_kind s) kinds.Else) (local_without_else (first_kind s) m)), tt))
 
-clear_postfix : (ts : Asts) (w : Match (rule sorts.Postfix) ts) (s : List Tok) → meets sorts.Postfix (front s) ≡ true → clear w s
+clear_postfix : (ts : Asts) (w : Match (rule sorts.Postfix) ts) (s : List Tok) → meets sorts.Postfix (first_kind s) ≡ true → clear w s
 clear_postfix _ (part {t} {ts} v w) s m =
-    let k = front (tokens_all ts ++ s) in
+    let k = first_kind (tokens_all ts ++ s) in
     (no_bar (is_array_creation t) (same k kinds.OpenBracket) (is_false (same k kinds.OpenBracket) (behind_primary k (front_first (Parts rows.Steps ∷ []) ts w (within after_unary) s m))), clear_plain _ ts w refl s)
 
-clear_primary : (ts : Asts) (w : Match (rule sorts.Primary) ts) (s : List Tok) → barred sorts.Primary (node (form_of sorts.Primary) ts) (front s) ≡ false → clear w s
+clear_primary : (ts : Asts) (w : Match (rule sorts.Primary) ts) (s : List Tok) → barred sorts.Primary (node (form_of sorts.Primary) ts) (first_kind s) ≡ false → clear w s
 clear_primary _ (chosen grammar.created (part v done)) s b = (refl, (b, tt))
 clear_primary ts (chosen grammar.literal w) s b = (refl, clear_plain _ ts w refl s)
 clear_primary ts (chosen grammar.this w) s b = (refl, clear_plain _ ts w refl s)
@@ -196,18 +196,18 @@ else_closes true false e f = refl
 else_closes false c e f = absurd (cc)
 
 -- if the node closes, its last part does
-closed_last : (ts : Asts) (s : List Tok) → barred sorts.Stmt (node (form_of sorts.Stmt) ts) (front s) ≡ false → closes ts s
+closed_last : (ts : Asts) (s : List Tok) → barred sorts.Stmt (node (form_of sorts.Stmt) ts) (first_kind s) ≡ false → closes ts s
 closed_last none s b = refl
 closed_last (more t none) s b = b
-closed_last (more t (more u ts)) s b = bar_right (lacks_else (more t (more u ts))) (ends_open (more t (more u ts))) (same (front s) kinds.Else) b
+closed_last (more t (more u ts)) s b = bar_right (lacks_else (more t (more u ts))) (ends_open (more t (more u ts))) (same (first_kind s) kinds.Else) b
 
-clear_statement : (ts : Asts) (w : Match (rule sorts.Stmt) ts) (s : List Tok) → fine sorts.Stmt ts ≡ true → barred sorts.Stmt (node (form_of sorts.Stmt) ts) (front s) ≡ false → clear w s
+clear_statement : (ts : Asts) (w : Match (rule sorts.Stmt) ts) (s : List Tok) → fine sorts.Stmt ts ≡ true → barred sorts.Stmt (node (form_of sorts.Stmt) ts) (first_kind s) ≡ false → clear w s
 clear_statement _ (chosen grammar.an_if (token {o} e (token e' (part v (token e'' (part {t} v' (chosen grammar.no_else done))))))) s f b =
-    let d : same (front s) kinds.Else ≡ false = if_open (same (kind_of o) kinds.If) (is_open t) (same (front s) kinds.Else) e b in
-    (refl, (refl, (no_bar (is_open t) (same (front s) kinds.Else) d, (ap not d, tt))))
+    let d : same (first_kind s) kinds.Else ≡ false = if_open (same (kind_of o) kinds.If) (is_open t) (same (first_kind s) kinds.Else) e b in
+    (refl, (refl, (no_bar (is_open t) (same (first_kind s) kinds.Else) d, (ap not d, tt))))
 clear_statement _ (chosen grammar.an_if (token {o} e (token {o = p} e' (part {t = c} v (token {o = p'} e'' (part {t} v' (chosen grammar.an_else (token {o = o'} e4 (part {t = t'} v'' done))))))))) s f b =
     let g = fine_condition sorts.Stmt (more (Leaf o) (more (Leaf p) (more c (more (Leaf p') (more t (more (Leaf o') (more t' none))))))) f in
-    (refl, (refl, (no_bar_left (is_open t) (same (kind_of o') kinds.Else) (else_closes (same (kind_of o) kinds.If) (is_open t) e g), (refl, (bar_right (same (kind_of o) kinds.If && false) (is_open t') (same (front s) kinds.Else) b, tt)))))
+    (refl, (refl, (no_bar_left (is_open t) (same (kind_of o') kinds.Else) (else_closes (same (kind_of o) kinds.If) (is_open t) e g), (refl, (bar_right (same (kind_of o) kinds.If && false) (is_open t') (same (first_kind s) kinds.Else) b, tt)))))
 clear_statement ts (chosen grammar.a_while w) s f b = (refl, clear_last (a kinds.While ∷ a kinds.OpenParen ∷ Part sorts.Expr ∷ a kinds.CloseParen ∷ []) _ ts w refl refl s (closed_last ts s b))
 clear_statement ts (chosen grammar.a_for w) s f b = (refl, clear_last (a kinds.For ∷ a kinds.OpenParen ∷ Parts (rows.Maybe sorts.ForInit) ∷ a kinds.Semicolon ∷ Parts (rows.Maybe sorts.Expr) ∷ a kinds.Semicolon ∷ Parts (rows.Series sorts.Effect) ∷ a kinds.CloseParen ∷ []) _ ts w refl refl s (closed_last ts s b))
 clear_statement ts (chosen grammar.labelled w) s f b = (refl, clear_last (name ∷ a kinds.Colon ∷ []) _ ts w refl refl s (closed_last ts s b))
@@ -223,7 +223,7 @@ clear_statement ts (chosen grammar.a_throw w) s f b = (refl, clear_plain _ ts w 
 clear_statement ts (chosen grammar.a_try w) s f b = (refl, clear_plain _ ts w refl s)
 
 -- the parts of a tree
-pub clear_rule : (x : Sort) (ts : Asts) (w : Match (rule x) ts) (s : List Tok) → meets x (front s) ≡ true → fine x ts ≡ true → barred x (node (form_of x) ts) (front s) ≡ false → clear w s
+pub clear_rule : (x : Sort) (ts : Asts) (w : Match (rule x) ts) (s : List Tok) → meets x (first_kind s) ≡ true → fine x ts ≡ true → barred x (node (form_of x) ts) (first_kind s) ≡ false → clear w s
 clear_rule sorts.Local ts w s m f b = clear_local ts w s m
 clear_rule sorts.Stmt ts w s m f b = clear_statement ts w s f b
 clear_rule sorts.Postfix ts w s m f b = clear_postfix ts w s m

@@ -13,7 +13,7 @@ use Rattle.wy_tree.specs.declared.grammar.Row.TheVariants as rows
 use Rattle.wy_tree.specs.declared.grammar.Item.{Item}
 use Rattle.wy_tree.specs.declared.grammar.Item.TheVariants.{Parts}
 use Rattle.wy_tree.specs.declared.tree.Tree.{Tree}
-use Rattle.wy_parser.specs.Prediction.{front}
+use Rattle.wy_parser.specs.Prediction.{first_kind}
 use Rattle.wy_parser.specs.Parsed.{whole, Tells, Refuses}
 use Rattle.wy_tree.specs.Trees.{IsTreeOf, IsOnlyTreeOf, OneTree}
 use Rattle.wy_parser.specs.Causes.{IsCause}
@@ -33,47 +33,47 @@ use Rattle.wy_parser.proofs.Whole.{whole_told}
 nonempty : (x : Sort) (t : Ast) → Is x t → begins x kinds.Nothing ≡ false → 1 ≤ length (tokens t)
 nonempty x t v e = by (tokens t) (starts x t v [])
   where
-    by : (l : List Tok) → begins x (front (l ++ [])) ≡ true → 1 ≤ length l
+    by : (l : List Tok) → begins x (first_kind (l ++ [])) ≡ true → 1 ≤ length l
     by [] f = absurd (cc)
     by (o ∷ l) f = omega arith
 
-first_of_way : (row : Row) (way items : List Item) (ts : Asts) → Match (way ++ items) ts → (F : Kind → Bool) (s : List Tok) → F (front s) ≡ true → ((k : Kind) → first_in items F k ≡ true → row_meets row k ≡ true)
-    → first_in way (row_meets row) (front (tokens_all ts ++ s)) ≡ true
+first_of_way : (row : Row) (way items : List Item) (ts : Asts) → Match (way ++ items) ts → (F : Kind → Bool) (s : List Tok) → F (first_kind s) ≡ true → ((k : Kind) → first_in items F k ≡ true → row_meets row k ≡ true)
+    → first_in way (row_meets row) (first_kind (tokens_all ts ++ s)) ≡ true
 first_of_way row way items ts w F s f m =
-    let k = front (tokens_all ts ++ s) in
+    let k = first_kind (tokens_all ts ++ s) in
     first_more way (first_in items F) (row_meets row) k (m k) (sym (first_append way items F k) ∙ front_first (way ++ items) ts w F s f)
 
 mutual
   -- a tree before what may follow it
-  told : (x : Sort) (t : Ast) → Is x t → (s : List Tok) → meets x (front s) ≡ true → barred x t (front s) ≡ false → Told x t s
+  told : (x : Sort) (t : Ast) → Is x t → (s : List Tok) → meets x (first_kind s) ≡ true → barred x t (first_kind s) ≡ false → Told x t s
   told x t (grammar.grown {l} {ts} {items} v y w e q) s m b =
       grown (told x l v (tokens_all ts ++ s) (suffix_meets x items y ts w s) (suffix_barred x items y l ts w s e)) (goes_on x items y ts w s)
       (told_parts items ts w s (meets x) (suffix_lawful y) m (clear_suffix x items y ts w s)) e q
-  told sorts.New t (grammar.made {ts} w e q) s m b = made (told_new ts w s (subst (λ z. barred sorts.New z (front s) ≡ false) q b)) e q
+  told sorts.New t (grammar.made {ts} w e q) s m b = made (told_new ts w s (subst (λ z. barred sorts.New z (first_kind s) ≡ false) q b)) e q
   told x t (grammar.made {ts} w e q) s m b =
-      made (told_parts (rule x) ts w s (rule_meets x) (rule_lawful x) m (clear_rule x ts w s m e (subst (λ z. barred x z (front s) ≡ false) q b))) e q
+      made (told_parts (rule x) ts w s (rule_meets x) (rule_lawful x) m (clear_rule x ts w s m e (subst (λ z. barred x z (first_kind s) ≡ false) q b))) e q
 
-  told_parts : (items : List Item) (ts : Asts) (w : Match items ts) (s : List Tok) (F : Kind → Bool) → Lawful items F → F (front s) ≡ true → clear w s → ToldParts items ts s
+  told_parts : (items : List Item) (ts : Asts) (w : Match items ts) (s : List Tok) (F : Kind → Bool) → Lawful items F → F (first_kind s) ≡ true → clear w s → ToldParts items ts s
   told_parts _ _ grammar.done s F l f c = done
   told_parts _ _ (grammar.token {items} {ts} e w) s F l f c = token e (told_parts items ts w s F l f c)
   told_parts _ _ (grammar.part {x} {t} {items} {ts} v w) s F l f c =
       let u = tokens_all ts ++ s in
-      let e = l.0 (front u) (front_first items ts w F s f) in
-      part (told x t v u (ends_meets x (front u) e) c.0) (no_more x u e) (nonempty x t v l.1) (told_parts items ts w s F l.2 f c.1)
+      let e = l.0 (first_kind u) (front_first items ts w F s f) in
+      part (told x t v u (ends_meets x (first_kind u) e) c.0) (no_more x u e) (nonempty x t v l.1) (told_parts items ts w s F l.2 f c.1)
   told_parts _ _ (grammar.chosen {r} {way} {items} {ts} y w) s F l f c =
       chosen y (decides y items ts w s F f l.0 l.1 l.2 c.0 (first_of_way r way items ts w F s f l.0))
       (told_parts (way ++ items) ts w s F (lawful_append way items F (row_meets r) l.0 (way_lawful y items l.1) l.2) f c.1)
 
   -- an object's creation stands before anything, an array's not before a bracket
-  told_new : (ts : Asts) → Match (a kinds.New ∷ Parts rows.NewForm ∷ []) ts → (s : List Tok) → barred sorts.New (node (form_of sorts.New) ts) (front s) ≡ false
+  told_new : (ts : Asts) → Match (a kinds.New ∷ Parts rows.NewForm ∷ []) ts → (s : List Tok) → barred sorts.New (node (form_of sorts.New) ts) (first_kind s) ≡ false
       → ToldParts (a kinds.New ∷ Parts rows.NewForm ∷ []) ts s
   told_new _ (grammar.token {o} e (grammar.chosen grammar.an_object (grammar.token {o = o'} e' (grammar.part {t} v grammar.done)))) s b =
       token e (chosen grammar.an_object (tells_an_object [] (more (Leaf o') (more t none)) (grammar.token e' (grammar.part v grammar.done)) s)
       (token e' (part (told sorts.Args t v s refl refl) (no_more sorts.Args s refl) (nonempty sorts.Args t v refl) done)))
   told_new _ (grammar.token {o} {ts} e (grammar.chosen grammar.sized w)) s b =
-      token e (chosen grammar.sized (tells_sized _ ts w s) (told_parts sized ts w s (row_meets rows.NewForm) (way_lawful grammar.sized [] refl) (sized_bars ts w o (front s) b) (clear_plain sized ts w refl s)))
+      token e (chosen grammar.sized (tells_sized _ ts w s) (told_parts sized ts w s (row_meets rows.NewForm) (way_lawful grammar.sized [] refl) (sized_bars ts w o (first_kind s) b) (clear_plain sized ts w refl s)))
   told_new _ (grammar.token {o} {ts} e (grammar.chosen grammar.listed w)) s b =
-      token e (chosen grammar.listed (tells_listed _ ts w s) (told_parts listed ts w s (row_meets rows.NewForm) (way_lawful grammar.listed [] refl) (listed_bars ts w o (front s) b) (clear_plain listed ts w refl s)))
+      token e (chosen grammar.listed (tells_listed _ ts w s) (told_parts listed ts w s (row_meets rows.NewForm) (way_lawful grammar.listed [] refl) (listed_bars ts w o (first_kind s) b) (clear_plain listed ts w refl s)))
 
 pub complete : (t : Ast) → WellFormed t → whole (tokens t) ≡ Some t
 complete t w = whole_told t (told sorts.Unit t w.0 [] refl refl) w.1

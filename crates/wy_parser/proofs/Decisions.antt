@@ -9,7 +9,7 @@ use Rattle.wy_tree.specs.declared.kind.Kind.{Kind}
 use Rattle.wy_tree.specs.declared.kind.Kind.TheVariants as kinds
 use Rattle.wy_tree.specs.declared.grammar.Row.{Row}
 use Rattle.wy_tree.specs.declared.grammar.Item.{Item}
-use Rattle.wy_parser.specs.Prediction.{front, predict}
+use Rattle.wy_parser.specs.Prediction.{first_kind, predict}
 use Rattle.wy_parser.proofs.Truth.{is_false}
 use Rattle.wy_parser.proofs.Firsts.{first_in}
 use Rattle.wy_parser.proofs.Follows.{row_meets, occurs, Lawful}
@@ -23,9 +23,9 @@ abbrev pub lets : {row : Row} {way : List Item} → Alternative row way → Kind
 lets grammar.no_else k = not (same k kinds.Else)
 lets _ k = true
 
-pub decides : {row : Row} {way : List Item} (y : Alternative row way) (items : List Item) (ts : Asts) → Match (way ++ items) ts → (s : List Tok) (F : Kind → Bool) → F (front s) ≡ true
-    → ((k : Kind) → first_in items F k ≡ true → row_meets row k ≡ true) → occurs row items ≡ true → Lawful items F → lets y (front (tokens_all ts ++ s)) ≡ true
-    → first_in way (row_meets row) (front (tokens_all ts ++ s)) ≡ true → predict row (tokens_all ts ++ s) ≡ way
+pub decides : {row : Row} {way : List Item} (y : Alternative row way) (items : List Item) (ts : Asts) → Match (way ++ items) ts → (s : List Tok) (F : Kind → Bool) → F (first_kind s) ≡ true
+    → ((k : Kind) → first_in items F k ≡ true → row_meets row k ≡ true) → occurs row items ≡ true → Lawful items F → lets y (first_kind (tokens_all ts ++ s)) ≡ true
+    → first_in way (row_meets row) (first_kind (tokens_all ts ++ s)) ≡ true → predict row (tokens_all ts ++ s) ≡ way
 decides (grammar.none_of {x}) items ts w s F f m o l q g = tells_none_of x (tokens_all ts ++ s) g
 decides (grammar.some_of {x}) items ts w s F f m o l q g = tells_some_of x items o (tokens_all ts ++ s) g
 decides (grammar.absent {x}) items ts w s F f m o l q g = tells_absent x (tokens_all ts ++ s) g
@@ -93,7 +93,7 @@ decides grammar.a_continue items ts w s F f m o l q g = tells_a_continue (tokens
 decides grammar.a_return items ts w s F f m o l q g = tells_a_return (tokens_all ts ++ s) g
 decides grammar.a_throw items ts w s F f m o l q g = tells_a_throw (tokens_all ts ++ s) g
 decides grammar.a_try items ts w s F f m o l q g = tells_a_try (tokens_all ts ++ s) g
-decides grammar.no_else items ts w s F f m o l q g = tells_no_else (tokens_all ts ++ s) (is_false (same (front (tokens_all ts ++ s)) kinds.Else) q)
+decides grammar.no_else items ts w s F f m o l q g = tells_no_else (tokens_all ts ++ s) (is_false (same (first_kind (tokens_all ts ++ s)) kinds.Else) q)
 decides grammar.an_else items ts w s F f m o l q g = tells_an_else (tokens_all ts ++ s) g
 decides grammar.no_label items ts w s F f m o l q g = tells_no_label (tokens_all ts ++ s) g
 decides grammar.label items ts w s F f m o l q g = tells_label (tokens_all ts ++ s) g

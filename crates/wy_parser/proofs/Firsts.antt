@@ -15,7 +15,7 @@ use Rattle.wy_tree.specs.declared.grammar.Row.{Row}
 use Rattle.wy_tree.specs.declared.grammar.Row.TheVariants as rows
 use Rattle.wy_tree.specs.declared.grammar.Item.{Item}
 use Rattle.wy_tree.specs.declared.grammar.Item.TheVariants.{One, Part, Parts}
-use Rattle.wy_parser.specs.Prediction.{front}
+use Rattle.wy_parser.specs.Prediction.{first_kind}
 use Rattle.wy_parser.proofs.Truth.{and_left, and_right, or_left, or_right}
 
 -- one of these kinds
@@ -536,17 +536,17 @@ node_front f (more t none) s = sym (ap (λ z. z ++ s) (append-nil (tokens t)))
 node_front f (more t (more u ts)) s = refl
 
 mutual
-  pub starts : (x : Sort) (t : Ast) → Is x t → (s : List Tok) → begins x (front (tokens t ++ s)) ≡ true
+  pub starts : (x : Sort) (t : Ast) → Is x t → (s : List Tok) → begins x (first_kind (tokens t ++ s)) ≡ true
   starts x t (made {ts} w e q) s =
-      ap (λ z. begins x (front (tokens z ++ s))) q ∙ ap (λ z. begins x (front z)) (node_front (form_of x) ts s)
-      ∙ rule_first x (front (tokens_all ts ++ s)) (front_first (rule x) ts w (λ _. true) s refl)
+      ap (λ z. begins x (first_kind (tokens z ++ s))) q ∙ ap (λ z. begins x (first_kind z)) (node_front (form_of x) ts s)
+      ∙ rule_first x (first_kind (tokens_all ts ++ s)) (front_first (rule x) ts w (λ _. true) s refl)
   starts x t (grown {l} {ts} v y w e q) s =
-      ap (λ z. begins x (front (tokens z ++ s))) q ∙ ap (λ z. begins x (front z)) (append_assoc (tokens l) (tokens_all ts) s) ∙ starts x l v (tokens_all ts ++ s)
+      ap (λ z. begins x (first_kind (tokens z ++ s))) q ∙ ap (λ z. begins x (first_kind z)) (append_assoc (tokens l) (tokens_all ts) s) ∙ starts x l v (tokens_all ts ++ s)
 
-  pub front_first : (items : List Item) (ts : Asts) → Match items ts → (F : Kind → Bool) (s : List Tok) → F (front s) ≡ true → first_in items F (front (tokens_all ts ++ s)) ≡ true
+  pub front_first : (items : List Item) (ts : Asts) → Match items ts → (F : Kind → Bool) (s : List Tok) → F (first_kind s) ≡ true → first_in items F (first_kind (tokens_all ts ++ s)) ≡ true
   front_first _ _ done F s f = f
   front_first _ _ (token {c} {o} {items} {ts} e w) F s f = e
-  front_first _ _ (part {x} {t} {items} {ts} v w) F s f = ap (λ z. begins x (front z)) (append_assoc (tokens t) (tokens_all ts) s) ∙ starts x t v (tokens_all ts ++ s)
+  front_first _ _ (part {x} {t} {items} {ts} v w) F s f = ap (λ z. begins x (first_kind z)) (append_assoc (tokens t) (tokens_all ts) s) ∙ starts x t v (tokens_all ts ++ s)
   front_first _ _ (chosen {r} {way} {items} {ts} y w) F s f =
-      let k = front (tokens_all ts ++ s) in
+      let k = first_kind (tokens_all ts ++ s) in
       way_first y (first_in items F) k (sym (first_append way items F k) ∙ front_first (way ++ items) ts w F s f)

@@ -13,7 +13,7 @@ use Rattle.wy_tree.specs.declared.grammar.Row.TheVariants as rows
 use Rattle.wy_tree.specs.declared.grammar.Row.{Row}
 use Rattle.wy_tree.specs.declared.grammar.Item.{Item}
 use Rattle.wy_tree.specs.declared.grammar.Item.TheVariants.{One, Part, Parts}
-use Rattle.wy_parser.specs.Prediction.{front, continued, continued_level, continued_relation, continued_primary}
+use Rattle.wy_parser.specs.Prediction.{first_kind, continued, continued_level, continued_relation, continued_primary}
 use Rattle.wy_parser.proofs.Truth.{is_false}
 use Rattle.wy_parser.proofs.Firsts.{every, implied}
 use Rattle.wy_parser.proofs.Follows.{ends, meets, row_meets, occurs, Lawful, lawful_ok}
@@ -331,19 +331,19 @@ unfolding every
 meets_Primary k e = implied (ends sorts.Primary) (meets sorts.Primary) refl k e
 
 -- what follows a whole tree does not go on with it
-pub no_more : (x : Sort) (s : List Tok) → ends x (front s) ≡ true → continued x s ≡ None
+pub no_more : (x : Sort) (s : List Tok) → ends x (first_kind s) ≡ true → continued x s ≡ None
 unfolding continued_level
-no_more sorts.OrElse s e = stop_OrElse (front s) e
-no_more sorts.AndAlso s e = stop_AndAlso (front s) e
-no_more sorts.Or s e = stop_Or (front s) e
-no_more sorts.Xor s e = stop_Xor (front s) e
-no_more sorts.And s e = stop_And (front s) e
-no_more sorts.Equality s e = stop_Equality (front s) e
-no_more sorts.Relation s e = stop_relation (front s) e
-no_more sorts.Shift s e = stop_Shift (front s) e
-no_more sorts.Sum s e = stop_Sum (front s) e
-no_more sorts.Product s e = stop_Product (front s) e
-no_more sorts.Primary s e = stop_primary (front s) e
+no_more sorts.OrElse s e = stop_OrElse (first_kind s) e
+no_more sorts.AndAlso s e = stop_AndAlso (first_kind s) e
+no_more sorts.Or s e = stop_Or (first_kind s) e
+no_more sorts.Xor s e = stop_Xor (first_kind s) e
+no_more sorts.And s e = stop_And (first_kind s) e
+no_more sorts.Equality s e = stop_Equality (first_kind s) e
+no_more sorts.Relation s e = stop_relation (first_kind s) e
+no_more sorts.Shift s e = stop_Shift (first_kind s) e
+no_more sorts.Sum s e = stop_Sum (first_kind s) e
+no_more sorts.Product s e = stop_Product (first_kind s) e
+no_more sorts.Primary s e = stop_primary (first_kind s) e
 no_more x s e = refl
 
 pub ends_meets : (x : Sort) (k : Kind) → ends x k ≡ true → meets x k ≡ true

@@ -15,7 +15,7 @@ use Rattle.wy_tree.specs.declared.grammar.Row.TheVariants as rows
 use Rattle.wy_tree.specs.declared.grammar.Item.{Item}
 use Rattle.wy_tree.specs.declared.grammar.Item.TheVariants.{Part, Parts}
 use Rattle.wy_tree.proofs.Tags.{same_is}
-use Rattle.wy_parser.specs.Prediction.{front, rest, second}
+use Rattle.wy_parser.specs.Prediction.{first_kind, rest, second}
 use Rattle.wy_parser.proofs.Firsts.{within, begins, every, implies, implied, first_in, node_front, starts, front_first}
 
 -- what may stand behind a word in an expression, besides what opens arguments or an index
@@ -167,9 +167,9 @@ a_try_is_no_word k e f = not_word (first_in (a kinds.Try ∷ Part sorts.Block �
 no_suffix : {items : List Item} → Suffix sorts.Stmt items → ⊥
 no_suffix (grammar.operator e) = absurd (cc)
 
-module _ (A : Kind → Bool) (P : List Tok → Type 0) (words : (k : Kind) → A k ≡ true → is_word k ≡ true) (joined : (r : List Tok) → within joints (front r) ≡ true → P r)
-    (indexed : (r : List Tok) → same (front r) kinds.OpenBracket ≡ true → begins sorts.Expr (second r) ≡ true → P r)
-    (called : (k : Kind) → A k ≡ true → is_name k ≡ true → (r : List Tok) → same (front r) kinds.OpenParen ≡ true → P r) where
+module _ (A : Kind → Bool) (P : List Tok → Type 0) (words : (k : Kind) → A k ≡ true → is_word k ≡ true) (joined : (r : List Tok) → within joints (first_kind r) ≡ true → P r)
+    (indexed : (r : List Tok) → same (first_kind r) kinds.OpenBracket ≡ true → begins sorts.Expr (second r) ≡ true → P r)
+    (called : (k : Kind) → A k ≡ true → is_name k ≡ true → (r : List Tok) → same (first_kind r) kinds.OpenParen ≡ true → P r) where
   behind_nothing : (ts : Asts) → Match [] ts → (s : List Tok) → P s → P (tokens_all ts ++ s)
   behind_nothing _ done s p = p
 
@@ -190,7 +190,7 @@ module _ (A : Kind → Bool) (P : List Tok → Type 0) (words : (k : Kind) → A
   behind_name k b n _ (chosen grammar.absent done) s p = p
   behind_name k b n _ (chosen grammar.present (part {t} {ts} v w)) s p =
       let r = tokens_all (more t ts) ++ s in
-      called k b n r (arguments_open (front r) (ap (λ z. begins sorts.Args (front z)) (append_assoc (tokens t) (tokens_all ts) s) ∙ starts sorts.Args t v (tokens_all ts ++ s)))
+      called k b n r (arguments_open (first_kind r) (ap (λ z. begins sorts.Args (first_kind z)) (append_assoc (tokens t) (tokens_all ts) s) ∙ starts sorts.Args t v (tokens_all ts ++ s)))
 
   behind_left : (x : Sort) (items : List Item) → Suffix x items → (ts : Asts) → Match items ts → (s : List Tok) → P (tokens_all ts ++ s)
   behind_left _ _ (grammar.operator {x} {k} f) _ (token {o} {ts} e w) s =
@@ -198,26 +198,26 @@ module _ (A : Kind → Bool) (P : List Tok → Type 0) (words : (k : Kind) → A
   behind_left _ _ grammar.instance_of _ (token {o} {ts} e w) s = joined (o ∷ (tokens_all ts ++ s)) (instanceof_joins (kind_of o) e)
   behind_left _ _ grammar.member _ (token {o} {ts} e w) s = joined (o ∷ (tokens_all ts ++ s)) (dot_joins (kind_of o) e)
   behind_left _ _ grammar.element _ (token {o} e (part {t} {ts} v w)) s =
-      indexed (o ∷ (tokens_all (more t ts) ++ s)) e (ap (λ z. begins sorts.Expr (front z)) (append_assoc (tokens t) (tokens_all ts) s) ∙ starts sorts.Expr t v (tokens_all ts ++ s))
+      indexed (o ∷ (tokens_all (more t ts) ++ s)) e (ap (λ z. begins sorts.Expr (first_kind z)) (append_assoc (tokens t) (tokens_all ts) s) ∙ starts sorts.Expr t v (tokens_all ts ++ s))
 
-  in_part : (t : Ast) (ts : Asts) (s : List Tok) → (A (front (tokens t ++ (tokens_all ts ++ s))) ≡ true → P (rest (tokens t ++ (tokens_all ts ++ s)))) → A (front (tokens_all (more t ts) ++ s)) ≡ true → P (rest (tokens_all (more t ts) ++ s))
-  in_part t ts s go b = subst (λ z. A (front z) ≡ true → P (rest z)) (sym (append_assoc (tokens t) (tokens_all ts) s)) go b
+  in_part : (t : Ast) (ts : Asts) (s : List Tok) → (A (first_kind (tokens t ++ (tokens_all ts ++ s))) ≡ true → P (rest (tokens t ++ (tokens_all ts ++ s)))) → A (first_kind (tokens_all (more t ts) ++ s)) ≡ true → P (rest (tokens_all (more t ts) ++ s))
+  in_part t ts s go b = subst (λ z. A (first_kind z) ≡ true → P (rest z)) (sym (append_assoc (tokens t) (tokens_all ts) s)) go b
 
-  no_part : (x : Sort) (t : Ast) (ts : Asts) (s : List Tok) (Q : Type 0) → ((k : Kind) → begins x k ≡ true → is_word k ≡ true → ⊥) → Is x t → A (front (tokens_all (more t ts) ++ s)) ≡ true → Q
+  no_part : (x : Sort) (t : Ast) (ts : Asts) (s : List Tok) (Q : Type 0) → ((k : Kind) → begins x k ≡ true → is_word k ≡ true → ⊥) → Is x t → A (first_kind (tokens_all (more t ts) ++ s)) ≡ true → Q
   no_part x t ts s Q f v b =
       let r = tokens_all (more t ts) ++ s in
-      absurd (f (front r) (ap (λ z. begins x (front z)) (append_assoc (tokens t) (tokens_all ts) s) ∙ starts x t v (tokens_all ts ++ s)) (words (front r) b))
+      absurd (f (first_kind r) (ap (λ z. begins x (first_kind z)) (append_assoc (tokens t) (tokens_all ts) s) ∙ starts x t v (tokens_all ts ++ s)) (words (first_kind r) b))
 
-  retold : (x : Sort) (t : Ast) (ts : Asts) (s : List Tok) → t ≡ node (form_of x) ts → (A (front (tokens_all ts ++ s)) ≡ true → P (rest (tokens_all ts ++ s))) → A (front (tokens t ++ s)) ≡ true → P (rest (tokens t ++ s))
+  retold : (x : Sort) (t : Ast) (ts : Asts) (s : List Tok) → t ≡ node (form_of x) ts → (A (first_kind (tokens_all ts ++ s)) ≡ true → P (rest (tokens_all ts ++ s))) → A (first_kind (tokens t ++ s)) ≡ true → P (rest (tokens t ++ s))
   retold x t ts s q go b =
       let same_tokens : tokens t ++ s ≡ tokens_all ts ++ s = ap (λ z. tokens z ++ s) q ∙ node_front (form_of x) ts s in
-      subst (λ z. A (front z) ≡ true → P (rest z)) (sym same_tokens) go b
+      subst (λ z. A (first_kind z) ≡ true → P (rest z)) (sym same_tokens) go b
 
   mutual
-    pub leads : (x : Sort) (t : Ast) → Is x t → is_worded x ≡ true → (s : List Tok) → A (front (tokens t ++ s)) ≡ true → P s → P (rest (tokens t ++ s))
+    pub leads : (x : Sort) (t : Ast) → Is x t → is_worded x ≡ true → (s : List Tok) → A (first_kind (tokens t ++ s)) ≡ true → P s → P (rest (tokens t ++ s))
     leads x t (grown {l} {ts} {items} v y w e q) i s b p =
         let same_tokens : tokens t ++ s ≡ tokens l ++ (tokens_all ts ++ s) = ap (λ z. tokens z ++ s) q ∙ append_assoc (tokens l) (tokens_all ts) s in
-        subst (λ z. P (rest z)) (sym same_tokens) (leads x l v i (tokens_all ts ++ s) (subst (λ z. A (front z) ≡ true) same_tokens b) (behind_left x items y ts w s))
+        subst (λ z. P (rest z)) (sym same_tokens) (leads x l v i (tokens_all ts ++ s) (subst (λ z. A (first_kind z) ≡ true) same_tokens b) (behind_left x items y ts w s))
     leads sorts.Expr t (made {ts} w e q) i s b p = retold sorts.Expr t ts s q (λ c. leads_expr ts w s c p) b
     leads sorts.Effect t (made {ts} w e q) i s b p = retold sorts.Effect t ts s q (λ c. leads_part sorts.Expr ts w refl s c p) b
     leads sorts.Cond t (made {ts} w e q) i s b p = retold sorts.Cond t ts s q (λ c. leads_cond ts w s c p) b
@@ -236,25 +236,25 @@ module _ (A : Kind → Bool) (P : List Tok → Type 0) (words : (k : Kind) → A
     leads sorts.Primary t (made {ts} w e q) i s b p = retold sorts.Primary t ts s q (λ c. leads_primary ts w s c p) b
     leads x t (made w e q) i s b p = absurd (cc)
 
-    leads_part : (x : Sort) (ts : Asts) → Match (Part x ∷ []) ts → is_worded x ≡ true → (s : List Tok) → A (front (tokens_all ts ++ s)) ≡ true → P s → P (rest (tokens_all ts ++ s))
+    leads_part : (x : Sort) (ts : Asts) → Match (Part x ∷ []) ts → is_worded x ≡ true → (s : List Tok) → A (first_kind (tokens_all ts ++ s)) ≡ true → P s → P (rest (tokens_all ts ++ s))
     leads_part _ _ (part {x} {t} {ts} v w) i s b p = in_part t ts s (λ c. leads x t v i (tokens_all ts ++ s) c (behind_nothing ts w s p)) b
 
-    leads_expr : (ts : Asts) → Match (Part sorts.Cond ∷ Parts rows.Assigned ∷ []) ts → (s : List Tok) → A (front (tokens_all ts ++ s)) ≡ true → P s → P (rest (tokens_all ts ++ s))
+    leads_expr : (ts : Asts) → Match (Part sorts.Cond ∷ Parts rows.Assigned ∷ []) ts → (s : List Tok) → A (first_kind (tokens_all ts ++ s)) ≡ true → P s → P (rest (tokens_all ts ++ s))
     leads_expr _ (part {t} {ts} v w) s b p = in_part t ts s (λ c. leads sorts.Cond t v refl (tokens_all ts ++ s) c (behind_cond ts w s p)) b
 
-    leads_cond : (ts : Asts) → Match (Part sorts.OrElse ∷ Parts rows.Choice ∷ []) ts → (s : List Tok) → A (front (tokens_all ts ++ s)) ≡ true → P s → P (rest (tokens_all ts ++ s))
+    leads_cond : (ts : Asts) → Match (Part sorts.OrElse ∷ Parts rows.Choice ∷ []) ts → (s : List Tok) → A (first_kind (tokens_all ts ++ s)) ≡ true → P s → P (rest (tokens_all ts ++ s))
     leads_cond _ (part {t} {ts} v w) s b p = in_part t ts s (λ c. leads sorts.OrElse t v refl (tokens_all ts ++ s) c (behind_or_else ts w s p)) b
 
-    leads_unary : (ts : Asts) → Match (Parts rows.UnaryForm ∷ []) ts → (s : List Tok) → A (front (tokens_all ts ++ s)) ≡ true → P s → P (rest (tokens_all ts ++ s))
+    leads_unary : (ts : Asts) → Match (Parts rows.UnaryForm ∷ []) ts → (s : List Tok) → A (first_kind (tokens_all ts ++ s)) ≡ true → P s → P (rest (tokens_all ts ++ s))
     leads_unary _ (chosen grammar.negated (token {o} e w)) s b p = absurd (minus_is_no_word (kind_of o) e (words (kind_of o) b))
     leads_unary _ (chosen grammar.prefixed (token {o} e w)) s b p = absurd (prefixing_is_no_word (kind_of o) e (words (kind_of o) b))
     leads_unary _ (chosen grammar.a_cast (part {t} {ts} v w)) s b p = no_part sorts.Cast t ts s (P (rest (tokens_all (more t ts) ++ s))) cast_is_no_word v b
     leads_unary _ (chosen grammar.a_postfix (part {t} {ts} v w)) s b p = in_part t ts s (λ c. leads sorts.Postfix t v refl (tokens_all ts ++ s) c (behind_nothing ts w s p)) b
 
-    leads_postfix : (ts : Asts) → Match (Part sorts.Primary ∷ Parts rows.Steps ∷ []) ts → (s : List Tok) → A (front (tokens_all ts ++ s)) ≡ true → P s → P (rest (tokens_all ts ++ s))
+    leads_postfix : (ts : Asts) → Match (Part sorts.Primary ∷ Parts rows.Steps ∷ []) ts → (s : List Tok) → A (first_kind (tokens_all ts ++ s)) ≡ true → P s → P (rest (tokens_all ts ++ s))
     leads_postfix _ (part {t} {ts} v w) s b p = in_part t ts s (λ c. leads sorts.Primary t v refl (tokens_all ts ++ s) c (behind_primary ts w s p)) b
 
-    leads_primary : (ts : Asts) → Match (Parts rows.PrimaryForm ∷ []) ts → (s : List Tok) → A (front (tokens_all ts ++ s)) ≡ true → P s → P (rest (tokens_all ts ++ s))
+    leads_primary : (ts : Asts) → Match (Parts rows.PrimaryForm ∷ []) ts → (s : List Tok) → A (first_kind (tokens_all ts ++ s)) ≡ true → P s → P (rest (tokens_all ts ++ s))
     leads_primary _ (chosen grammar.literal (token {o} e w)) s b p = absurd (literal_is_no_word (kind_of o) e (words (kind_of o) b))
     leads_primary _ (chosen grammar.this (token {ts} e w)) s b p = behind_nothing ts w s p
     leads_primary _ (chosen grammar.named (token {o} {ts} e w)) s b p = behind_name (kind_of o) b e ts w s p
@@ -262,11 +262,11 @@ module _ (A : Kind → Bool) (P : List Tok → Type 0) (words : (k : Kind) → A
     leads_primary _ (chosen grammar.created (part {t} {ts} v w)) s b p = no_part sorts.New t ts s (P (rest (tokens_all (more t ts) ++ s))) new_is_no_word v b
     leads_primary _ (chosen grammar.inherited (token e (token {o} {ts} f w))) s b p = joined (o ∷ (tokens_all ts ++ s)) (dot_joins (kind_of o) f)
 
-  no_way : (way : List Item) (ts : Asts) (s : List Tok) (Q : Type 0) → ((k : Kind) → first_in way (λ _. true) k ≡ true → is_word k ≡ true → ⊥) → Match way ts → A (front (tokens_all ts ++ s)) ≡ true → Q
-  no_way way ts s Q f w b = let k = front (tokens_all ts ++ s) in absurd (f k (front_first way ts w (λ _. true) s refl) (words k b))
+  no_way : (way : List Item) (ts : Asts) (s : List Tok) (Q : Type 0) → ((k : Kind) → first_in way (λ _. true) k ≡ true → is_word k ≡ true → ⊥) → Match way ts → A (first_kind (tokens_all ts ++ s)) ≡ true → Q
+  no_way way ts s Q f w b = let k = first_kind (tokens_all ts ++ s) in absurd (f k (front_first way ts w (λ _. true) s refl) (words k b))
 
-  statement_parts : ((r : List Tok) → same (front r) kinds.Semicolon ≡ true → P r) → ((r : List Tok) → same (front r) kinds.Colon ≡ true → P r) → (ts : Asts) → Match (rule sorts.Stmt) ts → (s : List Tok)
-      → A (front (tokens_all ts ++ s)) ≡ true → P (rest (tokens_all ts ++ s))
+  statement_parts : ((r : List Tok) → same (first_kind r) kinds.Semicolon ≡ true → P r) → ((r : List Tok) → same (first_kind r) kinds.Colon ≡ true → P r) → (ts : Asts) → Match (rule sorts.Stmt) ts → (s : List Tok)
+      → A (first_kind (tokens_all ts ++ s)) ≡ true → P (rest (tokens_all ts ++ s))
   statement_parts ended labelled ts (chosen grammar.a_block w) s b = no_way (Part sorts.Block ∷ []) ts s (P (rest (tokens_all ts ++ s))) a_block_is_no_word w b
   statement_parts ended labelled ts (chosen grammar.empty w) s b = no_way (a kinds.Semicolon ∷ []) ts s (P (rest (tokens_all ts ++ s))) empty_is_no_word w b
   statement_parts ended labelled _ (chosen grammar.an_effect (part {t} v (token {o} {ts} e w))) s b =
@@ -283,9 +283,9 @@ module _ (A : Kind → Bool) (P : List Tok → Type 0) (words : (k : Kind) → A
   statement_parts ended labelled ts (chosen grammar.a_try w) s b = no_way (a kinds.Try ∷ Part sorts.Block ∷ Parts rows.Handlers ∷ []) ts s (P (rest (tokens_all ts ++ s))) a_try_is_no_word w b
 
   -- also of a statement, with what ends an effect or a label
-  pub statement_leads : ((r : List Tok) → same (front r) kinds.Semicolon ≡ true → P r) → ((r : List Tok) → same (front r) kinds.Colon ≡ true → P r) → (t : Ast) → Is sorts.Stmt t → (s : List Tok)
-      → A (front (tokens t ++ s)) ≡ true → P (rest (tokens t ++ s))
+  pub statement_leads : ((r : List Tok) → same (first_kind r) kinds.Semicolon ≡ true → P r) → ((r : List Tok) → same (first_kind r) kinds.Colon ≡ true → P r) → (t : Ast) → Is sorts.Stmt t → (s : List Tok)
+      → A (first_kind (tokens t ++ s)) ≡ true → P (rest (tokens t ++ s))
   statement_leads ended labelled t (made {ts} w e q) s b =
       let same_tokens : tokens t ++ s ≡ tokens_all ts ++ s = ap (λ z. tokens z ++ s) q ∙ node_front (form_of sorts.Stmt) ts s in
-      subst (λ z. P (rest z)) (sym same_tokens) (statement_parts ended labelled ts w s (subst (λ z. A (front z) ≡ true) same_tokens b))
+      subst (λ z. P (rest z)) (sym same_tokens) (statement_parts ended labelled ts w s (subst (λ z. A (first_kind z) ≡ true) same_tokens b))
   statement_leads ended labelled t (grown v y w e q) s b = absurd (no_suffix y)

@@ -13,14 +13,14 @@ use Rattle.wy_tree.specs.declared.grammar.Sort.TheVariants as sorts
 use Rattle.wy_tree.specs.declared.grammar.Row.TheVariants as rows
 use Rattle.wy_tree.specs.declared.grammar.Item.{Item}
 use Rattle.wy_tree.specs.declared.grammar.Item.TheVariants.{Part, Parts}
-use Rattle.wy_parser.specs.Prediction.{front, rest, second, past, modifies, is_bracket, heads_method, heads_interface, predict_declared, predict_declaration, predict_member, predict_member_tail}
+use Rattle.wy_parser.specs.Prediction.{first_kind, rest, second, past, modifies, is_bracket, heads_method, heads_interface, predict_declared, predict_declaration, predict_member, predict_member_tail}
 use Rattle.wy_parser.proofs.Truth.{or_left, or_right, both, neither, not_both, is_not, is_false}
 use Rattle.wy_parser.proofs.Firsts.{begins, row_begins, first_in, every, implied, node_front, starts, front_first}
 use Rattle.wy_parser.proofs.Follows.{row_meets}
 use Rattle.wy_parser.proofs.Fronts.{yes, no, no_sign_static_initializer, no_sign_a_member}
 
-pub part_front : (x : Sort) (t : Ast) (ts : Asts) → Is x t → (s : List Tok) → begins x (front (tokens_all (more t ts) ++ s)) ≡ true
-part_front x t ts v s = ap (λ z. begins x (front z)) (append_assoc (tokens t) (tokens_all ts) s) ∙ starts x t v (tokens_all ts ++ s)
+pub part_front : (x : Sort) (t : Ast) (ts : Asts) → Is x t → (s : List Tok) → begins x (first_kind (tokens_all (more t ts) ++ s)) ≡ true
+part_front x t ts v s = ap (λ z. begins x (first_kind z)) (append_assoc (tokens t) (tokens_all ts) s) ∙ starts x t v (tokens_all ts ++ s)
 
 pub retell : (x : Sort) (t : Ast) (ts : Asts) (s : List Tok) → t ≡ node (form_of x) ts → tokens t ++ s ≡ tokens_all ts ++ s
 retell x t ts s q = ap (λ z. tokens z ++ s) q ∙ node_front (form_of x) ts s
@@ -80,26 +80,26 @@ behind_mods items _ (chosen grammar.some_of (part {t} {ts} v w)) s =
       same_past = ap (past modifies) (append_assoc (tokens t) (tokens_all ts) s) ∙ mod_past t v (tokens_all ts ++ s) ∙ i.same_past;
     }
 
-first_past : (k : Kind) (items : List Item) (ts : Asts) → Match (a k ∷ items) ts → (s : List Tok) → ((j : Kind) → same j k ≡ true → not (modifies j) ≡ true) → same (front (past modifies (tokens_all ts ++ s))) k ≡ true
-first_past k items _ (token {o} {ts} e w) s f = ap (λ z. same (front z) k) (past_here modifies o (tokens_all ts ++ s) (is_false (modifies (kind_of o)) (f (kind_of o) e))) ∙ e
+first_past : (k : Kind) (items : List Item) (ts : Asts) → Match (a k ∷ items) ts → (s : List Tok) → ((j : Kind) → same j k ≡ true → not (modifies j) ≡ true) → same (first_kind (past modifies (tokens_all ts ++ s))) k ≡ true
+first_past k items _ (token {o} {ts} e w) s f = ap (λ z. same (first_kind z) k) (past_here modifies o (tokens_all ts ++ s) (is_false (modifies (kind_of o)) (f (kind_of o) e))) ∙ e
 
 head_past : (k : Kind) (items : List Item) (ts : Asts) → Match (Parts (rows.Any sorts.Mod) ∷ a k ∷ items) ts → (s : List Tok) → ((j : Kind) → same j k ≡ true → not (modifies j) ≡ true)
-    → same (front (past modifies (tokens_all ts ++ s))) k ≡ true
+    → same (first_kind (past modifies (tokens_all ts ++ s))) k ≡ true
 head_past k items ts w s f =
     let b = behind_mods (a k ∷ items) ts w s in
-    ap (λ z. same (front z) k) b.same_past ∙ first_past k items b.parts b.are s f
+    ap (λ z. same (first_kind z) k) b.same_past ∙ first_past k items b.parts b.are s f
 
 class_head : (t : Ast) → Is sorts.Class t → (s : List Tok) → heads_interface (tokens t ++ s) ≡ false
 unfolding heads_interface
 class_head t (made {ts} w e q) s =
-    ap (λ z. same (front (past modifies z)) kinds.Interface) (retell sorts.Class t ts s q)
-    ∙ is_false (same (front (past modifies (tokens_all ts ++ s))) kinds.Interface) (class_is_no_interface (front (past modifies (tokens_all ts ++ s))) (head_past kinds.Class _ ts w s class_stays))
+    ap (λ z. same (first_kind (past modifies z)) kinds.Interface) (retell sorts.Class t ts s q)
+    ∙ is_false (same (first_kind (past modifies (tokens_all ts ++ s))) kinds.Interface) (class_is_no_interface (first_kind (past modifies (tokens_all ts ++ s))) (head_past kinds.Class _ ts w s class_stays))
 class_head t (grown v (grammar.operator f) w e q) s = absurd (cc)
 
 interface_head : (t : Ast) → Is sorts.Interface t → (s : List Tok) → heads_interface (tokens t ++ s) ≡ true
 unfolding heads_interface
 interface_head t (made {ts} w e q) s =
-    ap (λ z. same (front (past modifies z)) kinds.Interface) (retell sorts.Interface t ts s q) ∙ head_past kinds.Interface _ ts w s interface_stays
+    ap (λ z. same (first_kind (past modifies z)) kinds.Interface) (retell sorts.Interface t ts s q) ∙ head_past kinds.Interface _ ts w s interface_stays
 interface_head t (grown v (grammar.operator f) w e q) s = absurd (cc)
 
 class_is_no_semicolon : (k : Kind) → begins sorts.Class k ≡ true → not (same k kinds.Semicolon) ≡ true
@@ -110,23 +110,23 @@ interface_is_no_semicolon : (k : Kind) → begins sorts.Interface k ≡ true →
 unfolding every
 interface_is_no_semicolon k e = implied (begins sorts.Interface) (λ k. not (same k kinds.Semicolon)) refl k e
 
-pub tells_nothing : (u : List Tok) → same (front u) kinds.Semicolon ≡ true → predict_declaration rows.Declared u ≡ a kinds.Semicolon ∷ []
+pub tells_nothing : (u : List Tok) → same (first_kind u) kinds.Semicolon ≡ true → predict_declaration rows.Declared u ≡ a kinds.Semicolon ∷ []
 unfolding predict_declaration predict_declared
-tells_nothing u f = yes (same (front u) kinds.Semicolon) _ _ f
+tells_nothing u f = yes (same (first_kind u) kinds.Semicolon) _ _ f
 
 pub tells_a_class : (items : List Item) (ts : Asts) → Match (Part sorts.Class ∷ items) ts → (s : List Tok) → predict_declaration rows.Declared (tokens_all ts ++ s) ≡ Part sorts.Class ∷ []
 unfolding predict_declaration predict_declared
 tells_a_class items _ (part {t} {ts} v w) s =
     let u = tokens_all (more t ts) ++ s in
     let f : heads_interface u ≡ false = ap heads_interface (append_assoc (tokens t) (tokens_all ts) s) ∙ class_head t v (tokens_all ts ++ s) in
-    no (same (front u) kinds.Semicolon) _ _ (class_is_no_semicolon (front u) (part_front sorts.Class t ts v s)) ∙ no (heads_interface u) _ _ (is_not (heads_interface u) f)
+    no (same (first_kind u) kinds.Semicolon) _ _ (class_is_no_semicolon (first_kind u) (part_front sorts.Class t ts v s)) ∙ no (heads_interface u) _ _ (is_not (heads_interface u) f)
 
 pub tells_an_interface : (items : List Item) (ts : Asts) → Match (Part sorts.Interface ∷ items) ts → (s : List Tok) → predict_declaration rows.Declared (tokens_all ts ++ s) ≡ Part sorts.Interface ∷ []
 unfolding predict_declaration predict_declared
 tells_an_interface items _ (part {t} {ts} v w) s =
     let u = tokens_all (more t ts) ++ s in
     let f : heads_interface u ≡ true = ap heads_interface (append_assoc (tokens t) (tokens_all ts) s) ∙ interface_head t v (tokens_all ts ++ s) in
-    no (same (front u) kinds.Semicolon) _ _ (interface_is_no_semicolon (front u) (part_front sorts.Interface t ts v s)) ∙ yes (heads_interface u) _ _ f
+    no (same (first_kind u) kinds.Semicolon) _ _ (interface_is_no_semicolon (first_kind u) (part_front sorts.Interface t ts v s)) ∙ yes (heads_interface u) _ _ f
 
 block_opens : (k : Kind) → begins sorts.Block k ≡ true → same k kinds.OpenBrace ≡ true
 unfolding every
@@ -148,29 +148,29 @@ pub tells_static_initializer : (items : List Item) (ts : Asts) → Match (a kind
 tells_static_initializer items _ (token {o} e (part {t} {ts} v w)) s =
     let u = o ∷ (tokens_all (more t ts) ++ s) in
     no_sign_static_initializer u e
-    ∙ yes (same (front u) kinds.Static && same (second u) kinds.OpenBrace) _ _ (both (same (front u) kinds.Static) (same (second u) kinds.OpenBrace) e (block_opens (second u) (part_front sorts.Block t ts v s)))
+    ∙ yes (same (first_kind u) kinds.Static && same (second u) kinds.OpenBrace) _ _ (both (same (first_kind u) kinds.Static) (same (second u) kinds.OpenBrace) e (block_opens (second u) (part_front sorts.Block t ts v s)))
 
 -- behind the modifier static stands no block
-static_alone : (items : List Item) (ts : Asts) → Match (Parts (rows.Any sorts.Mod) ∷ Parts rows.MemberTail ∷ items) ts → (s : List Tok) → same (front (tokens_all ts ++ s)) kinds.Static ≡ true
+static_alone : (items : List Item) (ts : Asts) → Match (Parts (rows.Any sorts.Mod) ∷ Parts rows.MemberTail ∷ items) ts → (s : List Tok) → same (first_kind (tokens_all ts ++ s)) kinds.Static ≡ true
     → same (second (tokens_all ts ++ s)) kinds.OpenBrace ≡ false
 static_alone items ts (chosen grammar.none_of w) s e =
-    let k = front (tokens_all ts ++ s) in
+    let k = first_kind (tokens_all ts ++ s) in
     let f = tail_is_not_static k (front_first (Parts rows.MemberTail ∷ items) ts w (λ _. true) s refl) in
     absurd (let g = is_false (same k kinds.Static) f in cc)
 static_alone items _ (chosen grammar.some_of (part {ts} (made (chosen grammar.modifier (token {o} e' done)) f q) w)) s e =
-    let k = front (tokens_all ts ++ s) in
+    let k = first_kind (tokens_all ts ++ s) in
     ap (λ z. same (second ((tokens z ++ tokens_all ts) ++ s)) kinds.OpenBrace) q
     ∙ is_false (same k kinds.OpenBrace) (tail_is_no_block k (front_first (Parts (rows.Any sorts.Mod) ∷ Parts rows.MemberTail ∷ items) ts w (λ _. true) s refl))
 static_alone items _ (chosen grammar.some_of (part {ts} (made (chosen grammar.annotation (token {o} e' (token {o = o'} f' done))) f q) w)) s e =
-    let g : same (kind_of o) kinds.Static ≡ true = sym (ap (λ z. same (front ((tokens z ++ tokens_all ts) ++ s)) kinds.Static) q) ∙ e in
+    let g : same (kind_of o) kinds.Static ≡ true = sym (ap (λ z. same (first_kind ((tokens z ++ tokens_all ts) ++ s)) kinds.Static) q) ∙ e in
     absurd (let h = is_false (same (kind_of o) kinds.Static) (annotation_is_not_static (kind_of o) e') in cc)
 static_alone items _ (chosen grammar.some_of (part (grown v (grammar.operator f) w' e' q) w)) s e = absurd (cc)
 
 pub tells_a_member : (items : List Item) (ts : Asts) → Match (Parts (rows.Any sorts.Mod) ∷ Parts rows.MemberTail ∷ items) ts → (s : List Tok)
-    → first_in (Parts (rows.Any sorts.Mod) ∷ Parts rows.MemberTail ∷ []) (row_meets rows.MemberForm) (front (tokens_all ts ++ s)) ≡ true → predict_member rows.MemberForm (tokens_all ts ++ s) ≡ Parts (rows.Any sorts.Mod) ∷ Parts rows.MemberTail ∷ []
+    → first_in (Parts (rows.Any sorts.Mod) ∷ Parts rows.MemberTail ∷ []) (row_meets rows.MemberForm) (first_kind (tokens_all ts ++ s)) ≡ true → predict_member rows.MemberForm (tokens_all ts ++ s) ≡ Parts (rows.Any sorts.Mod) ∷ Parts rows.MemberTail ∷ []
 tells_a_member items ts w s f =
     let u = tokens_all ts ++ s in
-    no_sign_a_member u f ∙ no (same (front u) kinds.Static && same (second u) kinds.OpenBrace) _ _ (not_both (same (front u) kinds.Static) (same (second u) kinds.OpenBrace) (static_alone items ts w s))
+    no_sign_a_member u f ∙ no (same (first_kind u) kinds.Static && same (second u) kinds.OpenBrace) _ _ (not_both (same (first_kind u) kinds.Static) (same (second u) kinds.OpenBrace) (static_alone items ts w s))
 
 params_open : (k : Kind) → begins sorts.Params k ≡ true → same k kinds.OpenParen ≡ true
 unfolding every
@@ -212,7 +212,7 @@ pub tells_a_constructor : (items : List Item) (ts : Asts) → Match (name ∷ Pa
 unfolding predict_member predict_member_tail
 tells_a_constructor items _ (token {o} e (part {t} {ts} v w)) s =
     let u = o ∷ (tokens_all (more t ts) ++ s) in
-    yes (is_name (front u) && same (second u) kinds.OpenParen) _ _ (both (is_name (front u)) (same (second u) kinds.OpenParen) e (params_open (second u) (part_front sorts.Params t ts v s)))
+    yes (is_name (first_kind u) && same (second u) kinds.OpenParen) _ _ (both (is_name (first_kind u)) (same (second u) kinds.OpenParen) e (params_open (second u) (part_front sorts.Params t ts v s)))
 
 brackets_past : (ts : Asts) → Match (Parts rows.Brackets ∷ []) ts → (r : List Tok) → past is_bracket (tokens_all ts ++ r) ≡ past is_bracket r
 brackets_past _ (chosen grammar.no_brackets done) r = refl
@@ -225,32 +225,32 @@ type_past t (made (token {o} {ts} e w) f q) r = ap (λ z. past is_bracket (rest 
 type_past t (grown v (grammar.operator f) w e q) r = absurd (cc)
 
 -- no parenthesis stands behind the first token of a type before a name
-type_second : (t : Ast) → Is sorts.Type t → (r : List Tok) → is_name (front r) ≡ true → same (second (tokens t ++ r)) kinds.OpenParen ≡ false
+type_second : (t : Ast) → Is sorts.Type t → (r : List Tok) → is_name (first_kind r) ≡ true → same (second (tokens t ++ r)) kinds.OpenParen ≡ false
 type_second t (made (token {o} {ts} e w) f q) r n =
     ap (λ z. same (second z) kinds.OpenParen) (retell sorts.Type t (more (Leaf o) ts) r q)
-    ∙ is_false (same (front (tokens_all ts ++ r)) kinds.OpenParen) (behind_element (front (tokens_all ts ++ r)) (front_first (Parts rows.Brackets ∷ []) ts w is_name r n))
+    ∙ is_false (same (first_kind (tokens_all ts ++ r)) kinds.OpenParen) (behind_element (first_kind (tokens_all ts ++ r)) (front_first (Parts rows.Brackets ∷ []) ts w is_name r n))
 type_second t (grown v (grammar.operator f) w e q) r n = absurd (cc)
 
-name_past : (r : List Tok) → is_name (front r) ≡ true → past is_bracket r ≡ r
+name_past : (r : List Tok) → is_name (first_kind r) ≡ true → past is_bracket r ≡ r
 unfolding past
 name_past [] n = refl
 name_past (o ∷ r) n = past_here is_bracket o r (is_false (is_bracket (kind_of o)) (name_is_no_bracket (kind_of o) n))
 
 -- a result, before the name and the parameters of a method
-result_heads : (t : Ast) → Is sorts.Result t → (r : List Tok) → is_name (front r) ≡ true → same (second r) kinds.OpenParen ≡ true → heads_method (tokens t ++ r) ≡ true
+result_heads : (t : Ast) → Is sorts.Result t → (r : List Tok) → is_name (first_kind r) ≡ true → same (second r) kinds.OpenParen ≡ true → heads_method (tokens t ++ r) ≡ true
 unfolding heads_method
 result_heads t (made (chosen grammar.no_result (token {o} e done)) f q) r n p =
-    ap (λ z. same (front z) kinds.Void || same (second (past is_bracket (rest z))) kinds.OpenParen) (ap (λ z. tokens z ++ r) q)
+    ap (λ z. same (first_kind z) kinds.Void || same (second (past is_bracket (rest z))) kinds.OpenParen) (ap (λ z. tokens z ++ r) q)
     ∙ or_left (same (kind_of o) kinds.Void) (same (second (past is_bracket r)) kinds.OpenParen) e
 result_heads t (made (chosen grammar.a_result (part {t = t'} v done)) f q) r n p =
-    ap (λ z. same (front z) kinds.Void || same (second (past is_bracket (rest z))) kinds.OpenParen) (ap (λ z. tokens z ++ r) q)
-    ∙ or_right (same (front (tokens t' ++ r)) kinds.Void) (same (second (past is_bracket (rest (tokens t' ++ r)))) kinds.OpenParen)
+    ap (λ z. same (first_kind z) kinds.Void || same (second (past is_bracket (rest z))) kinds.OpenParen) (ap (λ z. tokens z ++ r) q)
+    ∙ or_right (same (first_kind (tokens t' ++ r)) kinds.Void) (same (second (past is_bracket (rest (tokens t' ++ r)))) kinds.OpenParen)
     (ap (λ z. same (second z) kinds.OpenParen) (type_past t' v r ∙ name_past r n) ∙ p)
 result_heads t (grown v (grammar.operator f) w e q) r n p = absurd (cc)
 
-result_second : (t : Ast) → Is sorts.Result t → (r : List Tok) → is_name (front r) ≡ true → is_name (front (tokens t ++ r)) ≡ true → same (second (tokens t ++ r)) kinds.OpenParen ≡ false
+result_second : (t : Ast) → Is sorts.Result t → (r : List Tok) → is_name (first_kind r) ≡ true → is_name (first_kind (tokens t ++ r)) ≡ true → same (second (tokens t ++ r)) kinds.OpenParen ≡ false
 result_second t (made (chosen grammar.no_result (token {o} e done)) f q) r n b =
-    let c : is_name (kind_of o) ≡ true = sym (ap (λ z. is_name (front (tokens z ++ r))) q) ∙ b in
+    let c : is_name (kind_of o) ≡ true = sym (ap (λ z. is_name (first_kind (tokens z ++ r))) q) ∙ b in
     absurd (let d = is_false (is_name (kind_of o)) (void_is_no_name (kind_of o) e) in cc)
 result_second t (made (chosen grammar.a_result (part {t = t'} v done)) f q) r n b = ap (λ z. same (second (tokens z ++ r)) kinds.OpenParen) q ∙ type_second t' v r n
 result_second t (grown v (grammar.operator f) w e q) r n b = absurd (cc)
@@ -261,16 +261,16 @@ tells_a_method items _ (part {t} v (token {o} e (part {t = t'} {ts} v' w))) s =
     let r = o ∷ (tokens_all (more t' ts) ++ s) in
     let p : same (second r) kinds.OpenParen ≡ true = params_open (second r) (part_front sorts.Params t' ts v' s) in
     let u = tokens t ++ r in
-    subst (λ z. (if is_name (front z) && same (second z) kinds.OpenParen then name ∷ Part sorts.Params ∷ Parts (rows.Maybe sorts.Throws) ∷ a kinds.OpenBrace ∷ Parts rows.OwnCall ∷ Parts (rows.Any sorts.Local) ∷ a kinds.CloseBrace ∷ [] else (if heads_method z then Part sorts.Result ∷ name ∷ Part sorts.Params ∷ Parts (rows.Maybe sorts.Throws) ∷ Parts rows.MethodBody ∷ [] else Part sorts.Type ∷ Part sorts.Decls ∷ a kinds.Semicolon ∷ [])) ≡ Part sorts.Result ∷ name ∷ Part sorts.Params ∷ Parts (rows.Maybe sorts.Throws) ∷ Parts rows.MethodBody ∷ [])
+    subst (λ z. (if is_name (first_kind z) && same (second z) kinds.OpenParen then name ∷ Part sorts.Params ∷ Parts (rows.Maybe sorts.Throws) ∷ a kinds.OpenBrace ∷ Parts rows.OwnCall ∷ Parts (rows.Any sorts.Local) ∷ a kinds.CloseBrace ∷ [] else (if heads_method z then Part sorts.Result ∷ name ∷ Part sorts.Params ∷ Parts (rows.Maybe sorts.Throws) ∷ Parts rows.MethodBody ∷ [] else Part sorts.Type ∷ Part sorts.Decls ∷ a kinds.Semicolon ∷ [])) ≡ Part sorts.Result ∷ name ∷ Part sorts.Params ∷ Parts (rows.Maybe sorts.Throws) ∷ Parts rows.MethodBody ∷ [])
     (sym (append_assoc (tokens t) (o ∷ tokens_all (more t' ts)) s))
-    (no (is_name (front u) && same (second u) kinds.OpenParen) _ _ (not_both (is_name (front u)) (same (second u) kinds.OpenParen) (result_second t v r e)) ∙ yes (heads_method u) _ _ (result_heads t v r e p))
+    (no (is_name (first_kind u) && same (second u) kinds.OpenParen) _ _ (not_both (is_name (first_kind u)) (same (second u) kinds.OpenParen) (result_second t v r e)) ∙ yes (heads_method u) _ _ (result_heads t v r e p))
 
-decl_second : (t : Ast) → Is sorts.Decl t → (F : Kind → Bool) (r : List Tok) → F (front r) ≡ true → first_in (Parts rows.Brackets ∷ Parts rows.Initial ∷ []) F (second (tokens t ++ r)) ≡ true
+decl_second : (t : Ast) → Is sorts.Decl t → (F : Kind → Bool) (r : List Tok) → F (first_kind r) ≡ true → first_in (Parts rows.Brackets ∷ Parts rows.Initial ∷ []) F (second (tokens t ++ r)) ≡ true
 decl_second t (made (token {o} {ts} e w) f q) F r n =
     ap (λ z. first_in (Parts rows.Brackets ∷ Parts rows.Initial ∷ []) F (second z)) (retell sorts.Decl t (more (Leaf o) ts) r q) ∙ front_first (Parts rows.Brackets ∷ Parts rows.Initial ∷ []) ts w F r n
 decl_second t (grown v (grammar.operator f) w e q) F r n = absurd (cc)
 
-decls_second : (t : Ast) → Is sorts.Decls t → (r : List Tok) → same (front r) kinds.Semicolon ≡ true → same (second (tokens t ++ r)) kinds.OpenParen ≡ false
+decls_second : (t : Ast) → Is sorts.Decls t → (r : List Tok) → same (first_kind r) kinds.Semicolon ≡ true → same (second (tokens t ++ r)) kinds.OpenParen ≡ false
 decls_second t (made (part {t = t'} {ts} v w) f q) r n =
     let F : Kind → Bool = first_in (Parts (rows.Further sorts.Decl) ∷ []) (λ k. same k kinds.Semicolon) in
     let u = tokens t' ++ (tokens_all ts ++ r) in
@@ -283,14 +283,14 @@ pub tells_fields : (items : List Item) (ts : Asts) → Match (Part sorts.Type �
 unfolding predict_member predict_member_tail heads_method
 tells_fields items _ (part {t} v (part {t = t'} v' (token {o} {ts} e w))) s =
     let r = tokens t' ++ (o ∷ (tokens_all ts ++ s)) in
-    let n : is_name (front r) ≡ true = decls_name (front r) (starts sorts.Decls t' v' (o ∷ (tokens_all ts ++ s))) in
+    let n : is_name (first_kind r) ≡ true = decls_name (first_kind r) (starts sorts.Decls t' v' (o ∷ (tokens_all ts ++ s))) in
     let u = tokens t ++ r in
     let same_tokens : tokens_all (more t (more t' (more (Leaf o) ts))) ++ s ≡ u =
     append_assoc (tokens t) (tokens t' ++ (o ∷ tokens_all ts)) s ∙ ap (λ z. tokens t ++ z) (append_assoc (tokens t') (o ∷ tokens_all ts) s) in
     let p : same (second (past is_bracket (rest u))) kinds.OpenParen ≡ false = ap (λ z. same (second z) kinds.OpenParen) (type_past t v r ∙ name_past r n) ∙ decls_second t' v' (o ∷ (tokens_all ts ++ s)) e in
-    let q : same (front u) kinds.Void ≡ false = is_false (same (front u) kinds.Void) (type_is_no_void (front u) (starts sorts.Type t v r)) in
-    let m : (same (front u) kinds.Void || same (second (past is_bracket (rest u))) kinds.OpenParen) ≡ false = neither (same (front u) kinds.Void) (same (second (past is_bracket (rest u))) kinds.OpenParen) q p in
-    subst (λ z. (if is_name (front z) && same (second z) kinds.OpenParen then name ∷ Part sorts.Params ∷ Parts (rows.Maybe sorts.Throws) ∷ a kinds.OpenBrace ∷ Parts rows.OwnCall ∷ Parts (rows.Any sorts.Local) ∷ a kinds.CloseBrace ∷ [] else (if same (front z) kinds.Void || same (second (past is_bracket (rest z))) kinds.OpenParen then Part sorts.Result ∷ name ∷ Part sorts.Params ∷ Parts (rows.Maybe sorts.Throws) ∷ Parts rows.MethodBody ∷ [] else Part sorts.Type ∷ Part sorts.Decls ∷ a kinds.Semicolon ∷ [])) ≡ Part sorts.Type ∷ Part sorts.Decls ∷ a kinds.Semicolon ∷ [])
+    let q : same (first_kind u) kinds.Void ≡ false = is_false (same (first_kind u) kinds.Void) (type_is_no_void (first_kind u) (starts sorts.Type t v r)) in
+    let m : (same (first_kind u) kinds.Void || same (second (past is_bracket (rest u))) kinds.OpenParen) ≡ false = neither (same (first_kind u) kinds.Void) (same (second (past is_bracket (rest u))) kinds.OpenParen) q p in
+    subst (λ z. (if is_name (first_kind z) && same (second z) kinds.OpenParen then name ∷ Part sorts.Params ∷ Parts (rows.Maybe sorts.Throws) ∷ a kinds.OpenBrace ∷ Parts rows.OwnCall ∷ Parts (rows.Any sorts.Local) ∷ a kinds.CloseBrace ∷ [] else (if same (first_kind z) kinds.Void || same (second (past is_bracket (rest z))) kinds.OpenParen then Part sorts.Result ∷ name ∷ Part sorts.Params ∷ Parts (rows.Maybe sorts.Throws) ∷ Parts rows.MethodBody ∷ [] else Part sorts.Type ∷ Part sorts.Decls ∷ a kinds.Semicolon ∷ [])) ≡ Part sorts.Type ∷ Part sorts.Decls ∷ a kinds.Semicolon ∷ [])
     (sym same_tokens)
-    (no (is_name (front u) && same (second u) kinds.OpenParen) _ _ (not_both (is_name (front u)) (same (second u) kinds.OpenParen) (λ b. type_second t v r n))
-    ∙ no (same (front u) kinds.Void || same (second (past is_bracket (rest u))) kinds.OpenParen) _ _ (is_not (same (front u) kinds.Void || same (second (past is_bracket (rest u))) kinds.OpenParen) m))
+    (no (is_name (first_kind u) && same (second u) kinds.OpenParen) _ _ (not_both (is_name (first_kind u)) (same (second u) kinds.OpenParen) (λ b. type_second t v r n))
+    ∙ no (same (first_kind u) kinds.Void || same (second (past is_bracket (rest u))) kinds.OpenParen) _ _ (is_not (same (first_kind u) kinds.Void || same (second (past is_bracket (rest u))) kinds.OpenParen) m))

@@ -13,7 +13,7 @@ use Rattle.wy_tree.specs.declared.grammar.Sort.TheVariants as sorts
 use Rattle.wy_tree.specs.declared.grammar.Row.TheVariants as rows
 use Rattle.wy_tree.specs.declared.grammar.Item.{Item}
 use Rattle.wy_tree.specs.declared.grammar.Item.TheVariants.{One, Part, Parts}
-use Rattle.wy_parser.specs.Prediction.{front, rest, second, comes, declares, predict_member, predict_statement}
+use Rattle.wy_parser.specs.Prediction.{first_kind, rest, second, comes, declares, predict_member, predict_statement}
 use Rattle.wy_parser.proofs.Truth.{or_left, or_right, both, neither, not_both, is_not, is_false}
 use Rattle.wy_parser.proofs.Firsts.{within, begins, first_in, every, implied, starts, front_first}
 use Rattle.wy_parser.proofs.Follows.{are_locals, Lawful}
@@ -66,20 +66,20 @@ pub tells_own_call : (items : List Item) (ts : Asts) → Match (One Own ∷ Part
 unfolding predict_member
 tells_own_call items _ (token {o} e (part {t} {ts} v w)) s =
     let u = o ∷ (tokens_all (more t ts) ++ s) in
-    here (is_own (front u) && same (second u) kinds.OpenParen) _ (both (is_own (front u)) (same (second u) kinds.OpenParen) e (arguments_open (second u) (part_front sorts.Args t ts v s)))
+    here (is_own (first_kind u) && same (second u) kinds.OpenParen) _ (both (is_own (first_kind u)) (same (second u) kinds.OpenParen) e (arguments_open (second u) (part_front sorts.Args t ts v s)))
 
 no_call : List Tok → Type 0
-no_call r = same (front r) kinds.OpenParen ≡ false
+no_call r = same (first_kind r) kinds.OpenParen ≡ false
 
-no_call_if : (p : Kind → Bool) → ((k : Kind) → p k ≡ true → not (same k kinds.OpenParen) ≡ true) → (r : List Tok) → p (front r) ≡ true → no_call r
+no_call_if : (p : Kind → Bool) → ((k : Kind) → p k ≡ true → not (same k kinds.OpenParen) ≡ true) → (r : List Tok) → p (first_kind r) ≡ true → no_call r
 unfolding no_call
-no_call_if p f r e = is_false (same (front r) kinds.OpenParen) (f (front r) e)
+no_call_if p f r e = is_false (same (first_kind r) kinds.OpenParen) (f (first_kind r) e)
 
-own_name : (k : Kind) → is_own k ≡ true → is_name k ≡ true → (r : List Tok) → same (front r) kinds.OpenParen ≡ true → no_call r
+own_name : (k : Kind) → is_own k ≡ true → is_name k ≡ true → (r : List Tok) → same (first_kind r) kinds.OpenParen ≡ true → no_call r
 own_name k e f r g = absurd (let h = is_false (is_name k) (own_is_no_name k e) in cc)
 
 -- a statement that begins with this or super is no own call
-statement_no_call : (t : Ast) → Is sorts.Stmt t → (s : List Tok) → is_own (front (tokens t ++ s)) ≡ true → no_call (rest (tokens t ++ s))
+statement_no_call : (t : Ast) → Is sorts.Stmt t → (s : List Tok) → is_own (first_kind (tokens t ++ s)) ≡ true → no_call (rest (tokens t ++ s))
 statement_no_call t v s b =
     statement_leads is_own no_call own_is_word (no_call_if (within joints) joint_is_no_parenthesis) (λ r e f. no_call_if (λ k. same k kinds.OpenBracket) bracket_is_no_parenthesis r e) own_name
     (no_call_if (λ k. same k kinds.Semicolon) semicolon_is_no_parenthesis) (no_call_if (λ k. same k kinds.Colon) colon_is_no_parenthesis) t v s b
@@ -92,62 +92,62 @@ end_is_no_own : (k : Kind) → not (comes sorts.Local k) ≡ true → not (is_ow
 unfolding every
 end_is_no_own k e = implied (λ k. not (comes sorts.Local k)) (λ k. not (is_own k)) refl k e
 
-local_no_call : (t : Ast) → Is sorts.Local t → (s : List Tok) → is_own (front (tokens t ++ s)) ≡ true → no_call (rest (tokens t ++ s))
+local_no_call : (t : Ast) → Is sorts.Local t → (s : List Tok) → is_own (first_kind (tokens t ++ s)) ≡ true → no_call (rest (tokens t ++ s))
 local_no_call t (made (chosen {ts} grammar.a_declaration w) f q) s b =
     let u = tokens_all ts ++ s in
     let same_tokens : tokens t ++ s ≡ u = retell sorts.Local t ts s q in
-    let c : is_own (front u) ≡ true = sym (ap (λ z. is_own (front z)) same_tokens) ∙ b in
-    absurd (let d = is_false (is_own (front u)) (declaration_is_no_own (front u) (front_first (Parts rows.MaybeFinal ∷ Part sorts.Type ∷ Part sorts.Decls ∷ a kinds.Semicolon ∷ []) ts w (λ _. true) s refl)) in cc)
+    let c : is_own (first_kind u) ≡ true = sym (ap (λ z. is_own (first_kind z)) same_tokens) ∙ b in
+    absurd (let d = is_false (is_own (first_kind u)) (declaration_is_no_own (first_kind u) (front_first (Parts rows.MaybeFinal ∷ Part sorts.Type ∷ Part sorts.Decls ∷ a kinds.Semicolon ∷ []) ts w (λ _. true) s refl)) in cc)
 local_no_call t (made (chosen grammar.a_statement (part {t = t'} v done)) f q) s b =
-    subst (λ z. is_own (front (tokens z ++ s)) ≡ true → no_call (rest (tokens z ++ s))) (sym q) (statement_no_call t' v s) b
+    subst (λ z. is_own (first_kind (tokens z ++ s)) ≡ true → no_call (rest (tokens z ++ s))) (sym q) (statement_no_call t' v s) b
 local_no_call t (grown v (grammar.operator f) w e q) s b = absurd (cc)
 
-locals_no_call : (items : List Item) (ts : Asts) → Match (Parts (rows.Any sorts.Local) ∷ items) ts → (F : Kind → Bool) (s : List Tok) → F (front s) ≡ true
-    → ((k : Kind) → first_in items F k ≡ true → not (comes sorts.Local k) ≡ true) → is_own (front (tokens_all ts ++ s)) ≡ true → same (second (tokens_all ts ++ s)) kinds.OpenParen ≡ false
+locals_no_call : (items : List Item) (ts : Asts) → Match (Parts (rows.Any sorts.Local) ∷ items) ts → (F : Kind → Bool) (s : List Tok) → F (first_kind s) ≡ true
+    → ((k : Kind) → first_in items F k ≡ true → not (comes sorts.Local k) ≡ true) → is_own (first_kind (tokens_all ts ++ s)) ≡ true → same (second (tokens_all ts ++ s)) kinds.OpenParen ≡ false
 unfolding no_call
 locals_no_call items ts (chosen grammar.none_of w) F s f ends b =
-    let k = front (tokens_all ts ++ s) in
+    let k = first_kind (tokens_all ts ++ s) in
     absurd (let d = is_false (is_own k) (end_is_no_own k (ends k (front_first items ts w F s f))) in cc)
 locals_no_call items _ (chosen grammar.some_of (part {t} {ts} v w)) F s f ends b =
-    subst (λ z. is_own (front z) ≡ true → same (second z) kinds.OpenParen ≡ false) (sym (append_assoc (tokens t) (tokens_all ts) s)) (local_no_call t v (tokens_all ts ++ s)) b
+    subst (λ z. is_own (first_kind z) ≡ true → same (second z) kinds.OpenParen ≡ false) (sym (append_assoc (tokens t) (tokens_all ts) s)) (local_no_call t v (tokens_all ts ++ s)) b
 
 are_locals_ok : (items : List Item) → are_locals items ≡ true → (more : List Item) × (items ≡ Parts (rows.Any sorts.Local) ∷ more)
 are_locals_ok (Parts (rows.Any sorts.Local) ∷ items) e = (items, refl)
 are_locals_ok _ e = absurd (cc)
 
-pub tells_no_own_call : (items : List Item) (ts : Asts) → Match items ts → (F : Kind → Bool) (s : List Tok) → F (front s) ≡ true → are_locals items ≡ true → Lawful items F → predict_member rows.OwnCall (tokens_all ts ++ s) ≡ []
+pub tells_no_own_call : (items : List Item) (ts : Asts) → Match items ts → (F : Kind → Bool) (s : List Tok) → F (first_kind s) ≡ true → are_locals items ≡ true → Lawful items F → predict_member rows.OwnCall (tokens_all ts ++ s) ≡ []
 unfolding predict_member
 tells_no_own_call items ts w F s f l m =
     let u = tokens_all ts ++ s in
     let g = are_locals_ok items l in
     let w' = subst (λ z. Match z ts) g.1 w in
     let m' = subst (λ z. Lawful z F) g.1 m in
-    absent_here (is_own (front u) && same (second u) kinds.OpenParen) _
-    (not_both (is_own (front u)) (same (second u) kinds.OpenParen) (locals_no_call g.0 ts w' F s f m'.0))
+    absent_here (is_own (first_kind u) && same (second u) kinds.OpenParen) _
+    (not_both (is_own (first_kind u)) (same (second u) kinds.OpenParen) (locals_no_call g.0 ts w' F s f m'.0))
 
 -- labels
 pub tells_labelled : (items : List Item) (ts : Asts) → Match (name ∷ a kinds.Colon ∷ items) ts → (s : List Tok) → predict_statement rows.StmtForm (tokens_all ts ++ s) ≡ name ∷ a kinds.Colon ∷ Part sorts.Stmt ∷ []
 tells_labelled items _ (token {o} e (token {o = o'} {ts} f w)) s =
     let u = o ∷ (o' ∷ (tokens_all ts ++ s)) in
-    no_word_labelled u e ∙ yes (is_name (front u) && same (second u) kinds.Colon) _ _ (both (is_name (front u)) (same (second u) kinds.Colon) e f)
+    no_word_labelled u e ∙ yes (is_name (first_kind u) && same (second u) kinds.Colon) _ _ (both (is_name (first_kind u)) (same (second u) kinds.Colon) e f)
 
 no_label : List Tok → Type 0
-no_label r = same (front r) kinds.Colon ≡ false
+no_label r = same (first_kind r) kinds.Colon ≡ false
 
-no_label_if : (p : Kind → Bool) → ((k : Kind) → p k ≡ true → not (same k kinds.Colon) ≡ true) → (r : List Tok) → p (front r) ≡ true → no_label r
+no_label_if : (p : Kind → Bool) → ((k : Kind) → p k ≡ true → not (same k kinds.Colon) ≡ true) → (r : List Tok) → p (first_kind r) ≡ true → no_label r
 unfolding no_label
-no_label_if p f r e = is_false (same (front r) kinds.Colon) (f (front r) e)
+no_label_if p f r e = is_false (same (first_kind r) kinds.Colon) (f (first_kind r) e)
 
 pub tells_an_effect : (items : List Item) (ts : Asts) → Match (Part sorts.Effect ∷ a kinds.Semicolon ∷ items) ts → (s : List Tok) → predict_statement rows.StmtForm (tokens_all ts ++ s) ≡ Part sorts.Effect ∷ a kinds.Semicolon ∷ []
 unfolding no_label
 tells_an_effect items _ (part {t} v (token {o} {ts} e w)) s =
     let r = o ∷ (tokens_all ts ++ s) in
     let u = tokens t ++ r in
-    let behind : is_name (front u) ≡ true → same (second u) kinds.Colon ≡ false =
+    let behind : is_name (first_kind u) ≡ true → same (second u) kinds.Colon ≡ false =
     λ b. leads is_name no_label name_is_word (no_label_if (within joints) joint_is_no_colon) (λ r e f. no_label_if (λ k. same k kinds.OpenBracket) bracket_is_no_colon r e)
     (λ k e f. no_label_if (λ k. same k kinds.OpenParen) parenthesis_is_no_colon) sorts.Effect t v refl r b (no_label_if (λ k. same k kinds.Semicolon) semicolon_is_no_colon r e) in
     subst (λ z. predict_statement rows.StmtForm z ≡ Part sorts.Effect ∷ a kinds.Semicolon ∷ []) (sym (append_assoc (tokens t) (o ∷ tokens_all ts) s))
-    (no_word_an_effect u (starts sorts.Effect t v r) ∙ no (is_name (front u) && same (second u) kinds.Colon) _ _ (not_both (is_name (front u)) (same (second u) kinds.Colon) behind))
+    (no_word_an_effect u (starts sorts.Effect t v r) ∙ no (is_name (first_kind u) && same (second u) kinds.Colon) _ _ (not_both (is_name (first_kind u)) (same (second u) kinds.Colon) behind))
 
 final_or_type : (k : Kind) → (is_name k || same k kinds.Prim) ≡ true → ((same k kinds.Final || same k kinds.Prim) || is_name k) ≡ true
 unfolding every
@@ -195,10 +195,10 @@ comma_or_semicolon k e = implied (λ k. (same k kinds.Comma || (true && same k k
 
 -- a name or a pair of brackets
 abbrev names_or_brackets : List Tok → Bool
-names_or_brackets r = is_name (front r) || (same (front r) kinds.OpenBracket && same (second r) kinds.CloseBracket)
+names_or_brackets r = is_name (first_kind r) || (same (first_kind r) kinds.OpenBracket && same (second r) kinds.CloseBracket)
 
-type_declares : (ts : Asts) → Match (Parts rows.Brackets ∷ []) ts → (r : List Tok) → is_name (front r) ≡ true → names_or_brackets (tokens_all ts ++ r) ≡ true
-type_declares _ (chosen grammar.no_brackets done) r n = or_left (is_name (front r)) (same (front r) kinds.OpenBracket && same (second r) kinds.CloseBracket) n
+type_declares : (ts : Asts) → Match (Parts rows.Brackets ∷ []) ts → (r : List Tok) → is_name (first_kind r) ≡ true → names_or_brackets (tokens_all ts ++ r) ≡ true
+type_declares _ (chosen grammar.no_brackets done) r n = or_left (is_name (first_kind r)) (same (first_kind r) kinds.OpenBracket && same (second r) kinds.CloseBracket) n
 type_declares _ (chosen grammar.brackets (token {o} e (token {o = o'} f w))) r n =
     or_right (is_name (kind_of o)) (same (kind_of o) kinds.OpenBracket && same (kind_of o') kinds.CloseBracket) (both (same (kind_of o) kinds.OpenBracket) (same (kind_of o') kinds.CloseBracket) e f)
 
@@ -206,12 +206,12 @@ declares_by : (b n c : Bool) → (b || n) ≡ true → (n ≡ true → c ≡ tru
 declares_by true n c e f = refl
 declares_by false n c e f = both n c e (f e)
 
-type_then_name : (t : Ast) → Is sorts.Type t → (r : List Tok) → is_name (front r) ≡ true → declares (tokens t ++ r) ≡ true
+type_then_name : (t : Ast) → Is sorts.Type t → (r : List Tok) → is_name (first_kind r) ≡ true → declares (tokens t ++ r) ≡ true
 unfolding declares
 type_then_name t (made (token {o} {ts} e w) f q) r n =
     let u = o ∷ (tokens_all ts ++ r) in
     ap declares (retell sorts.Type t (more (Leaf o) ts) r q)
-    ∙ declares_by (same (front u) kinds.Final || same (front u) kinds.Prim) (is_name (front u)) (names_or_brackets (rest u)) (final_or_type (front u) e)
+    ∙ declares_by (same (first_kind u) kinds.Final || same (first_kind u) kinds.Prim) (is_name (first_kind u)) (names_or_brackets (rest u)) (final_or_type (first_kind u) e)
     (λ b. type_declares ts w r n)
 type_then_name t (grown v (grammar.operator f) w e q) r n = absurd (cc)
 
@@ -220,10 +220,10 @@ pub declaration_declares : (items : List Item) (ts : Asts) → Match (Parts rows
 unfolding declares
 declaration_declares items _ (chosen grammar.is_final (token {o} {ts} e w)) s =
     let u = o ∷ (tokens_all ts ++ s) in
-    or_left (same (front u) kinds.Final || same (front u) kinds.Prim) (is_name (front u) && names_or_brackets (rest u)) (or_left (same (front u) kinds.Final) (same (front u) kinds.Prim) e)
+    or_left (same (first_kind u) kinds.Final || same (first_kind u) kinds.Prim) (is_name (first_kind u) && names_or_brackets (rest u)) (or_left (same (first_kind u) kinds.Final) (same (first_kind u) kinds.Prim) e)
 declaration_declares items _ (chosen grammar.not_final (part {t} v (part {t = t'} {ts} v' w))) s =
     let r = tokens_all (more t' ts) ++ s in
-    ap declares (append_assoc (tokens t) (tokens_all (more t' ts)) s) ∙ type_then_name t v r (decls_name (front r) (part_front sorts.Decls t' ts v' s))
+    ap declares (append_assoc (tokens t) (tokens_all (more t' ts)) s) ∙ type_then_name t v r (decls_name (first_kind r) (part_front sorts.Decls t' ts v' s))
 
 pub tells_a_declaration : (items : List Item) (ts : Asts) → Match (Parts rows.MaybeFinal ∷ Part sorts.Type ∷ Part sorts.Decls ∷ items) ts → (s : List Tok)
     → predict_statement rows.LocalForm (tokens_all ts ++ s) ≡ Parts rows.MaybeFinal ∷ Part sorts.Type ∷ Part sorts.Decls ∷ a kinds.Semicolon ∷ []
@@ -243,16 +243,16 @@ neither_of true b c e = absurd (cc)
 neither_of false true c e = absurd (cc)
 neither_of false false c e = refl
 
-no_declarator_if : (p : Kind → Bool) → ((k : Kind) → p k ≡ true → not (is_name k || same k kinds.OpenBracket) ≡ true) → (r : List Tok) → p (front r) ≡ true → no_declarator r
+no_declarator_if : (p : Kind → Bool) → ((k : Kind) → p k ≡ true → not (is_name k || same k kinds.OpenBracket) ≡ true) → (r : List Tok) → p (first_kind r) ≡ true → no_declarator r
 unfolding no_declarator
-no_declarator_if p f r e = neither_of (is_name (front r)) (same (front r) kinds.OpenBracket) (same (second r) kinds.CloseBracket) (f (front r) e)
+no_declarator_if p f r e = neither_of (is_name (first_kind r)) (same (first_kind r) kinds.OpenBracket) (same (second r) kinds.CloseBracket) (f (first_kind r) e)
 
-no_declarator_index : (r : List Tok) → same (front r) kinds.OpenBracket ≡ true → begins sorts.Expr (second r) ≡ true → no_declarator r
+no_declarator_index : (r : List Tok) → same (first_kind r) kinds.OpenBracket ≡ true → begins sorts.Expr (second r) ≡ true → no_declarator r
 unfolding no_declarator
 no_declarator_index r e f =
-    neither (is_name (front r)) (same (front r) kinds.OpenBracket && same (second r) kinds.CloseBracket) (is_false (is_name (front r)) (bracket_is_no_name (front r) e))
-    (is_false (same (front r) kinds.OpenBracket && same (second r) kinds.CloseBracket)
-    (not_both (same (front r) kinds.OpenBracket) (same (second r) kinds.CloseBracket) (λ b. is_false (same (second r) kinds.CloseBracket) (expr_is_no_close (second r) f))))
+    neither (is_name (first_kind r)) (same (first_kind r) kinds.OpenBracket && same (second r) kinds.CloseBracket) (is_false (is_name (first_kind r)) (bracket_is_no_name (first_kind r) e))
+    (is_false (same (first_kind r) kinds.OpenBracket && same (second r) kinds.CloseBracket)
+    (not_both (same (first_kind r) kinds.OpenBracket) (same (second r) kinds.CloseBracket) (λ b. is_false (same (second r) kinds.CloseBracket) (expr_is_no_close (second r) f))))
 
 declares_not : (b n c : Bool) → b ≡ false → (n ≡ true → c ≡ false) → (b || (n && c)) ≡ false
 declares_not true n c e f = absurd (cc)
@@ -263,8 +263,8 @@ statement_declares : (t : Ast) → Is sorts.Stmt t → (s : List Tok) → declar
 unfolding declares no_declarator
 statement_declares t v s =
     let u = tokens t ++ s in
-    declares_not (same (front u) kinds.Final || same (front u) kinds.Prim) (is_name (front u)) (names_or_brackets (rest u))
-    (is_false (same (front u) kinds.Final || same (front u) kinds.Prim) (statement_declares_nothing (front u) (starts sorts.Stmt t v s)))
+    declares_not (same (first_kind u) kinds.Final || same (first_kind u) kinds.Prim) (is_name (first_kind u)) (names_or_brackets (rest u))
+    (is_false (same (first_kind u) kinds.Final || same (first_kind u) kinds.Prim) (statement_declares_nothing (first_kind u) (starts sorts.Stmt t v s)))
     (λ b. statement_leads is_name no_declarator name_is_word (no_declarator_if (within joints) joint_declares_nothing) no_declarator_index
     (λ k e f. no_declarator_if (λ k. same k kinds.OpenParen) parenthesis_declares_nothing) (no_declarator_if (λ k. same k kinds.Semicolon) semicolon_declares_nothing)
     (no_declarator_if (λ k. same k kinds.Colon) colon_declares_nothing) t v s b)
@@ -279,17 +279,17 @@ effect_declares : (t : Ast) → Is sorts.Effect t → (s : List Tok) → no_decl
 unfolding declares no_declarator
 effect_declares t v s p =
     let u = tokens t ++ s in
-    declares_not (same (front u) kinds.Final || same (front u) kinds.Prim) (is_name (front u)) (names_or_brackets (rest u))
-    (is_false (same (front u) kinds.Final || same (front u) kinds.Prim) (effect_declares_nothing (front u) (starts sorts.Effect t v s)))
+    declares_not (same (first_kind u) kinds.Final || same (first_kind u) kinds.Prim) (is_name (first_kind u)) (names_or_brackets (rest u))
+    (is_false (same (first_kind u) kinds.Final || same (first_kind u) kinds.Prim) (effect_declares_nothing (first_kind u) (starts sorts.Effect t v s)))
     (λ b. leads is_name no_declarator name_is_word (no_declarator_if (within joints) joint_declares_nothing) no_declarator_index
     (λ k e f. no_declarator_if (λ k. same k kinds.OpenParen) parenthesis_declares_nothing) sorts.Effect t v refl s b p)
 
-pub tells_for_effects : (items : List Item) (ts : Asts) → Match (Part sorts.Effect ∷ Parts (rows.Further sorts.Effect) ∷ items) ts → (F : Kind → Bool) (s : List Tok) → F (front s) ≡ true
+pub tells_for_effects : (items : List Item) (ts : Asts) → Match (Part sorts.Effect ∷ Parts (rows.Further sorts.Effect) ∷ items) ts → (F : Kind → Bool) (s : List Tok) → F (first_kind s) ≡ true
     → ((k : Kind) → first_in items F k ≡ true → same k kinds.Semicolon ≡ true) → predict_statement rows.ForInitForm (tokens_all ts ++ s) ≡ Part sorts.Effect ∷ Parts (rows.Further sorts.Effect) ∷ []
 unfolding predict_statement
 tells_for_effects items _ (part {t} {ts} v w) F s f ends =
     let r = tokens_all ts ++ s in
-    let k = front r in
+    let k = first_kind r in
     let g : (same k kinds.Comma || (true && first_in items F k)) ≡ true = front_first (Parts (rows.Further sorts.Effect) ∷ items) ts w F s f in
     let p : no_declarator r = no_declarator_if (λ k. same k kinds.Comma || (true && same k kinds.Semicolon)) comma_or_semicolon r (or_more (same k kinds.Comma) (first_in items F k) (same k kinds.Semicolon) (ends k) g) in
     let u = tokens_all (more t ts) ++ s in

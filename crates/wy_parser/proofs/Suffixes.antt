@@ -13,7 +13,7 @@ use Rattle.wy_tree.specs.declared.grammar.Row.TheVariants as rows
 use Rattle.wy_tree.specs.declared.grammar.Item.{Item}
 use Rattle.wy_tree.specs.declared.grammar.Item.TheVariants.{Part, Parts}
 use Rattle.wy_tree.proofs.Tags.{same_is}
-use Rattle.wy_parser.specs.Prediction.{front, continued, continued_level, continued_relation, continued_primary}
+use Rattle.wy_parser.specs.Prediction.{first_kind, continued, continued_level, continued_relation, continued_primary}
 use Rattle.wy_parser.proofs.Truth.{is_false}
 use Rattle.wy_parser.proofs.Firsts.{every, implied}
 use Rattle.wy_parser.proofs.Follows.{meets}
@@ -90,13 +90,13 @@ meets_bracket : (k : Kind) → same k kinds.OpenBracket ≡ true → meets sorts
 unfolding every
 meets_bracket k e = implied (λ k. same k kinds.OpenBracket) (meets sorts.Primary) refl k e
 
-pub suffix_meets : (x : Sort) (items : List Item) → Suffix x items → (ts : Asts) → Match items ts → (s : List Tok) → meets x (front (tokens_all ts ++ s)) ≡ true
+pub suffix_meets : (x : Sort) (items : List Item) → Suffix x items → (ts : Asts) → Match items ts → (s : List Tok) → meets x (first_kind (tokens_all ts ++ s)) ≡ true
 suffix_meets _ _ (operator {x} {k} e) _ (token {o} f w) s = subst (λ z. meets x z ≡ true) (sym (same_is (kind_of o) k f)) (meets_operator x k e)
 suffix_meets _ _ instance_of _ (token {o} f w) s = meets_instanceof (kind_of o) f
 suffix_meets _ _ member _ (token {o} f w) s = meets_dot (kind_of o) f
 suffix_meets _ _ element _ (token {o} f w) s = meets_bracket (kind_of o) f
 
-pub suffix_barred : (x : Sort) (items : List Item) → Suffix x items → (l : Ast) (ts : Asts) → Match items ts → (s : List Tok) → joins l ts ≡ true → barred x l (front (tokens_all ts ++ s)) ≡ false
+pub suffix_barred : (x : Sort) (items : List Item) → Suffix x items → (l : Ast) (ts : Asts) → Match items ts → (s : List Tok) → joins l ts ≡ true → barred x l (first_kind (tokens_all ts ++ s)) ≡ false
 suffix_barred _ _ (operator {x = sorts.Stmt} e) l ts w s f = absurd (cc)
 suffix_barred _ _ (operator {x = sorts.Primary} e) l ts w s f = absurd (cc)
 suffix_barred _ _ (operator {x = sorts.New} e) l ts w s f = absurd (cc)

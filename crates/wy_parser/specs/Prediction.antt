@@ -15,19 +15,19 @@ use Rattle.wy_tree.specs.declared.grammar.Item.{Item}
 use Rattle.wy_tree.specs.declared.grammar.Item.TheVariants.{One, Part, Parts}
 
 -- the kind of the first, the second and the third token
-abbrev pub front : List Tok → Kind
-front [] = kinds.Nothing
-front (o ∷ s) = kind_of o
+abbrev pub first_kind : List Tok → Kind
+first_kind [] = kinds.Nothing
+first_kind (o ∷ s) = kind_of o
 
 abbrev pub rest : List Tok → List Tok
 rest [] = []
 rest (o ∷ s) = s
 
 abbrev pub second : List Tok → Kind
-second s = front (rest s)
+second s = first_kind (rest s)
 
 abbrev pub third : List Tok → Kind
-third s = front (rest (rest s))
+third s = first_kind (rest (rest s))
 
 -- what stands in modifiers
 abbrev pub modifies : Kind → Bool
@@ -43,15 +43,15 @@ past p (o ∷ s) = if p (kind_of o) then past p s else o ∷ s
 
 -- a parameter list behind a type and a name, or void
 unfoldable pub heads_method : List Tok → Bool
-heads_method s = same (front s) kinds.Void || same (second (past is_bracket (rest s))) kinds.OpenParen
+heads_method s = same (first_kind s) kinds.Void || same (second (past is_bracket (rest s))) kinds.OpenParen
 
 unfoldable pub heads_interface : List Tok → Bool
-heads_interface s = same (front (past modifies s)) kinds.Interface
+heads_interface s = same (first_kind (past modifies s)) kinds.Interface
 
 unfoldable pub declares : List Tok → Bool
 declares s =
-    (same (front s) kinds.Final || same (front s) kinds.Prim)
-    || (is_name (front s) && (is_name (second s) || (same (second s) kinds.OpenBracket && same (third s) kinds.CloseBracket)))
+    (same (first_kind s) kinds.Final || same (first_kind s) kinds.Prim)
+    || (is_name (first_kind s) && (is_name (second s) || (same (second s) kinds.OpenBracket && same (third s) kinds.CloseBracket)))
 
 -- what the operand of a cast to a name begins with (JLS 15.16)
 abbrev pub begins_operand : Kind → Bool
@@ -66,11 +66,11 @@ begins_operand kinds.Flip = true
 begins_operand _ = false
 
 unfoldable pub casts_to_name : List Tok → Bool
-casts_to_name s = (same (front s) kinds.OpenBracket && same (second s) kinds.CloseBracket) || (same (front s) kinds.CloseParen && begins_operand (second s))
+casts_to_name s = (same (first_kind s) kinds.OpenBracket && same (second s) kinds.CloseBracket) || (same (first_kind s) kinds.CloseParen && begins_operand (second s))
 
 -- `(` and a primitive type, or a name in brackets, or a name and `)` before an operand
 unfoldable pub casts : List Tok → Bool
-casts s = same (front s) kinds.OpenParen && (same (second s) kinds.Prim || (is_name (second s) && casts_to_name (rest (rest s))))
+casts s = same (first_kind s) kinds.OpenParen && (same (second s) kinds.Prim || (is_name (second s) && casts_to_name (rest (rest s))))
 
 -- whether one more comes
 abbrev pub comes : Sort → Kind → Bool
@@ -90,43 +90,43 @@ abbrev pub begun : Bool → List Item → List Item
 begun b items = if b then items else []
 
 unfoldable pub predict_list : Row → List Tok → List Item
-predict_list (rows.Any x) s = begun (comes x (front s)) (Part x ∷ Parts (rows.Any x) ∷ [])
-predict_list (rows.Maybe x) s = begun (is_there x (front s)) (Part x ∷ [])
-predict_list (rows.Series x) s = begun (not (same (front s) kinds.CloseParen)) (Part x ∷ Parts (rows.Further x) ∷ [])
-predict_list (rows.Further x) s = begun (same (front s) kinds.Comma) (a kinds.Comma ∷ Part x ∷ Parts (rows.Further x) ∷ [])
-predict_list rows.Names s = begun (same (front s) kinds.Comma) (a kinds.Comma ∷ name ∷ Parts rows.Names ∷ [])
-predict_list rows.Brackets s = begun (same (front s) kinds.OpenBracket) (a kinds.OpenBracket ∷ a kinds.CloseBracket ∷ Parts rows.Brackets ∷ [])
-predict_list _ s = begun (same (front s) kinds.Final) (a kinds.Final ∷ [])
+predict_list (rows.Any x) s = begun (comes x (first_kind s)) (Part x ∷ Parts (rows.Any x) ∷ [])
+predict_list (rows.Maybe x) s = begun (is_there x (first_kind s)) (Part x ∷ [])
+predict_list (rows.Series x) s = begun (not (same (first_kind s) kinds.CloseParen)) (Part x ∷ Parts (rows.Further x) ∷ [])
+predict_list (rows.Further x) s = begun (same (first_kind s) kinds.Comma) (a kinds.Comma ∷ Part x ∷ Parts (rows.Further x) ∷ [])
+predict_list rows.Names s = begun (same (first_kind s) kinds.Comma) (a kinds.Comma ∷ name ∷ Parts rows.Names ∷ [])
+predict_list rows.Brackets s = begun (same (first_kind s) kinds.OpenBracket) (a kinds.OpenBracket ∷ a kinds.CloseBracket ∷ Parts rows.Brackets ∷ [])
+predict_list _ s = begun (same (first_kind s) kinds.Final) (a kinds.Final ∷ [])
 
 unfoldable pub predict_method : List Tok → List Item
 predict_method s =
-    if same (front s) kinds.CloseBrace then [] else
-    (if same (front s) kinds.Semicolon then a kinds.Semicolon ∷ Parts rows.Methods ∷ [] else
+    if same (first_kind s) kinds.CloseBrace then [] else
+    (if same (first_kind s) kinds.Semicolon then a kinds.Semicolon ∷ Parts rows.Methods ∷ [] else
     Parts (rows.Any sorts.Mod) ∷ Part sorts.Result ∷ name ∷ Part sorts.Params ∷ Parts (rows.Maybe sorts.Throws) ∷ a kinds.Semicolon ∷ Parts rows.Methods ∷ [])
 
 unfoldable pub predict_declared : List Tok → List Item
 predict_declared s =
-    if same (front s) kinds.Semicolon then a kinds.Semicolon ∷ [] else
+    if same (first_kind s) kinds.Semicolon then a kinds.Semicolon ∷ [] else
     (if heads_interface s then Part sorts.Interface ∷ [] else Part sorts.Class ∷ [])
 
 unfoldable pub predict_declaration : Row → List Tok → List Item
 predict_declaration rows.Declared s = predict_declared s
-predict_declaration rows.Superclass s = begun (same (front s) kinds.Extends) (a kinds.Extends ∷ name ∷ [])
-predict_declaration rows.Interfaces s = begun (same (front s) kinds.Implements) (a kinds.Implements ∷ name ∷ Parts rows.Names ∷ [])
-predict_declaration rows.Supers s = begun (same (front s) kinds.Extends) (a kinds.Extends ∷ name ∷ Parts rows.Names ∷ [])
+predict_declaration rows.Superclass s = begun (same (first_kind s) kinds.Extends) (a kinds.Extends ∷ name ∷ [])
+predict_declaration rows.Interfaces s = begun (same (first_kind s) kinds.Implements) (a kinds.Implements ∷ name ∷ Parts rows.Names ∷ [])
+predict_declaration rows.Supers s = begun (same (first_kind s) kinds.Extends) (a kinds.Extends ∷ name ∷ Parts rows.Names ∷ [])
 predict_declaration rows.Methods s = predict_method s
-predict_declaration _ s = if same (front s) kinds.At then a kinds.At ∷ a kinds.Override ∷ [] else One Modifying ∷ []
+predict_declaration _ s = if same (first_kind s) kinds.At then a kinds.At ∷ a kinds.Override ∷ [] else One Modifying ∷ []
 
 unfoldable pub predict_member_form : List Tok → List Item
 predict_member_form s =
-    if same (front s) kinds.Semicolon then a kinds.Semicolon ∷ [] else
-    (if same (front s) kinds.OpenBrace then Part sorts.Block ∷ [] else
-    (if same (front s) kinds.Static && same (second s) kinds.OpenBrace then a kinds.Static ∷ Part sorts.Block ∷ [] else
+    if same (first_kind s) kinds.Semicolon then a kinds.Semicolon ∷ [] else
+    (if same (first_kind s) kinds.OpenBrace then Part sorts.Block ∷ [] else
+    (if same (first_kind s) kinds.Static && same (second s) kinds.OpenBrace then a kinds.Static ∷ Part sorts.Block ∷ [] else
     Parts (rows.Any sorts.Mod) ∷ Parts rows.MemberTail ∷ []))
 
 unfoldable pub predict_member_tail : List Tok → List Item
 predict_member_tail s =
-    if is_name (front s) && same (second s) kinds.OpenParen then
+    if is_name (first_kind s) && same (second s) kinds.OpenParen then
     name ∷ Part sorts.Params ∷ Parts (rows.Maybe sorts.Throws) ∷ a kinds.OpenBrace ∷ Parts rows.OwnCall ∷ Parts (rows.Any sorts.Local) ∷ a kinds.CloseBrace ∷ [] else
     (if heads_method s then Part sorts.Result ∷ name ∷ Part sorts.Params ∷ Parts (rows.Maybe sorts.Throws) ∷ Parts rows.MethodBody ∷ [] else
     Part sorts.Type ∷ Part sorts.Decls ∷ a kinds.Semicolon ∷ [])
@@ -134,82 +134,82 @@ predict_member_tail s =
 unfoldable pub predict_member : Row → List Tok → List Item
 predict_member rows.MemberForm s = predict_member_form s
 predict_member rows.MemberTail s = predict_member_tail s
-predict_member rows.MethodBody s = if same (front s) kinds.Semicolon then a kinds.Semicolon ∷ [] else Part sorts.Block ∷ []
-predict_member rows.OwnCall s = begun (is_own (front s) && same (second s) kinds.OpenParen) (One Own ∷ Part sorts.Args ∷ a kinds.Semicolon ∷ [])
-predict_member _ s = if same (front s) kinds.Void then a kinds.Void ∷ [] else Part sorts.Type ∷ []
+predict_member rows.MethodBody s = if same (first_kind s) kinds.Semicolon then a kinds.Semicolon ∷ [] else Part sorts.Block ∷ []
+predict_member rows.OwnCall s = begun (is_own (first_kind s) && same (second s) kinds.OpenParen) (One Own ∷ Part sorts.Args ∷ a kinds.Semicolon ∷ [])
+predict_member _ s = if same (first_kind s) kinds.Void then a kinds.Void ∷ [] else Part sorts.Type ∷ []
 
 unfoldable pub predict_elements : List Tok → List Item
 predict_elements s =
-    if same (front s) kinds.CloseBrace then [] else
-    (if same (front s) kinds.Comma then a kinds.Comma ∷ [] else Part sorts.Init ∷ Parts rows.MoreElements ∷ [])
+    if same (first_kind s) kinds.CloseBrace then [] else
+    (if same (first_kind s) kinds.Comma then a kinds.Comma ∷ [] else Part sorts.Init ∷ Parts rows.MoreElements ∷ [])
 
 unfoldable pub predict_initial : Row → List Tok → List Item
-predict_initial rows.Initial s = begun (same (front s) kinds.Assign) (a kinds.Assign ∷ Part sorts.Init ∷ [])
-predict_initial rows.InitForm s = if same (front s) kinds.OpenBrace then a kinds.OpenBrace ∷ Parts rows.Elements ∷ a kinds.CloseBrace ∷ [] else Part sorts.Expr ∷ []
+predict_initial rows.Initial s = begun (same (first_kind s) kinds.Assign) (a kinds.Assign ∷ Part sorts.Init ∷ [])
+predict_initial rows.InitForm s = if same (first_kind s) kinds.OpenBrace then a kinds.OpenBrace ∷ Parts rows.Elements ∷ a kinds.CloseBrace ∷ [] else Part sorts.Expr ∷ []
 predict_initial rows.Elements s = predict_elements s
-predict_initial rows.MoreElements s = begun (same (front s) kinds.Comma) (a kinds.Comma ∷ Parts rows.AfterComma ∷ [])
-predict_initial _ s = begun (not (same (front s) kinds.CloseBrace)) (Part sorts.Init ∷ Parts rows.MoreElements ∷ [])
+predict_initial rows.MoreElements s = begun (same (first_kind s) kinds.Comma) (a kinds.Comma ∷ Parts rows.AfterComma ∷ [])
+predict_initial _ s = begun (not (same (first_kind s) kinds.CloseBrace)) (Part sorts.Init ∷ Parts rows.MoreElements ∷ [])
 
 unfoldable pub predict_leaving : List Tok → List Item
 predict_leaving s =
-    if same (front s) kinds.Break then a kinds.Break ∷ Parts rows.Label ∷ a kinds.Semicolon ∷ [] else
-    (if same (front s) kinds.Continue then a kinds.Continue ∷ Parts rows.Label ∷ a kinds.Semicolon ∷ [] else
-    (if same (front s) kinds.Return then a kinds.Return ∷ Parts (rows.Maybe sorts.Expr) ∷ a kinds.Semicolon ∷ [] else
-    (if same (front s) kinds.Throw then a kinds.Throw ∷ Part sorts.Expr ∷ a kinds.Semicolon ∷ [] else
-    (if is_name (front s) && same (second s) kinds.Colon then name ∷ a kinds.Colon ∷ Part sorts.Stmt ∷ [] else
+    if same (first_kind s) kinds.Break then a kinds.Break ∷ Parts rows.Label ∷ a kinds.Semicolon ∷ [] else
+    (if same (first_kind s) kinds.Continue then a kinds.Continue ∷ Parts rows.Label ∷ a kinds.Semicolon ∷ [] else
+    (if same (first_kind s) kinds.Return then a kinds.Return ∷ Parts (rows.Maybe sorts.Expr) ∷ a kinds.Semicolon ∷ [] else
+    (if same (first_kind s) kinds.Throw then a kinds.Throw ∷ Part sorts.Expr ∷ a kinds.Semicolon ∷ [] else
+    (if is_name (first_kind s) && same (second s) kinds.Colon then name ∷ a kinds.Colon ∷ Part sorts.Stmt ∷ [] else
     Part sorts.Effect ∷ a kinds.Semicolon ∷ []))))
 
 unfoldable pub predict_looping : List Tok → List Item
 predict_looping s =
-    if same (front s) kinds.While then a kinds.While ∷ a kinds.OpenParen ∷ Part sorts.Expr ∷ a kinds.CloseParen ∷ Part sorts.Stmt ∷ [] else
-    (if same (front s) kinds.Do then a kinds.Do ∷ Part sorts.Stmt ∷ a kinds.While ∷ a kinds.OpenParen ∷ Part sorts.Expr ∷ a kinds.CloseParen ∷ a kinds.Semicolon ∷ [] else
-    (if same (front s) kinds.For then
+    if same (first_kind s) kinds.While then a kinds.While ∷ a kinds.OpenParen ∷ Part sorts.Expr ∷ a kinds.CloseParen ∷ Part sorts.Stmt ∷ [] else
+    (if same (first_kind s) kinds.Do then a kinds.Do ∷ Part sorts.Stmt ∷ a kinds.While ∷ a kinds.OpenParen ∷ Part sorts.Expr ∷ a kinds.CloseParen ∷ a kinds.Semicolon ∷ [] else
+    (if same (first_kind s) kinds.For then
     a kinds.For ∷ a kinds.OpenParen ∷ Parts (rows.Maybe sorts.ForInit) ∷ a kinds.Semicolon ∷ Parts (rows.Maybe sorts.Expr) ∷ a kinds.Semicolon
     ∷ Parts (rows.Series sorts.Effect) ∷ a kinds.CloseParen ∷ Part sorts.Stmt ∷ [] else
     predict_leaving s))
 
 unfoldable pub predict_statement_form : List Tok → List Item
 predict_statement_form s =
-    if same (front s) kinds.OpenBrace then Part sorts.Block ∷ [] else
-    (if same (front s) kinds.Semicolon then a kinds.Semicolon ∷ [] else
-    (if same (front s) kinds.If then a kinds.If ∷ a kinds.OpenParen ∷ Part sorts.Expr ∷ a kinds.CloseParen ∷ Part sorts.Stmt ∷ Parts rows.Otherwise ∷ [] else
-    (if same (front s) kinds.Try then a kinds.Try ∷ Part sorts.Block ∷ Parts rows.Handlers ∷ [] else
+    if same (first_kind s) kinds.OpenBrace then Part sorts.Block ∷ [] else
+    (if same (first_kind s) kinds.Semicolon then a kinds.Semicolon ∷ [] else
+    (if same (first_kind s) kinds.If then a kinds.If ∷ a kinds.OpenParen ∷ Part sorts.Expr ∷ a kinds.CloseParen ∷ Part sorts.Stmt ∷ Parts rows.Otherwise ∷ [] else
+    (if same (first_kind s) kinds.Try then a kinds.Try ∷ Part sorts.Block ∷ Parts rows.Handlers ∷ [] else
     predict_looping s)))
 
 unfoldable pub predict_statement : Row → List Tok → List Item
 predict_statement rows.LocalForm s = if declares s then Parts rows.MaybeFinal ∷ Part sorts.Type ∷ Part sorts.Decls ∷ a kinds.Semicolon ∷ [] else Part sorts.Stmt ∷ []
 predict_statement rows.StmtForm s = predict_statement_form s
-predict_statement rows.Otherwise s = begun (same (front s) kinds.Else) (a kinds.Else ∷ Part sorts.Stmt ∷ [])
-predict_statement rows.Label s = begun (is_name (front s)) (name ∷ [])
+predict_statement rows.Otherwise s = begun (same (first_kind s) kinds.Else) (a kinds.Else ∷ Part sorts.Stmt ∷ [])
+predict_statement rows.Label s = begun (is_name (first_kind s)) (name ∷ [])
 predict_statement rows.Handlers s =
-    if same (front s) kinds.Catch then Part sorts.Catch ∷ Parts (rows.Any sorts.Catch) ∷ Parts rows.Finally ∷ [] else a kinds.Finally ∷ Part sorts.Block ∷ []
-predict_statement rows.Finally s = begun (same (front s) kinds.Finally) (a kinds.Finally ∷ Part sorts.Block ∷ [])
+    if same (first_kind s) kinds.Catch then Part sorts.Catch ∷ Parts (rows.Any sorts.Catch) ∷ Parts rows.Finally ∷ [] else a kinds.Finally ∷ Part sorts.Block ∷ []
+predict_statement rows.Finally s = begun (same (first_kind s) kinds.Finally) (a kinds.Finally ∷ Part sorts.Block ∷ [])
 predict_statement _ s =
     if declares s then Parts rows.MaybeFinal ∷ Part sorts.Type ∷ Part sorts.Decls ∷ [] else Part sorts.Effect ∷ Parts (rows.Further sorts.Effect) ∷ []
 
 unfoldable pub predict_unary : List Tok → List Item
 predict_unary s =
-    if same (front s) kinds.Minus then a kinds.Minus ∷ Parts rows.Negated ∷ [] else
-    (if is_prefixing (front s) then One Prefixing ∷ Part sorts.Unary ∷ [] else
+    if same (first_kind s) kinds.Minus then a kinds.Minus ∷ Parts rows.Negated ∷ [] else
+    (if is_prefixing (first_kind s) then One Prefixing ∷ Part sorts.Unary ∷ [] else
     (if casts s then Part sorts.Cast ∷ [] else Part sorts.Postfix ∷ []))
 
 unfoldable pub predict_operator : Row → List Tok → List Item
-predict_operator rows.Assigned s = begun (is_setting (front s)) (One Setting ∷ Part sorts.Expr ∷ [])
-predict_operator rows.Choice s = begun (same (front s) kinds.Question) (a kinds.Question ∷ Part sorts.Expr ∷ a kinds.Colon ∷ Part sorts.Cond ∷ [])
+predict_operator rows.Assigned s = begun (is_setting (first_kind s)) (One Setting ∷ Part sorts.Expr ∷ [])
+predict_operator rows.Choice s = begun (same (first_kind s) kinds.Question) (a kinds.Question ∷ Part sorts.Expr ∷ a kinds.Colon ∷ Part sorts.Cond ∷ [])
 predict_operator rows.UnaryForm s = predict_unary s
-predict_operator rows.Negated s = if same (front s) kinds.Big then a kinds.Big ∷ [] else Part sorts.Unary ∷ []
+predict_operator rows.Negated s = if same (first_kind s) kinds.Big then a kinds.Big ∷ [] else Part sorts.Unary ∷ []
 predict_operator rows.CastForm s =
-    if same (front s) kinds.Prim && same (second s) kinds.CloseParen then a kinds.Prim ∷ a kinds.CloseParen ∷ Part sorts.Unary ∷ []
+    if same (first_kind s) kinds.Prim && same (second s) kinds.CloseParen then a kinds.Prim ∷ a kinds.CloseParen ∷ Part sorts.Unary ∷ []
     else Part sorts.RefType ∷ a kinds.CloseParen ∷ Part sorts.Operand ∷ []
-predict_operator _ s = begun (same (front s) kinds.Step) (a kinds.Step ∷ Parts rows.Steps ∷ [])
+predict_operator _ s = begun (same (first_kind s) kinds.Step) (a kinds.Step ∷ Parts rows.Steps ∷ [])
 
 unfoldable pub predict_primary : List Tok → List Item
 predict_primary s =
-    if same (front s) kinds.Literal then a kinds.Literal ∷ [] else
-    (if same (front s) kinds.This then a kinds.This ∷ [] else
-    (if same (front s) kinds.OpenParen then a kinds.OpenParen ∷ Part sorts.Expr ∷ a kinds.CloseParen ∷ [] else
-    (if same (front s) kinds.New then Part sorts.New ∷ [] else
-    (if same (front s) kinds.Super then a kinds.Super ∷ a kinds.Dot ∷ name ∷ Parts (rows.Maybe sorts.Args) ∷ [] else
+    if same (first_kind s) kinds.Literal then a kinds.Literal ∷ [] else
+    (if same (first_kind s) kinds.This then a kinds.This ∷ [] else
+    (if same (first_kind s) kinds.OpenParen then a kinds.OpenParen ∷ Part sorts.Expr ∷ a kinds.CloseParen ∷ [] else
+    (if same (first_kind s) kinds.New then Part sorts.New ∷ [] else
+    (if same (first_kind s) kinds.Super then a kinds.Super ∷ a kinds.Dot ∷ name ∷ Parts (rows.Maybe sorts.Args) ∷ [] else
     name ∷ Parts (rows.Maybe sorts.Args) ∷ []))))
 
 unfoldable pub predict_new : List Tok → List Item
@@ -221,7 +221,7 @@ predict_new s =
 
 unfoldable pub predict_dimension : List Tok → List Item
 predict_dimension s =
-    if same (front s) kinds.OpenBracket then
+    if same (first_kind s) kinds.OpenBracket then
     (if same (second s) kinds.CloseBracket then a kinds.OpenBracket ∷ a kinds.CloseBracket ∷ Parts rows.Brackets ∷ []
     else a kinds.OpenBracket ∷ Part sorts.Expr ∷ a kinds.CloseBracket ∷ Parts rows.Dimensions ∷ [])
     else []
@@ -286,4 +286,4 @@ continued_by sorts.Primary k = continued_primary k
 continued_by x k = continued_level x k
 
 abbrev pub continued : Sort → List Tok → Option (List Item)
-continued x s = continued_by x (front s)
+continued x s = continued_by x (first_kind s)

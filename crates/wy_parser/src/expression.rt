@@ -4,7 +4,7 @@ ghost use Rattle.std.specs.Prelude.{◌≡◌, ◌++◌, OnOk, reverse};
 ghost use Rattle.wy_parser.specs.Symbols.{symbols_seen};
 ghost use Rattle.wy_parser.specs.Prediction.{predict_unary as unary_way, predict_operator as operator_way, predict_primary as primary_way, predict_new as new_way, predict_dimension as dimension_way};
 
-use crate::look::{behind, casts, front_kind, is_prefixing, is_setting};
+use crate::look::{behind, casts, first_kind, is_prefixing, is_setting};
 use crate::row::{put, token};
 use crate::symbol::Symbol;
 use std::alloc::AllocError;
@@ -16,7 +16,7 @@ fn unary_ways(pending: &mut Vec<Item>, symbols: &[Symbol]) -> Result<(), AllocEr
     ensures { OnOk result (reverse pending.new.items ≡ unary_way (symbols_seen symbols.now)
         ++ reverse pending.old.items) }
 {
-    let first = front_kind(symbols);
+    let first = first_kind(symbols);
     if is_kind(first, Kind::Minus) {
         put(pending, &[token(Kind::Minus), Item::Parts(Row::Negated)])
     } else if is_prefixing(first) {
@@ -40,8 +40,8 @@ pub fn operator_ways(
     ensures { OnOk result (reverse pending.new.items ≡ operator_way row (symbols_seen symbols.now)
         ++ reverse pending.old.items) }
 {
-    let first = front_kind(symbols);
-    let second = front_kind(behind(symbols));
+    let first = first_kind(symbols);
+    let second = first_kind(behind(symbols));
     match row {
         Row::Assigned => {
             if is_setting(first) {
@@ -112,7 +112,7 @@ pub fn primary_ways(pending: &mut Vec<Item>, symbols: &[Symbol]) -> Result<(), A
     ensures { OnOk result (reverse pending.new.items ≡ primary_way (symbols_seen symbols.now)
         ++ reverse pending.old.items) }
 {
-    let first = front_kind(symbols);
+    let first = first_kind(symbols);
     if is_kind(first, Kind::Literal) {
         put(pending, &[token(Kind::Literal)])
     } else if is_kind(first, Kind::This) {
@@ -151,8 +151,8 @@ pub fn new_ways(pending: &mut Vec<Item>, symbols: &[Symbol]) -> Result<(), Alloc
     ensures { OnOk result (reverse pending.new.items ≡ new_way (symbols_seen symbols.now)
         ++ reverse pending.old.items) }
 {
-    let second = front_kind(behind(symbols));
-    let third = front_kind(behind(behind(symbols)));
+    let second = first_kind(behind(symbols));
+    let third = first_kind(behind(behind(symbols)));
     if is_kind(second, Kind::OpenParen) {
         put(pending, &[Item::One(Class::Name), Item::Part(Sort::Args)])
     } else if is_kind(third, Kind::CloseBracket) {
@@ -187,8 +187,8 @@ pub fn dimension_ways(pending: &mut Vec<Item>, symbols: &[Symbol]) -> Result<(),
     ensures { OnOk result (reverse pending.new.items ≡ dimension_way (symbols_seen symbols.now)
         ++ reverse pending.old.items) }
 {
-    let first = front_kind(symbols);
-    let second = front_kind(behind(symbols));
+    let first = first_kind(symbols);
+    let second = first_kind(behind(symbols));
     if is_kind(first, Kind::OpenBracket) {
         if is_kind(second, Kind::CloseBracket) {
             put(

@@ -5,15 +5,15 @@ ghost use Rattle.wy_tree.specs.Conditions.{is_name as named};
 ghost use Rattle.wy_tree.specs.Grammar.{allows, is_own as own, is_modifying as modifying, is_setting as setting, is_prefixing as prefixing};
 ghost use Rattle.wy_parser.specs.Symbols.{symbol_seen, symbols_seen};
 ghost use Rattle.wy_parser.specs.Reading.{taken};
-ghost use Rattle.wy_parser.specs.Prediction.{front, second, third, rest, past, is_bracket as bracket, modifies as modify, heads_method as method_heads, heads_interface as interface_heads, declares as declaring, begins_operand as operand_begins, casts as casting, casts_to_name as casting_to_name};
+ghost use Rattle.wy_parser.specs.Prediction.{first_kind, second, third, rest, past, is_bracket as bracket, modifies as modify, heads_method as method_heads, heads_interface as interface_heads, declares as declaring, begins_operand as operand_begins, casts as casting, casts_to_name as casting_to_name};
 
 use crate::symbol::Symbol;
 use wy_tree::grammar::Class;
 use wy_tree::kind::{Kind, is_kind};
 
 /// The kind of the first token.
-pub fn front_kind(symbols: &[Symbol]) -> Kind
-    ensures { result ≡ front (symbols_seen symbols.now) }
+pub fn first_kind(symbols: &[Symbol]) -> Kind
+    ensures { result ≡ first_kind (symbols_seen symbols.now) }
 {
     match symbols {
         [] => Kind::Nothing,
@@ -127,9 +127,9 @@ fn past_modifiers<'a>(symbols: &'a [Symbol]) -> &'a [Symbol]
 pub fn heads_method(symbols: &[Symbol]) -> bool
     ensures { result ≡ method_heads (symbols_seen symbols.now) }
 {
-    is_kind(front_kind(symbols), Kind::Void)
+    is_kind(first_kind(symbols), Kind::Void)
         || is_kind(
-            front_kind(behind(past_brackets(behind(symbols)))),
+            first_kind(behind(past_brackets(behind(symbols)))),
             Kind::OpenParen,
         )
 }
@@ -139,7 +139,7 @@ pub fn heads_method(symbols: &[Symbol]) -> bool
 pub fn heads_interface(symbols: &[Symbol]) -> bool
     ensures { result ≡ interface_heads (symbols_seen symbols.now) }
 {
-    is_kind(front_kind(past_modifiers(symbols)), Kind::Interface)
+    is_kind(first_kind(past_modifiers(symbols)), Kind::Interface)
 }
 
 /// Whether a declaration of variables begins here, if a statement does.
@@ -147,9 +147,9 @@ pub fn heads_interface(symbols: &[Symbol]) -> bool
 pub fn declares(symbols: &[Symbol]) -> bool
     ensures { result ≡ declaring (symbols_seen symbols.now) }
 {
-    let first = front_kind(symbols);
-    let second = front_kind(behind(symbols));
-    let third = front_kind(behind(behind(symbols)));
+    let first = first_kind(symbols);
+    let second = first_kind(behind(symbols));
+    let third = first_kind(behind(behind(symbols)));
     (is_kind(first, Kind::Final) || is_kind(first, Kind::Prim))
         || (is_name(first)
             && (is_name(second)
@@ -176,8 +176,8 @@ fn begins_operand(kind: Kind) -> bool
 fn casts_to_name(symbols: &[Symbol]) -> bool
     ensures { result ≡ casting_to_name (symbols_seen symbols.now) }
 {
-    let first = front_kind(symbols);
-    let second = front_kind(behind(symbols));
+    let first = first_kind(symbols);
+    let second = first_kind(behind(symbols));
     (is_kind(first, Kind::OpenBracket) && is_kind(second, Kind::CloseBracket))
         || (is_kind(first, Kind::CloseParen) && begins_operand(second))
 }
@@ -187,8 +187,8 @@ fn casts_to_name(symbols: &[Symbol]) -> bool
 pub fn casts(symbols: &[Symbol]) -> bool
     ensures { result ≡ casting (symbols_seen symbols.now) }
 {
-    let second = front_kind(behind(symbols));
-    is_kind(front_kind(symbols), Kind::OpenParen)
+    let second = first_kind(behind(symbols));
+    is_kind(first_kind(symbols), Kind::OpenParen)
         && (is_kind(second, Kind::Prim)
             || (is_name(second) && casts_to_name(behind(behind(symbols)))))
 }

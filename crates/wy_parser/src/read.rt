@@ -5,13 +5,13 @@ ghost use Rattle.std.specs.Prelude.{◌≡◌, ◌<◌, ◌≤◌, ◌+◌, ◌*
 ghost use Rattle.wy_tree.specs.Ast.{view, views, one};
 ghost use Rattle.wy_parser.specs.Symbols.{symbols_seen};
 ghost use Rattle.wy_parser.specs.Reading.{run, reader, parts as read_parts, steps, closed as read_closed, closed_by as read_closed_by, base as read_base, grow as read_grow, growing};
-ghost use Rattle.wy_parser.specs.Prediction.{front};
+ghost use Rattle.wy_parser.specs.Prediction.{first_kind};
 ghost use Rattle.wy_parser.specs.declared.stop.Stop.TheVariants.{Memory};
 ghost use Rattle.wy_parser.specs.Parsed.{Gives, GivesGrown, Deepens, Shortens, read_of, parts_of};
 ghost use Rattle.wy_tree.specs.Tokens.{token_limit};
 
 use crate::condition::{fine, joins};
-use crate::look::{front_kind, take};
+use crate::look::{first_kind, take};
 use crate::part::{PartList, Sub, no_parts, node_around, node_of, push, tip};
 use crate::row::predict;
 use crate::rule::{continue_with, form_of, put_rule};
@@ -218,7 +218,7 @@ fn grow<'a>(
     ensures fewer { IfOk result (λ g. Shortens g (length symbols.now)) }
 {
     let mut pending = Vec::new(alloc);
-    if !continue_with(&mut pending, sort, front_kind(symbols))? {
+    if !continue_with(&mut pending, sort, first_kind(symbols))? {
         return Ok(Growth::Stayed(left));
     }
     let (found, rest) = parts(alloc, pending, symbols, below, 24, below)?;

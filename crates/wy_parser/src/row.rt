@@ -7,7 +7,7 @@ ghost use Rattle.wy_parser.specs.Prediction.{predict as way, predict_list as lis
 
 use crate::expression::{dimension_ways, new_ways, operator_ways, primary_ways};
 use crate::look::{
-    behind, declares, front_kind, heads_interface, heads_method, is_modifying, is_name, is_own,
+    behind, declares, first_kind, heads_interface, heads_method, is_modifying, is_name, is_own,
 };
 use crate::symbol::Symbol;
 use std::alloc::AllocError;
@@ -59,7 +59,7 @@ fn list_ways(pending: &mut Vec<Item>, row: Row, symbols: &[Symbol]) -> Result<()
     ensures { OnOk result (reverse pending.new.items ≡ list_way row (symbols_seen symbols.now)
         ++ reverse pending.old.items) }
 {
-    let first = front_kind(symbols);
+    let first = first_kind(symbols);
     match row {
         Row::Any(sort) => {
             if comes(sort, first) {
@@ -142,7 +142,7 @@ fn method_ways(pending: &mut Vec<Item>, symbols: &[Symbol]) -> Result<(), AllocE
     ensures { OnOk result (reverse pending.new.items ≡ method_way (symbols_seen symbols.now)
         ++ reverse pending.old.items) }
 {
-    let first = front_kind(symbols);
+    let first = first_kind(symbols);
     if is_kind(first, Kind::CloseBrace) {
         Ok(())
     } else if is_kind(first, Kind::Semicolon) {
@@ -171,7 +171,7 @@ fn declared_ways(pending: &mut Vec<Item>, symbols: &[Symbol]) -> Result<(), Allo
     ensures { OnOk result (reverse pending.new.items ≡ declared_way (symbols_seen symbols.now)
         ++ reverse pending.old.items) }
 {
-    let first = front_kind(symbols);
+    let first = first_kind(symbols);
     if is_kind(first, Kind::Semicolon) {
         put(pending, &[token(Kind::Semicolon)])
     } else if heads_interface(symbols) {
@@ -186,7 +186,7 @@ fn declaration_ways(pending: &mut Vec<Item>, row: Row, symbols: &[Symbol]) -> Re
     ensures { OnOk result (reverse pending.new.items
         ≡ declaration_way row (symbols_seen symbols.now) ++ reverse pending.old.items) }
 {
-    let first = front_kind(symbols);
+    let first = first_kind(symbols);
     match row {
         Row::Declared => { declared_ways(pending, symbols) }
         Row::Superclass => {
@@ -240,8 +240,8 @@ fn member_form_ways(pending: &mut Vec<Item>, symbols: &[Symbol]) -> Result<(), A
     ensures { OnOk result (reverse pending.new.items ≡ member_form_way (symbols_seen symbols.now)
         ++ reverse pending.old.items) }
 {
-    let first = front_kind(symbols);
-    let second = front_kind(behind(symbols));
+    let first = first_kind(symbols);
+    let second = first_kind(behind(symbols));
     if is_kind(first, Kind::Semicolon) {
         put(pending, &[token(Kind::Semicolon)])
     } else if is_kind(first, Kind::OpenBrace) {
@@ -264,8 +264,8 @@ fn member_tail_ways(pending: &mut Vec<Item>, symbols: &[Symbol]) -> Result<(), A
     ensures { OnOk result (reverse pending.new.items ≡ member_tail_way (symbols_seen symbols.now)
         ++ reverse pending.old.items) }
 {
-    let first = front_kind(symbols);
-    let second = front_kind(behind(symbols));
+    let first = first_kind(symbols);
+    let second = first_kind(behind(symbols));
     if is_name(first) && is_kind(second, Kind::OpenParen) {
         put(
             pending,
@@ -307,8 +307,8 @@ fn member_ways(pending: &mut Vec<Item>, row: Row, symbols: &[Symbol]) -> Result<
     ensures { OnOk result (reverse pending.new.items ≡ member_way row (symbols_seen symbols.now)
         ++ reverse pending.old.items) }
 {
-    let first = front_kind(symbols);
-    let second = front_kind(behind(symbols));
+    let first = first_kind(symbols);
+    let second = first_kind(behind(symbols));
     match row {
         Row::MemberForm => { member_form_ways(pending, symbols) }
         Row::MemberTail => { member_tail_ways(pending, symbols) }
@@ -348,7 +348,7 @@ fn elements_ways(pending: &mut Vec<Item>, symbols: &[Symbol]) -> Result<(), Allo
     ensures { OnOk result (reverse pending.new.items ≡ elements_way (symbols_seen symbols.now)
         ++ reverse pending.old.items) }
 {
-    let first = front_kind(symbols);
+    let first = first_kind(symbols);
     if is_kind(first, Kind::CloseBrace) {
         Ok(())
     } else if is_kind(first, Kind::Comma) {
@@ -366,7 +366,7 @@ fn initial_ways(pending: &mut Vec<Item>, row: Row, symbols: &[Symbol]) -> Result
     ensures { OnOk result (reverse pending.new.items ≡ initial_way row (symbols_seen symbols.now)
         ++ reverse pending.old.items) }
 {
-    let first = front_kind(symbols);
+    let first = first_kind(symbols);
     match row {
         Row::Initial => {
             if is_kind(first, Kind::Assign) {
@@ -415,8 +415,8 @@ fn leaving_ways(pending: &mut Vec<Item>, symbols: &[Symbol]) -> Result<(), Alloc
     ensures { OnOk result (reverse pending.new.items ≡ leaving_way (symbols_seen symbols.now)
         ++ reverse pending.old.items) }
 {
-    let first = front_kind(symbols);
-    let second = front_kind(behind(symbols));
+    let first = first_kind(symbols);
+    let second = first_kind(behind(symbols));
     if is_kind(first, Kind::Break) {
         put(
             pending,
@@ -472,7 +472,7 @@ fn looping_ways(pending: &mut Vec<Item>, symbols: &[Symbol]) -> Result<(), Alloc
     ensures { OnOk result (reverse pending.new.items ≡ looping_way (symbols_seen symbols.now)
         ++ reverse pending.old.items) }
 {
-    let first = front_kind(symbols);
+    let first = first_kind(symbols);
     if is_kind(first, Kind::While) {
         put(
             pending,
@@ -522,7 +522,7 @@ fn statement_form_ways(pending: &mut Vec<Item>, symbols: &[Symbol]) -> Result<()
     ensures { OnOk result (reverse pending.new.items ≡ statement_form_way (symbols_seen symbols.now)
         ++ reverse pending.old.items) }
 {
-    let first = front_kind(symbols);
+    let first = first_kind(symbols);
     if is_kind(first, Kind::OpenBrace) {
         put(pending, &[Item::Part(Sort::Block)])
     } else if is_kind(first, Kind::Semicolon) {
@@ -558,7 +558,7 @@ fn statement_ways(pending: &mut Vec<Item>, row: Row, symbols: &[Symbol]) -> Resu
     ensures { OnOk result (reverse pending.new.items ≡ statement_way row (symbols_seen symbols.now)
         ++ reverse pending.old.items) }
 {
-    let first = front_kind(symbols);
+    let first = first_kind(symbols);
     match row {
         Row::LocalForm => {
             if declares(symbols) {

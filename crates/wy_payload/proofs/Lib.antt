@@ -1,2 +1,4 @@
 pub mod Rows
 pub mod Newlines
+pub mod Tags
+pub mod Readers

@@ -7,6 +7,7 @@ use Rattle.wy_event.specs.declared.record.Coverage.{Coverage}
 use Rattle.wy_event.specs.declared.record.Head.{Head}
 use Rattle.wy_event.specs.declared.record.Tail.{Tail}
 use Rattle.wy_kernel.specs.View.{NONE}
+use Rattle.wy_kernel.specs.Limits.{steps_limit, input_limit, source_limit}
 use Rattle.wy_payload.specs.declared.fault.DamageRule.TheVariants as rule
 use Rattle.wy_payload.specs.declared.known.Known.{Known}
 use Rattle.wy_payload.specs.declared.known.Role.TheVariants as role
@@ -15,15 +16,6 @@ use Rattle.wy_payload.specs.Rules.{Broken, unless, in_range, reference_rule}
 use Rattle.wy_payload.specs.Reading.{◌>>=◌, Read, passed, number_at, at_most_at, block_at, rows_from}
 
 -- ---- head
-
-abbrev pub steps_limit : ℕ
-steps_limit = 50000000
-
-abbrev pub input_limit : ℕ
-input_limit = 16777216
-
-abbrev pub source_limit : ℕ
-source_limit = 1048576
 
 unfoldable pub head_at : List ℕ → Read Head
 head_at bytes = do

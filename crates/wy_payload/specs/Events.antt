@@ -2,6 +2,7 @@
 use Rattle.std.specs.Prelude.{ℕ, zero, suc, nat_lt, List, [], ◌∷◌, length, Option, Ok, slice_get}
 use Rattle.std.specs.Prelude.{None as Absent}
 use Rattle.std.specs.Int.{w8, w32}
+use Rattle.wy_kernel.specs.Limits.{event_limit}
 use Rattle.wy_value.specs.declared.value.Value.TheVariants as val
 use Rattle.wy_event.specs.declared.record.Kind.{Kind}
 use Rattle.wy_event.specs.declared.record.Kind.TheVariants as kind
@@ -55,9 +56,6 @@ uses_at r earlier bytes = do
 
 -- ---- what an event is, where it stands, and what it has
 
-abbrev pub event_limit : ℕ
-event_limit = 4000000
-
 -- the kinds 0 to 12
 abbrev pub kinds : List Kind
 kinds = kind.Init ∷ kind.New ∷ kind.Call ∷ kind.Bind ∷ kind.Set ∷ kind.Test ∷ kind.Text ∷ kind.Read ∷ kind.Print ∷ kind.Return ∷ kind.Jump ∷ kind.Throw ∷ kind.Catch ∷ []
@@ -85,16 +83,16 @@ origin_at r earlier bytes = do
   site ← site_at r k.1
   frame ← optional_at role.Frame earlier site.1
   control ← optional_at role.Control earlier frame.1
-  what ← what_at r k.0 control.1
-  Ok (record { kind = k.0; site = site.0; frame = frame.0; control = control.0; what = what.0 }, what.1)
+  entity ← what_at r k.0 control.1
+  Ok (record { kind = k.0; site = site.0; frame = frame.0; control = control.0; entity = entity.0 }, entity.1)
 
 -- the units of a Text, and the value of every other event
 unfoldable pub content_at : Ranges → List Known → Kind → ℕ → List ℕ → Read Content
-content_at r earlier kind.Text what bytes = do
+content_at r earlier kind.Text entity bytes = do
   units ← units_at bytes
   Ok (record { value = val.None; units = units.0 }, units.1)
-content_at r earlier k what bytes = do
-  value ← value_at r earlier (value_form k what) bytes
+content_at r earlier k entity bytes = do
+  value ← value_at r earlier (value_form k entity) bytes
   Ok (record { value = value.0; units = [] }, value.1)
 
 -- the event behind so much output, with the output behind it
@@ -102,12 +100,12 @@ unfoldable pub event_at : Ranges → List Known → ℕ → List ℕ → Read Wr
 event_at r earlier output bytes = do
   o ← origin_at r earlier bytes
   slot ← slot_at r earlier (slot_form o.0.kind) o.1
-  c ← content_at r earlier o.0.kind o.0.what slot.1
+  c ← content_at r earlier o.0.kind o.0.entity slot.1
   total ← output_behind r earlier output o.0.kind o.0.site c.0.value
   uses ← uses_at r earlier c.1
   Ok (
     record {
-      event = record { kind = o.0.kind; site = o.0.site; frame = o.0.frame; control = o.0.control; what = o.0.what; slot = slot.0; value = c.0.value; units = c.0.units; uses = uses.0 };
+      event = record { kind = o.0.kind; site = o.0.site; frame = o.0.frame; control = o.0.control; entity = o.0.entity; slot = slot.0; value = c.0.value; units = c.0.units; uses = uses.0 };
       output = total;
     },
     uses.1,

@@ -12,7 +12,8 @@ use Rattle.wy_payload.specs.declared.slot.SlotTag.{SlotTag}
 use Rattle.wy_payload.specs.declared.slot.SlotTag.TheVariants as tags
 use Rattle.wy_payload.specs.declared.slot.SlotForm.{SlotForm}
 use Rattle.wy_payload.specs.declared.slot.SlotForm.TheVariants as form
-use Rattle.wy_payload.specs.Rules.{in_range, index_limit, field_rule, local_rule}
+use Rattle.wy_kernel.specs.Limits.{index_limit}
+use Rattle.wy_payload.specs.Rules.{in_range, field_rule, local_rule}
 use Rattle.wy_payload.specs.Reading.{◌>>=◌, Read, passed, known_tag, number_at, reference_at, below_at}
 
 -- the tags 0 to 4

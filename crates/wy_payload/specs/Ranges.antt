@@ -27,16 +27,16 @@ ranges_of p = record {
 
 -- of an event what later ones may refer to; of a Text how many bytes it prints
 abbrev pub known_as : Kind → ℕ → List ℕ → Known
-known_as kind.Init what units = known.Init what
-known_as kind.New what units = known.New what
-known_as kind.Call what units = known.Call what
-known_as kind.Test what units = known.Test
-known_as kind.Text what units = known.Text (length (utf8_of units))
-known_as kind.Jump what units = known.Jump
-known_as kind.Return what units = known.Return
-known_as kind.Throw what units = known.Throw
-known_as kind.Catch what units = known.Catch
-known_as _ what units = known.Other
+known_as kind.Init entity units = known.Init entity
+known_as kind.New entity units = known.New entity
+known_as kind.Call entity units = known.Call entity
+known_as kind.Test entity units = known.Test
+known_as kind.Text entity units = known.Text (length (utf8_of units))
+known_as kind.Jump entity units = known.Jump
+known_as kind.Return entity units = known.Return
+known_as kind.Throw entity units = known.Throw
+known_as kind.Catch entity units = known.Catch
+known_as _ entity units = known.Other
 
 abbrev pub known_of : Event → Known
-known_of e = known_as e.kind e.what e.units
+known_of e = known_as e.kind e.entity e.units

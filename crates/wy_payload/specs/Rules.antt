@@ -130,6 +130,3 @@ is_static false (Some s) = not s
 -- a static field, or one of objects
 unfoldable pub field_rule : Ranges → Bool → ℕ → Broken
 field_rule r static n = in_range (is_static static (slice_get r.statics n))
-
-abbrev pub index_limit : ℕ
-index_limit = 2147483648

@@ -3,6 +3,7 @@ use Rattle.std.specs.Prelude.{ℕ, zero, suc, ℤ, pos, negsuc, ◌+◌, Bool, t
 use Rattle.std.specs.Prelude.{None as Absent}
 use Rattle.std.specs.Int.{w8, w16, w32, w64, cast_signed}
 use Rattle.std.specs.List.{list_any}
+use Rattle.wy_kernel.specs.Limits.{output_limit}
 use Rattle.wy_value.specs.declared.value.Value.{Value}
 use Rattle.wy_value.specs.declared.value.Value.TheVariants as val
 use Rattle.wy_value.specs.Numeral.{has_text, text_of}
@@ -28,16 +29,16 @@ value_tags = tags.None ∷ tags.Bool ∷ tags.Byte ∷ tags.Short ∷ tags.Char 
 
 -- a New of an array has its length; what is about nothing has no value
 abbrev pub value_form : Kind → ℕ → ValueForm
-value_form kind.New what = if nat_le brackets_unit what then form.Length else form.Nothing
-value_form kind.Bind what = form.Any
-value_form kind.Set what = form.Any
-value_form kind.Test what = form.Truth
-value_form kind.Read what = form.Byte
-value_form kind.Print what = form.Printed
-value_form kind.Return what = form.Optional
-value_form kind.Throw what = form.Thrown
-value_form kind.Catch what = form.Caught
-value_form _ what = form.Nothing
+value_form kind.New entity = if nat_le brackets_unit entity then form.Length else form.Nothing
+value_form kind.Bind entity = form.Any
+value_form kind.Set entity = form.Any
+value_form kind.Test entity = form.Truth
+value_form kind.Read entity = form.Byte
+value_form kind.Print entity = form.Printed
+value_form kind.Return entity = form.Optional
+value_form kind.Throw entity = form.Thrown
+value_form kind.Catch entity = form.Caught
+value_form _ entity = form.Nothing
 
 abbrev pub is_none : ValueTag → Bool
 is_none tags.None = true
@@ -168,9 +169,6 @@ units_at bytes = do
   rows_from (number_at w16) count.0 count.1
 
 -- ---- what is printed
-
-abbrev pub output_limit : ℕ
-output_limit = 16777216
 
 abbrev pub text_length : Option Known → ℕ
 text_length (Some (known.Text bytes)) = bytes

@@ -9,8 +9,9 @@ use crate::field::{at_most, passing, u8_at, u32_at};
 use crate::known::{Known, Role};
 use crate::rules;
 use std::alloc::Global;
-use wy_event::record::{Cover, Coverage, Head, Tail};
+use wy_event::record::{Cover, Coverage, GOING_ON, Head, Tail};
 use wy_event::sequence::Sequence;
+use wy_kernel::limit::{INPUT_LIMIT, SOURCE_LIMIT, STEPS_LIMIT};
 use wy_kernel::types::NONE;
 
 /// The step budget of a trace, and what its events used and wrote in all.
@@ -20,14 +21,6 @@ pub struct Totals {
     pub uses: u32,
     pub output: u32,
 }
-
-const STEPS: u32 = 50000000;
-
-const INPUT: usize = 16777216;
-
-const SOURCE: usize = 1048576;
-
-const GOING_ON: u32 = 4294967294;
 
 const LAST_STOP: u8 = 11;
 
@@ -50,9 +43,9 @@ pub fn head(alloc: Global, bytes: &[u8]) -> Result<(Head, &[u8]), Fault>
     ensures { Gives (λ x. (x.0, x.1.now)) result (head_at bytes.now) }
 {
     let (steps, rest) = u32_at(bytes)?;
-    let rest = passing(rules::range_rule(steps >= 1 && steps <= STEPS), rest)?;
-    let (input, rest) = block(alloc, INPUT, rest)?;
-    let (source, rest) = block(alloc, SOURCE, rest)?;
+    let rest = passing(rules::range_rule(steps >= 1 && steps <= STEPS_LIMIT), rest)?;
+    let (input, rest) = block(alloc, INPUT_LIMIT as usize, rest)?;
+    let (source, rest) = block(alloc, SOURCE_LIMIT as usize, rest)?;
     let head = Head {
         steps,
         input: Sequence::new(input),

@@ -3,7 +3,7 @@
 ghost use Rattle.std.specs.Prelude.{◌≡◌, ◌+◌, ◌≤◌, ◌<◌, ◌^◌, length, slice_get, IfOk};
 ghost use Rattle.wy_payload.specs.Reading.{Gives, rows_from};
 ghost use Rattle.wy_payload.specs.Events.{content_at, event_at, kind_at, kinds, origin_at, place_at, site_at, use_at, use_of, use_tag, uses_at, what_at};
-ghost use Rattle.wy_payload.specs.Values.{output_limit};
+ghost use Rattle.wy_kernel.specs.Limits.{output_limit};
 
 use crate::fault::{DamageRule, Fault};
 use crate::field::{at_most, below, checked_number, optional, passing, reference, u8_at, u32_at};
@@ -16,6 +16,7 @@ use crate::value::{self, units, value};
 use std::alloc::Global;
 use wy_event::record::{Event, Kind, Use};
 use wy_event::sequence::Sequence;
+use wy_kernel::limit::EVENT_LIMIT;
 use wy_value::Value;
 
 #[derive(Clone, Copy, Debug, PartialEq, Eq)]
@@ -32,7 +33,7 @@ pub struct Origin {
     pub site: u32,
     pub frame: u32,
     pub control: u32,
-    pub what: u32,
+    pub entity: u32,
 }
 
 /// The value of an event, and the units of one that is a Text.
@@ -49,9 +50,7 @@ pub struct Written {
     pub output: u32,
 }
 
-const EVENTS: usize = 4000000;
-
-fn tag_of(b: u8) -> Option<UseTag>
+pub fn tag_of(b: u8) -> Option<UseTag>
     ensures { result ≡ use_tag b }
 {
     match b {
@@ -140,7 +139,7 @@ fn uses<'a>(
     uses_behind(alloc, ranges, earlier, count, rest)
 }
 
-fn kind_of(b: u8) -> Option<Kind>
+pub fn kind_of(b: u8) -> Option<Kind>
     ensures { result ≡ slice_get kinds b }
 {
     match b {
@@ -167,7 +166,10 @@ fn kind<'a>(earlier: &[Known], bytes: &'a [u8]) -> Result<(Kind, &'a [u8]), Faul
 {
     let (b, rest) = u8_at(bytes)?;
     let kind = kind_of(b).ok_or(Fault::Broken(DamageRule::Range))?;
-    let rest = passing(rules::range_rule(earlier.len() < EVENTS), rest)?;
+    let rest = passing(
+        rules::range_rule(earlier.len() < EVENT_LIMIT as usize),
+        rest,
+    )?;
     Ok((kind, rest))
 }
 
@@ -180,7 +182,7 @@ fn site<'a>(ranges: &Ranges, bytes: &'a [u8]) -> Result<(u32, &'a [u8]), Fault>
 }
 
 #[tactic(auto, unfolding(crate::specs::Events::what_at))]
-fn what<'a>(ranges: &Ranges, kind: Kind, bytes: &'a [u8]) -> Result<(u32, &'a [u8]), Fault>
+fn entity<'a>(ranges: &Ranges, kind: Kind, bytes: &'a [u8]) -> Result<(u32, &'a [u8]), Fault>
     ensures { Gives (λ x. (x.0, x.1.now)) result (what_at ranges.now kind bytes.now) }
 {
     let (n, rest) = u32_at(bytes)?;
@@ -199,14 +201,14 @@ fn read_origin<'a>(
     let (site, rest) = site(ranges, rest)?;
     let (frame, rest) = optional(Role::Frame, earlier, rest)?;
     let (control, rest) = optional(Role::Control, earlier, rest)?;
-    let (what, rest) = what(ranges, kind, rest)?;
+    let (entity, rest) = entity(ranges, kind, rest)?;
     Ok((
         Origin {
             kind,
             site,
             frame,
             control,
-            what,
+            entity,
         },
         rest,
     ))
@@ -218,11 +220,11 @@ fn read_content<'a>(
     ranges: &Ranges,
     earlier: &[Known],
     kind: Kind,
-    what: u32,
+    entity: u32,
     bytes: &'a [u8],
 ) -> Result<(Content, &'a [u8]), Fault>
     ensures { Gives (λ x. (x.0, x.1.now)) result
-        (content_at ranges.now earlier.now kind what bytes.now) }
+        (content_at ranges.now earlier.now kind entity bytes.now) }
 {
     match kind {
         Kind::Text => {
@@ -237,7 +239,7 @@ fn read_content<'a>(
             ))
         }
         _ => {
-            let (value, rest) = value(ranges, earlier, value::form_of(kind, what), bytes)?;
+            let (value, rest) = value(ranges, earlier, value::form_of(kind, entity), bytes)?;
             let units = Sequence::new(Vec::new(alloc));
             Ok((Content { value, units }, rest))
         }
@@ -259,7 +261,7 @@ pub fn event<'a>(
 {
     let (origin, rest) = read_origin(ranges, earlier, bytes)?;
     let (slot, rest) = slot(ranges, earlier, slot::form_of(origin.kind), rest)?;
-    let (content, rest) = read_content(alloc, ranges, earlier, origin.kind, origin.what, rest)?;
+    let (content, rest) = read_content(alloc, ranges, earlier, origin.kind, origin.entity, rest)?;
     let printing = Printing {
         kind: origin.kind,
         site: origin.site,
@@ -272,7 +274,7 @@ pub fn event<'a>(
         site: origin.site,
         frame: origin.frame,
         control: origin.control,
-        what: origin.what,
+        entity: origin.entity,
         slot,
         value: content.value,
         units: content.units,

@@ -3,6 +3,8 @@
 ghost use Rattle.std.specs.Prelude.{◌≡◌, if◌then◌else◌};
 ghost use Rattle.wy_payload.specs.Rules.{fits, is_array, is_object};
 
+use wy_kernel::code::BRACKETS_UNIT;
+
 /// An event as later ones see it.
 #[derive(Clone, Copy, Debug, PartialEq, Eq)]
 pub enum Known {
@@ -35,9 +37,6 @@ pub enum Role {
     Throw,
 }
 
-/// The type codes from here on are of arrays.
-const ARRAYS: u32 = 16777216;
-
 /// The event may be referred to so.
 pub fn is_fit(role: Role, known: Known) -> bool
     ensures { result ≡ fits role known }
@@ -62,7 +61,7 @@ fn is_coded(known: Known, array: bool) -> bool
     ensures { result ≡ (if array then is_array known else is_object known) }
 {
     match known {
-        Known::New { code } => (code >= ARRAYS) == array,
+        Known::New { code } => (code >= BRACKETS_UNIT) == array,
         _ => false,
     }
 }

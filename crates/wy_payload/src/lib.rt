@@ -5,7 +5,7 @@
 pub mod closing;
 pub mod event;
 pub mod fault;
-mod field;
+pub mod field;
 pub mod known;
 mod newline;
 pub mod print;

@@ -2,7 +2,8 @@
 
 ghost use Rattle.std.specs.Prelude.{◌≡◌, if◌then◌else◌, ◌≤◌, ◌==◌, ◌+◌, length, slice_get, IfOk};
 ghost use Rattle.std.specs.List.{list_any};
-ghost use Rattle.wy_payload.specs.Values.{newline_length, output_behind as behind, output_limit, printed_length, text_length};
+ghost use Rattle.wy_kernel.specs.Limits.{output_limit};
+ghost use Rattle.wy_payload.specs.Values.{newline_length, output_behind as behind, printed_length, text_length};
 ghost use Rattle.wy_payload.specs.Reading.{Gives};
 ghost use Rattle.wy_value.specs.Numeral.{has_text, text_of};
 ghost use Rattle.wy_value.specs.Encoding.{utf8_of};
@@ -12,6 +13,7 @@ use crate::known::Known;
 use crate::ranges::Ranges;
 use std::alloc::{AllocError, Global};
 use wy_event::record::Kind;
+use wy_kernel::limit::OUTPUT_LIMIT;
 use wy_value::{Value, digits, to_utf8};
 
 /// What is printed of an event.
@@ -21,8 +23,6 @@ pub struct Printing {
     pub site: u32,
     pub value: Value,
 }
-
-const OUTPUT: usize = 16777216;
 
 fn length_of_text(text: Option<Known>) -> usize
     ensures { result ≡ text_length text }
@@ -99,7 +99,7 @@ fn printed(
 {
     let length = length_of_value(alloc, ranges, earlier, printing.value)?;
     let newline = length_of_newline(ranges, printing.site);
-    let left = OUTPUT - output as usize;
+    let left = OUTPUT_LIMIT - output as usize;
     if length > left || newline > left - length {
         return Err(Fault::Broken(DamageRule::Range));
     }

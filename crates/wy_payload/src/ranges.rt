@@ -6,11 +6,12 @@ ghost use Rattle.wy_kernel.specs.Statements.{statements_of};
 ghost use Rattle.wy_value.specs.Encoding.{utf8_of};
 ghost use Rattle.wy_payload.specs.Bodies.{locals_of, newlines_of};
 
-use crate::newline::put_bodies;
+use crate::newline::put_all;
 use std::alloc::{AllocError, Global};
 use wy_event::sequence::Sequence;
 use wy_kernel::form::Body;
 use wy_kernel::program::Program;
+use wy_kernel::statements::statements_of;
 use wy_kernel::types::Field;
 use wy_value::to_utf8;
 
@@ -71,8 +72,8 @@ pub fn lengths_of(alloc: Global, texts: &[Vec<u16>]) -> Result<Vec<usize>, Alloc
 pub fn newlines(alloc: Global, program: &Program) -> Result<Vec<u32>, AllocError>
     ensures { IfOk result (λ v. v.items ≡ newlines_of (statements_of (program_of program.now))) }
 {
+    let all = statements_of(alloc, program)?;
     let mut sites = Vec::new(alloc);
-    put_bodies(&mut sites, &program.bodies)?;
-    put_bodies(&mut sites, &program.init_bodies)?;
+    put_all(&mut sites, &all)?;
     Ok(sites)
 }

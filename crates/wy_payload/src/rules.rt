@@ -7,18 +7,13 @@ use crate::fault::DamageRule;
 use crate::known::{Known, Role, is_fit};
 use crate::ranges::Ranges;
 use wy_event::record::Kind;
+use wy_kernel::code::{BRACKETS_UNIT, FIRST_CLASS_CODE, PRIMITIVES};
 use wy_kernel::types::NONE;
 
 /// The sites of the library: of each of its methods one.
 const LIBRARY_SITES: u32 = 2147483648;
 
 const LIBRARY_METHODS: u32 = 36;
-
-const BRACKETS: u32 = 16777216;
-
-const PRIMITIVES: u32 = 6;
-
-const FIRST_CLASS: u32 = 16;
 
 pub fn range_rule(test: bool) -> Option<DamageRule>
     ensures { result ≡ in_range test }
@@ -62,9 +57,9 @@ pub fn of_site(ranges: &Ranges, n: u32) -> Option<DamageRule>
 fn is_type_code(ranges: &Ranges, n: u32) -> bool
     ensures { result ≡ is_code ranges.now n }
 {
-    let base = n % BRACKETS;
-    (base < PRIMITIVES && n >= BRACKETS)
-        || (base >= FIRST_CLASS && ((base - FIRST_CLASS) as usize) < ranges.classes)
+    let base = n % BRACKETS_UNIT;
+    (base < PRIMITIVES && n >= BRACKETS_UNIT)
+        || (base >= FIRST_CLASS_CODE && ((base - FIRST_CLASS_CODE) as usize) < ranges.classes)
 }
 
 /// Of what an event is about: a class, a type, a method, or nothing.

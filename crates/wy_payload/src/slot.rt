@@ -10,6 +10,7 @@ use crate::known::{Known, Role};
 use crate::ranges::Ranges;
 use crate::rules;
 use wy_event::record::{Kind, Slot};
+use wy_kernel::limit::INDEX_LIMIT;
 
 #[derive(Clone, Copy, Debug, PartialEq, Eq)]
 pub enum SlotTag {
@@ -28,8 +29,6 @@ pub enum SlotForm {
     Place,
 }
 
-const ELEMENTS: usize = 2147483648;
-
 pub fn form_of(kind: Kind) -> SlotForm
     ensures { result ≡ slot_form kind }
 {
@@ -40,7 +39,7 @@ pub fn form_of(kind: Kind) -> SlotForm
     }
 }
 
-fn tag_of(b: u8) -> Option<SlotTag>
+pub fn tag_of(b: u8) -> Option<SlotTag>
     ensures { result ≡ slice_get slot_tags b }
 {
     match b {
@@ -101,7 +100,7 @@ fn element<'a>(earlier: &[Known], bytes: &'a [u8]) -> Result<(Slot, &'a [u8]), F
     ensures { Gives (λ x. (x.0, x.1.now)) result (element_at earlier.now bytes.now) }
 {
     let (array, rest) = reference(Role::Array, earlier, bytes)?;
-    let (index, rest) = below(ELEMENTS, rest)?;
+    let (index, rest) = below(INDEX_LIMIT as usize, rest)?;
     Ok((Slot::Elem { array, index }, rest))
 }
 

@@ -12,6 +12,7 @@ use crate::ranges::Ranges;
 use crate::rules;
 use std::alloc::Global;
 use wy_event::record::Kind;
+use wy_kernel::code::BRACKETS_UNIT;
 use wy_value::Value;
 
 #[derive(Clone, Copy, Debug, PartialEq, Eq)]
@@ -45,15 +46,13 @@ pub enum ValueForm {
     Caught,
 }
 
-const ARRAYS: u32 = 16777216;
-
 const UNITS_TAG: u8 = 11;
 
-pub fn form_of(kind: Kind, what: u32) -> ValueForm
-    ensures { result ≡ value_form kind what }
+pub fn form_of(kind: Kind, entity: u32) -> ValueForm
+    ensures { result ≡ value_form kind entity }
 {
     match kind {
-        Kind::New if what >= ARRAYS => ValueForm::Length,
+        Kind::New if entity >= BRACKETS_UNIT => ValueForm::Length,
         Kind::Bind | Kind::Set => ValueForm::Any,
         Kind::Test => ValueForm::Truth,
         Kind::Read => ValueForm::Byte,
@@ -65,7 +64,7 @@ pub fn form_of(kind: Kind, what: u32) -> ValueForm
     }
 }
 
-fn tag_of(b: u8) -> Option<ValueTag>
+pub fn tag_of(b: u8) -> Option<ValueTag>
     ensures { result ≡ slice_get value_tags b }
 {
     match b {
@@ -120,7 +119,7 @@ fn role_of(wanted: ValueForm) -> Role
 }
 
 #[tactic(auto, unfolding(crate::specs::Values::bool_at))]
-fn truth(bytes: &[u8]) -> Result<(Value, &[u8]), Fault>
+pub fn truth(bytes: &[u8]) -> Result<(Value, &[u8]), Fault>
     ensures { Gives (λ x. (x.0, x.1.now)) result (bool_at bytes.now) }
 {
     let (b, rest) = u8_at(bytes)?;
@@ -139,7 +138,7 @@ fn int(wanted: ValueForm, bytes: &[u8]) -> Result<(Value, &[u8]), Fault>
 }
 
 #[tactic(auto, unfolding(crate::specs::Values::plain_at))]
-fn plain(tag: ValueTag, bytes: &[u8]) -> Result<(Value, &[u8]), Fault>
+pub fn plain(tag: ValueTag, bytes: &[u8]) -> Result<(Value, &[u8]), Fault>
     ensures { Gives (λ x. (x.0, x.1.now)) result (plain_at tag bytes.now) }
 {
     match tag {

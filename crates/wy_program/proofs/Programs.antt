@@ -7,17 +7,17 @@ use Rattle.wy_kernel.specs.Table.{Table, IsTable}
 use Rattle.wy_syntax.specs.Declarations.{unit}
 use Rattle.wy_members.specs.Declarations.{CompilationUnit, table}
 use Rattle.wy_elab_expr.specs.Operators.{Settles}
-use Rattle.wy_statement.specs.Places.{places_of}
+use Rattle.wy_elab_body.specs.Places.{places_of}
 use Rattle.wy_elab_stmt.specs.Elaborates.{Elaborates}
-use Rattle.wy_typed_expr.specs.Typed.{table_of, MethodsFit}
-use Rattle.wy_typed_stmt.specs.Typed.{Makes}
-use Rattle.wy_typed.specs.Programs.{BodiesFit, ProgramsAreTyped, TablesHaveRows}
-use Rattle.wy_typed.specs.Rows.{NamesAgreeInTables}
-use Rattle.wy_typed.proofs.Made.{Comes, comes}
-use Rattle.wy_program_parts.specs.DeclaredLaws.{ProgramsHaveLibrary}
-use Rattle.wy_program_parts.specs.MembersLaws.{TreesStand}
-use Rattle.wy_program_parts.specs.TableLaws.{AreFew, TreesHaveTables}
-use Rattle.wy_well_formed.specs.Written.{UnitWritten}
+use Rattle.law_typed.specs.ExpressionsTyped.{table_of, MethodsFit}
+use Rattle.law_typed.specs.StatementsTyped.{Makes}
+use Rattle.law_program_parts.specs.Programs.{BodiesFit, ProgramsAreTyped, TablesHaveRows}
+use Rattle.law_program_parts.specs.Rows.{NamesAgreeInTables}
+use Rattle.law_program_parts.proofs.TypedMade.{Comes, comes}
+use Rattle.law_program_parts.specs.DeclaredLaws.{ProgramsHaveLibrary}
+use Rattle.law_program_parts.specs.MembersLaws.{TreesStand}
+use Rattle.law_program_parts.specs.TableLaws.{AreFew, TreesHaveTables}
+use Rattle.law_well_formed.specs.Written.{UnitWritten}
 
 -- the table of a program is that by which it is made
 same_table : (unit : CompilationUnit) (count : ℕ) (p : Program) (c : Comes unit count p) → table_of p c.t.constants ≡ c.t

@@ -12,9 +12,9 @@ use Rattle.wy_typing.specs.Programs.{IsProgram}
 use Rattle.wy_program.specs.Texts.{Reads}
 use Rattle.wy_program.specs.Laws.{TextsArePrograms}
 use Rattle.wy_program.proofs.Programs.{DeclaresFew, few_parts}
-use Rattle.wy_sites.specs.Laws.{SitesAreTokens}
+use Rattle.law_sites.specs.Laws.{SitesAreTokens}
 use Rattle.wy_typing.specs.Sites.{HasSites}
-use Rattle.wy_program_parts.specs.TableLaws.{TreesDeclareFew}
+use Rattle.law_program_parts.specs.TableLaws.{TreesDeclareFew}
 
 unplaced : (ts : List Spanned) → map (λ (s : SpannedToken). s.token) (map spanned_token ts) ≡ map (λ (s : Spanned). seen s.token) ts
 unplaced [] = refl

@@ -13,13 +13,13 @@ ghost use Rattle.wy_tree.specs.Tokens.{spanned_token, token_limit};
 ghost use Rattle.wy_typing.specs.Programs.{IsProgram};
 
 use crate::laws::texts_are_programs;
+use law_program_parts::trees_declare_few;
+use law_sites::sites_are_tokens;
 use std::alloc::Global;
 use wy_constant::TypeError;
 use wy_elab_stmt::elaborate;
 use wy_kernel::form::Body;
 use wy_kernel::program::Program;
-use wy_program_parts::trees_declare_few;
-use wy_sites::sites_are_tokens;
 use wy_tree::token::Spanned;
 use wy_tree::tree::Tree;
 

@@ -37,7 +37,7 @@ fn copied(alloc: Global, event: &Event) -> Result<Event, AllocError>
         site: event.site,
         frame: event.frame,
         control: event.control,
-        what: event.what,
+        entity: event.entity,
         slot: event.slot,
         value: event.value,
         units: Sequence::new(event.units.as_slice().to_vec(alloc)?),

@@ -5,7 +5,7 @@ ghost use Rattle.wy_event.specs.Record.{Recorded, recorded};
 ghost use Rattle.wy_event.specs.declared.record.Head.{Head};
 ghost use Rattle.wy_event.specs.declared.record.Tail.{Tail};
 ghost use Rattle.wy_record.specs.declared.recorder.Phase.{Phase};
-ghost use Rattle.wy_record.specs.Answers.{DiffersFor, FaultsAs, Mirrors, MirrorsClose, MirrorsTake, opened};
+ghost use Rattle.wy_record.specs.Recorders.{DiffersFor, FaultsAs, Mirrors, MirrorsClose, MirrorsTake, opened};
 
 use std::alloc::AllocError;
 use wy_event::record::{Event, Head, Tail};

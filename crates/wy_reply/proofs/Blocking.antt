@@ -11,7 +11,7 @@ use Rattle.wy_steps.specs.Sets.{nothing}
 use Rattle.wy_meaning.specs.Run as meaning
 use Rattle.wy_meaning.specs.Run.{events}
 use Rattle.wy_meaning.specs.Kept.{covered_of, kept_tail}
-use Rattle.wy_absence.specs.Whynot.{WhynotIs, Denied, NotRead, NoSuch, Ran, answered, ran, not_there, not_read}
+use Rattle.wy_telling.specs.Whynot.{WhynotIs, Denied, NotRead, NoSuch, Ran, answered, ran, not_there, not_read}
 use Rattle.wy_reply.specs.Blocked.{BlockedAnswer}
 use Rattle.wy_reply.specs.Tellings.{Wanted, WhyNot, Tells, covers_of, why, whynot, questions, explore, audit, output}
 

@@ -9,17 +9,17 @@ use Rattle.wy_event.specs.Record.{recorded}
 use Rattle.wy_event.specs.declared.record.Head.{Head}
 use Rattle.wy_event.specs.declared.record.Trace.{Trace}
 use Rattle.wy_fitting.specs.Fits.{EndFits}
-use Rattle.wy_spelling.specs.Spelling.{trace_limit}
+use Rattle.wy_kernel.specs.Limits.{trace_limit}
 use Rattle.wy_frames.specs.Heads.{head_of}
 use Rattle.wy_frames.specs.Traces.{IsReadAs, IsReadBehind}
 use Rattle.wy_frames.specs.declared.error.TraceError.{TraceError}
-use Rattle.wy_spelled.specs.Laws.{AreBytes, RecordedEndsAreReadBack, RecordedHeadsAreReadBack, RecordedTracesAreReadBack}
+use Rattle.law_reading.specs.Spelled.{AreBytes, RecordedEndsAreReadBack, RecordedHeadsAreReadBack, RecordedTracesAreReadBack}
 use Rattle.wy_steps.specs.Sets.{nothing, numbers}
 use Rattle.wy_meaning.specs.Run as meaning
 use Rattle.wy_meaning.specs.Run.{events}
 use Rattle.wy_meaning.specs.Kept.{covered_of}
-use Rattle.wy_backward.specs.Backward.{BackwardIsForward, StoredIsLastWrite}
-use Rattle.wy_shaped.specs.Shaped.{RecordsAreShaped}
+use Rattle.law_carried.specs.Backward.{BackwardIsForward, StoredIsLastWrite}
+use Rattle.law_shaped.specs.Shaped.{RecordsAreShaped}
 use Rattle.wy_reply.specs.declared.answer.Answer.{Answer}
 use Rattle.wy_reply.specs.declared.status.Status.TheVariants.{Done}
 use Rattle.wy_reply.specs.Statuses.{code_of}

@@ -20,8 +20,8 @@ use Rattle.wy_steps.specs.Sets.{nothing, numbers}
 use Rattle.wy_steps.specs.State.{Held, Noted}
 use Rattle.wy_steps.specs.Steps.{owner_in}
 use Rattle.wy_meaning.specs.Run.{events, history}
-use Rattle.wy_backward.specs.Backward.{BackwardIsForward, StoredIsLastWrite, stored_at}
-use Rattle.wy_shaped.specs.Shaped.{RecordsAreShaped, Shaped, UnitsOf, ValueOf, IsNoValue}
+use Rattle.law_carried.specs.Backward.{BackwardIsForward, StoredIsLastWrite, stored_at}
+use Rattle.law_shaped.specs.Shaped.{RecordsAreShaped, Shaped, UnitsOf, ValueOf, IsNoValue}
 use Rattle.wy_why.specs.Answer.{up_to}
 use Rattle.wy_ask.specs.Asked.{event_of, owners, static_place, field_place, element_place, stored}
 use Rattle.wy_ask.specs.Reading.{and_then}
@@ -96,7 +96,7 @@ shaped_is_told rs n e s = λ i. record {
   site = e.site;
   frame = e.frame;
   control = e.control;
-  what = e.what;
+  entity = e.entity;
   slot = e.slot;
   value = value_is e.kind e.value s.value_of_kind i;
   units = units_are e.kind e.units s.units_of_kind i;

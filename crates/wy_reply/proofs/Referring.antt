@@ -13,9 +13,9 @@ use Rattle.wy_event.specs.declared.record.Slot.TheVariants as slot
 use Rattle.wy_event.specs.declared.record.Use.{Use}
 use Rattle.wy_event.specs.declared.record.Use.TheVariants as use_of
 use Rattle.wy_event.specs.Record.{Recorded, recorded}
-use Rattle.wy_steps.specs.Steps.{event_limit}
-use Rattle.wy_shaped.specs.Shaped.{IsControl, IsFrame, Shaped, SlotFits, UseFits, UsesFit, ValueFits}
-use Rattle.wy_shaped.specs.Shaped as shaped
+use Rattle.wy_kernel.specs.Limits.{event_limit}
+use Rattle.law_shaped.specs.Shaped.{IsControl, IsFrame, Shaped, SlotFits, UseFits, UsesFit, ValueFits}
+use Rattle.law_shaped.specs.Shaped as shaped
 use Rattle.wy_view.specs.References.{AllRefersBelow, OptionBelow, RefersBelow, SlotBelow, UseBelow, UsesBelow, ValueBelow}
 
 module _ (rs : List Recorded) (n : ℕ) where

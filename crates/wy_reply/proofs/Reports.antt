@@ -16,8 +16,8 @@ use Rattle.wy_machine.specs.Traces.{BeginTrace, IsLeft, closed}
 use Rattle.wy_record.specs.declared.recorder.Phase.{Phase}
 use Rattle.wy_record.specs.declared.recorder.Phase.TheVariants.{Done as Finished}
 use Rattle.wy_record.specs.declared.recorder.RecordError.{RecordError}
-use Rattle.wy_record.specs.Answers.{Mirrors}
-use Rattle.wy_text.specs.Lines.{stop_line}
+use Rattle.wy_record.specs.Recorders.{Mirrors}
+use Rattle.wy_text.specs.EndLines.{stop_line}
 use Rattle.wy_telling.specs.Output.{whole_lines}
 use Rattle.wy_reply.specs.declared.answer.Answer.{Answer}
 use Rattle.wy_reply.specs.declared.status.Status.TheVariants.{Done}

@@ -1,5 +1,5 @@
 -- The line of sizes, from its two halves.
-use Rattle.std.proofs.Common.{◌≡◌, ◌∙◌, sym, ap₂, ℕ, List, [], ◌∷◌, ◌++◌, append_assoc}
+use Rattle.std.proofs.Common.{◌≡◌, ◌∙◌, ap₂, ℕ, List, ◌++◌, append_assoc}
 use Rattle.std.specs.Prelude.{codes}
 use Rattle.std.specs.Fmt.{decimal}
 use Rattle.wy_reply.specs.Generated.{sizes_line}

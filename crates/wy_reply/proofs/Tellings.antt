@@ -16,10 +16,10 @@ use Rattle.wy_reply.specs.declared.answer.Answer.{Answer}
 use Rattle.wy_reply.specs.declared.status.Status.{Status}
 use Rattle.wy_reply.specs.declared.status.Status.TheVariants as status
 use Rattle.wy_reply.specs.Statuses.{code_of}
-use Rattle.wy_absence.specs.Whynot.{WhynotIs, Denied, TellsWhynot}
-use Rattle.wy_absence.specs.Whynot as denied_as
-use Rattle.wy_absence.specs.declared.whynot.Unanswered.{Unanswered}
-use Rattle.wy_absence.specs.declared.whynot.Unanswered.TheVariants as unanswered
+use Rattle.wy_telling.specs.Whynot.{WhynotIs, Denied, TellsWhynot}
+use Rattle.wy_telling.specs.Whynot as denied_as
+use Rattle.wy_telling.specs.declared.whynot.Unanswered.{Unanswered}
+use Rattle.wy_telling.specs.declared.whynot.Unanswered.TheVariants as unanswered
 use Rattle.wy_reply.specs.Tellings.{IsTraceLine, RefusesTrace, Wanted, Why, WhyNot, Audit, Tells, DeniesAs, DueUnder, covers_of, why_status, why_answer, audit_status, audit_line, why, whynot, audit, cut, damaged, bad_seal, refused, told}
 
 -- the status and the text of a refusal, where it was made

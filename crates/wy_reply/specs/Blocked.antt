@@ -8,8 +8,8 @@ use Rattle.wy_meaning.specs.Kept.{covered_of}
 use Rattle.wy_whynot.specs.Evidence.{Evidence}
 use Rattle.wy_whynot.specs.Items.{AreItems}
 use Rattle.wy_whynot.specs.Laws.{NeverBegan}
-use Rattle.wy_absence.specs.Items.{items_text}
-use Rattle.wy_absence.specs.Whynot.{NamesStatement}
+use Rattle.wy_telling.specs.Items.{items_text}
+use Rattle.wy_telling.specs.Whynot.{NamesStatement}
 
 -- the word names a statement that never began in the run, and the text is the lines of the links on the ways to it that the run
 -- reached and did not cross, each with what the run shows of it

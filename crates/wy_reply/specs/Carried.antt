@@ -7,7 +7,7 @@ use Rattle.wy_event.specs.Record.{Recorded}
 use Rattle.wy_steps.specs.Sets.{numbers}
 use Rattle.wy_steps.specs.State.{Held, Noted}
 use Rattle.wy_meaning.specs.Run.{events, history}
-use Rattle.wy_backward.specs.Backward.{stored_at}
+use Rattle.law_carried.specs.Backward.{stored_at}
 use Rattle.wy_why.specs.Answer.{up_to}
 use Rattle.wy_ask.specs.Asked.{event_of, static_place, field_place, element_place}
 use Rattle.wy_ask.specs.Questions.{Asked, Asks}

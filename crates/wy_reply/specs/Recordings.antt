@@ -14,7 +14,7 @@ use Rattle.wy_meaning.specs.Run as meaning
 use Rattle.wy_meaning.specs.Kept.{kept_tail}
 use Rattle.wy_record.specs.declared.recorder.Phase.{Phase}
 use Rattle.wy_record.specs.declared.recorder.Phase.TheVariants.{Done as Finished, Ready}
-use Rattle.wy_record.specs.Answers.{Mirrors}
+use Rattle.wy_record.specs.Recorders.{Mirrors}
 use Rattle.wy_machine.specs.Ended.{IsTailOf}
 use Rattle.wy_machine.specs.Traces.{BeginTrace}
 use Rattle.wy_reply.specs.declared.answer.Answer.{Answer}
@@ -54,19 +54,19 @@ pub record HoldTrace (s : Spelling) (p : Program) (source input : List ℕ) (ste
   pub is_trace : IsTraceOf s p source input steps bytes
   pub held : new ≡ map (option_map (λ before. bytes)) old
 
--- each mirror that tells its bytes holds a first part of the trace: of the run's head and its events in order, or of these and what closes them by the run's end
-pub record HoldFront (s : Spelling) (p : Program) (source input : List ℕ) (steps : ℕ) (old new : Mirrors) : Type 0 where
+-- each mirror that tells its bytes holds a prefix of the trace: of the run's head and its events in order, or of these and what closes them by the run's end
+pub record HoldPrefix (s : Spelling) (p : Program) (source input : List ℕ) (steps : ℕ) (old new : Mirrors) : Type 0 where
   pub head : Head
   pub steps_are : head.steps ≡ steps
   pub input_is : head.input ≡ input
   pub source_is : head.source ≡ source
   pub begun : BeginTrace s.closing (IsTailOf p input steps) (s.opening head ++ concat (map s.frame (meaning.events nothing p input steps))) old new
 
--- what they held where the recorder was not started, the trace where it is done, and else a first part of it
+-- what they held where the recorder was not started, the trace where it is done, and else a prefix of it
 abbrev pub HoldByPhase : Spelling → Program → List ℕ → List ℕ → ℕ → Phase → Mirrors → Mirrors → Type 0
 HoldByPhase s p source input steps Ready old new = new ≡ old
 HoldByPhase s p source input steps Finished old new = HoldTrace s p source input steps old new
-HoldByPhase s p source input steps _ old new = HoldFront s p source input steps old new
+HoldByPhase s p source input steps _ old new = HoldPrefix s p source input steps old new
 
 -- the run of a head is recorded and reported, or the recorder failed and its count of faults rose
 abbrev pub RecordsAs : Spelling → memory.Program → Head → Mirrors → Mirrors → ℕ → ℕ → Answer → Type 0

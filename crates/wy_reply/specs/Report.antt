@@ -5,7 +5,7 @@ use Rattle.wy_kernel.specs.View.{present}
 use Rattle.wy_steps.specs.Sets.{nothing}
 use Rattle.wy_meaning.specs.Run.{output, tail, thrown}
 use Rattle.wy_machine.specs.declared.ended.Ended.{Ended}
-use Rattle.wy_text.specs.Lines.{stop_line}
+use Rattle.wy_text.specs.EndLines.{stop_line}
 use Rattle.wy_telling.specs.Output.{whole_lines}
 use Rattle.wy_reply.specs.Lines.{recorded_line}
 

@@ -16,10 +16,10 @@ use Rattle.wy_machine.specs.declared.auditing.Verdict.TheVariants as verdict
 use Rattle.wy_telling.specs.Output.{output_text}
 use Rattle.wy_telling.specs.Why.{WhyIs, Refused, NotRead, NoSuch}
 use Rattle.wy_telling.specs.Questions.{questions_text}
-use Rattle.wy_absence.specs.Whynot.{WhynotIs, Denied}
-use Rattle.wy_absence.specs.Whynot as denial
-use Rattle.wy_absence.specs.declared.whynot.Unanswered.{Unanswered}
-use Rattle.wy_absence.specs.declared.whynot.Unanswered.TheVariants as unanswered
+use Rattle.wy_telling.specs.Whynot.{WhynotIs, Denied}
+use Rattle.wy_telling.specs.Whynot as denial
+use Rattle.wy_telling.specs.declared.whynot.Unanswered.{Unanswered}
+use Rattle.wy_telling.specs.declared.whynot.Unanswered.TheVariants as unanswered
 use Rattle.wy_session.specs.Desk.{scene_of}
 use Rattle.wy_session.specs.Talk.{Talks}
 use Rattle.wy_reply.specs.Lines.{cut_line, damaged_line, bad_seal_line, not_read_line, no_such_line, ran_line, equal_line, differs_line, tail_differs_line}

@@ -7,10 +7,8 @@ ghost use Rattle.wy_reply.specs.Generated.{generated_report, sizes_line};
 use crate::answer::Answer;
 use crate::sizes::sizes;
 use std::alloc::{AllocError, Global};
+use wy_kernel::limit::STEPS_LIMIT;
 use wy_kernel::program::Program;
-
-/// The steps that a generated program is run for at most.
-const GENERATED_STEPS: u32 = 50_000_000;
 
 #[tactic(auto, unfolding(crate::specs::Generated::sizes_line))]
 fn line(
@@ -39,7 +37,7 @@ pub fn answer_to_generated(
     ensures text { IfOk result (λ answer. answer.text.items
         ≡ generated_report number (program_of program.now)) }
 {
-    let sizes = sizes(alloc, program, GENERATED_STEPS)?;
+    let sizes = sizes(alloc, program, STEPS_LIMIT)?;
     let text = line(alloc, number, sizes.events, sizes.answer, sizes.data)?;
     Ok(Answer::done(text))
 }

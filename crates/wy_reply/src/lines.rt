@@ -151,8 +151,8 @@ fn at_token(
 fn ran(alloc: Global, at: u32, place: u32, count: u32, first: u32) -> Result<Vec<u8>, AllocError>
     ensures { IfOk result (λ text. text.items ≡ ran_line at place count first) }
 {
-    let what = format!(in alloc; "{at}.{place} ran {count} times, first before #{first}")?;
-    line(alloc, "question: line ", &what)
+    let entity = format!(in alloc; "{at}.{place} ran {count} times, first before #{first}")?;
+    line(alloc, "question: line ", &entity)
 }
 
 /// A line that ends with a number.

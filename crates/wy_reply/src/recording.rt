@@ -30,7 +30,7 @@ fn recorded_report(alloc: Global, program: &Program, ended: Ended) -> Result<Vec
 }
 
 /// What a program gives: the report of its run, whose trace each mirror of the recorder has then. Where the recorder
-/// failed or memory ran out, each has a first part of the trace.
+/// failed or memory ran out, each has a prefix of the trace.
 pub fn answer_to_recording<R: Recorder>(
     alloc: Global,
     program: &Program,

@@ -1,7 +1,7 @@
 //! What is answered from a trace.
 ghost use Rattle.std.specs.Prelude.{◌≡◌, ◌<◌, ◌≤◌, ◌^◌, IfOk, false, length, map};
 ghost use Rattle.wy_frames.specs.Traces.{IsReadAs};
-ghost use Rattle.wy_spelling.specs.Spelling.{trace_limit};
+ghost use Rattle.wy_kernel.specs.Limits.{trace_limit};
 ghost use Rattle.wy_reply.specs.declared.status.Status.TheVariants.{Done};
 ghost use Rattle.wy_reply.specs.ByRun.{HasSource, TellsRun};
 ghost use Rattle.wy_reply.specs.Statuses.{code_of, is_of_files};
@@ -12,23 +12,21 @@ ghost use Rattle.wy_view.specs.References.{AllRefersBelow};
 use crate::answer::Answer;
 use crate::lines::{Refusal, line};
 use crate::status::Status;
+use law_carried::{backward_is_forward, carrying_changes_nothing};
+use law_reading::{
+    decoded_events_refer_below, few_events_are_decoded, recorded_ends_are_read_back,
+    recorded_heads_are_read_back, recorded_traces_are_read_back,
+};
+use law_shaped::references_point_below;
 use std::alloc::{AllocError, Global};
-use wy_absence::{Unanswered, whynot_text};
 use wy_ask::AskError;
-use wy_backward::backward_is_forward;
-use wy_carriers::carrying_changes_nothing;
 use wy_event::record::Trace;
 use wy_event::sequence::Sequence;
 use wy_fitting::end_fits;
 use wy_frames::{TraceError, decode};
 use wy_kernel::program::Program;
 use wy_machine::{Verdict, audit};
-use wy_referring::{decoded_events_refer_below, few_events_are_decoded};
-use wy_shaped::references_point_below;
-use wy_spelled::{
-    recorded_ends_are_read_back, recorded_heads_are_read_back, recorded_traces_are_read_back,
-};
-use wy_telling::{output_text, questions_text, why_text};
+use wy_telling::{Unanswered, output_text, questions_text, why_text, whynot_text};
 
 /// What a trace is to tell.
 #[derive(Clone, Copy)]

@@ -8,10 +8,10 @@ use Rattle.wy_explore.specs.Session.{Session}
 use Rattle.wy_outside.specs.Sink.{appended}
 use Rattle.wy_session.specs.Scene.{Said, Scene}
 use Rattle.wy_session.specs.Line.{IsOpen, Reads, ReadsOn}
-use Rattle.wy_session.specs.Standing.{Standing, Stands}
+use Rattle.wy_session.specs.Situation.{Situation, Stands}
 use Rattle.wy_session.specs.Talk.{BeginsTalk, Ends, FirstLine, Reaches, Talks, long_line_text, most_in_line}
 use Rattle.wy_session.specs.Talk as talk
-use Rattle.wy_session.specs.Ways.{EndsWith, Leads, OutFor, Stops, StopsAt}
+use Rattle.wy_session.specs.Closings.{EndsWith, Leads, OutFor, Stops, StopsAt}
 use Rattle.wy_session.specs.declared.line.OpenLine.{OpenLine}
 use Rattle.wy_session.specs.declared.ending.Ending.{Ending}
 use Rattle.wy_session.specs.declared.ending.Ending.TheVariants.{LongLine, NoMemory}
@@ -42,7 +42,7 @@ on x s t u b c d bytes held front behind rest next said more is first second = r
   counts = omega (arith, first.counts, second.counts, ap length is, length-append held rest, length-append front (10 ∷ behind), length-append (held ++ front) (10 ∷ []), length-append held front, length-append next behind, length-append next []);
 }
 
-pub reads_on : (before mid after : Standing) (b : ℕ) (bytes front behind rest said more : List ℕ) (l k n : OpenLine) → rest ≡ front ++ (10 ∷ behind) → k.bytes.items ≡ l.bytes.items ++ front → k.before ≡ l.before →
+pub reads_on : (before mid after : Situation) (b : ℕ) (bytes front behind rest said more : List ℕ) (l k n : OpenLine) → rest ≡ front ++ (10 ∷ behind) → k.bytes.items ≡ l.bytes.items ++ front → k.before ≡ l.before →
     ReadsOn before mid b bytes l rest said → ReadsOn mid after k.before (k.bytes.items ++ 10 ∷ []) n [] more → ReadsOn before after b bytes n behind (said ++ more)
 reads_on before mid after b bytes front behind rest said more l k n is put same first second = record { counts = counted; leads = λ x s at. of x s (first.leads x s at) } where
   counted : b + length bytes ≡ n.before + length (n.bytes.items ++ behind)
@@ -61,7 +61,7 @@ reads_on before mid after b bytes front behind rest said more l k n is put same 
 -- ---- the session ends
 
 -- what ends it behind these bytes ends it here
-pub stops_on : (before mid : Standing) (b : ℕ) (bytes more_bytes behind rest said more : List ℕ) (l : OpenLine) (e : Ending) → l.bytes.items ++ rest ≡ more_bytes ++ behind → ReadsOn before mid b bytes l rest said →
+pub stops_on : (before mid : Situation) (b : ℕ) (bytes more_bytes behind rest said more : List ℕ) (l : OpenLine) (e : Ending) → l.bytes.items ++ rest ≡ more_bytes ++ behind → ReadsOn before mid b bytes l rest said →
     ((x : Scene) (s : Session) → mid x s → Stops x s l.before more_bytes e more) → (x : Scene) (s : Session) → before x s → Stops x s b bytes e (said ++ more)
 stops_on before mid b bytes more_bytes behind rest said more l e is first second x s at = of (first.leads x s at) where
   of : (t : Session) × Leads x s b bytes t l.before (l.bytes.items ++ rest) said × mid x t → Stops x s b bytes e (said ++ more)
@@ -72,7 +72,7 @@ stops_on before mid b bytes more_bytes behind rest said more l e is first second
       (omega (arith, count, leads.counts, length-append bytes left, length-append (l.bytes.items ++ rest) left, ap length same)))
 
 -- want of memory ends it anywhere
-pub memory_stops : (before mid : Standing) (b : ℕ) (bytes rest said : List ℕ) (l : OpenLine) → ReadsOn before mid b bytes l rest said → (x : Scene) (s : Session) → before x s → Stops x s b bytes NoMemory said
+pub memory_stops : (before mid : Situation) (b : ℕ) (bytes rest said : List ℕ) (l : OpenLine) → ReadsOn before mid b bytes l rest said → (x : Scene) (s : Session) → before x s → Stops x s b bytes NoMemory said
 memory_stops before mid b bytes rest said l first x s at = of (first.leads x s at) where
   of : (t : Session) × Leads x s b bytes t l.before (l.bytes.items ++ rest) said × mid x t → Stops x s b bytes NoMemory said
   of (t, leads, stands) = λ input left earlier reaches count. talk.answered t ((l.bytes.items ++ rest) ++ left) (earlier ++ said) (leads.reaches input left earlier reaches count) ([], sym (append-nil (earlier ++ said)))
@@ -124,7 +124,7 @@ pub long_first : (bytes left : List ℕ) → bytes ≢ [] → ¬ Contains bytes 
 long_first bytes [] some un = record { text = bytes; line = bytes; behind = []; first = subst (λ (z : List ℕ). FirstLine z bytes bytes []) (sym (append-nil bytes)) (talk.last bytes some un); long = omega arith }
 long_first bytes (y ∷ left) some un = long_by bytes left y (nat_eq y 10) refl un (λ other. long_first (bytes ++ y ∷ []) left (begun_by bytes left y some) (one_more bytes y un other))
 
-pub long_stops : (before mid : Standing) (b : ℕ) (bytes rest said : List ℕ) (l k : OpenLine) (old now new : Option (List ℕ)) (n m q : ℕ) (e : Ending) → ReadsOn before mid b bytes l rest said → k.bytes.items ≡ l.bytes.items ++ rest →
+pub long_stops : (before mid : Situation) (b : ℕ) (bytes rest said : List ℕ) (l k : OpenLine) (old now new : Option (List ℕ)) (n m q : ℕ) (e : Ending) → ReadsOn before mid b bytes l rest said → k.bytes.items ≡ l.bytes.items ++ rest →
     ¬ Contains k.bytes.items 10 → most_in_line < length k.bytes.items → now ≡ appended old said → m ≡ n → EndsWith long_line_text LongLine now new m q e → Reads before mid b bytes k old new n q (Err e)
 long_stops before mid b bytes rest said l k old now new n m q e first put un long written same is =
     let of = limited long_line_text LongLine e now new m q tt is in (
@@ -139,22 +139,22 @@ long_stops before mid b bytes rest said l k old now new n m q e first put un lon
     )
 
 -- all was read
-pub all_read : (before mid : Standing) (b : ℕ) (bytes rest said : List ℕ) (l k : OpenLine) → k.bytes.items ≡ l.bytes.items ++ rest → k.before ≡ l.before → ReadsOn before mid b bytes l rest said → ReadsOn before mid b bytes k [] said
+pub all_read : (before mid : Situation) (b : ℕ) (bytes rest said : List ℕ) (l k : OpenLine) → k.bytes.items ≡ l.bytes.items ++ rest → k.before ≡ l.before → ReadsOn before mid b bytes l rest said → ReadsOn before mid b bytes k [] said
 all_read before mid b bytes rest said l k put same first = record { counts = omega (arith, first.counts, same, ap length put, length-append k.bytes.items []); leads = λ x s at. of x s (first.leads x s at) } where
   of : (x : Scene) (s : Session) → (t : Session) × Leads x s b bytes t l.before (l.bytes.items ++ rest) said × mid x t → (t : Session) × Leads x s b bytes t k.before (k.bytes.items ++ []) said × mid x t
   of x s (t, leads, stands) = (t, subst (λ (z : List ℕ). Leads x s b bytes t k.before z said) (sym put ∙ sym (append-nil k.bytes.items)) (subst (λ (z : ℕ). Leads x s b bytes t z (l.bytes.items ++ rest) said) (sym same) leads), stands)
 
-pub nothing_read : (at : Standing) (l : OpenLine) (rest : List ℕ) → ReadsOn at at l.before (l.bytes.items ++ rest) l rest []
+pub nothing_read : (at : Situation) (l : OpenLine) (rest : List ℕ) → ReadsOn at at l.before (l.bytes.items ++ rest) l rest []
 nothing_read at l rest = record { counts = refl; leads = λ x s stands. (s, record { reaches = λ input left earlier reaches count. subst (Reaches x input s ((l.bytes.items ++ rest) ++ left)) (sym (append-nil earlier)) reaches; counts = refl }, stands) }
 
 -- ---- the same of what a call gave
 
-pub memory_reads : (before mid : Standing) (b : ℕ) (bytes rest said : List ℕ) (l k : OpenLine) (old new : Option (List ℕ)) (n m : ℕ) (r : Result Unit Ending) (e : Ending) → r ≡ Err e → e ≡ NoMemory → ReadsOn before mid b bytes l rest said →
+pub memory_reads : (before mid : Situation) (b : ℕ) (bytes rest said : List ℕ) (l k : OpenLine) (old new : Option (List ℕ)) (n m : ℕ) (r : Result Unit Ending) (e : Ending) → r ≡ Err e → e ≡ NoMemory → ReadsOn before mid b bytes l rest said →
     new ≡ appended old said → m ≡ n → Reads before mid b bytes k old new n m r
 memory_reads before mid b bytes rest said l k old new n m r e is memory first written same =
     subst (Reads before mid b bytes k old new n m) (sym (is ∙ ap Err memory)) (said, memory_stops before mid b bytes rest said l first, written, same)
 
-pub end_reads : (before mid after : Standing) (b : ℕ) (bytes front behind rest said : List ℕ) (l k n : OpenLine) (old now new : Option (List ℕ)) (u v w : ℕ) (r : Result Unit Ending) (e : Ending) → r ≡ Err e → rest ≡ front ++ (10 ∷ behind) →
+pub end_reads : (before mid after : Situation) (b : ℕ) (bytes front behind rest said : List ℕ) (l k n : OpenLine) (old now new : Option (List ℕ)) (u v w : ℕ) (r : Result Unit Ending) (e : Ending) → r ≡ Err e → rest ≡ front ++ (10 ∷ behind) →
     k.bytes.items ≡ l.bytes.items ++ front → k.before ≡ l.before → ReadsOn before mid b bytes l rest said → now ≡ appended old said → v ≡ u →
     Reads mid after k.before (k.bytes.items ++ 10 ∷ []) n now new v w (Err e) → Reads before after b bytes n old new u w r
 end_reads before mid after b bytes front behind rest said l k n old now new u v w r e of is put same first written kept (more, stops, also, out) =
@@ -168,13 +168,13 @@ end_reads before mid after b bytes front behind rest said l k n old now new u v 
       grouped = rw (is, put) (simp append_assoc)
 
 -- a whole line more, and what was written for it
-pub record WholeLine (before after : Standing) (b : ℕ) (bytes : List ℕ) (n : OpenLine) (behind : List ℕ) (old new : Option (List ℕ)) (u w : ℕ) : Type 0 where
+pub record WholeLine (before after : Situation) (b : ℕ) (bytes : List ℕ) (n : OpenLine) (behind : List ℕ) (old new : Option (List ℕ)) (u w : ℕ) : Type 0 where
   pub said : List ℕ
   pub reads : ReadsOn before after b bytes n behind said
   pub written : new ≡ appended old said
   pub faults : w ≡ u
 
-pub whole_line : (before mid after : Standing) (b : ℕ) (bytes front behind rest said : List ℕ) (l k n : OpenLine) (old now new : Option (List ℕ)) (u v w : ℕ) → rest ≡ front ++ (10 ∷ behind) →
+pub whole_line : (before mid after : Situation) (b : ℕ) (bytes front behind rest said : List ℕ) (l k n : OpenLine) (old now new : Option (List ℕ)) (u v w : ℕ) → rest ≡ front ++ (10 ∷ behind) →
     k.bytes.items ≡ l.bytes.items ++ front → k.before ≡ l.before → ReadsOn before mid b bytes l rest said → now ≡ appended old said → v ≡ u →
     Reads mid after k.before (k.bytes.items ++ 10 ∷ []) n now new v w (Ok tt) → WholeLine before after b bytes n behind old new u w
 whole_line before mid after b bytes front behind rest said l k n old now new u v w is put same first written kept (more, second, also, stayed) = record {
@@ -194,7 +194,7 @@ still_unended bytes front un also has = of (Contains-append_cases bytes front 10
 -- ---- pieces
 
 -- a piece more is to be read
-pub read_more : (before mid : Standing) (b : ℕ) (bytes piece said : List ℕ) (l : OpenLine) → ReadsOn before mid b bytes l [] said → ReadsOn before mid b (bytes ++ piece) l piece said
+pub read_more : (before mid : Situation) (b : ℕ) (bytes piece said : List ℕ) (l : OpenLine) → ReadsOn before mid b bytes l [] said → ReadsOn before mid b (bytes ++ piece) l piece said
 read_more before mid b bytes piece said l first = record {
   counts = omega (arith, first.counts, length-append bytes piece, length-append l.bytes.items piece, length-append l.bytes.items []);
   leads = λ x s at. of x s (first.leads x s at);
@@ -211,7 +211,7 @@ read_more before mid b bytes piece said l first = record {
   )
 
 -- and is read
-pub reads_then : (before mid after : Standing) (b : ℕ) (bytes piece said more : List ℕ) (l n : OpenLine) → ReadsOn before mid b bytes l piece said → ReadsOn mid after l.before (l.bytes.items ++ piece) n [] more → ReadsOn before after b bytes n [] (said ++ more)
+pub reads_then : (before mid after : Situation) (b : ℕ) (bytes piece said more : List ℕ) (l n : OpenLine) → ReadsOn before mid b bytes l piece said → ReadsOn mid after l.before (l.bytes.items ++ piece) n [] more → ReadsOn before after b bytes n [] (said ++ more)
 reads_then before mid after b bytes piece said more l n first second = record {
   counts = first.counts ∙ second.counts;
   leads = λ x s at. of x s (first.leads x s at);
@@ -232,7 +232,7 @@ reads_then before mid after b bytes piece said more l n first second = record {
 -- ---- the responder
 
 -- it still stands somewhere
-pub still_stands : (before mid : Standing) (b : ℕ) (bytes : List ℕ) (l : OpenLine) (rest said : List ℕ) → Stands before → ReadsOn before mid b bytes l rest said → Stands mid
+pub still_stands : (before mid : Situation) (b : ℕ) (bytes : List ℕ) (l : OpenLine) (rest said : List ℕ) → Stands before → ReadsOn before mid b bytes l rest said → Stands mid
 still_stands before mid b bytes l rest said (x, s, at) reads = of (reads.leads x s at) where
   of : (t : Session) × Leads x s b bytes t l.before (l.bytes.items ++ rest) said × mid x t → Stands mid
   of (t, leads, stands) = (x, t, stands)

@@ -6,18 +6,18 @@ use Rattle.std.proofs.lemmas.List.{take-append-drop}
 use Rattle.wy_explore.specs.Session.{Session}
 use Rattle.wy_outside.specs.Sink.{appended}
 use Rattle.wy_session.specs.Scene.{Said, Scene}
-use Rattle.wy_session.specs.Line.{Answers, IsOpen, Reads}
-use Rattle.wy_session.specs.Standing.{Standing}
-use Rattle.wy_session.specs.Talk.{BeginsTalk, Ends, FirstLine, Fits, IsFrontOf, Reaches, Talks, long_input_text, long_line_text, most_in_all, most_in_line}
+use Rattle.wy_session.specs.Line.{AnswersLine, IsOpen, Reads}
+use Rattle.wy_session.specs.Situation.{Situation}
+use Rattle.wy_session.specs.Talk.{BeginsTalk, Ends, FirstLine, Fits, IsPrefixOf, Reaches, Talks, long_input_text, long_line_text, most_in_all, most_in_line}
 use Rattle.wy_session.specs.Talk as talk
-use Rattle.wy_session.specs.Ways.{Answered, EndsWith, IsBroken, IsFrontOfReply, IsLong, IsWithin, Leads, LongAt, OutFor, Stops, StopsAt}
+use Rattle.wy_session.specs.Closings.{Answered, EndsWith, IsBroken, IsPrefixOfReply, IsLong, IsWithin, Leads, LongAt, OutFor, Stops, StopsAt}
 use Rattle.wy_session.specs.declared.line.OpenLine.{OpenLine}
 use Rattle.wy_session.specs.declared.ending.Ending.{Ending}
 use Rattle.wy_session.specs.declared.ending.Ending.TheVariants.{Done, LongLine, LongInput, KeysFailed, OutFailed, NoMemory}
 
 -- ---- a limit
 
--- a first part of a text comes after another
+-- a prefix of a text comes after another
 front_behind : (earlier part rest text : List ℕ) → text ≡ part ++ rest → earlier ++ text ≡ (earlier ++ part) ++ rest
 front_behind earlier part rest text is = ap (λ (l : List ℕ). earlier ++ l) is ∙ sym (append_assoc earlier part rest)
 
@@ -115,7 +115,7 @@ come_before b input bytes left count = omega (arith, count, length-append (bytes
 -- ---- an answered line
 
 -- the session goes on, or the writing of the reply broke off
-pub begins_reply : (x : Scene) (s : Session) (input rest bytes line behind earlier part : List ℕ) → Reaches x input s rest earlier → Fits input rest bytes line behind → IsFrontOfReply x s line part → BeginsTalk x input (earlier ++ part)
+pub begins_reply : (x : Scene) (s : Session) (input rest bytes line behind earlier part : List ℕ) → Reaches x input s rest earlier → Fits input rest bytes line behind → IsPrefixOfReply x s line part → BeginsTalk x input (earlier ++ part)
 begins_reply x s input rest bytes line behind earlier part reaches fits (inl none) =
     talk.answered s rest earlier reaches ([], sym (append-nil (earlier ++ part) ∙ ap (λ (l : List ℕ). earlier ++ l) none ∙ append-nil earlier))
 begins_reply x s input rest bytes line behind earlier part reaches fits (inr (t, reply, is, (more, front))) =
@@ -140,7 +140,7 @@ fits_in b input bytes left unended short within count = record {
   within = omega (arith, within, come_before b input bytes left count);
 }
 
-pub long_line_stops : (before after : Standing) (b : ℕ) (bytes : List ℕ) (l : OpenLine) (old new : Option (List ℕ)) (n m : ℕ) (e : Ending) → ¬ Contains bytes 10 → most_in_line < length bytes →
+pub long_line_stops : (before after : Situation) (b : ℕ) (bytes : List ℕ) (l : OpenLine) (old new : Option (List ℕ)) (n m : ℕ) (e : Ending) → ¬ Contains bytes 10 → most_in_line < length bytes →
     EndsWith long_line_text LongLine old new n m e → Reads before after b (bytes ++ 10 ∷ []) l old new n m (Err e)
 long_line_stops before after b bytes l old new n m e unended long is =
     let of = limited long_line_text LongLine e old new n m tt is in (
@@ -151,7 +151,7 @@ long_line_stops before after b bytes l old new n m e unended long is =
       of.out,
     )
 
-pub long_input_stops : (before after : Standing) (b : ℕ) (bytes : List ℕ) (l : OpenLine) (old new : Option (List ℕ)) (n m : ℕ) (e : Ending) → ¬ Contains bytes 10 → length bytes ≤ most_in_line → most_in_all < b + length bytes + 1 →
+pub long_input_stops : (before after : Situation) (b : ℕ) (bytes : List ℕ) (l : OpenLine) (old new : Option (List ℕ)) (n m : ℕ) (e : Ending) → ¬ Contains bytes 10 → length bytes ≤ most_in_line → most_in_all < b + length bytes + 1 →
     EndsWith long_input_text LongInput old new n m e → Reads before after b (bytes ++ 10 ∷ []) l old new n m (Err e)
 long_input_stops before after b bytes l old new n m e unended short long is =
     let of = limited long_input_text LongInput e old new n m tt is in (
@@ -162,8 +162,8 @@ long_input_stops before after b bytes l old new n m e unended short long is =
       of.out,
     )
 
-pub answer_stops : (before after : Standing) (b : ℕ) (bytes line : List ℕ) (l : OpenLine) (old new : Option (List ℕ)) (n m : ℕ) (e : Ending) (r : Result Unit Ending) → ¬ Contains bytes 10 → length bytes ≤ most_in_line → b + length bytes + 1 ≤ most_in_all →
-    line ≡ strip_last 13 bytes → r ≡ Err e → Answers before after line old new n m (Err e) → Reads before after b (bytes ++ 10 ∷ []) l old new n m r
+pub answer_stops : (before after : Situation) (b : ℕ) (bytes line : List ℕ) (l : OpenLine) (old new : Option (List ℕ)) (n m : ℕ) (e : Ending) (r : Result Unit Ending) → ¬ Contains bytes 10 → length bytes ≤ most_in_line → b + length bytes + 1 ≤ most_in_all →
+    line ≡ strip_last 13 bytes → r ≡ Err e → AnswersLine before after line old new n m (Err e) → Reads before after b (bytes ++ 10 ∷ []) l old new n m r
 answer_stops before after b bytes line l old new n m e r unended short within stripped is (part, answered, written, out, within_limits) =
     subst (Reads before after b (bytes ++ 10 ∷ []) l old new n m) (sym is) (
       part,
@@ -173,8 +173,8 @@ answer_stops before after b bytes line l old new n m e r unended short within st
       out,
     )
 
-pub answer_leads : (before after : Standing) (b : ℕ) (bytes : List ℕ) (l : OpenLine) (old new : Option (List ℕ)) (n m : ℕ) → ¬ Contains bytes 10 → length bytes ≤ most_in_line → b + length bytes + 1 ≤ most_in_all →
-    l.bytes.items ≡ [] → l.before ≡ b + length bytes + 1 → Answers before after (strip_last 13 bytes) old new n m (Ok tt) → Reads before after b (bytes ++ 10 ∷ []) l old new n m (Ok tt)
+pub answer_leads : (before after : Situation) (b : ℕ) (bytes : List ℕ) (l : OpenLine) (old new : Option (List ℕ)) (n m : ℕ) → ¬ Contains bytes 10 → length bytes ≤ most_in_line → b + length bytes + 1 ≤ most_in_all →
+    l.bytes.items ≡ [] → l.before ≡ b + length bytes + 1 → AnswersLine before after (strip_last 13 bytes) old new n m (Ok tt) → Reads before after b (bytes ++ 10 ∷ []) l old new n m (Ok tt)
 answer_leads before after b bytes l old new n m unended short within empty is (part, answered, written, out, within_limits) =
     (part, record { counts = omega (arith, is, length-append bytes (10 ∷ []), ap length empty, length-append l.bytes.items []); leads = λ x s at. of x s (answered x s at) }, written, out) where
       of : (x : Scene) (s : Session) → Answered x s (strip_last 13 bytes) (after x) (Ok tt) part → (t : Session) × Leads x s b (bytes ++ 10 ∷ []) t l.before (l.bytes.items ++ []) part × after x t

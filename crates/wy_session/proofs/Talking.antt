@@ -10,10 +10,10 @@ use Rattle.wy_outside.specs.Source.{EndsExactly, Takes}
 use Rattle.wy_outside.specs.declared.source.SourceError.{SourceError}
 use Rattle.wy_session.specs.Scene.{Scene}
 use Rattle.wy_session.specs.Line.{Finishes, Reads, ReadsOn}
-use Rattle.wy_session.specs.Standing.{Standing}
+use Rattle.wy_session.specs.Situation.{Situation}
 use Rattle.wy_session.specs.Talk.{BeginsTalk, Reaches}
 use Rattle.wy_session.specs.Talk as talk
-use Rattle.wy_session.specs.Ways.{Closed, Closes, EndsWith, Failures, KeysStayed, Leads, OutFor, OutStayed, StopsAt, WritesPart, failures, keys_fault_line}
+use Rattle.wy_session.specs.Closings.{Closed, Closes, EndsWith, Failures, KeysStayed, Leads, OutFor, OutStayed, StopsAt, WritesPart, failures, keys_fault_line}
 use Rattle.wy_session.specs.declared.line.OpenLine.{OpenLine}
 use Rattle.wy_session.specs.declared.ending.Ending.{Ending}
 use Rattle.wy_session.specs.declared.ending.Ending.TheVariants.{Done, LongLine, LongInput, KeysFailed, OutFailed, NoMemory}
@@ -45,14 +45,14 @@ at_end told read input (Some rest) bytes is ends none so =
 
 -- ---- what was answered so far
 
-record Here (mid : Standing) (x : Scene) (input bytes said : List ℕ) (l : OpenLine) : Type 0 where
+record Here (mid : Situation) (x : Scene) (input bytes said : List ℕ) (l : OpenLine) : Type 0 where
   pub session : Session
   pub stands : mid x session
   pub reaches : Reaches x input session bytes said
   pub counts : length input ≡ l.before + length bytes
 
 -- where the session stands, with this part of the input behind the line that is held
-here : (before mid : Standing) (x : Scene) (input read rest said : List ℕ) (l : OpenLine) → before x begun → ReadsOn before mid 0 read l [] said → input ≡ read ++ rest → Here mid x input (l.bytes.items ++ rest) said l
+here : (before mid : Situation) (x : Scene) (input read rest said : List ℕ) (l : OpenLine) → before x begun → ReadsOn before mid 0 read l [] said → input ≡ read ++ rest → Here mid x input (l.bytes.items ++ rest) said l
 here before mid x input read rest said l at reads is = of (reads.leads x begun at) where
   of : (t : Session) × Leads x begun 0 read t l.before (l.bytes.items ++ []) said × mid x t → Here mid x input (l.bytes.items ++ rest) said l
   of (t, leads, stands) = record {
@@ -62,7 +62,7 @@ here before mid x input read rest said l at reads is = of (reads.leads x begun a
     counts = omega (arith, ap length is, leads.counts, length-append read rest, length-append l.bytes.items [], length-append l.bytes.items rest);
   }
 
-pub begins : (before mid : Standing) (x : Scene) (told left : Option (List ℕ)) (read said : List ℕ) (l : OpenLine) → before x begun → ReadsOn before mid 0 read l [] said → told ≡ option_map (λ rest. read ++ rest) left → WritesPart x told said
+pub begins : (before mid : Situation) (x : Scene) (told left : Option (List ℕ)) (read said : List ℕ) (l : OpenLine) → before x begun → ReadsOn before mid 0 read l [] said → told ≡ option_map (λ rest. read ++ rest) left → WritesPart x told said
 begins before mid x told left read said l at reads is = λ input so.
     let y = left_of told read input left is so in
     let h = here before mid x input read y.rest said l at reads y.input_is in
@@ -87,7 +87,7 @@ pub record Before (old now : Option (List ℕ)) (said : List ℕ) (keys_start ke
   pub keys : keys_now ≡ keys_start
   pub out : out_now ≡ out_start
 
-pub finish_closes : (before mid : Standing) (x : Scene) (told left : Option (List ℕ)) (bytes : Vec ℕ Global) (read said : List ℕ) (l : OpenLine) (old now new : Option (List ℕ)) (ks kn ke os on oe : ℕ) (e : Ending) → before x begun →
+pub finish_closes : (before mid : Situation) (x : Scene) (told left : Option (List ℕ)) (bytes : Vec ℕ Global) (read said : List ℕ) (l : OpenLine) (old now new : Option (List ℕ)) (ks kn ke os on oe : ℕ) (e : Ending) → before x begun →
     ReadsOn before mid 0 read l [] said → told ≡ option_map (λ rest. read ++ rest) left → EndsExactly left (Ok bytes) → bytes.items ≡ [] → Before old now said ks kn os on → ke ≡ kn → Finishes mid l.before l.bytes.items now new on oe e → Closed x told (failures ks ke os oe) old new e
 finish_closes before mid x told left bytes read said l old now new ks kn ke os on oe e at reads is ends none b keys (more, stops, written, out) =
     closed_by x told (failures ks ke os oe) old new e (said ++ more)
@@ -97,7 +97,7 @@ finish_closes before mid x told left bytes read said l old now new ks kn ke os o
     stops x h.session h.stands input said (subst (λ (z : List ℕ). Reaches x input h.session z said) (append-nil l.bytes.items) h.reaches) (h.counts ∙ ap (λ (z : List ℕ). l.before + length z) (append-nil l.bytes.items))))
     (appended_twice old now new said more b.written written)
 
-pub piece_closes : (before mid after : Standing) (x : Scene) (told left next : Option (List ℕ)) (read piece said : List ℕ) (l k : OpenLine) (old now new : Option (List ℕ)) (ks kn ke os on oe : ℕ) (e : Ending) → before x begun →
+pub piece_closes : (before mid after : Situation) (x : Scene) (told left next : Option (List ℕ)) (read piece said : List ℕ) (l k : OpenLine) (old now new : Option (List ℕ)) (ks kn ke os on oe : ℕ) (e : Ending) → before x begun →
     ReadsOn before mid 0 read l [] said → told ≡ option_map (λ rest. read ++ rest) left → left ≡ option_map (λ rest. piece ++ rest) next → Before old now said ks kn os on → ke ≡ kn →
     Reads mid after l.before (l.bytes.items ++ piece) k now new on oe (Err e) → Closed x told (failures ks ke os oe) old new e
 piece_closes before mid after x told left next read piece said l k old now new ks kn ke os on oe e at reads is takes b keys (more, stops, written, out) =
@@ -109,12 +109,12 @@ piece_closes before mid after x told left next read piece said l k old now new k
     (subst (λ (z : List ℕ). Reaches x input begun z []) y.input_is talk.start) (omega (arith, ap length y.input_is))))
     (appended_twice old now new said more b.written written)
 
-pub memory_closes : (before mid : Standing) (x : Scene) (told left : Option (List ℕ)) (read said : List ℕ) (l : OpenLine) (old now : Option (List ℕ)) (ks kn ke os on : ℕ) → before x begun → ReadsOn before mid 0 read l [] said →
+pub memory_closes : (before mid : Situation) (x : Scene) (told left : Option (List ℕ)) (read said : List ℕ) (l : OpenLine) (old now : Option (List ℕ)) (ks kn ke os on : ℕ) → before x begun → ReadsOn before mid 0 read l [] said →
     told ≡ option_map (λ rest. read ++ rest) left → Before old now said ks kn os on → ke ≡ kn → Closed x told (failures ks ke os on) old now NoMemory
 memory_closes before mid x told left read said l old now ks kn ke os on at reads is b keys =
     closed_by x told (failures ks ke os on) old now NoMemory said (inl (refl, keys ∙ b.keys), b.out, begins before mid x told left read said l at reads is) b.written
 
-broken_closes : (x : Scene) (told : Option (List ℕ)) (f : Failures) (said line : List ℕ) (e : Ending) → Rattle.wy_session.specs.Ways.IsBroken e → OutFor e f.out_before f.out_after → Rattle.wy_session.specs.Ways.BreaksOff f line → WritesPart x told said → Closes x told f e said line
+broken_closes : (x : Scene) (told : Option (List ℕ)) (f : Failures) (said line : List ℕ) (e : Ending) → Rattle.wy_session.specs.Closings.IsBroken e → OutFor e f.out_before f.out_after → Rattle.wy_session.specs.Closings.BreaksOff f line → WritesPart x told said → Closes x told f e said line
 broken_closes x told f said line OutFailed broken out off part = (off, out, part)
 broken_closes x told f said line NoMemory broken out off part = (off, out, part)
 broken_closes x told f said line Done broken out off part = absurd broken
@@ -122,7 +122,7 @@ broken_closes x told f said line LongLine broken out off part = absurd broken
 broken_closes x told f said line LongInput broken out off part = absurd broken
 broken_closes x told f said line KeysFailed broken out off part = absurd broken
 
-pub fault_closes : (before mid : Standing) (x : Scene) (told left : Option (List ℕ)) (read said : List ℕ) (l : OpenLine) (old now new : Option (List ℕ)) (ks kn ke os on oe : ℕ) (e : Ending) → before x begun → ReadsOn before mid 0 read l [] said →
+pub fault_closes : (before mid : Situation) (x : Scene) (told left : Option (List ℕ)) (read said : List ℕ) (l : OpenLine) (old now new : Option (List ℕ)) (ks kn ke os on oe : ℕ) (e : Ending) → before x begun → ReadsOn before mid 0 read l [] said →
     told ≡ option_map (λ rest. read ++ rest) left → Before old now said ks kn os on → Rose kn ke → EndsWith keys_fault_line KeysFailed now new on oe e → Closed x told (failures ks ke os oe) old new e
 fault_closes before mid x told left read said l old now new ks kn ke os on oe e at reads is b rose (inl (failed, written, same)) = record {
   said = said;

@@ -1,7 +1,7 @@
 pub mod Scene
-pub mod Standing
+pub mod Situation
 pub mod Talk
 pub mod Laws
-pub mod Ways
+pub mod Closings
 pub mod Line
 pub mod Desk

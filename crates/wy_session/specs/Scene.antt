@@ -7,11 +7,11 @@ use Rattle.wy_event.specs.declared.record.Cover.{Cover}
 use Rattle.wy_event.specs.Record.{Recorded}
 use Rattle.wy_why.specs.declared.source.Source.{Source}
 use Rattle.wy_why.specs.Sources.{source_of}
-use Rattle.wy_text.specs.Lines.{line_of}
-use Rattle.wy_lines.specs.Lines.{event_line}
-use Rattle.wy_lines.specs.Sources.{source_line}
+use Rattle.wy_text.specs.EndLines.{line_of}
+use Rattle.wy_text.specs.EventLines.{event_line}
+use Rattle.wy_text.specs.Sources.{source_line}
 use Rattle.wy_telling.specs.Why.{why_text}
-use Rattle.wy_absence.specs.Items.{items_text}
+use Rattle.wy_telling.specs.Items.{items_text}
 use Rattle.wy_explore.specs.Session.{Session, Reply, At, Answer, From, Items, NoSuch, NothingToUndo, End, Replies}
 
 -- a trace of a program: the lines of the program's tokens, the records, and the covers of statements

@@ -3,7 +3,7 @@ use Rattle.std.specs.Prelude.{◌≡◌, ◌≢◌, ◌<◌, ◌≤◌, ◌-◌,
 use Rattle.std.specs.Prelude.{None as Absent}
 use Rattle.std.specs.List.{Contains}
 use Rattle.std.specs.Io.BufRead.{strip_last}
-use Rattle.wy_text.specs.Lines.{line_of}
+use Rattle.wy_text.specs.EndLines.{line_of}
 use Rattle.wy_explore.specs.Session.{Session, begun}
 use Rattle.wy_session.specs.Scene.{Said, Scene}
 
@@ -59,12 +59,12 @@ pub data Talks (x : Scene) (input : List ℕ) : ℕ → List ℕ → Type 0 wher
   talks : (s : Session) (rest said last : List ℕ) (status : ℕ) → Reaches x input s rest said
       → Ends x input s rest status last → Talks x input status (said ++ last)
 
-abbrev pub IsFrontOf : List ℕ → List ℕ → Type 0
-IsFrontOf part text = (rest : List ℕ) × (text ≡ part ++ rest)
+abbrev pub IsPrefixOf : List ℕ → List ℕ → Type 0
+IsPrefixOf part text = (rest : List ℕ) × (text ≡ part ++ rest)
 
--- this is a first part of what is due for an input: of what its first lines are answered, or of all
+-- this is a prefix of what is due for an input: of what its first lines are answered, or of all
 pub data BeginsTalk (x : Scene) (input part : List ℕ) : Type 0 where
   answered : (s : Session) (rest said : List ℕ) → Reaches x input s rest said
-      → IsFrontOf part said → BeginsTalk x input part
-  ended : (status : ℕ) (text : List ℕ) → Talks x input status text → IsFrontOf part text
+      → IsPrefixOf part said → BeginsTalk x input part
+  ended : (status : ℕ) (text : List ℕ) → Talks x input status text → IsPrefixOf part text
       → BeginsTalk x input part

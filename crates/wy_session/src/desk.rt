@@ -2,15 +2,15 @@
 ghost use Rattle.std.specs.Prelude.{◌≡◌, ◌++◌, ◌<◌, ◌^◌, false, List, Some, All, IfOk, OnOk, length, map};
 ghost use Rattle.wy_event.specs.Record.{Recorded};
 ghost use Rattle.wy_view.specs.References.{AllRefersBelow};
-ghost use Rattle.wy_view.specs.View.{Answers, Keeps};
+ghost use Rattle.wy_view.specs.View.{KeepsCounts, Keeps};
 ghost use Rattle.wy_kernel.specs.Parts.{program_of};
 ghost use Rattle.wy_explore.specs.Explorer.{AllAnswered, AllWithin, IsReplyWithin, IsWorldOf, reply_of};
 ghost use Rattle.wy_session.specs.Desk.{IsAsked, IsSceneOf, scene_of};
-ghost use Rattle.wy_absence.specs.Items.{items_text};
+ghost use Rattle.wy_telling.specs.Items.{items_text};
 ghost use Rattle.wy_whynot.specs.Evidence.{evidence_in};
-ghost use Rattle.wy_lines.specs.Lines.{event_line};
+ghost use Rattle.wy_text.specs.EventLines.{event_line};
 ghost use Rattle.wy_session.specs.Scene.{Scene, lines_of, reply_text, sources_text};
-ghost use Rattle.wy_session.specs.Ways.{Closed, TakesManyFor, failures};
+ghost use Rattle.wy_session.specs.Closings.{Closed, TakesManyFor, failures};
 
 use crate::ending::Ending;
 use crate::respond::Respond;
@@ -18,16 +18,15 @@ use crate::session::talk;
 use std::alloc::{AllocError, Global};
 use std::marker::Brand;
 use std::sync::ledger::{Blank, Ledger};
-use wy_absence::put_items;
 use wy_event::record::{Cover, Event};
 use wy_explore::{Explorer, Reply, World};
 use wy_index::Index;
 use wy_kernel::program::Program;
-use wy_lines::{put_event_line, put_source_line};
 use wy_outside::sink::Sink;
 use wy_outside::source::Source;
 use wy_static::links::links;
-use wy_telling::answer_lines;
+use wy_telling::{answer_lines, put_items};
+use wy_text::{put_event_line, put_source_line};
 use wy_view::{EventView, MemoryView, Steps, ViewError};
 use wy_why::Source as From;
 use wy_whynot::Item;
@@ -45,7 +44,7 @@ fn event_line<V: EventView, L: Ledger>(
         → IfOk result (λ line. line.items
         ≡ event_line (program_of program.now) program.now.lines.items rs event false) }
     ensures keeps { Keeps (V.tells view.old) (V.tells view.new) }
-    ensures answers { Answers result (V.tells view.old) (V.tells view.new) }
+    ensures answers { KeepsCounts result (V.tells view.old) (V.tells view.new) }
 {
     let mut line = Vec::new(alloc);
     put_event_line(&mut line, program, view, event, false, steps)?;
@@ -65,7 +64,7 @@ fn put_sources<V: EventView, L: Ledger>(
         → OnOk result (out.new.items ≡ out.old.items ++ lines_of (program_of program.now)
         program.now.lines.items rs sources.now) }
     ensures keeps { Keeps (V.tells view.old) (V.tells view.new) }
-    ensures answers { Answers result (V.tells view.old) (V.tells view.new) }
+    ensures answers { KeepsCounts result (V.tells view.old) (V.tells view.new) }
 {
     for source in sources {
         put_source_line(out, program, view, source, steps)?;
@@ -87,7 +86,7 @@ fn source_lines<V: EventView, L: Ledger>(
         → IfOk result (λ text. text.items ≡ sources_text (program_of program.now)
         program.now.lines.items rs sources.now) }
     ensures keeps { Keeps (V.tells view.old) (V.tells view.new) }
-    ensures answers { Answers result (V.tells view.old) (V.tells view.new) }
+    ensures answers { KeepsCounts result (V.tells view.old) (V.tells view.new) }
 {
     if sources.is_empty() {
         return Ok(Vec::from_slice(alloc, "none\n".as_bytes())?);
@@ -124,7 +123,7 @@ fn reply_lines<V: EventView, L: Ledger>(
         → AllAnswered x.program x.records explorer.now → IsAsked explorer.now reply.now
         → IfOk result (λ text. text.items ≡ reply_text x (reply_of reply.now)) }
     ensures keeps { Keeps (V.tells view.old) (V.tells view.new) }
-    ensures answers { Answers result (V.tells view.old) (V.tells view.new) }
+    ensures answers { KeepsCounts result (V.tells view.old) (V.tells view.new) }
 {
     let program = world.program;
     match reply {

@@ -2,10 +2,10 @@
 ghost use Rattle.std.specs.Prelude.{◌≡◌, ◌≤◌, ◌+◌, ◌++◌, ◌∷◌, [], OnOk, length, option_map};
 ghost use Rattle.std.specs.Io.BufRead.{strip_last};
 ghost use Rattle.std.specs.List.{Contains};
-ghost use Rattle.wy_session.specs.Line.{Answers, Finishes, IsOpen, Reads, SplitsLine};
-ghost use Rattle.wy_session.specs.Standing.{Stands};
+ghost use Rattle.wy_session.specs.Line.{AnswersLine, Finishes, IsOpen, Reads, SplitsLine};
+ghost use Rattle.wy_session.specs.Situation.{Stands};
 ghost use Rattle.wy_session.specs.Talk.{most_in_all};
-ghost use Rattle.wy_session.specs.Ways.{EndsWith, IsLong, LongAt, Puts};
+ghost use Rattle.wy_session.specs.Closings.{EndsWith, IsLong, LongAt, Puts};
 
 use crate::ending::Ending;
 use crate::respond::Respond;
@@ -76,7 +76,7 @@ fn answer<R: Respond, O: Sink>(
     out: &mut O,
 ) -> Result<(), Ending>
     requires { Stands (R.stands responder.old) }
-    ensures { Answers (R.stands responder.old) (R.stands responder.new) line.now
+    ensures { AnswersLine (R.stands responder.old) (R.stands responder.new) line.now
         (O.written out.old) (O.written out.new) (O.faults out.old) (O.faults out.new) result }
 {
     match responder.reply(alloc, line)? {

@@ -2,7 +2,7 @@
 ghost use Rattle.std.specs.Prelude.{◌≡◌, IfOk, option_map};
 ghost use Rattle.wy_explore.specs.Session.{Session};
 ghost use Rattle.wy_session.specs.Scene.{Said, Scene};
-ghost use Rattle.wy_session.specs.Standing.{Stands};
+ghost use Rattle.wy_session.specs.Situation.{Stands};
 
 use std::alloc::{AllocError, Global};
 

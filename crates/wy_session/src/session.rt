@@ -1,8 +1,8 @@
 //! The whole of a session.
 ghost use Rattle.wy_explore.specs.Session.{begun};
 ghost use Rattle.wy_session.specs.Scene.{Scene};
-ghost use Rattle.wy_session.specs.Standing.{Stands};
-ghost use Rattle.wy_session.specs.Ways.{Closed, TakesManyFor, failures};
+ghost use Rattle.wy_session.specs.Situation.{Stands};
+ghost use Rattle.wy_session.specs.Closings.{Closed, TakesManyFor, failures};
 
 use crate::ending::Ending;
 use crate::line::{OpenLine, end_with};

@@ -9,7 +9,7 @@ use Rattle.wy_event.specs.Record.{Recorded}
 use Rattle.wy_spelling.specs.Spelling.{slot_bytes, value_bytes, use_bytes, uses_bytes, origin_bytes, event_payload, event_frame}
 
 set_x : Recorded
-set_x = record { kind = kind.Set; site = 15; frame = Some 2; control = Some 2; what = Absent; slot = Local 2 1; value = Int (pos 2); units = []; uses = [] }
+set_x = record { kind = kind.Set; site = 15; frame = Some 2; control = Some 2; entity = Absent; slot = Local 2 1; value = Int (pos 2); units = []; uses = [] }
 
 four : ℕ → ℕ → ℕ → ℕ → List ℕ
 four a b c d = a ∷ b ∷ c ∷ d ∷ []
@@ -20,7 +20,7 @@ unfolding event_frame event_payload origin_bytes slot_bytes value_bytes uses_byt
 set_x_spelled = refl
 
 set_y : Recorded
-set_y = record { kind = kind.Set; site = 32; frame = Some 2; control = Some 6; what = Absent; slot = Local 2 2; value = Int (pos 5); units = []; uses = Place (Local 2 1) 7 ∷ [] }
+set_y = record { kind = kind.Set; site = 32; frame = Some 2; control = Some 6; entity = Absent; slot = Local 2 2; value = Int (pos 5); units = []; uses = Place (Local 2 1) 7 ∷ [] }
 
 set_y_spelled : event_frame set_y ≡ 0x45 ∷ four 0 0 0 0x31 ++ (0x04 ∷ four 0 0 0 0x20 ++ (four 0 0 0 2 ++ (four 0 0 0 6 ++ (four 0xff 0xff 0xff 0xff
     ++ (0x01 ∷ four 0 0 0 2 ++ (four 0 0 0 2 ++ (0x05 ∷ four 0 0 0 5 ++ (four 0 0 0 1

@@ -1,7 +1,7 @@
 -- The one spelling of a trace: eight bytes that name the format, then frames. Numbers are big-endian, of four bytes where nothing is said.
-use Rattle.std.specs.Prelude.{ℕ, List, [], ◌∷◌, ◌++◌, length, codes, if◌then◌else◌, Option, Some}
+use Rattle.std.specs.Prelude.{ℕ, List, [], ◌∷◌, ◌++◌, length, map, codes, if◌then◌else◌, Option, Some}
 use Rattle.std.specs.Prelude.{None as Absent}
-use Rattle.std.specs.List.{flat_map}
+use Rattle.std.specs.List.{concat, flat_map}
 use Rattle.std.specs.Int.{w8, w16, w32, w64, to_be_bytes, cast_unsigned}
 use Rattle.sha2.specs.Sha256.{sha256}
 use Rattle.wy_value.specs.declared.value.Value.{Value}
@@ -20,10 +20,6 @@ use Rattle.wy_event.specs.declared.record.Tail.{Tail}
 use Rattle.wy_event.specs.declared.record.Trace.{Trace}
 use Rattle.wy_event.specs.Record.{Recorded, recorded}
 use Rattle.wy_kernel.specs.View.{NONE}
-
--- the greatest length of a trace
-abbrev pub trace_limit : ℕ
-trace_limit = 1073741824
 
 -- ---- parts of an event
 
@@ -96,7 +92,7 @@ frame letter payload = letter ∷ number (length payload) ++ payload
 
 -- what an event is and where it stands
 unfoldable pub origin_bytes : Recorded → List ℕ
-origin_bytes e = kind_number e.kind ∷ number e.site ++ (optional e.frame ++ (optional e.control ++ optional e.what))
+origin_bytes e = kind_number e.kind ∷ number e.site ++ (optional e.frame ++ (optional e.control ++ optional e.entity))
 
 unfoldable pub event_payload : Recorded → List ℕ
 event_payload e = origin_bytes e ++ (slot_bytes e.slot ++ (content_bytes e.kind e.value e.units ++ uses_bytes e.uses))
@@ -157,3 +153,7 @@ closing tail bytes = tail_frames tail ++ seal_frame (sha256 (bytes ++ tail_frame
 
 unfoldable pub trace_bytes : Trace → List ℕ
 trace_bytes t = sealed (opening t.head ++ (events_bytes t.events ++ tail_frames t.tail))
+
+-- the trace of a run: its head, a frame for each event, and what closes them
+abbrev pub run_bytes : Head → List Recorded → Tail → List ℕ
+run_bytes head rs end = let front = opening head ++ concat (map event_frame rs) in front ++ closing end front

@@ -3,7 +3,8 @@
 ghost use Rattle.std.specs.Prelude.{◌≡◌, ◌<◌, ◌≤◌, ◌^◌, ◌++◌, ◌∷◌, [], ℕ, List, length, IfOk, OnOk};
 ghost use Rattle.wy_event.specs.Record.{recorded};
 ghost use Rattle.wy_kernel.specs.View.{present};
-ghost use Rattle.wy_spelling.specs.Spelling.{kind_number, optional, count_bytes, origin_bytes, coverage_frame, coverage_payload, end_frame, event_frame, event_payload, frame, head_frame, head_payload, magic, number, opening, seal_frame, tail_frames, tail_payload, trace_limit};
+ghost use Rattle.wy_kernel.specs.Limits.{trace_limit};
+ghost use Rattle.wy_spelling.specs.Spelling.{kind_number, optional, count_bytes, origin_bytes, coverage_frame, coverage_payload, end_frame, event_frame, event_payload, frame, head_frame, head_payload, magic, number, opening, seal_frame, tail_frames, tail_payload};
 
 use crate::write::{
     put_bytes, put_content, put_each_cover, put_number, put_slot, put_tagged, put_uses,
@@ -70,7 +71,7 @@ fn put_origin(out: &mut Vec<u8>, event: &Event) -> Result<(), AllocError>
     put_number(out, event.site)?;
     put_optional(out, event.frame)?;
     put_optional(out, event.control)?;
-    put_optional(out, event.what)
+    put_optional(out, event.entity)
 }
 
 #[tactic(auto, using(crate::proofs::Lengths::content_is_short, crate::proofs::Lengths::uses_are_short), unfolding(crate::specs::Spelling::event_payload, wy_event::specs::Record::recorded))]

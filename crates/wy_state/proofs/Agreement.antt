@@ -8,7 +8,7 @@ use Rattle.wy_event.specs.declared.record.Cover.{Cover}
 use Rattle.wy_steps.specs.Sets.{nothing}
 use Rattle.wy_steps.specs.State.{State, Store, Active, Covered}
 use Rattle.wy_steps.specs.Steps.{cover_with}
-use Rattle.wy_calls.specs.Calls.{Frame, event_of}
+use Rattle.wy_calls.specs.Calls.{CallFrame, event_of}
 use Rattle.wy_state.specs.Agrees.{Shape, Agrees, Fall, HasCovers, HasFreshLocals, HasFreshStatics, HasLocals, HasSlots, IsUnmade}
 use Rattle.wy_state.specs.Seen.{blank, covered_of}
 
@@ -205,7 +205,7 @@ module _ (p : Program) (m : Shape) (s : State nothing) where
   }
 
   -- other frames, with their locals
-  pub with_frames : (fs : List Frame) (entered : ℕ) (f : Option ℕ) → f ≡ event_of fs → Fall entered fs → HasLocals s.store fs → HasFreshLocals s.store entered → Agrees p m s →
+  pub with_frames : (fs : List CallFrame) (entered : ℕ) (f : Option ℕ) → f ≡ event_of fs → Fall entered fs → HasLocals s.store fs → HasFreshLocals s.store entered → Agrees p m s →
       Agrees p (record m { calls = record { frames = fs; active = m.calls.active; scopes = m.calls.scopes }; entered = entered }) (record s { frame = f })
   with_frames fs entered f is falls has fresh a = record {
     events = a.events;
@@ -234,7 +234,7 @@ module _ (p : Program) (m : Shape) (s : State nothing) where
   }
 
   -- other locals of the same frames, in another store that has the rest
-  pub with_locals : (fs : List Frame) (store : Store nothing) → event_of fs ≡ event_of m.calls.frames → Fall m.entered fs → HasLocals store fs → HasFreshLocals store m.entered →
+  pub with_locals : (fs : List CallFrame) (store : Store nothing) → event_of fs ≡ event_of m.calls.frames → Fall m.entered fs → HasLocals store fs → HasFreshLocals store m.entered →
       HasSlots store m.heap → HasFreshStatics p store m.heap → ((n : ℕ) → m.events ≤ n → IsUnmade m.heap store n) → Agrees p m s →
       Agrees p (record m { calls = record { frames = fs; active = m.calls.active; scopes = m.calls.scopes } }) (record s { store = store })
   with_locals fs store same falls has fresh slots statics unmade a = record {

@@ -6,7 +6,7 @@ use Rattle.wy_event.specs.declared.record.Cover.{Cover}
 use Rattle.wy_steps.specs.Sets.{nothing}
 use Rattle.wy_steps.specs.State.{State, Covered, Done, StepLimit, return, stop}
 use Rattle.wy_steps.specs.Steps.{tick, pay, steps_left, next_byte, take_byte, begun, ended, left_by, covering, cover_with, without, outlasting}
-use Rattle.wy_calls.specs.Calls.{Standing, frame_of}
+use Rattle.wy_calls.specs.Calls.{CallStack, frame_of}
 use Rattle.wy_calls.specs.Calls as calls
 use Rattle.wy_state.specs.Agrees.{Shape, Agrees, Comes, Onward, HasCovers, itself}
 use Rattle.wy_state.specs.Seen.{blank, covered_of}
@@ -55,10 +55,10 @@ module _ (p : Program) (m : Shape) (n : ℕ) (c : Cover) (lt : n < length m.cove
       let same : outlasting s.frame n s.active ≡ outlasting (frame_of m.calls) n m.calls.active = rw (a.frame, a.active) refl in
       with_entries p (record m { covers = set m.covers n c }) (covering n f s) _ _ m.calls.scopes same (with_covers p m s _ _ has a)
 
-  pub finish_goes : (new : Standing) → new ≡ calls.ended n m.calls → covered_of c ≡ ended (covered_of (get_or m.covers n blank)) → Onward p m (finish n) (record m { covers = set m.covers n c; calls = new }) (return (itself tt))
+  pub finish_goes : (new : CallStack) → new ≡ calls.ended n m.calls → covered_of c ≡ ended (covered_of (get_or m.covers n blank)) → Onward p m (finish n) (record m { covers = set m.covers n c; calls = new }) (return (itself tt))
   unfolding return
   finish_goes new cut is = rw cut (record { from = λ s a. record { state = without s.frame n (covering n ended s); agrees = outlasts s ended (covers_changed m.covers n c s.coverage ended lt is a.covers) a; is = refl } })
 
-  pub leave_goes : (e : ℕ) (new : Standing) → new ≡ calls.ended n m.calls → covered_of c ≡ left_by e (covered_of (get_or m.covers n blank)) → Onward p m (leave_by n e) (record m { covers = set m.covers n c; calls = new }) (return (itself tt))
+  pub leave_goes : (e : ℕ) (new : CallStack) → new ≡ calls.ended n m.calls → covered_of c ≡ left_by e (covered_of (get_or m.covers n blank)) → Onward p m (leave_by n e) (record m { covers = set m.covers n c; calls = new }) (return (itself tt))
   unfolding return
   leave_goes e new cut is = rw cut (record { from = λ s a. record { state = without s.frame n (covering n (left_by e) s); agrees = outlasts s (left_by e) (covers_changed m.covers n c s.coverage (left_by e) lt is a.covers) a; is = refl } })

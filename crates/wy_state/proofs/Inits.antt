@@ -13,7 +13,8 @@ use Rattle.wy_event.specs.declared.record.Use.{Use}
 use Rattle.wy_event.specs.Sources.{creates, creates_as, is_what}
 use Rattle.wy_steps.specs.Sets.{nothing}
 use Rattle.wy_steps.specs.State.{Noted, State, Store, Held, return}
-use Rattle.wy_steps.specs.Steps.{creating, default_in, event_limit, has_init, held_by, held_of, if_empty, is_init_of, made, next_event, note_new, owner_in, use_limit, with_created, with_event}
+use Rattle.wy_kernel.specs.Limits.{event_limit, use_limit}
+use Rattle.wy_steps.specs.Steps.{creating, default_in, has_init, held_by, held_of, if_empty, is_init_of, made, next_event, note_new, owner_in, with_created, with_event}
 use Rattle.wy_meaning.specs.World.{about}
 use Rattle.wy_heap.specs.declared.heap.Heap.{Heap}
 use Rattle.wy_heap.specs.Heap.{held, is_made, plan}
@@ -169,6 +170,6 @@ module _ (p : Program) (m n : Shape) (site c k : ℕ) (d : Drafted) (units : Lis
   })
 
 -- the draft of an Init of a class
-pub drafted_init : (site c : ℕ) → c ≢ 4294967295 → draft_of (record { kind = kinds.Init; site = site; what = c; slot = slot.None; value = Nothing }) [] ≡ about kinds.Init site c Nothing
+pub drafted_init : (site c : ℕ) → c ≢ 4294967295 → draft_of (record { kind = kinds.Init; site = site; entity = c; slot = slot.None; value = Nothing }) [] ≡ about kinds.Init site c Nothing
 unfolding about
 drafted_init site c low = rw (present_some c low) refl

@@ -13,14 +13,15 @@ use Rattle.wy_event.specs.declared.record.Use.{Use}
 use Rattle.wy_event.specs.Sources.{creates, creates_as}
 use Rattle.wy_steps.specs.Sets.{nothing}
 use Rattle.wy_steps.specs.State.{Noted, State, Store, Held, ElementLimit, choose, go_on, ◌>>=◌, ◌>>◌, return, stop}
-use Rattle.wy_steps.specs.Steps.{Draft, Made, code_of, creating, default_in, element_limit, event_in, has_init, held_by, held_of, if_empty, is_init_of, made, next_event, note_new, owner_in, take_elements, with_created, with_elements, with_event, event_limit, use_limit}
+use Rattle.wy_kernel.specs.Limits.{element_limit, event_limit, use_limit}
+use Rattle.wy_steps.specs.Steps.{Draft, Made, code_of, creating, default_in, event_in, has_init, held_by, held_of, if_empty, is_init_of, made, next_event, note_new, owner_in, take_elements, with_created, with_elements, with_event}
 use Rattle.wy_meaning.specs.World.{about, natural_of, type_in, length_in, units_in, class_code}
 use Rattle.wy_heap.specs.declared.heap.Heap.{Heap}
 use Rattle.wy_heap.specs.Heap.{held, code, size, text, is_made, plan}
 use Rattle.wy_heap.specs.Plan.{first_of}
 use Rattle.wy_heap.proofs.Plans.{first-is_default}
 use Rattle.wy_heap.specs.Changes.{KeepsOthers, MakesArray, MakesObject, is_field_of, is_part}
-use Rattle.wy_state.specs.Agrees.{Shape, Agrees, Answers, Onward, Refusing, HasSlots, HasCodes, HasSizes, HasTexts, IsUnmade, value_in, with_record}
+use Rattle.wy_state.specs.Agrees.{Shape, Agrees, StepGives, Onward, Refusing, HasSlots, HasCodes, HasSizes, HasTexts, IsUnmade, value_in, with_record}
 use Rattle.wy_state.specs.declared.parts.Draft.{Draft as Drafted}
 use Rattle.wy_state.specs.declared.parts.Halt.{Halt}
 use Rattle.wy_state.specs.Seen.{draft_of, given, made_of}
@@ -38,9 +39,9 @@ not_same n k differs = elim (eqb_tells n k) as (λ _. nat_eq n k ≡ false) [
 ]
 
 -- a New of a block, which nothing was made of before
-module _ (p : Program) (m : Shape) (s : State nothing) (a : Agrees p m s) (site what : ℕ) (v : Value) (us : List Use) where
+module _ (p : Program) (m : Shape) (s : State nothing) (a : Agrees p m s) (site entity : ℕ) (v : Value) (us : List Use) where
   abbrev pub the_event : Noted nothing
-  the_event = next_event (about kinds.New site what v) (given Nothing us) s
+  the_event = next_event (about kinds.New site entity v) (given Nothing us) s
 
   abbrev pub new_store : Store nothing
   new_store = λ y. if_empty (s.store y) (if creates (owner_in p) (length s.noted) y the_event.event then Some (held_by (default_in p the_event.event y) the_event) else Absent)
@@ -156,9 +157,9 @@ module _ (p : Program) (m : Shape) (s : State nothing) (a : Agrees p m s) (site 
       unfolding is_init_of next_event about
       begun_now c = no_init the_event s.noted c refl ∙ a.begun c ∙ sym (others.classes c)
 
-      pub block_made : Agrees p (record (with_record (about kinds.New site what v) us m) { heap = h }) (with_created p (length s.noted) the_event (with_event the_event s))
+      pub block_made : Agrees p (record (with_record (about kinds.New site entity v) us m) { heap = h }) (with_created p (length s.noted) the_event (with_event the_event s))
       unfolding with_created with_event
-      block_made = one_more p m s a (about kinds.New site what v) (given Nothing us) h new_store
+      block_made = one_more p m s a (about kinds.New site entity v) (given Nothing us) h new_store
           (λ f i u is. ap (λ o. (held_of o).value) (kept (Local f i) (of_local f i)) ∙ a.locals f i u is)
           (λ f i le. kept (Local f i) (of_local f i) ∙ a.fresh_locals f i le)
           (others.same_plan ∙ a.same_plan) slots_now
@@ -172,15 +173,15 @@ from_choice true x u is = cc
 from_choice false x u is = cc
 
 module _ (p : Program) (m : Shape) (site : ℕ) (us : List Use) (k : ℕ) (number : k ≡ m.events) (few : m.events < event_limit) (fits : m.uses + length us ≤ use_limit) (h : Heap) where
-  made_goes : (what : ℕ) (v w : Value) (n : Shape) → n ≡ record (with_record (about kinds.New site what v) us m) { heap = h } →
-      ((s : State nothing) (a : Agrees p m s) → Agrees p (record (with_record (about kinds.New site what v) us m) { heap = h }) (with_created p (length s.noted) (the_event p m s a site what v us) (with_event (the_event p m s a site what v us) s))) →
-      Onward p m (note_new p (about kinds.New site what v) (given w us)) n (return (made_of k))
+  made_goes : (entity : ℕ) (v w : Value) (n : Shape) → n ≡ record (with_record (about kinds.New site entity v) us m) { heap = h } →
+      ((s : State nothing) (a : Agrees p m s) → Agrees p (record (with_record (about kinds.New site entity v) us m) { heap = h }) (with_created p (length s.noted) (the_event p m s a site entity v us) (with_event (the_event p m s a site entity v us) s))) →
+      Onward p m (note_new p (about kinds.New site entity v) (given w us)) n (return (made_of k))
   unfolding note_new creating made return next_event about
-  made_goes what v w n is agreed = rw is (record {
+  made_goes entity v w n is agreed = rw is (record {
     from = λ s a. record {
-      state = with_created p (length s.noted) (the_event p m s a site what v us) (with_event (the_event p m s a site what v us) s);
+      state = with_created p (length s.noted) (the_event p m s a site entity v us) (with_event (the_event p m s a site entity v us) s);
       agrees = agreed s a;
-      is = rw (in_room p m (about kinds.New site what v) w us s a (creating p (about kinds.New site what v) (given w us)) few fits, number, ← a.events) refl;
+      is = rw (in_room p m (about kinds.New site entity v) w us s a (creating p (about kinds.New site entity v) (given w us)) few fits, number, ← a.events) refl;
     };
   })
 
@@ -208,7 +209,7 @@ module _ (p : Program) (m : Shape) (site : ℕ) (us : List Use) (k : ℕ) (numbe
 
 -- what a method that records and then makes gives
 
-pub new_refused : {X : Type 0} (p : Program) (m : Shape) (d : Draft) (v : Value) (us : List Use) (view : X → Made nothing) (n : Shape) (e : Halt) → Refusing us e m n → Answers p view (Err e) m (note_new p d (given v us)) n
+pub new_refused : {X : Type 0} (p : Program) (m : Shape) (d : Draft) (v : Value) (us : List Use) (view : X → Made nothing) (n : Shape) (e : Halt) → Refusing us e m n → StepGives p view (Err e) m (note_new p d (given v us)) n
 unfolding note_new
 new_refused p m d v us view n e h = refused p m d v us (creating p d (given v us)) view n e h
 
@@ -225,7 +226,7 @@ module _ (p : Program) (m n : Shape) (us : List Use) (k : ℕ) (d : Drafted) (un
   object_noted site c same w = object_goes p m site us k r.0 r.1 r.2 h c (record n { heap = h }) (subst (λ g. MakesObject k c g h) same_heap w) (as_drafted _ same)
 
 -- the draft of a New of a class
-pub drafted_object : (site c : ℕ) → 16 + c ≢ 4294967295 → draft_of (record { kind = kinds.New; site = site; what = 16 + c; slot = slot.None; value = Nothing }) [] ≡ about kinds.New site (class_code c) Nothing
+pub drafted_object : (site c : ℕ) → 16 + c ≢ 4294967295 → draft_of (record { kind = kinds.New; site = site; entity = 16 + c; slot = slot.None; value = Nothing }) [] ≡ about kinds.New site (class_code c) Nothing
 unfolding about class_code
 drafted_object site c low = rw (present_some (16 + c) low) refl
 
@@ -249,12 +250,12 @@ module _ (p : Program) (m : Shape) (site code many : ℕ) (us : List Use) where
   }
 
 -- the draft of a New of an array
-pub drafted_array : (site code : ℕ) (z : ℤ) (many : ℕ) → code ≢ 4294967295 → z ≡ pos many → draft_of (record { kind = kinds.New; site = site; what = code; slot = slot.None; value = Int z }) [] ≡ about kinds.New site code (Int (pos many))
+pub drafted_array : (site code : ℕ) (z : ℤ) (many : ℕ) → code ≢ 4294967295 → z ≡ pos many → draft_of (record { kind = kinds.New; site = site; entity = code; slot = slot.None; value = Int z }) [] ≡ about kinds.New site code (Int (pos many))
 unfolding about
 drafted_array site code z many low is = rw (present_some code low, is) refl
 
 module _ (p : Program) (m n : Shape) (site code many : ℕ) (us : List Use) (fits : m.elements + many ≤ element_limit) (x : ℕ) (taken : x ≡ m.elements + many) where
-  pub array_refused : (e : Halt) → Refusing us e (record m { elements = x }) n → Answers p made_of (Err e) m (make_array p site code many us) n
+  pub array_refused : (e : Halt) → Refusing us e (record m { elements = x }) n → StepGives p made_of (Err e) m (make_array p site code many us) n
   array_refused e h = answers_then made_of p e m (record m { elements = x }) n _ _ (elements_taken p m site code many us fits x taken) (new_refused p (record m { elements = x }) (about kinds.New site code (Int (pos many))) Nothing us made_of n e h)
 
   pub array_noted : (k : ℕ) (d : Drafted) (units : List ℕ) (empty : units ≡ []) → (k ≡ m.events) × (m.events < event_limit) × (m.uses + length us ≤ use_limit) × (n ≡ with_record (draft_of d units) us (record m { elements = x })) → (h : Heap) →

@@ -3,7 +3,7 @@ use Rattle.std.proofs.Common.{◌≡◌, ◌∙◌, ap, refl, sym, Err}
 use Rattle.wy_kernel.specs.Program.{Program}
 use Rattle.wy_steps.specs.Sets.{nothing}
 use Rattle.wy_steps.specs.State.{State, Run, Outcome, go_on, ◌>>=◌, stop, leave}
-use Rattle.wy_state.specs.Agrees.{Shape, Onward, Answers}
+use Rattle.wy_state.specs.Agrees.{Shape, Onward, StepGives}
 use Rattle.wy_state.specs.declared.parts.Halt.{Halt}
 use Rattle.wy_state.specs.declared.parts.Halt.TheVariants.{Left, Stopped, Recorder, Memory}
 
@@ -35,7 +35,7 @@ pub onward_as : {X : Type 0} {p : Program} {m n : Shape} {f g h : Run nothing X}
 onward_as same a = record { from = λ s at. record { state = (a.from s at).state; agrees = (a.from s at).agrees; is = (a.from s at).is ∙ sym (same s) } }
 
 -- what stopped, or was refused, has that of all that would have come after it
-pub answers_after : {X Y Z W : Type 0} (p : Program) (m n : Shape) (f : Run nothing Y) (v : X → Y) (w : Z → W) (k : Y → Run nothing W) (h : Run nothing W) (e : Halt) → ((s : State nothing) → h s ≡ (f >>= k) s) → Answers p v (Err e) m f n → Answers p w (Err e) m h n
+pub answers_after : {X Y Z W : Type 0} (p : Program) (m n : Shape) (f : Run nothing Y) (v : X → Y) (w : Z → W) (k : Y → Run nothing W) (h : Run nothing W) (e : Halt) → ((s : State nothing) → h s ≡ (f >>= k) s) → StepGives p v (Err e) m f n → StepGives p w (Err e) m h n
 unfolding ◌>>=◌ stop leave go_on
 answers_after p m n f v w k h (Stopped why) same a = onward_as same (within (λ o. go_on o k) a)
 answers_after p m n f v w k h (Left why) same a = onward_as same (within (λ o. go_on o k) a)
@@ -43,7 +43,7 @@ answers_after p m n f v w k h (Recorder _) same a = tt
 answers_after p m n f v w k h Memory same a = tt
 
 -- what was refused, after another run
-pub answers_then : {X W : Type 0} (w : X → W) (p : Program) (e : Halt) (m n l : Shape) (f g : Run nothing W) → Onward p m f n g → Answers p w (Err e) n g l → Answers p w (Err e) m f l
+pub answers_then : {X W : Type 0} (w : X → W) (p : Program) (e : Halt) (m n l : Shape) (f g : Run nothing W) → Onward p m f n g → StepGives p w (Err e) n g l → StepGives p w (Err e) m f l
 answers_then w p (Stopped why) m n l f g a b = onward_then a b
 answers_then w p (Left why) m n l f g a b = onward_then a b
 answers_then w p (Recorder _) m n l f g a b = tt

@@ -14,7 +14,8 @@ use Rattle.wy_state.specs.declared.parts.Limit.TheVariants as limit
 use Rattle.wy_event.specs.declared.record.Use.{Use}
 use Rattle.wy_steps.specs.Sets.{nothing}
 use Rattle.wy_steps.specs.State.{Carried, Noted, State, Store, Run, EventLimit, UseLimit, OutputLimit, choose, go_on, ◌>>=◌, ◌>>◌, return, stop}
-use Rattle.wy_steps.specs.Steps.{Draft, Made, event_in, event_limit, use_limit, has_init, is_init_of, made, held_by, next_event, note, note_write, noting, output_limit, room_for, room_for_output, with_event, write_out, writing}
+use Rattle.wy_kernel.specs.Limits.{event_limit, use_limit, output_limit}
+use Rattle.wy_steps.specs.Steps.{Draft, Made, event_in, has_init, is_init_of, made, held_by, next_event, note, note_write, noting, room_for, room_for_output, with_event, write_out, writing}
 use Rattle.wy_meaning.specs.World.{plain}
 use Rattle.wy_meaning.specs.Text.{print}
 use Rattle.wy_state.specs.Steps.{put}
@@ -23,7 +24,7 @@ use Rattle.wy_state.proofs.Onward.{answers_after, answers_then, onward_bind, onw
 use Rattle.wy_heap.specs.declared.heap.Heap.{Heap}
 use Rattle.wy_heap.specs.Heap.{plan, is_made}
 use Rattle.wy_heap.specs.Plan.{plan_of}
-use Rattle.wy_state.specs.Agrees.{Shape, Agrees, Answers, Onward, HasLocals, HasFreshLocals, HasSlots, HasFreshStatics, HasCodes, HasSizes, HasTexts, IsUnmade, Refusing, event_of, itself, throw_at, with_record}
+use Rattle.wy_state.specs.Agrees.{Shape, Agrees, StepGives, Onward, HasLocals, HasFreshLocals, HasSlots, HasFreshStatics, HasCodes, HasSizes, HasTexts, IsUnmade, Refusing, event_of, itself, throw_at, with_record}
 use Rattle.wy_state.specs.declared.parts.Draft.{Draft as Drafted}
 use Rattle.wy_state.specs.Seen.{draft_of, given, made_of}
 
@@ -44,7 +45,7 @@ module _ (e : Noted nothing) (noted : List (Noted nothing)) where
     | inr other ↦ rw other.0 refl
   ]
 
-  pub no_init : (c : ℕ) → is_init_of c e.event.kind e.event.what ≡ false → has_init c (e ∷ noted) ≡ has_init c noted
+  pub no_init : (c : ℕ) → is_init_of c e.event.kind e.event.entity ≡ false → has_init c (e ∷ noted) ≡ has_init c noted
   unfolding has_init
   no_init c is = rw is refl
 
@@ -106,7 +107,7 @@ module _ (p : Program) (m : Shape) (s : State nothing) (a : Agrees p m s) (d : D
   texts_stay n us is = rw (older_event (next_event d c s) s.noted n (known_before n (λ le. let none = (a.unmade n le).no_text in cc))) (a.texts n us is)
 
   -- an event that makes nothing
-  pub plain_more : ((k : ℕ) → is_init_of k d.kind d.what ≡ false) → Agrees p (with_record d c.uses m) (with_event (next_event d c s) s)
+  pub plain_more : ((k : ℕ) → is_init_of k d.kind d.entity ≡ false) → Agrees p (with_record d c.uses m) (with_event (next_event d c s) s)
   unfolding next_event with_event
   plain_more plain = one_more m.heap s.store a.locals a.fresh_locals a.same_plan a.slots a.fresh_statics (λ n le. a.unmade n (omega (arith, le))) codes_stay sizes_stay texts_stay
       (λ k. no_init (next_event d c s) s.noted k (plain k) ∙ a.begun k)
@@ -135,7 +136,7 @@ module _ (p : Program) (m : Shape) (d : Draft) (v : Value) (us : List Use) where
         let above : nat_le (s.uses + length us) use_limit ≡ false = rw a.uses (lt-leb (m.uses + length us) use_limit full) in
         rw (below, above) refl
 
-  pub noted_goes : (n : Shape) → n ≡ with_record d us m → ((k : ℕ) → is_init_of k d.kind d.what ≡ false) → m.events < event_limit → m.uses + length us ≤ use_limit → Onward p m (note d (given v us)) n (return (made_of m.events))
+  pub noted_goes : (n : Shape) → n ≡ with_record d us m → ((k : ℕ) → is_init_of k d.kind d.entity ≡ false) → m.events < event_limit → m.uses + length us ≤ use_limit → Onward p m (note d (given v us)) n (return (made_of m.events))
   unfolding note noting return made
   noted_goes n is plain few fits = rw is (record {
     from = λ s a. record {
@@ -154,7 +155,7 @@ module _ (p : Program) (m : Shape) (d : Draft) (v : Value) (us : List Use) where
   full_of_uses_goes f n is few full = rw is (record { from = λ s a. record { state = s; agrees = a; is = sym (past_uses s a f few full) } })
 
   -- what was refused, whatever the room was for
-  pub refused : {X Z : Type 0} (f : Run nothing Z) (view : X → Z) (n : Shape) (e : Halt) → Refusing us e m n → Answers p view (Err e) m (room_for (given v us) f) n
+  pub refused : {X Z : Type 0} (f : Run nothing Z) (view : X → Z) (n : Shape) (e : Halt) → Refusing us e m n → StepGives p view (Err e) m (room_for (given v us) f) n
   refused f view n (Stopped limit.Events) h = full_goes f n h.1 h.0
   refused f view n (Stopped limit.Uses) h = full_of_uses_goes f n h.2 h.0 h.1
   refused f view n (Stopped limit.Steps) h = absurd h
@@ -169,30 +170,30 @@ module _ (p : Program) (m : Shape) (d : Draft) (v : Value) (us : List Use) where
   refused f view n (Recorder e) h = tt
   refused f view n Memory h = tt
 
-  pub note_refused : {X : Type 0} (view : X → Made nothing) (n : Shape) (e : Halt) → Refusing us e m n → Answers p view (Err e) m (note d (given v us)) n
+  pub note_refused : {X : Type 0} (view : X → Made nothing) (n : Shape) (e : Halt) → Refusing us e m n → StepGives p view (Err e) m (note d (given v us)) n
   unfolding note
   note_refused view n e h = refused (noting d (given v us)) view n e h
 
 -- a kind that is none of an initialization
-pub makes_no_class : (kind : Kind) (what : Option ℕ) → (kind ≡ kinds.Init → ⊥) → (k : ℕ) → is_init_of k kind what ≡ false
+pub makes_no_class : (kind : Kind) (entity : Option ℕ) → (kind ≡ kinds.Init → ⊥) → (k : ℕ) → is_init_of k kind entity ≡ false
 unfolding is_init_of
-makes_no_class kinds.Init what is k = absurd (is refl)
-makes_no_class kinds.New what is k = refl
-makes_no_class kinds.Call what is k = refl
-makes_no_class kinds.Bind what is k = refl
-makes_no_class kinds.Set what is k = refl
-makes_no_class kinds.Test what is k = refl
-makes_no_class kinds.Text what is k = refl
-makes_no_class kinds.Read what is k = refl
-makes_no_class kinds.Print what is k = refl
-makes_no_class kinds.Return what is k = refl
-makes_no_class kinds.Jump what is k = refl
-makes_no_class kinds.Throw what is k = refl
-makes_no_class kinds.Catch what is k = refl
+makes_no_class kinds.Init entity is k = absurd (is refl)
+makes_no_class kinds.New entity is k = refl
+makes_no_class kinds.Call entity is k = refl
+makes_no_class kinds.Bind entity is k = refl
+makes_no_class kinds.Set entity is k = refl
+makes_no_class kinds.Test entity is k = refl
+makes_no_class kinds.Text entity is k = refl
+makes_no_class kinds.Read entity is k = refl
+makes_no_class kinds.Print entity is k = refl
+makes_no_class kinds.Return entity is k = refl
+makes_no_class kinds.Jump entity is k = refl
+makes_no_class kinds.Throw entity is k = refl
+makes_no_class kinds.Catch entity is k = refl
 
 -- records without units
 module _ (p : Program) (m n : Shape) (d : Drafted) (us : List Use) where
-  pub plain_refused : {X : Type 0} (view : X → Made nothing) (e : Halt) → Refusing us e m n → Answers p view (Err e) m (note (draft_of d []) (given d.value us)) n
+  pub plain_refused : {X : Type 0} (view : X → Made nothing) (e : Halt) → Refusing us e m n → StepGives p view (Err e) m (note (draft_of d []) (given d.value us)) n
   plain_refused view e h = note_refused p m (draft_of d []) d.value us view n e h
 
   pub plain_goes : (units : List ℕ) (empty : units ≡ []) (k : ℕ) → (k ≡ m.events) × (m.events < event_limit) × (m.uses + length us ≤ use_limit) × (n ≡ with_record (draft_of d units) us m) → (d.kind ≡ kinds.Init → ⊥) → Onward p m (note (draft_of d []) (given d.value us)) n (return (made_of k))
@@ -239,7 +240,7 @@ module _ (p : Program) (m : Shape) (site : ℕ) (bytes : List ℕ) (v : Value) (
   starts : Onward p m (print site bytes (given v us)) m (note d (given w us) >>= (λ e. write_out bytes))
   starts = rw (drafted, same) (print_starts p m site bytes v us fits)
 
-  pub print_halts : (e : Halt) → Answers p made_of (Err e) m (note d (given w us)) n → Answers p (itself {X = Unit {0}}) (Err e) m (print site bytes (given v us)) n
+  pub print_halts : (e : Halt) → StepGives p made_of (Err e) m (note d (given w us)) n → StepGives p (itself {X = Unit {0}}) (Err e) m (print site bytes (given v us)) n
   print_halts e h = answers_then (itself {X = Unit {0}}) p e m m n _ _ starts (answers_after p m n (note d (given w us)) made_of (itself {X = Unit {0}}) (λ e. write_out bytes) _ e (λ s. refl) h)
 
   pub print_goes : (k : ℕ) → Onward p m (note d (given w us)) n (return (made_of k)) → (out : List ℕ) → out ≡ n.output ++ bytes → Onward p m (print site bytes (given v us)) (record n { output = out }) (return (itself tt))

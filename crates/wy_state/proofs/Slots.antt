@@ -21,7 +21,7 @@ use Rattle.wy_steps.specs.State.{State, Store, Held, Done, go_on, ◌>>=◌, ret
 use Rattle.wy_steps.specs.Steps.{held_of, frame, code_of, is_begun, event_at, declare, no_value, owner_in, slot_with, with_stored}
 use Rattle.wy_meaning.specs.World.{World, length_of, type_of, units_of}
 use Rattle.wy_meaning.specs.Statement.{declaration}
-use Rattle.wy_calls.specs.Calls.{Frame, Standing, frame_of, event_of, locals_of, with_local, with_newest}
+use Rattle.wy_calls.specs.Calls.{CallFrame, CallStack, frame_of, event_of, locals_of, with_local, with_newest}
 use Rattle.wy_calls.specs.Calls as calls
 use Rattle.wy_heap.specs.declared.heap.Heap.{Heap}
 use Rattle.wy_heap.specs.Heap.{held, code, size, text, is_made}
@@ -99,7 +99,7 @@ module _ (store : Store nothing) (f i : ℕ) where
 -- ---- locals
 
 module _ (old new : Store nothing) (i : ℕ) (v : Value) where
-  put_newest : (bound : ℕ) (g : Frame) (fs : List Frame) → Fall bound (g ∷ fs) → i < length g.locals → Puts old new (Local g.event i) v → HasLocals old (g ∷ fs) → HasLocals new (with_newest i v (g ∷ fs))
+  put_newest : (bound : ℕ) (g : CallFrame) (fs : List CallFrame) → Fall bound (g ∷ fs) → i < length g.locals → Puts old new (Local g.event i) v → HasLocals old (g ∷ fs) → HasLocals new (with_newest i v (g ∷ fs))
   put_newest bound g fs falls lt puts has f j u is = elim (eqb_tells g.event f) as (λ _. value_in new (Local f j) ≡ u) [
     | inl same ↦ rw (← same.1) (newest j (rw same.0 at is))
     | inr other ↦ ap (λ o. (held_of o).value) (puts.others (Local f j) (other_local g.event i f j (λ both. other.1 (sym both.0)))) ∙ has f j u (rw other.0 (rw other.0 at is))
@@ -115,19 +115,19 @@ module _ (old new : Store nothing) (i : ℕ) (v : Value) where
             ap (λ o. (held_of o).value) (puts.others (Local g.event k) (other_local g.event i g.event k (λ both. other.1 both.1))) ∙ has g.event k u before
       ]
 
-  pub put_local : (bound : ℕ) (fs : List Frame) (f : ℕ) → event_of fs ≡ Some f → i < length (locals_of fs) → Fall bound fs → Puts old new (Local f i) v → HasLocals old fs → HasLocals new (with_newest i v fs)
+  pub put_local : (bound : ℕ) (fs : List CallFrame) (f : ℕ) → event_of fs ≡ Some f → i < length (locals_of fs) → Fall bound fs → Puts old new (Local f i) v → HasLocals old fs → HasLocals new (with_newest i v fs)
   put_local bound [] f is lt falls puts has = cc
   put_local bound (g ∷ fs) f is lt falls puts has = let same : g.event ≡ f = cc in put_newest bound g fs falls lt (rw same puts) has
 
-  pub put_fresh : (bound : ℕ) (fs : List Frame) (f : ℕ) → event_of fs ≡ Some f → Fall bound fs → Puts old new (Local f i) v → HasFreshLocals old bound → HasFreshLocals new bound
+  pub put_fresh : (bound : ℕ) (fs : List CallFrame) (f : ℕ) → event_of fs ≡ Some f → Fall bound fs → Puts old new (Local f i) v → HasFreshLocals old bound → HasFreshLocals new bound
   put_fresh bound [] f is falls puts fresh h j le = cc
   put_fresh bound (g ∷ fs) f is falls puts fresh h j le = let same : g.event ≡ f = cc in puts.others (Local h j) (other_local f i h j (λ both. absurd (omega (arith, falls.0, same, both.0, le)))) ∙ fresh h j le
 
-same_frames : (i : ℕ) (v : Value) (fs : List Frame) → event_of (with_newest i v fs) ≡ event_of fs
+same_frames : (i : ℕ) (v : Value) (fs : List CallFrame) → event_of (with_newest i v fs) ≡ event_of fs
 same_frames i v [] = refl
 same_frames i v (g ∷ fs) = refl
 
-still_fall : (bound i : ℕ) (v : Value) (fs : List Frame) → Fall bound fs → Fall bound (with_newest i v fs)
+still_fall : (bound i : ℕ) (v : Value) (fs : List CallFrame) → Fall bound fs → Fall bound (with_newest i v fs)
 still_fall bound i v [] h = tt
 still_fall bound i v (g ∷ fs) h = h
 
@@ -173,7 +173,7 @@ module _ (p : Program) (m : Shape) (s : State nothing) (f i : ℕ) (v : Value) (
       (λ g un. puts.others (Static g) (not_static f i g 0) ∙ a.fresh_statics g un)
       (λ n le. unmade_stay n (a.unmade n le)) a
 
-module _ (p : Program) (m : Shape) (i : ℕ) (v : Value) (new : Standing) (is : new ≡ with_local i v m.calls) (lt : i < length (locals_of m.calls.frames)) where
+module _ (p : Program) (m : Shape) (i : ℕ) (v : Value) (new : CallStack) (is : new ≡ with_local i v m.calls) (lt : i < length (locals_of m.calls.frames)) where
   pub put_local_goes : (f : ℕ) → present f ≡ frame_of m.calls → present f ≡ Some f → Onward p m (put (Local f i) v) (record m { calls = new }) (return (itself tt))
   unfolding return with_stored
   put_local_goes f framed known = rw is (record {
@@ -184,8 +184,8 @@ module _ (p : Program) (m : Shape) (i : ℕ) (v : Value) (new : Standing) (is : 
     };
   })
 
-module _ (p : Program) (m : Shape) (i : ℕ) (new : Standing) (is : new ≡ with_local i Nothing m.calls) (lt : i < length (locals_of m.calls.frames)) where
-  running : (fs : List Frame) → i < length (locals_of fs) → (f : ℕ) × (event_of fs ≡ Some f)
+module _ (p : Program) (m : Shape) (i : ℕ) (new : CallStack) (is : new ≡ with_local i Nothing m.calls) (lt : i < length (locals_of m.calls.frames)) where
+  running : (fs : List CallFrame) → i < length (locals_of fs) → (f : ℕ) × (event_of fs ≡ Some f)
   running [] lt = absurd (omega (arith, lt))
   running (g ∷ fs) lt = (g.event, refl)
 

@@ -11,12 +11,13 @@ use Rattle.wy_event.specs.declared.record.Kind.TheVariants as kinds
 use Rattle.wy_event.specs.declared.record.Use.{Use}
 use Rattle.wy_steps.specs.Sets.{nothing}
 use Rattle.wy_steps.specs.State.{Noted, State, UnitLimit, choose, go_on, ◌>>=◌, ◌>>◌, return, stop}
-use Rattle.wy_steps.specs.Steps.{event_in, event_limit, is_init_of, made, next_event, note, noting, take_units, unit_limit, use_limit, with_event, with_units}
+use Rattle.wy_kernel.specs.Limits.{event_limit, unit_limit, use_limit}
+use Rattle.wy_steps.specs.Steps.{event_in, is_init_of, made, next_event, note, noting, take_units, with_event, with_units}
 use Rattle.wy_meaning.specs.World.{spelling, type_in, length_in, units_in}
 use Rattle.wy_heap.specs.declared.heap.Heap.{Heap}
 use Rattle.wy_heap.specs.Heap.{held}
 use Rattle.wy_heap.specs.Changes.{MakesText, is_part}
-use Rattle.wy_state.specs.Agrees.{Shape, Agrees, Answers, Onward, Refusing, HasSlots, HasCodes, HasSizes, HasTexts, IsUnmade, value_in, with_record}
+use Rattle.wy_state.specs.Agrees.{Shape, Agrees, StepGives, Onward, Refusing, HasSlots, HasCodes, HasSizes, HasTexts, IsUnmade, value_in, with_record}
 use Rattle.wy_state.specs.declared.parts.Draft.{Draft as Drafted}
 use Rattle.wy_state.specs.declared.parts.Halt.{Halt}
 use Rattle.wy_state.specs.Seen.{draft_of, given, made_of}
@@ -114,7 +115,7 @@ module _ (p : Program) (m : Shape) (site : ℕ) (xs : List ℕ) (us : List Use) 
           record { state = record s { units = s.units + length xs }; agrees = with_more_units p m s x (s.units + length xs) (ap (λ k. k + length xs) a.units ∙ sym taken) a; is = rw has refl };
     }
 
-    pub text_refused : (n : Shape) (e : Halt) → Refusing us e (record m { units = x }) n → Answers p made_of (Err e) m (make_text site xs us) n
+    pub text_refused : (n : Shape) (e : Halt) → Refusing us e (record m { units = x }) n → StepGives p made_of (Err e) m (make_text site xs us) n
     text_refused n e h = answers_then made_of p e m (record m { units = x }) n _ _ units_taken (note_refused p (record m { units = x }) (spelling site xs) Nothing us made_of n e h)
 
     text_goes : (n : Shape) (k : ℕ) (h : Heap) → k ≡ m.events → m.events < event_limit → m.uses + length us ≤ use_limit → MakesText k xs m.heap h →
@@ -136,6 +137,6 @@ module _ (p : Program) (m : Shape) (site : ℕ) (xs : List ℕ) (us : List Use) 
         onward_then units_taken (text_goes (record n { heap = h }) k h r.0 r.1 r.2 made_here shaped)
 
 -- the draft of a Text
-pub drafted_text : (site : ℕ) (xs : List ℕ) → draft_of (record { kind = kinds.Text; site = site; what = 4294967295; slot = slot.None; value = Nothing }) xs ≡ spelling site xs
+pub drafted_text : (site : ℕ) (xs : List ℕ) → draft_of (record { kind = kinds.Text; site = site; entity = 4294967295; slot = slot.None; value = Nothing }) xs ≡ spelling site xs
 unfolding spelling
 drafted_text site xs = rw present_none refl

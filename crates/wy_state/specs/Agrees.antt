@@ -13,9 +13,10 @@ use Rattle.wy_event.specs.declared.record.Use.{Use}
 use Rattle.wy_event.specs.Record.{Recorded}
 use Rattle.wy_steps.specs.Sets.{nothing}
 use Rattle.wy_steps.specs.State.{State, Store, Covered, Noted, Run, Outcome, return, stop, leave}
-use Rattle.wy_steps.specs.Steps.{Draft, event_limit, use_limit, held_of, parent, event_in, has_init, owner_in}
+use Rattle.wy_kernel.specs.Limits.{event_limit, use_limit}
+use Rattle.wy_steps.specs.Steps.{Draft, held_of, parent, event_in, has_init, owner_in}
 use Rattle.wy_meaning.specs.World.{type_in, length_in, units_in}
-use Rattle.wy_calls.specs.Calls.{Frame, Standing, frame_of}
+use Rattle.wy_calls.specs.Calls.{CallFrame, CallStack, frame_of}
 use Rattle.wy_calls.specs.Calls as calls
 use Rattle.wy_heap.specs.declared.heap.Heap.{Heap}
 use Rattle.wy_heap.specs.Plan.{plan_of}
@@ -29,7 +30,7 @@ use Rattle.wy_state.specs.Seen.{blank, covered_of, reason_of, stop_of}
 
 -- what contracts see of the state in memory; no frame from `entered` on was entered
 pub record Shape : Type 0 where
-  pub calls : Standing
+  pub calls : CallStack
   pub heap : Heap
   pub entered : ℕ
   pub events : ℕ
@@ -69,7 +70,7 @@ event_of d us m = record {
   site = d.site;
   frame = frame_of m.calls;
   control = parent m.calls.active;
-  what = d.what;
+  entity = d.entity;
   slot = d.slot;
   value = d.value;
   units = d.units;
@@ -91,12 +92,12 @@ abbrev pub value_in : Store nothing → Slot → Value
 value_in store x = (held_of (store x)).value
 
 -- the frames have falling numbers, from below a bound
-abbrev pub Fall : ℕ → List Frame → Type 0
+abbrev pub Fall : ℕ → List CallFrame → Type 0
 Fall bound [] = Unit {0}
 Fall bound (f ∷ fs) = (f.event < bound) × Fall f.event fs
 
 -- what the locals of the live frames hold is what the store has
-abbrev pub HasLocals : Store nothing → List Frame → Type 0
+abbrev pub HasLocals : Store nothing → List CallFrame → Type 0
 HasLocals store fs = (f i : ℕ) (v : Value) → calls.held fs f i ≡ Some v → value_in store (Local f i) ≡ v
 
 -- the locals of frames from this number on were never made
@@ -171,12 +172,12 @@ pub record Onward {X : Type 0} (p : Program) (m : Shape) (f : Run nothing X) (n 
   pub from : (s : State nothing) → Agrees p m s → Comes p n g (f s)
 
 -- the step was done with this result, or was left, or the run stopped; the recorder or memory may refuse
-abbrev pub Answers : {X Y : Type 0} → Program → (X → Y) → Result X Halt → Shape → Run nothing Y → Shape → Type 0
-Answers p view (Ok x) m f n = Onward p m f n (return (view x))
-Answers p view (Err (Left why)) m f n = Onward p m f n (leave (reason_of why))
-Answers p view (Err (Stopped why)) m f n = Onward p m f n (stop (stop_of why))
-Answers p view (Err (Recorder e)) m f n = Unit {0}
-Answers p view (Err Memory) m f n = Unit {0}
+abbrev pub StepGives : {X Y : Type 0} → Program → (X → Y) → Result X Halt → Shape → Run nothing Y → Shape → Type 0
+StepGives p view (Ok x) m f n = Onward p m f n (return (view x))
+StepGives p view (Err (Left why)) m f n = Onward p m f n (leave (reason_of why))
+StepGives p view (Err (Stopped why)) m f n = Onward p m f n (stop (stop_of why))
+StepGives p view (Err (Recorder e)) m f n = Unit {0}
+StepGives p view (Err Memory) m f n = Unit {0}
 
 -- the step was done with this result, or memory is wanting
 abbrev pub Meets : {X Y : Type 0} → Program → (X → Y) → Result X AllocError → Shape → Run nothing Y → Shape → Type 0
@@ -187,13 +188,13 @@ abbrev pub itself : {X : Type 0} → X → X
 itself x = x
 
 -- but for locals, what stands of the calls is the same
-pub record IsSameButLocals (old new : Standing) : Type 0 where
-  pub frames : map (λ (f : Frame). f.event) new.frames ≡ map (λ (f : Frame). f.event) old.frames
+pub record IsSameButLocals (old new : CallStack) : Type 0 where
+  pub frames : map (λ (f : CallFrame). f.event) new.frames ≡ map (λ (f : CallFrame). f.event) old.frames
   pub active : new.active ≡ old.active
   pub scopes : new.scopes ≡ old.scopes
 
 -- so it is after what was done, was left or stopped; the recorder or memory may refuse in the middle
-abbrev pub KeepsFrames : {X : Type 0} → Result X Halt → Standing → Standing → Type 0
+abbrev pub KeepsFrames : {X : Type 0} → Result X Halt → CallStack → CallStack → Type 0
 KeepsFrames (Ok x) old new = IsSameButLocals old new
 KeepsFrames (Err (Left why)) old new = IsSameButLocals old new
 KeepsFrames (Err (Stopped why)) old new = IsSameButLocals old new

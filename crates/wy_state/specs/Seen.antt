@@ -53,4 +53,4 @@ reason_of (Threw e v) = run.Threw e (valued e v)
 
 -- what an event says of itself, with these units
 abbrev pub draft_of : Draft → List ℕ → steps.Draft
-draft_of d units = record { kind = d.kind; site = d.site; what = present d.what; slot = d.slot; value = d.value; units = units }
+draft_of d units = record { kind = d.kind; site = d.site; entity = present d.entity; slot = d.slot; value = d.value; units = units }

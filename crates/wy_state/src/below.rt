@@ -6,8 +6,9 @@ ghost use Rattle.wy_kernel.specs.Program.{base_below, is_above, is_below, is_obj
 ghost use Rattle.wy_kernel.specs.View.{present};
 ghost use Rattle.wy_state.specs.Below.{goes_up, reaches};
 
-use crate::subtype::{OBJECT, primitive_code};
 use std::alloc::{AllocError, Global};
+use wy_kernel::builtin::OBJECT;
+use wy_kernel::code::primitive_code;
 use wy_kernel::program::Program;
 use wy_kernel::types::{Base, Class, NONE, Ty};
 

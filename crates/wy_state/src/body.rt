@@ -5,7 +5,7 @@ ghost use Rattle.wy_state.specs.Seen.{blank};
 ghost use Rattle.wy_calls.specs.Calls.{activated, closed, ended, entered, frame_of, left, opened, rest_of, event_of, first_of};
 ghost use Rattle.wy_kernel.specs.Program.{Program};
 ghost use Rattle.wy_steps.specs.State.{Around, Through};
-ghost use Rattle.wy_steps.specs.Steps.{depth_limit};
+ghost use Rattle.wy_kernel.specs.Limits.{depth_limit};
 ghost use Rattle.wy_state.specs.Agrees.{shape, Meets, Onward, itself};
 ghost use Rattle.wy_steps.specs.State.{return};
 ghost use Rattle.wy_state.specs.Agrees.{IsCaused};

@@ -5,15 +5,16 @@ ghost use Rattle.wy_event.specs.declared.record.Kind.{Kind};
 ghost use Rattle.wy_event.specs.Record.{recorded};
 ghost use Rattle.wy_kernel.specs.Program.{Program};
 ghost use Rattle.wy_steps.specs.Steps.{note, note_write};
-ghost use Rattle.wy_state.specs.Agrees.{shape, Answers, KeepsFrames, Recording, event_of, itself, throw_at};
+ghost use Rattle.wy_state.specs.Agrees.{shape, StepGives, KeepsFrames, Recording, event_of, itself, throw_at};
 ghost use Rattle.wy_state.specs.Seen.{draft_of, given, made_of};
 
 use crate::parts::{Draft, Halt, Limit, Throw};
-use crate::state::{EVENT_LIMIT, State, USE_LIMIT};
+use crate::state::State;
 use std::alloc::AllocError;
 use std::mem;
 use wy_event::record::{Event, Kind, Use};
 use wy_event::sequence::Sequence;
+use wy_kernel::limit::{EVENT_LIMIT, USE_LIMIT};
 use wy_record::{Phase, RecordError, Recorder};
 
 impl<'a, R: Recorder> State<'a, R> {
@@ -71,7 +72,7 @@ impl<'a, R: Recorder> State<'a, R> {
             site: draft.site,
             frame: self.calls.frame(),
             control: self.calls.control(),
-            what: draft.what,
+            entity: draft.entity,
             slot: draft.slot,
             value: draft.value,
             units: Sequence::new(units),
@@ -81,7 +82,7 @@ impl<'a, R: Recorder> State<'a, R> {
 
     /// Records an event that makes nothing, and gives its number.
     pub fn note(&mut self, draft: Draft, uses: &[Use]) -> Result<u32, Halt>
-        ensures step { (p : Program) → Answers p made_of result (shape R.keeps R.kept self.old)
+        ensures step { (p : Program) → StepGives p made_of result (shape R.keeps R.kept self.old)
             (note (draft_of draft []) (given draft.value uses.now))
             (shape R.keeps R.kept self.new) }
         ensures number { IfOk result (λ n. n ≡ self.old.events) }
@@ -98,7 +99,7 @@ impl<'a, R: Recorder> State<'a, R> {
 
     /// Records a Bind, Set or Catch, whose slot then holds the value.
     pub fn note_write(&mut self, draft: Draft, uses: &[Use]) -> Result<u32, Halt>
-        ensures step { (p : Program) → Answers p made_of result (shape R.keeps R.kept self.old)
+        ensures step { (p : Program) → StepGives p made_of result (shape R.keeps R.kept self.old)
             (note_write (draft_of draft []) (given draft.value uses.now))
             (shape R.keeps R.kept self.new) }
         ensures frames { KeepsFrames result self.old.calls self.new.calls }

@@ -11,4 +11,3 @@ pub mod name;
 pub mod parts;
 mod slot;
 pub mod state;
-pub mod subtype;

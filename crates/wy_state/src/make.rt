@@ -7,24 +7,23 @@ ghost use Rattle.wy_kernel.specs.Program.{Program};
 ghost use Rattle.wy_meaning.specs.World.{about, class_code};
 ghost use Rattle.wy_steps.specs.Steps.{note_new};
 ghost use Rattle.wy_value.specs.declared.value.Value.TheVariants.{None as Nothing};
-ghost use Rattle.wy_state.specs.Agrees.{shape, Answers};
+ghost use Rattle.wy_state.specs.Agrees.{shape, StepGives};
 ghost use Rattle.wy_state.specs.Seen.{given, made_of};
 ghost use Rattle.wy_state.specs.Steps.{make_array, make_text};
 
 use crate::parts::{Draft, Halt, Limit};
-use crate::state::{ELEMENT_LIMIT, State, UNIT_LIMIT};
+use crate::state::State;
 use wy_event::record::{Kind, Slot, Use};
+use wy_kernel::code::FIRST_CLASS_CODE;
+use wy_kernel::limit::{ELEMENT_LIMIT, UNIT_LIMIT};
 use wy_kernel::types::NONE;
 use wy_record::Recorder;
 use wy_value::Value;
 
-/// The classes stand behind this number in the code of a type.
-const CLASSES: u32 = 16;
-
 impl<'a, R: Recorder> State<'a, R> {
     /// Records the New of an object, whose fields then hold their defaults.
     pub fn note_object(&mut self, site: u32, class: u32, uses: &[Use]) -> Result<u32, Halt>
-        ensures step { (p : Program) → Answers p made_of result (shape R.keeps R.kept self.old)
+        ensures step { (p : Program) → StepGives p made_of result (shape R.keeps R.kept self.old)
             (note_new p (about kind.New site (class_code class) Nothing) (given Nothing uses.now))
             (shape R.keeps R.kept self.new) }
         ensures number { IfOk result (λ n. n ≡ self.old.events) }
@@ -32,13 +31,13 @@ impl<'a, R: Recorder> State<'a, R> {
         ensures left { self.new.left ≡ self.old.left }
         ensures events { OnOk result (self.new.events ≡ self.old.events + 1) }
     {
-        if class >= NONE - CLASSES {
+        if class >= NONE - FIRST_CLASS_CODE {
             return Err(Halt::Memory);
         }
         let draft = Draft {
             kind: Kind::New,
             site,
-            what: CLASSES + class,
+            entity: FIRST_CLASS_CODE + class,
             slot: Slot::None,
             value: Value::None,
         };
@@ -55,7 +54,7 @@ impl<'a, R: Recorder> State<'a, R> {
         length: u32,
         uses: &[Use],
     ) -> Result<u32, Halt>
-        ensures step { (p : Program) → Answers p made_of result (shape R.keeps R.kept self.old)
+        ensures step { (p : Program) → StepGives p made_of result (shape R.keeps R.kept self.old)
             (make_array p site code length uses.now) (shape R.keeps R.kept self.new) }
         ensures calls { self.new.calls ≡ self.old.calls }
         ensures left { self.new.left ≡ self.old.left }
@@ -75,7 +74,7 @@ impl<'a, R: Recorder> State<'a, R> {
         let draft = Draft {
             kind: Kind::New,
             site,
-            what: code,
+            entity: code,
             slot: Slot::None,
             value: Value::Int(size),
         };
@@ -86,7 +85,7 @@ impl<'a, R: Recorder> State<'a, R> {
 
     /// Records a Text that the run makes, which then has these units.
     pub fn note_text(&mut self, site: u32, units: Vec<u16>, uses: &[Use]) -> Result<u32, Halt>
-        ensures step { (p : Program) → Answers p made_of result (shape R.keeps R.kept self.old)
+        ensures step { (p : Program) → StepGives p made_of result (shape R.keeps R.kept self.old)
             (make_text site units.items uses.now) (shape R.keeps R.kept self.new) }
         ensures calls { self.new.calls ≡ self.old.calls }
         ensures left { self.new.left ≡ self.old.left }
@@ -100,7 +99,7 @@ impl<'a, R: Recorder> State<'a, R> {
         let draft = Draft {
             kind: Kind::Text,
             site,
-            what: NONE,
+            entity: NONE,
             slot: Slot::None,
             value: Value::None,
         };
@@ -112,7 +111,7 @@ impl<'a, R: Recorder> State<'a, R> {
     /// Records the Init of a class that wasn't made, whose static fields then hold their defaults.
     pub fn note_init(&mut self, site: u32, class: u32) -> Result<u32, Halt>
         requires { is_made self.old.heap class ≡ false }
-        ensures step { (p : Program) → Answers p made_of result (shape R.keeps R.kept self.old)
+        ensures step { (p : Program) → StepGives p made_of result (shape R.keeps R.kept self.old)
             (note_new p (about kind.Init site class Nothing) (given Nothing []))
             (shape R.keeps R.kept self.new) }
         ensures calls { self.new.calls ≡ self.old.calls }
@@ -125,7 +124,7 @@ impl<'a, R: Recorder> State<'a, R> {
         let draft = Draft {
             kind: Kind::Init,
             site,
-            what: class,
+            entity: class,
             slot: Slot::None,
             value: Value::None,
         };

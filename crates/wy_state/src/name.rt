@@ -3,11 +3,11 @@
 ghost use Rattle.std.specs.Prelude.{◌≡◌, ◌++◌, IfOk, codes};
 ghost use Rattle.wy_kernel.specs.Parts.{program_of};
 ghost use Rattle.wy_kernel.specs.Program.{class, full_name};
-ghost use Rattle.wy_meaning.specs.Library.{base_name, hexadecimal, primitive_name, type_name};
+ghost use Rattle.wy_meaning.specs.Library.{base_name, hexadecimal, type_name};
 
 use std::alloc::{AllocError, Global};
 use wy_kernel::builtin::FIRST_SOURCE_CLASS;
-use wy_kernel::operator::Primitive;
+use wy_kernel::code::primitive_name;
 use wy_kernel::program::Program;
 use wy_kernel::types::{Base, Ty};
 
@@ -73,20 +73,6 @@ fn base_name(alloc: Global, program: &Program, base: Base) -> Result<Vec<u8>, Al
     match base {
         Base::Primitive(primitive) => joined(alloc, "", primitive_name(primitive)),
         Base::Class(class) => full_name(alloc, program, class),
-    }
-}
-
-#[tactic(auto, unfolding(wy_meaning::specs::Library::primitive_name))]
-fn primitive_name(primitive: Primitive) -> &'static str
-    ensures { result.now ≡ primitive_name primitive }
-{
-    match primitive {
-        Primitive::Bool => "boolean",
-        Primitive::Byte => "byte",
-        Primitive::Short => "short",
-        Primitive::Char => "char",
-        Primitive::Int => "int",
-        Primitive::Long => "long",
     }
 }
 

@@ -80,7 +80,7 @@ pub struct Throw {
 pub struct Draft {
     pub kind: Kind,
     pub site: u32,
-    pub what: u32,
+    pub entity: u32,
     pub slot: Slot,
     pub value: Value,
 }
@@ -99,7 +99,7 @@ impl Draft {
         Draft {
             kind,
             site,
-            what: NONE,
+            entity: NONE,
             slot: Slot::None,
             value,
         }
@@ -115,7 +115,7 @@ impl Draft {
         Draft {
             kind,
             site,
-            what: NONE,
+            entity: NONE,
             slot,
             value,
         }

@@ -13,9 +13,9 @@ ghost use Rattle.wy_state.specs.Agrees.{shape, IsSameButLocals, Meets, Onward, i
 ghost use Rattle.wy_state.specs.Steps.{local_slot, put, value_of_slot};
 
 use crate::state::State;
-use crate::subtype::type_of_code;
 use std::alloc::AllocError;
 use wy_event::record::Slot;
+use wy_kernel::code::type_of_code;
 use wy_kernel::program::Program;
 use wy_kernel::types::{Base, NONE, Ty};
 use wy_record::Recorder;

@@ -5,7 +5,7 @@ ghost use Rattle.wy_kernel.specs.Program.{Program};
 ghost use Rattle.wy_meaning.specs.Text.{print};
 ghost use Rattle.wy_steps.specs.State.{return};
 ghost use Rattle.wy_steps.specs.Steps.{next_byte, steps_left, tick};
-ghost use Rattle.wy_state.specs.Agrees.{shape, Answers, Onward, itself};
+ghost use Rattle.wy_state.specs.Agrees.{shape, StepGives, Onward, itself};
 ghost use Rattle.wy_state.specs.Seen.{given};
 
 use crate::parts::{Draft, Halt, Limit, Throw};
@@ -13,18 +13,9 @@ use std::alloc::{AllocError, Global};
 use wy_calls::Calls;
 use wy_event::record::{Cover, Kind, Use};
 use wy_heap::Heap;
+use wy_kernel::limit::OUTPUT_LIMIT;
 use wy_record::Recorder;
 use wy_value::Value;
-
-pub const EVENT_LIMIT: u32 = 4_000_000;
-
-pub const USE_LIMIT: u32 = 32_000_000;
-
-pub const ELEMENT_LIMIT: u32 = 16_777_216;
-
-pub const UNIT_LIMIT: u32 = 16_777_216;
-
-pub const OUTPUT_LIMIT: usize = 16_777_216;
 
 /// What stands of a run.
 #[derive(Drop)]
@@ -55,7 +46,7 @@ pub struct State<'a, R> {
 impl<'a, R: Recorder> State<'a, R> {
     /// One step of the budget.
     pub fn tick(&mut self) -> Result<(), Halt>
-        ensures step { (p : Program) → Answers p itself result
+        ensures step { (p : Program) → StepGives p itself result
             (shape R.keeps R.kept self.old) tick (shape R.keeps R.kept self.new) }
         ensures calls { self.new.calls ≡ self.old.calls }
         ensures spent { OnOk result (self.new.left + 1 ≡ self.old.left) }
@@ -96,7 +87,7 @@ impl<'a, R: Recorder> State<'a, R> {
 
     /// Records a Print and writes its bytes.
     pub fn print(&mut self, site: u32, value: Value, bytes: &[u8], uses: &[Use]) -> Result<(), Halt>
-        ensures step { (p : Program) → Answers p itself result (shape R.keeps R.kept self.old)
+        ensures step { (p : Program) → StepGives p itself result (shape R.keeps R.kept self.old)
             (print site bytes.now (given value uses.now)) (shape R.keeps R.kept self.new) }
         ensures calls { self.new.calls ≡ self.old.calls }
         ensures left { self.new.left ≡ self.old.left }

@@ -18,7 +18,7 @@ use Rattle.wy_static.specs.declared.point.LinkKind.{LinkKind}
 use Rattle.wy_static.specs.declared.point.LinkKind.TheVariants as kind
 use Rattle.wy_static.specs.declared.point.Link.{Link}
 use Rattle.wy_static.specs.Along.{AreCalledAt, AreCalled, AddsCall, IsBehind, called_by, entry_of, method_called}
-use Rattle.wy_static.specs.Answers.{call_to}
+use Rattle.wy_static.specs.LookUps.{call_to}
 use Rattle.wy_static.specs.Order.{link_cmp}
 use Rattle.wy_static.specs.Rows.{Rows, kept_under, last_of, one_if}
 use Rattle.wy_static.proofs.Contained.{none, alone, first_in, same_in}

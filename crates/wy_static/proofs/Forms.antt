@@ -12,7 +12,7 @@ use Rattle.wy_kernel.specs.View.{place as place_seen}
 use Rattle.wy_static.specs.declared.way.Owner.{Owner}
 use Rattle.wy_static.specs.Forms.{forms, forms_within, place_forms, row_forms}
 use Rattle.wy_static.proofs.Behind.{at, behind_on, leaf}
-use Rattle.wy_static.proofs.Views.{view_const, view_str, view_local, view_static}
+use Rattle.wy_kernel.proofs.ExpressionViews.{view_const, view_str, view_local, view_static}
 
 abbrev pub Found : Type 0
 Found = List (Owner × plain.Expression)

@@ -32,7 +32,7 @@ use Rattle.wy_static.specs.declared.way.Goal.TheVariants.{Known}
 use Rattle.wy_static.specs.declared.way.Way.{Way}
 use Rattle.wy_static.specs.Ways.{act_forms, call_at, flow, form_ways, in_order, initializing, owned_ways, owner_of, placing, printing, statement_ways, to, to_catch, to_catches}
 use Rattle.wy_static.proofs.Behind.{Leaves, at, behind_on, leaf}
-use Rattle.wy_static.proofs.Views.{view_const, view_str, view_un, view_bin, view_conv, view_cast, view_instance, view_new_array, view_lib, view_local, view_field, view_elem}
+use Rattle.wy_kernel.proofs.ExpressionViews.{view_const, view_str, view_un, view_bin, view_conv, view_cast, view_instance, view_new_array, view_lib, view_local, view_field, view_elem}
 
 pub owner : (s : Stmt) → (o : Owner) → o ≡ record { point = point.Statement s.number; site = s.site } → o ≡ owner_of (statement s)
 owner s o is = is ∙ sym (ap owner_of (view_statement s))

@@ -27,7 +27,7 @@ use Rattle.wy_static.specs.declared.standing.Standing.{Standing}
 use Rattle.wy_static.specs.Ways.{act_forms, owner_of}
 use Rattle.wy_static.specs.Standings.{arm_standings, catch_standings, form_standings, standing, standings_in, try_standings}
 use Rattle.wy_static.proofs.Behind.{at, behind_on, leaf}
-use Rattle.wy_static.proofs.Views.{view_const, view_str, view_read, view_set, view_upd, view_un, view_bin, view_conv, view_cast, view_instance, view_new, view_new_array, view_call, view_cat, view_lib}
+use Rattle.wy_kernel.proofs.ExpressionViews.{view_const, view_str, view_read, view_set, view_upd, view_un, view_bin, view_conv, view_cast, view_instance, view_new, view_new_array, view_call, view_cat, view_lib}
 
 -- a form without arms
 abbrev pub HasNoArm : Expr → Type 0

@@ -6,7 +6,7 @@ use Rattle.wy_static.specs.Ways.{ways_of}
 use Rattle.wy_static.specs.declared.point.Link.{Link}
 use Rattle.wy_static.specs.declared.way.Way.{Way}
 use Rattle.wy_static.specs.Along.{AreAlong, AreCalled, SameLinks}
-use Rattle.wy_static.specs.Answers.{AreTargetsAt, call_to}
+use Rattle.wy_static.specs.LookUps.{AreTargetsAt, call_to}
 use Rattle.wy_static.specs.Links.{AreLinks}
 use Rattle.wy_static.specs.Order.{link_cmp}
 use Rattle.wy_static.specs.Rows.{Rows, kept_under}

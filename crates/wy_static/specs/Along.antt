@@ -16,7 +16,7 @@ use Rattle.wy_static.specs.declared.point.LinkKind.TheVariants as kind
 use Rattle.wy_static.specs.Rows.{Rows, kept_under}
 use Rattle.wy_static.specs.Order.{link_cmp, point_key, same_point, triple_cmp}
 use Rattle.wy_static.specs.Links.{IsAlong, IsAlongOneOf}
-use Rattle.wy_static.specs.Answers.{call_to}
+use Rattle.wy_static.specs.LookUps.{call_to}
 
 -- the link along a way to a point
 abbrev pub link_along : Way → Point → Link

@@ -6,5 +6,5 @@ pub mod Order
 pub mod Links
 pub mod Rows
 pub mod Receivers
-pub mod Answers
+pub mod LookUps
 pub mod Along

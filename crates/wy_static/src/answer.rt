@@ -4,7 +4,7 @@ ghost use Rattle.std.specs.Prelude.{◌≡◌};
 ghost use Rattle.std.specs.Option.{option_map_or};
 ghost use Rattle.wy_kernel.specs.Program as kernel;
 ghost use Rattle.wy_static.specs.Standings.{standings_of};
-ghost use Rattle.wy_static.specs.Answers.{AreLinksOf, AreTargetsAt, around_of, method_of, standing_at};
+ghost use Rattle.wy_static.specs.LookUps.{AreLinksOf, AreTargetsAt, around_of, method_of, standing_at};
 ghost use Rattle.wy_static.specs.Links.{AreLinks, AreLinksInto};
 
 use crate::order::{compare_points, point_key};

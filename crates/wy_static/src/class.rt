@@ -17,13 +17,10 @@ use crate::rows::{keep, numbers_under};
 use std::alloc::{AllocError, Global};
 use std::collections::BTreeMap;
 use wy_calls::Dispatcher;
+use wy_kernel::builtin::{OBJECT, STRING};
 use wy_kernel::closure::supertypes;
 use wy_kernel::program::Program;
 use wy_kernel::types::{Class, NONE};
-
-const OBJECT: u32 = 0;
-
-const STRING: u32 = 1;
 
 fn all_below(numbers: &[u32], many: usize) -> bool
     ensures { result ≡ true → (d : ℕ) → Contains numbers.now d → d < many }

@@ -2,9 +2,9 @@
 //! front end limits with the depth of its trees.
 
 ghost use Rattle.std.specs.Prelude.{◌≡◌, ◌++◌, map, OnOk};
-ghost use Rattle.wy_kernel.specs.View.{expression, place as place_seen, row_of};
+ghost use Rattle.wy_kernel.specs.View.{expression, place as place_seen, row_of, part_seen};
 ghost use Rattle.wy_static.specs.Forms.{arm_owner, forms, forms_within, part_forms, place_forms, row_forms};
-ghost use Rattle.wy_static.specs.Seen.{forms_seen, part_seen};
+ghost use Rattle.wy_static.specs.Seen.{forms_seen};
 
 use crate::point::Point;
 use crate::way::Owner;

@@ -12,7 +12,6 @@ pub mod point;
 mod rows;
 pub mod rule;
 pub mod standing;
-pub mod statement;
 pub mod way;
 
 pub use answer::Links;

@@ -7,7 +7,7 @@ ghost use Rattle.std.specs.Option.{option_or};
 ghost use Rattle.wy_static.specs.declared.point.Point.{Point};
 ghost use Rattle.wy_static.specs.Seen.{seen_by};
 ghost use Rattle.wy_static.specs.Along.{AddsAlong, AddsCall, AreAlong, AreCalled, SameLinks, entry_of, its_standing, kept_at, link_along, links_to_each, method_called};
-ghost use Rattle.wy_static.specs.Answers.{AreLinksOf, standing_at};
+ghost use Rattle.wy_static.specs.LookUps.{AreLinksOf, standing_at};
 ghost use Rattle.wy_static.specs.Order.{link_cmp};
 ghost use Rattle.wy_static.specs.Receivers.{AreTargets};
 ghost use Rattle.wy_static.specs.Rows.{kept_under, last_of};

@@ -4,23 +4,22 @@ ghost use Rattle.std.specs.Prelude.{◌≡◌, ◌++◌, ◌∷◌, ◌<◌, [],
 ghost use Rattle.std.specs.List.{flat_map, range_with_len};
 ghost use Rattle.wy_kernel.specs.Parts.{program_of};
 ghost use Rattle.wy_kernel.specs.Program.{class, field, is_source, method};
+ghost use Rattle.wy_kernel.specs.Substatements.{statements_seen};
 ghost use Rattle.wy_kernel.specs.View.{act, body_of, clause, clauses_of, expression, other, place as place_seen, present, statement, statements_of, test_of};
-ghost use Rattle.wy_static.specs.Seen.{forms_seen, seen_by, statements_seen};
+ghost use Rattle.wy_static.specs.Seen.{forms_seen, seen_by};
 ghost use Rattle.wy_static.specs.Ways.{above_ways, act_forms, arms, decides, in_part, by_test, call_at, called, calling, catch_owner, choosing, constructing, converting, entry_ways, flow, form_ways, in_order, init_ways, initializing, into_body, is_absent, owned_ways, owner_of, placing, printing, start_ways, statement_ways, to, to_catch, to_catches, to_other, updating, way, ways_of};
 
 use crate::form::{Owned, arm, put_forms};
 use crate::point::{LinkKind, Point};
-use crate::statement::put_bodies;
 use crate::way::{Decides, Goal, Owner, Way};
 use std::alloc::{AllocError, Global};
 use wy_calls::Dispatcher;
-use wy_kernel::builtin::FIRST_SOURCE_CLASS;
+use wy_kernel::builtin::{FIRST_SOURCE_CLASS, OBJECT};
 use wy_kernel::form::{Body, CallForm, Catch, Expr, Place, Stmt, StmtForm};
 use wy_kernel::operator::Primitive;
 use wy_kernel::program::Program;
+use wy_kernel::statements::statements_of;
 use wy_kernel::types::{Base, NONE, Ty};
-
-const OBJECT: u32 = 0;
 
 /// Object's `toString`.
 const TO_STRING: u32 = 0;
@@ -661,9 +660,7 @@ pub fn ways_of(alloc: Global, dispatcher: &Dispatcher) -> Result<Vec<Way>, Alloc
     ensures { IfOk result (λ ways. ways.items ≡ ways_of (seen_by dispatcher.now)) }
 {
     let program = dispatcher.program;
-    let mut statements = Vec::new(alloc);
-    put_bodies(&mut statements, &program.bodies)?;
-    put_bodies(&mut statements, &program.init_bodies)?;
+    let statements = statements_of(alloc, program)?;
     let mut ways = Vec::new(alloc);
     put_start(&mut ways, program)?;
     put_entries(&mut ways, program)?;

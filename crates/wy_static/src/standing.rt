@@ -4,18 +4,19 @@ ghost use Rattle.std.specs.Prelude.{◌≡◌, ◌++◌, ◌∷◌, ◌<◌, [],
 ghost use Rattle.std.specs.List.{flat_map, range_with_len};
 ghost use Rattle.wy_kernel.specs.Parts.{program_of};
 ghost use Rattle.wy_kernel.specs.Statements.{statements};
+ghost use Rattle.wy_kernel.specs.Substatements.{statements_seen};
 ghost use Rattle.wy_kernel.specs.View.{act, body_of, clause, clauses_of, expression, statement};
-ghost use Rattle.wy_static.specs.Seen.{forms_seen, statements_seen};
+ghost use Rattle.wy_static.specs.Seen.{forms_seen};
 ghost use Rattle.wy_static.specs.declared.point.Point.TheVariants as Point;
 ghost use Rattle.wy_static.specs.Standings.{arm_standings, both_arms, standing, body_standings, catch_standings, form_standings, initializer_number, initializer_standings, method_standings, standings_in, standings_of, try_standings};
 
 use crate::form::Owned;
 use crate::point::Point;
 use crate::rule::{owner_of, put_act_forms};
-use crate::statement;
 use std::alloc::{AllocError, Global};
 use wy_kernel::form::{Body, Catch, Expr, Stmt, StmtForm};
 use wy_kernel::program::Program;
+use wy_kernel::statements;
 use wy_kernel::types::NONE;
 
 /// Initializers are numbered behind methods.
@@ -192,7 +193,7 @@ fn put_block(
         ++ flat_map (standings_in method) (statements (statement block.now))) }
 {
     let mut found = Vec::new(alloc);
-    statement::put_statement(&mut found, block)?;
+    statements::put_statement(&mut found, block)?;
     put_all(alloc, out, method, &found)
 }
 

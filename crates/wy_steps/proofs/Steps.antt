@@ -8,7 +8,8 @@ use Rattle.wy_event.specs.declared.record.Slot.TheVariants as slot
 use Rattle.wy_event.specs.Record.{same_slot}
 use Rattle.wy_steps.specs.Sets.{Sets}
 use Rattle.wy_steps.specs.State.{Carried, Held, State, Stop, Outcome, Done, Left, Stopped, Run, EventLimit, UseLimit, ElementLimit, UnitLimit, stop, choose}
-use Rattle.wy_steps.specs.Steps.{event_limit, use_limit, element_limit, unit_limit, pay, tick, held_of, read, slot_with, no_value, declare, next_event, made, with_event, room_for, noting, note, held_by, with_stored, writing, note_write, if_empty, with_created, creating, note_new, active_again, scoped, frame_again, in_frame, with_elements, take_elements, with_units, take_units}
+use Rattle.wy_kernel.specs.Limits.{event_limit, use_limit, element_limit, unit_limit}
+use Rattle.wy_steps.specs.Steps.{pay, tick, held_of, read, slot_with, no_value, declare, next_event, made, with_event, room_for, noting, note, held_by, with_stored, writing, note_write, if_empty, with_created, creating, note_new, active_again, scoped, frame_again, in_frame, with_elements, take_elements, with_units, take_units}
 use Rattle.wy_steps.specs.Laws.{IfDone, end_of, TakesOne, IsSlot, carried_of, ReadsWhatWasWritten, LeavesOthers, ReplacesNothing, emptied, TakesTheValue, AppendsOne, WritesOne, CreatesOne, EntriesComeBack, FrameComesBack, RecordsWithin, WritesWithin, CreatesWithin, MakesWithin}
 
 both_true : (a b : Bool) → a ≡ true → b ≡ true → (a && b) ≡ true

@@ -8,7 +8,8 @@ use Rattle.wy_event.specs.declared.record.Use.TheVariants.{Place}
 use Rattle.wy_event.specs.Record.{same_slot}
 use Rattle.wy_steps.specs.Sets.{Sets}
 use Rattle.wy_steps.specs.State.{Carried, Held, Noted, State, Outcome, Done, Left, Stopped, Run}
-use Rattle.wy_steps.specs.Steps.{event_limit, use_limit, element_limit, unit_limit, Draft, Made, tick, read, declare, held_of, control_set, note, note_write, note_new, scoped, in_frame, take_elements, take_units}
+use Rattle.wy_kernel.specs.Limits.{event_limit, use_limit, element_limit, unit_limit}
+use Rattle.wy_steps.specs.Steps.{Draft, Made, tick, read, declare, held_of, control_set, note, note_write, note_new, scoped, in_frame, take_elements, take_units}
 
 -- what holds of the value and the state where a part of a run went through
 abbrev pub IfDone : {A : Sets} {X : Type 0} → Outcome A X → (X → State A → Type 0) → Type 0

@@ -7,6 +7,7 @@ use Rattle.wy_kernel.specs.declared.types.Base.TheVariants.{Primitive as Basic}
 use Rattle.wy_kernel.specs.declared.types.Ty.{Ty}
 use Rattle.wy_kernel.specs.declared.types.Ty.TheVariants.{Of}
 use Rattle.wy_kernel.specs.Program.{Program, field, type_of_code, element_type}
+use Rattle.wy_kernel.specs.Limits.{event_limit, use_limit, element_limit, unit_limit, output_limit}
 use Rattle.wy_value.specs.declared.value.Value.{Value}
 use Rattle.wy_value.specs.declared.value.Value.TheVariants.{None as Nothing, Bool as Boolean, Byte, Short, Char, Int, Long, Null}
 use Rattle.wy_event.specs.declared.record.Kind.{Kind}
@@ -18,27 +19,6 @@ use Rattle.wy_event.specs.Record.{Recorded, same_slot}
 use Rattle.wy_event.specs.Sources.{Owners, creates, is_what}
 use Rattle.wy_steps.specs.Sets.{Sets}
 use Rattle.wy_steps.specs.State.{Carried, Held, Store, Noted, Reach, Around, Through, Active, Covered, State, Stop, StepLimit, EventLimit, UseLimit, ElementLimit, UnitLimit, OutputLimit, InitFailed, Reason, Jumped, Returned, Threw, Outcome, Done, Left, Stopped, Run, return, stop, choose}
-
--- ---- limits
-
-abbrev pub event_limit : ℕ
-event_limit = 4000000
-
-abbrev pub use_limit : ℕ
-use_limit = 32000000
-
-abbrev pub element_limit : ℕ
-element_limit = 16777216
-
-abbrev pub unit_limit : ℕ
-unit_limit = 16777216
-
-abbrev pub output_limit : ℕ
-output_limit = 16777216
-
--- calls and initializations that stand in one another
-abbrev pub depth_limit : ℕ
-depth_limit = 1000
 
 -- ---- carried values
 
@@ -109,12 +89,12 @@ unfoldable pub event_at : {A : Sets} → ℕ → Run A (Option Recorded)
 event_at n s = Done (event_in s.noted n) s
 
 unfoldable pub is_init_of : ℕ → Kind → Option ℕ → Bool
-is_init_of c Init what = is_what what c
-is_init_of c _ what = false
+is_init_of c Init entity = is_what entity c
+is_init_of c _ entity = false
 
 unfoldable pub has_init : {A : Sets} → ℕ → List (Noted A) → Bool
 has_init c [] = false
-has_init c (e ∷ rest) = if is_init_of c e.event.kind e.event.what then true else has_init c rest
+has_init c (e ∷ rest) = if is_init_of c e.event.kind e.event.entity then true else has_init c rest
 
 -- the initialization of a class is going on or done
 unfoldable pub is_begun : {A : Sets} → ℕ → Run A Bool
@@ -164,7 +144,7 @@ control_set {A = A} (a ∷ rest) = A.both a.from_all (control_set rest)
 pub record Draft : Type 0 where
   pub kind : Kind
   pub site : ℕ
-  pub what : Option ℕ
+  pub entity : Option ℕ
   pub slot : Slot
   pub value : Value
   pub units : List ℕ
@@ -177,7 +157,7 @@ next_event {A = A} d c s = record {
     site = d.site;
     frame = s.frame;
     control = parent s.active;
-    what = d.what;
+    entity = d.entity;
     slot = d.slot;
     value = d.value;
     units = d.units;
@@ -239,7 +219,7 @@ code_of (Some n) = n
 unfoldable pub default_in : Program → Recorded → Slot → Value
 default_in p e (Static f) = default_value (field p f).ty
 default_in p e (Field object f) = default_value (field p f).ty
-default_in p e (Elem array i) = default_value (element_type (type_of_code (code_of e.what)))
+default_in p e (Elem array i) = default_value (element_type (type_of_code (code_of e.entity)))
 default_in p e _ = Nothing
 
 -- the class that declares a field

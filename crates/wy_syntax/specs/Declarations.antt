@@ -20,24 +20,24 @@ use Rattle.wy_tree.specs.Tokens.{token_limit}
 -- a part and the number of its first token
 pub record Part : Type 0 where
   pub at : ℕ
-  pub what : Ast
+  pub entity : Ast
 
 abbrev pub Parts : Type 0
 Parts = List Part
 
 unfoldable pub placed : ℕ → Asts → Parts
 placed n tree.none = []
-placed n (tree.more t rest) = record { at = n; what = t } ∷ placed (n + width t) rest
+placed n (tree.more t rest) = record { at = n; entity = t } ∷ placed (n + width t) rest
 
 -- a part ends within the numbers that tokens may have
 abbrev pub IsInReach : Part → Type 0
-IsInReach p = p.at + width p.what ≤ token_limit
+IsInReach p = p.at + width p.entity ≤ token_limit
 
 abbrev pub name_at : Part → Named
-name_at p = named p.at p.what
+name_at p = named p.at p.entity
 
 abbrev pub type_at : Part → WrittenType
-type_at p = written p.at p.what
+type_at p = written p.at p.entity
 
 abbrev pub is_block : Ast → Bool
 is_block (Node form.Block parts) = true
@@ -49,7 +49,7 @@ is_params _ = false
 
 -- the names behind the first part: one a comma
 unfoldable pub names_behind : Parts → List Named
-names_behind (mark ∷ p ∷ rest) = if is_leaf kinds.OpenBrace mark.what then [] else name_at p ∷ names_behind rest
+names_behind (mark ∷ p ∷ rest) = if is_leaf kinds.OpenBrace mark.entity then [] else name_at p ∷ names_behind rest
 names_behind _ = []
 
 -- ---- modifiers (JLS 8.1.1, 8.3.1, 8.4.3)
@@ -78,11 +78,11 @@ is_modifier (Node f parts) = false
 -- those in front
 unfoldable pub modifiers_of : Parts → List Placed
 modifiers_of [] = []
-modifiers_of (p ∷ rest) = if is_modifier p.what then record { modifier = modifier_of p.what; token = p.at } ∷ modifiers_of rest else []
+modifiers_of (p ∷ rest) = if is_modifier p.entity then record { modifier = modifier_of p.entity; token = p.at } ∷ modifiers_of rest else []
 
 unfoldable pub behind_modifiers : Parts → Parts
 behind_modifiers [] = []
-behind_modifiers (p ∷ rest) = if is_modifier p.what then behind_modifiers rest else p ∷ rest
+behind_modifiers (p ∷ rest) = if is_modifier p.entity then behind_modifiers rest else p ∷ rest
 
 -- ---- parameters, and what is thrown
 
@@ -115,7 +115,7 @@ throws_of n _ = []
 -- the names of a `throws` in front, and what stands behind it
 abbrev pub throws_in : Parts → List Named
 throws_in [] = []
-throws_in (p ∷ rest) = throws_of p.at p.what
+throws_in (p ∷ rest) = throws_of p.at p.entity
 
 abbrev pub is_throws : Ast → Bool
 is_throws (Node form.Throws parts) = true
@@ -123,23 +123,23 @@ is_throws _ = false
 
 abbrev pub behind_throws : Parts → Parts
 behind_throws [] = []
-behind_throws (p ∷ rest) = if is_throws p.what then rest else p ∷ rest
+behind_throws (p ∷ rest) = if is_throws p.entity then rest else p ∷ rest
 
 abbrev pub header : List Placed → Part → Part → Parts → Header
-header ms x params rest = record { modifiers = ms; name = name_at x; params = parameters_of params.at params.what; throws = throws_in rest }
+header ms x params rest = record { modifiers = ms; name = name_at x; params = parameters_of params.at params.entity; throws = throws_in rest }
 
 -- ---- members
 
 abbrev pub result_of : Part → Option WrittenType
-result_of p = if is_leaf kinds.Void p.what then None else Some (type_at p)
+result_of p = if is_leaf kinds.Void p.entity then None else Some (type_at p)
 
 abbrev pub body_of : Parts → Option Braced
-body_of (p ∷ []) = if is_block p.what then Some (block p.at p.what) else None
+body_of (p ∷ []) = if is_block p.entity then Some (block p.at p.entity) else None
 body_of _ = None
 
 -- up to `}`
 unfoldable pub statements_in : Parts → Statements
-statements_in (p ∷ q ∷ rest) = first (statement p.at p.what) (statements_in (q ∷ rest))
+statements_in (p ∷ q ∷ rest) = first (statement p.at p.entity) (statements_in (q ∷ rest))
 statements_in _ = done
 
 unfoldable pub end_in : Parts → ℕ
@@ -153,12 +153,12 @@ is_arguments _ = false
 
 -- `this` or `super`, arguments and `;` in front of the statements of a constructor
 abbrev pub begins_own_call : Parts → Bool
-begins_own_call (word ∷ args ∷ rest) = is_own (leaf_kind word.what) && is_arguments args.what
+begins_own_call (word ∷ args ∷ rest) = is_own (leaf_kind word.entity) && is_arguments args.entity
 begins_own_call _ = false
 
 abbrev pub own_call_in : Parts → Option OwnCall
 own_call_in (word ∷ args ∷ rest) =
-    if begins_own_call (word ∷ args ∷ rest) then Some (record { is_super = is_leaf kinds.Super word.what; args = arguments_of args.at args.what; paren = args.at; token = word.at }) else None
+    if begins_own_call (word ∷ args ∷ rest) then Some (record { is_super = is_leaf kinds.Super word.entity; args = arguments_of args.at args.entity; paren = args.at; token = word.at }) else None
 own_call_in _ = None
 
 abbrev pub behind_own_call : Parts → Parts
@@ -173,12 +173,12 @@ constructor_of h [] = syntax.Member.Unknown
 abbrev pub member_behind : List Placed → Parts → Member
 member_behind ms (x ∷ y ∷ []) = syntax.Member.Unknown
 member_behind ms (x ∷ y ∷ z ∷ rest) =
-    if is_params y.what then constructor_of (header ms x y (z ∷ rest)) (behind_throws (z ∷ rest)) else
-    (if is_params z.what then syntax.Method (header ms y z rest) (result_of x) (body_of (behind_throws rest)) else syntax.Fields ms (type_at x) (declarators y.at y.what))
+    if is_params y.entity then constructor_of (header ms x y (z ∷ rest)) (behind_throws (z ∷ rest)) else
+    (if is_params z.entity then syntax.Method (header ms y z rest) (result_of x) (body_of (behind_throws rest)) else syntax.Fields ms (type_at x) (declarators y.at y.entity))
 member_behind ms _ = syntax.Member.Unknown
 
 abbrev pub member_in : Parts → Member
-member_in (word ∷ p ∷ []) = if is_block p.what then syntax.Initializer true (block p.at p.what) else member_behind (modifiers_of (word ∷ p ∷ [])) (behind_modifiers (word ∷ p ∷ []))
+member_in (word ∷ p ∷ []) = if is_block p.entity then syntax.Initializer true (block p.at p.entity) else member_behind (modifiers_of (word ∷ p ∷ [])) (behind_modifiers (word ∷ p ∷ []))
 member_in parts = member_behind (modifiers_of parts) (behind_modifiers parts)
 
 abbrev pub member_seen : ℕ → Ast → Member
@@ -188,7 +188,7 @@ member_seen n t = if is_leaf kinds.Semicolon t then syntax.Member.Nothing else s
 
 -- up to `}`
 unfoldable pub members_in : Parts → List Member
-members_in (p ∷ q ∷ rest) = member_seen p.at p.what ∷ members_in (q ∷ rest)
+members_in (p ∷ q ∷ rest) = member_seen p.at p.entity ∷ members_in (q ∷ rest)
 members_in _ = []
 
 -- the method of an interface by the parts before its `;`, or nothing
@@ -198,23 +198,23 @@ method_in (p ∷ rest) = member_behind (modifiers_of (p ∷ rest)) (behind_modif
 
 -- the methods of an interface up to `}`: one a `;`, where these parts have been seen of the first
 unfoldable pub methods_in : Parts → Parts → List Member
-methods_in before (p ∷ q ∷ rest) = if is_leaf kinds.Semicolon p.what then method_in before ∷ methods_in [] (q ∷ rest) else methods_in (before ++ p ∷ []) (q ∷ rest)
+methods_in before (p ∷ q ∷ rest) = if is_leaf kinds.Semicolon p.entity then method_in before ∷ methods_in [] (q ∷ rest) else methods_in (before ++ p ∷ []) (q ∷ rest)
 methods_in before _ = []
 
 -- ---- classes and interfaces
 
 unfoldable pub behind_brace : Parts → Parts
 behind_brace [] = []
-behind_brace (p ∷ rest) = if is_leaf kinds.OpenBrace p.what then rest else behind_brace rest
+behind_brace (p ∷ rest) = if is_leaf kinds.OpenBrace p.entity then rest else behind_brace rest
 
 abbrev pub superclass_in : Parts → Option Named
-superclass_in (word ∷ p ∷ rest) = if is_leaf kinds.Extends word.what then Some (name_at p) else None
+superclass_in (word ∷ p ∷ rest) = if is_leaf kinds.Extends word.entity then Some (name_at p) else None
 superclass_in _ = None
 
 -- behind `implements`, which may stand before the brace
 unfoldable pub implemented_in : Parts → List Named
 implemented_in [] = []
-implemented_in (p ∷ rest) = if is_leaf kinds.OpenBrace p.what then [] else (if is_leaf kinds.Implements p.what then names_behind (p ∷ rest) else implemented_in rest)
+implemented_in (p ∷ rest) = if is_leaf kinds.OpenBrace p.entity then [] else (if is_leaf kinds.Implements p.entity then names_behind (p ∷ rest) else implemented_in rest)
 
 -- the word and the name behind the modifiers, and what follows
 abbrev pub class_behind : List Placed → ℕ → Parts → Declaration

@@ -10,7 +10,7 @@ use Rattle.wy_kernel.specs.Program.{Method}
 use Rattle.wy_kernel.specs.View.{method_of}
 use Rattle.wy_table.specs.declared.methods.MethodIndex.{MethodIndex}
 use Rattle.wy_table.specs.Listed.{AlikeTogether, AreNamedGroups, ListsByKey, ListsNames, listed, constructor_class, constructor_key, named_group, group_key}
-use Rattle.wy_table.specs.Methods.{Lists, IsAlike, IsByName, IsConstructorOf, IsShared}
+use Rattle.wy_table.specs.Methods.{Lists, IsAlike, IsByName, IsConstructorOf}
 use Rattle.wy_table.specs.MethodIndex.{IsIndexOf, alike_in, constructors_in, listed_if}
 
 maps : (methods : List memory.Method) → map (λ m. constructor_key (method_of m)) methods ≡ map constructor_key (map method_of methods)
@@ -46,10 +46,9 @@ module _ (index : MethodIndex) (methods : List Method) where
 
 pub indexed : (index : MethodIndex) (methods : List memory.Method) (keys classes : List (Option ℕ)) → AlikeTogether (map method_of methods) index.groups.items → AreNamedGroups (map method_of methods) index.groups.items keys →
     classes ≡ map (λ m. constructor_key (method_of m)) methods → ListsNames (map method_of methods) index.by_name → ListsByKey classes index.constructors → ListsByKey keys index.alike →
-    Lists (map method_of methods) (IsShared (map method_of methods)) index.shared.items → IsIndexOf index (map method_of methods)
-indexed index methods keys classes together named are names constructors alike shared = record {
+    IsIndexOf index (map method_of methods)
+indexed index methods keys classes together named are names constructors alike = record {
   named = names;
   constructors = by_class index (map method_of methods) (subst (λ xs. ListsByKey xs index.constructors) (are ∙ maps methods) constructors);
   alike = by_signature index (map method_of methods) keys together named alike;
-  shared = shared;
 }

@@ -46,13 +46,3 @@ module _ {Q : Type 0} (IsWanted : ℕ → Q → Type 0) where
           one : (b : Bool) → Contains (if b then n ∷ [] else []) k → k < n + 1
           one true (i, lt, is) = (let z : i ≡ 0 = omega arith in let e : n ≡ k = subst (λ j. slice_index_or (n ∷ []) j k ≡ k) z is in omega arith)
           one false (i, lt, is) = absurd (omega arith)
-
--- a list with two numbers has more than one
-pub more_than_one : (xs : List ℕ) (a b : ℕ) → Contains xs a → Contains xs b → (a ≡ b → ⊥) → 1 < length xs
-more_than_one [] a b (i, lt, is) has apart = absurd (omega arith)
-more_than_one (x ∷ []) a b (i, lt, is) (j, lt', is') apart =
-    let z : i ≡ 0 = omega arith in let z' : j ≡ 0 = omega arith in
-    let e : x ≡ a = subst (λ n. slice_index_or (x ∷ []) n a ≡ a) z is in
-    let f : x ≡ b = subst (λ n. slice_index_or (x ∷ []) n b ≡ b) z' is' in
-    absurd (apart (sym e ∙ f))
-more_than_one (x ∷ y ∷ ys) a b has has' apart = omega arith

@@ -1,27 +1,19 @@
 -- Under what each method is listed, while an index is made.
 use Rattle.std.proofs.Common.{◌≡◌, ℕ, ◌<◌, Bool, true, List, Option, Some, None, map, option_map, slice_get, get_or, length, nat_eq, string_bytes, refl, sym, ap, subst, ◌∙◌, IsTrue, rules}
 use Rattle.std.specs.Str.{bytes_eq}
-use Rattle.std.specs.HashMap.{HashMap}
-use Rattle.std.specs.declared.alloc.Global.{Global}
-use Rattle.std.specs.declared.vec.Vec.{Vec}
 use Rattle.std.proofs.lemmas.Option.{get_or_from_slice_get, slice_get-map}
 use Rattle.std.proofs.lemmas.Slice.Eq.{bytes_eq-Decides}
 use Rattle.wy_kernel.specs.declared.types.Method as memory
 use Rattle.wy_kernel.specs.Program.{Method}
 use Rattle.wy_kernel.specs.View.{method_of}
 use Rattle.wy_kernel.proofs.Indexed.{mapped}
-use Rattle.wy_table.specs.Listed.{AlikeTogether, ListsByKey, listed}
-use Rattle.wy_table.specs.Methods.{IsAlike, IsByName, IsNamed, IsShared}
-use Rattle.wy_table.proofs.Listing.{more_than_one}
+use Rattle.wy_table.specs.Methods.{IsByName, IsNamed}
 
 abbrev pub IsKeyOf : List (Option ℕ) → ℕ → ℕ → Type 0
 IsKeyOf keys k key = slice_get keys k ≡ Some (Some key)
 
 abbrev pub IsNameOf : List Method → ℕ → List ℕ → Type 0
 IsNameOf methods k name = (m : Method) × (slice_get methods k ≡ Some m) × IsNamed name m
-
-abbrev pub IsSharedAt : List Method → ℕ → Unit {0} → Type 0
-IsSharedAt methods k _ = (m : Method) × (slice_get methods k ≡ Some m) × IsShared methods k m
 
 pub same_key : (keys : List (Option ℕ)) (k key q : ℕ) → get_or keys k None ≡ Some key → IsKeyOf keys k q → nat_eq key q ≡ true
 same_key keys k key q e is =
@@ -45,13 +37,3 @@ same_name methods k x name q lt e n (m, is, (by_name, named)) =
 pub called_there : (methods : List memory.Method) (k : ℕ) (x : memory.Method) (m : Method) → k < length methods → x ≡ get_or methods k x → slice_get (map method_of methods) k ≡ Some m → IsByName m.form → IsByName x.form
 called_there methods k x m lt e is by_name =
     let P : Method → Type 0 = λ y. IsByName y.form in subst P (sym (found_there methods k x m lt e is)) by_name
-
--- two methods that are alike are both listed by their group
-pub two_listed : {S : Type 0} (methods : List Method) (groups : List ℕ) (lists : HashMap ℕ (Vec ℕ Global) S) → AlikeTogether methods groups → ListsByKey (map (λ g. Some g) groups) lists → (k j g : ℕ) (m other : Method) →
-    slice_get methods k ≡ Some m → slice_get methods j ≡ Some other → (j ≡ k → ⊥) → IsAlike m other → slice_get groups k ≡ Some g → 1 < length (listed lists g)
-two_listed methods groups lists together all k j g m other is is' apart alike at =
-    let at' : slice_get groups j ≡ Some g = sym (together.together k j m other is is' alike) ∙ at in
-    more_than_one (listed lists g) k j (all.each k g (keyed k at)) (all.each j g (keyed j at')) (λ e. apart (sym e))
-  where
-    keyed : (i : ℕ) → slice_get groups i ≡ Some g → slice_get (map (λ n. Some n) groups) i ≡ Some (Some g)
-    keyed i e = slice_get-map (λ n. Some n) groups i ∙ ap (option_map (λ n. Some n)) e

@@ -28,7 +28,3 @@ IsConstructorOf class m = (m.form ≡ kind.Constructor) × (m.class ≡ class)
 -- two methods have one name and the same parameter types (JLS 8.4.2)
 abbrev pub IsAlike : Method → Method → Type 0
 IsAlike m other = (other.name ≡ m.name) × (other.params ≡ m.params)
-
--- a method that is called by its name, alike to another method
-abbrev pub IsShared : List Method → ℕ → Method → Type 0
-IsShared methods k m = IsByName m.form × (j : ℕ) × (other : Method) × (slice_get methods j ≡ Some other) × (j ≡ k → ⊥) × IsAlike m other

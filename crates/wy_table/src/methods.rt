@@ -6,7 +6,7 @@ ghost use Rattle.std.specs.Str.{bytes_eq};
 ghost use Rattle.wy_kernel.specs.View.{method_of};
 ghost use Rattle.wy_table.specs.Listed.{AlikeTogether, AreNamedGroups, ListsByKey, ListsNames, group_key, listed, listed_by_text, constructor_key};
 ghost use Rattle.wy_table.specs.MethodIndex.{IsIndexOf};
-ghost use Rattle.wy_table.specs.Methods.{IsByName, IsShared, Lists};
+ghost use Rattle.wy_table.specs.Methods.{IsByName};
 
 use indexmap::IndexSet;
 use std::alloc::{AllocError, Global};
@@ -29,14 +29,13 @@ pub struct MethodIndex {
     groups: Vec<usize>,
     /// The methods of each signature that are called by their name.
     alike: HashMap<usize, Vec<u32>>,
-    shared: Vec<u32>,
 }
 
 impl MethodIndex {
     ghost use Rattle.std.specs.Prelude.{◌≡◌, IfOk, Some, map};
     ghost use Rattle.wy_kernel.specs.View.{method_of};
     ghost use Rattle.wy_table.specs.Listed.{listed};
-    ghost use Rattle.wy_table.specs.MethodIndex.{IsIndexOf, alike_in, constructors_in, named_in, shared_in};
+    ghost use Rattle.wy_table.specs.MethodIndex.{IsIndexOf, alike_in, constructors_in, named_in};
 
     /// The index of these methods. More than a `u32` counts are refused for want of memory.
     pub fn of(alloc: Global, methods: &[Method]) -> Result<MethodIndex, AllocError>
@@ -52,7 +51,6 @@ impl MethodIndex {
             by_name: by_name(alloc, methods)?,
             constructors: by_key(alloc, classes.as_slice())?,
             alike: by_key(alloc, named_groups.as_slice())?,
-            shared: shared(alloc, methods, groups.as_slice())?,
             groups,
         })
     }
@@ -82,13 +80,6 @@ impl MethodIndex {
             Some(group) => list_of(&self.alike, *group),
             None => &[],
         }
-    }
-
-    /// Among them is each method that is called by its name, where another method has its name and parameter types.
-    pub fn shared(&self) -> &[u32]
-        ensures { result.now ≡ shared_in self.now }
-    {
-        self.shared.as_slice()
     }
 }
 
@@ -236,28 +227,4 @@ fn named_groups(
         keys.push(group_if_named(&methods[k], groups[k]))?;
     }
     Ok(keys)
-}
-
-// The methods that are called by their names and have the signature of another.
-fn shared(alloc: Global, methods: &[Method], groups: &[usize]) -> Result<Vec<u32>, AllocError>
-    requires together { AlikeTogether (map method_of methods.now) groups.now }
-    requires few { length methods.now < 4294967295 }
-    ensures { IfOk result (λ found.
-        Lists (map method_of methods.now) (IsShared (map method_of methods.now)) found.items) }
-{
-    let everyone = by_key(alloc, some_of(alloc, groups)?.as_slice())?;
-    let mut found = Vec::new(alloc);
-    for k in 0..methods.len() {
-        let m = &methods[k];
-        if is_by_name(m.form) && list_of(&everyone, groups[k]).len() > 1 {
-            found.push(k as u32)?;
-        }
-    }
-    Ok(found)
-}
-
-fn some_of(alloc: Global, groups: &[usize]) -> Result<Vec<Option<usize>>, AllocError>
-    ensures { IfOk result (λ keys. keys.items ≡ map Some groups.now) }
-{
-    groups.iter().map(|group| Some(*group)).collect(alloc)
 }

@@ -5,3 +5,6 @@ pub mod Merging
 pub mod Answering
 pub mod Asked
 mod Rows
+mod Clauses
+mod Named
+mod One

@@ -19,7 +19,7 @@ use Rattle.wy_kernel.specs.View.{present}
 use Rattle.wy_meaning.specs.Text.{line_end}
 use Rattle.wy_meaning.specs.World.{object_in, type_in, units_in}
 use Rattle.wy_steps.specs.Steps.{code_of}
-use Rattle.wy_text.specs.Lines.{name_of, place_of, place_on, stop_line, uncaught_line}
+use Rattle.wy_text.specs.EndLines.{name_of, place_of, place_on, stop_line, uncaught_line}
 use Rattle.wy_telling.specs.Printed.{printed, printed_by, printed_units}
 use Rattle.wy_telling.specs.Thrown.{thrown_class, thrown_site}
 
@@ -46,7 +46,7 @@ abbrev lines : List ℕ
 lines = 1 ∷ 4 ∷ 5 ∷ 6 ∷ []
 
 abbrev event : Kind → ℕ → Option ℕ → Value → List ℕ → Recorded
-event k site what v units = record { kind = k; site = site; frame = Absent; control = Absent; what = what; slot = slot.None; value = v; units = units; uses = [] }
+event k site entity v units = record { kind = k; site = site; frame = Absent; control = Absent; entity = entity; slot = slot.None; value = v; units = units; uses = [] }
 
 abbrev trace : List Recorded
 trace =

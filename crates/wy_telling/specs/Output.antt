@@ -4,7 +4,7 @@ use Rattle.wy_kernel.specs.Program.{Program}
 use Rattle.wy_event.specs.declared.record.Tail.{Tail}
 use Rattle.wy_event.specs.Record.{Recorded}
 use Rattle.wy_kernel.specs.View.{present}
-use Rattle.wy_text.specs.Lines.{line_of, stop_line}
+use Rattle.wy_text.specs.EndLines.{line_of, stop_line}
 use Rattle.wy_telling.specs.Printed.{printed}
 use Rattle.wy_telling.specs.Thrown.{thrown_class, thrown_site}
 

@@ -10,10 +10,10 @@ use Rattle.wy_event.specs.Record.{Recorded}
 use Rattle.wy_ask.specs.declared.asking.Listed.{Listed}
 use Rattle.wy_ask.specs.declared.asking.Listed.TheVariants.{Printed, Stored, Never}
 use Rattle.wy_ask.specs.Listing.{listing}
-use Rattle.wy_lines.specs.Lines.{event_line}
-use Rattle.wy_lines.specs.Names.{field_name}
-use Rattle.wy_lines.specs.Values.{value_text}
-use Rattle.wy_text.specs.Lines.{line_of}
+use Rattle.wy_text.specs.EventLines.{event_line}
+use Rattle.wy_text.specs.Names.{field_name}
+use Rattle.wy_text.specs.Values.{value_text}
+use Rattle.wy_text.specs.EndLines.{line_of}
 
 -- a field at a moment
 unfoldable pub field_at : Program → ℕ → ℕ → List ℕ

@@ -10,7 +10,7 @@ use Rattle.wy_event.specs.Sources.{closure, data_closure}
 use Rattle.wy_index.specs.declared.index.Index.{Index}
 use Rattle.wy_index.specs.Index.{owners_of}
 use Rattle.wy_why.specs.Answer.{up_to}
-use Rattle.wy_lines.specs.Lines.{event_line}
+use Rattle.wy_text.specs.EventLines.{event_line}
 use Rattle.wy_ask.specs.declared.question.AskError.{AskError}
 use Rattle.wy_ask.specs.declared.question.AskError.TheVariants as errors
 use Rattle.wy_ask.specs.Asked.{event_of, number_in, owners}

@@ -1,8 +1,9 @@
-//! What is told of a trace: what its run wrote and how it ended, all that an event comes from, and what can be
-//! asked about it, line by line.
-//! Nothing here reads a trace's bytes.
+//! What is told of a trace, line by line: what its run wrote and how it ended, all that an event comes from, what can be asked
+//! about it, and why a statement never began. Nothing here reads a trace's bytes.
 #![tactic(auto)]
 
+mod caught;
+mod item;
 pub mod laws;
 mod listed;
 mod look;
@@ -10,7 +11,10 @@ mod print;
 mod report;
 mod thrown;
 mod why;
+mod whynot;
 
+pub use item::put_items;
 pub use listed::{listed_line, questions_text};
 pub use report::{output_text, whole_report};
 pub use why::{answer_lines, why_text};
+pub use whynot::{Unanswered, whynot_lines, whynot_text};

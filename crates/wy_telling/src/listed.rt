@@ -8,7 +8,7 @@ ghost use Rattle.wy_index.specs.Index.{IsIndexOfView};
 ghost use Rattle.wy_kernel.specs.Parts.{program_of};
 ghost use Rattle.wy_telling.specs.Questions.{field_at, listed_line, piece_line, never_line, questions_text, slot_question, stored_line};
 ghost use Rattle.wy_view.specs.References.{AllRefersBelow};
-ghost use Rattle.wy_view.specs.View.{Answers, Keeps};
+ghost use Rattle.wy_view.specs.View.{KeepsCounts, Keeps};
 
 use std::alloc::{AllocError, Global};
 use std::marker::Brand;
@@ -17,7 +17,7 @@ use wy_ask::{Listed, questions};
 use wy_event::record::{Cover, Event, Slot};
 use wy_index::Index;
 use wy_kernel::program::Program;
-use wy_lines::{put_event_line, put_field_name, put_value};
+use wy_text::{put_event_line, put_field_name, put_value};
 use wy_view::{EventView, MemoryView, Steps, ViewError};
 
 /// What can be asked about a trace: a line for each.
@@ -75,7 +75,7 @@ fn all_lines<V: EventView, L: Ledger>(
         → IfOk result (λ text. text.items ≡ questions_text (program_of program.now)
         program.now.lines.items rs coverage.now) }
     ensures keeps { Keeps (V.tells view.old) (V.tells view.new) }
-    ensures answers { Answers result (V.tells view.old) (V.tells view.new) }
+    ensures answers { KeepsCounts result (V.tells view.old) (V.tells view.new) }
 {
     let listed = questions(alloc, program, view, index, coverage, steps)?;
     let text = listed_lines(alloc, program, view, listed.as_slice(), steps)?;
@@ -94,7 +94,7 @@ fn listed_lines<V: EventView, L: Ledger>(
         → IfOk result (λ text. text.items ≡ flat_map (listed_line (program_of program.now)
         program.now.lines.items rs) listed.now) }
     ensures keeps { Keeps (V.tells view.old) (V.tells view.new) }
-    ensures answers { Answers result (V.tells view.old) (V.tells view.new) }
+    ensures answers { KeepsCounts result (V.tells view.old) (V.tells view.new) }
 {
     let mut text = Vec::new(alloc);
     for one in listed {
@@ -116,7 +116,7 @@ fn put_listed<V: EventView, L: Ledger>(
         → OnOk result (text.new.items ≡ text.old.items
         ++ listed_line (program_of program.now) program.now.lines.items rs listed.now) }
     ensures keeps { Keeps (V.tells view.old) (V.tells view.new) }
-    ensures answers { Answers result (V.tells view.old) (V.tells view.new) }
+    ensures answers { KeepsCounts result (V.tells view.old) (V.tells view.new) }
 {
     let line = listed_line(alloc, program, view, listed, steps)?;
     text.extend_from_slice(line.as_slice())?;
@@ -137,7 +137,7 @@ pub fn listed_line<V: EventView, L: Ledger>(
         → IfOk result (λ line. line.items ≡ listed_line (program_of program.now)
         program.now.lines.items rs listed.now) }
     ensures keeps { Keeps (V.tells view.old) (V.tells view.new) }
-    ensures answers { Answers result (V.tells view.old) (V.tells view.new) }
+    ensures answers { KeepsCounts result (V.tells view.old) (V.tells view.new) }
 {
     match *listed {
         Listed::Printed { piece, event } => {

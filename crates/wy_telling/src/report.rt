@@ -5,7 +5,7 @@ ghost use Rattle.wy_event.specs.Record.{recorded};
 ghost use Rattle.wy_kernel.specs.View.{present};
 ghost use Rattle.wy_kernel.specs.Parts.{program_of};
 ghost use Rattle.wy_telling.specs.Output.{ends_its_line as ends_line, output_text, whole_lines};
-ghost use Rattle.wy_text.specs.Lines.{stop_line};
+ghost use Rattle.wy_text.specs.EndLines.{stop_line};
 
 use crate::print::printed;
 use crate::thrown::thrown;

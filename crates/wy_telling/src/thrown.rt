@@ -3,27 +3,17 @@
 ghost use Rattle.std.specs.Prelude.{◌≡◌, ◌<◌, Some, map, slice_get};
 ghost use Rattle.wy_event.specs.Record.{recorded};
 ghost use Rattle.wy_kernel.specs.View.{present};
-ghost use Rattle.wy_kernel.specs.Program.{class_of_type, type_of_code};
+ghost use Rattle.wy_kernel.specs.Program.{class_of_type};
 ghost use Rattle.wy_meaning.specs.World.{object_in, type_in};
 ghost use Rattle.wy_steps.specs.Steps.{code_of};
 ghost use Rattle.wy_telling.specs.Thrown.{class_thrown, thrown_class, thrown_site};
 
 use crate::look::event_at;
 use wy_event::record::{Event, Thrown};
+use wy_kernel::builtin::OBJECT;
+use wy_kernel::code::class_of_code;
 use wy_kernel::types::NONE;
 use wy_value::Value;
-
-/// A pair of brackets counts this much in the code of a type.
-const BRACKETS: u32 = 1 << 24;
-
-/// The classes stand behind this number in the code of a type.
-const CLASSES: u32 = 16;
-
-/// The types below this number are primitive.
-const PRIMITIVES: u32 = 6;
-
-/// The class of Object, which also stands for arrays.
-const OBJECT: u32 = 0;
 
 const NOTHING: Thrown = Thrown {
     class: NONE,
@@ -76,26 +66,14 @@ fn class_at(events: &[Event], number: u32) -> u32
     ensures there { result < NONE }
 {
     match event_at(events, number) {
-        Some(event) => class_of_code(code_of(event.what)),
+        Some(event) => class_of_code(code_of(event.entity)),
         None => OBJECT,
     }
 }
 
 #[tactic(auto, unfolding(wy_steps::specs::Steps::code_of, wy_kernel::specs::View::present))]
-fn code_of(what: u32) -> u32
-    ensures { result ≡ code_of (present what) }
+fn code_of(entity: u32) -> u32
+    ensures { result ≡ code_of (present entity) }
 {
-    if what == NONE { 0 } else { what }
-}
-
-#[tactic(auto, unfolding(wy_kernel::specs::Program::type_of_code, wy_kernel::specs::Program::class_of_type, wy_kernel::specs::Program::base_of))]
-fn class_of_code(code: u32) -> u32
-    ensures class { result ≡ class_of_type (type_of_code code) }
-    ensures there { result < NONE }
-{
-    if code / BRACKETS != 0 || code % BRACKETS < PRIMITIVES {
-        OBJECT
-    } else {
-        (code % BRACKETS).saturating_sub(CLASSES)
-    }
+    if entity == NONE { 0 } else { entity }
 }

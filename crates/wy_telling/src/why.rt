@@ -8,7 +8,7 @@ ghost use Rattle.wy_index.specs.Index.{IsIndexOfView};
 ghost use Rattle.wy_kernel.specs.Parts.{program_of};
 ghost use Rattle.wy_telling.specs.Why.{IsOfProgram, TellsOf, TellsWhy, marked_lines, why_text};
 ghost use Rattle.wy_view.specs.References.{AllRefersBelow};
-ghost use Rattle.wy_view.specs.View.{Answers, Keeps};
+ghost use Rattle.wy_view.specs.View.{KeepsCounts, Keeps};
 ghost use Rattle.wy_why.specs.Answer.{Rises};
 
 use std::alloc::Global;
@@ -18,7 +18,7 @@ use wy_ask::{AskError, Question, read_question, resolve};
 use wy_event::record::Event;
 use wy_index::Index;
 use wy_kernel::program::Program;
-use wy_lines::put_event_line;
+use wy_text::put_event_line;
 use wy_view::{EventView, MemoryView, Steps, ViewError};
 use wy_why::{Answer, why};
 
@@ -84,7 +84,7 @@ fn event_lines<V: EventView, L: Ledger>(
         → IsOfProgram (program_of program.now) index.now → IfOk result (λ text. text.items
         ≡ why_text (program_of program.now) program.now.lines.items rs event) }
     ensures keeps { Keeps (V.tells view.old) (V.tells view.new) }
-    ensures answers { Answers result (V.tells view.old) (V.tells view.new) }
+    ensures answers { KeepsCounts result (V.tells view.old) (V.tells view.new) }
 {
     let answer = why(alloc, view, index, event, steps)?;
     answer_lines(alloc, program, view, &answer, steps)
@@ -104,7 +104,7 @@ pub fn answer_lines<V: EventView, L: Ledger>(
         → IfOk result (λ text. text.items ≡ marked_lines (program_of program.now)
         program.now.lines.items rs by_data answer.now.all.items) }
     ensures keeps { Keeps (V.tells view.old) (V.tells view.new) }
-    ensures answers { Answers result (V.tells view.old) (V.tells view.new) }
+    ensures answers { KeepsCounts result (V.tells view.old) (V.tells view.new) }
 {
     let mut text = Vec::new(alloc);
     let mut flow = answer.flow.as_slice();

@@ -1,1 +1,5 @@
-mod Names
+mod ClassNames
+mod MemberNames
+mod Looks
+mod Leading
+mod Rows

@@ -1,1 +1,6 @@
-pub mod Lines
+pub mod EndLines
+pub mod Names
+pub mod Values
+pub mod Places
+pub mod EventLines
+pub mod Sources

@@ -3,7 +3,7 @@ ghost use Rattle.std.specs.Prelude.{◌≡◌, ◌++◌, OnOk};
 ghost use Rattle.wy_kernel.specs.View.{present};
 ghost use Rattle.wy_kernel.specs.Parts.{program_of};
 ghost use Rattle.wy_kernel.specs.Program.{class, full_name};
-ghost use Rattle.wy_text.specs.Lines.{name_of};
+ghost use Rattle.wy_text.specs.EndLines.{name_of};
 
 use std::alloc::AllocError;
 use wy_kernel::builtin::FIRST_SOURCE_CLASS;
@@ -11,7 +11,7 @@ use wy_kernel::program::Program;
 use wy_kernel::types::NONE;
 
 /// Puts a class's full name behind a text, and nothing where there is no class.
-#[tactic(auto, unfolding(crate::specs::Lines::name_of, wy_kernel::specs::View::present))]
+#[tactic(auto, unfolding(crate::specs::EndLines::name_of, wy_kernel::specs::View::present))]
 pub fn put_class_name(out: &mut Vec<u8>, program: &Program, number: u32) -> Result<(), AllocError>
     ensures { OnOk result (out.new.items
         ≡ out.old.items ++ name_of (program_of program.now) (present number)) }

@@ -2,7 +2,7 @@
 ghost use Rattle.std.specs.Prelude.{◌≡◌, IfOk};
 ghost use Rattle.wy_kernel.specs.View.{present};
 ghost use Rattle.wy_kernel.specs.Parts.{program_of};
-ghost use Rattle.wy_text.specs.Lines.{plain_line as plain_line_of, stop_line as line_of_stop, uncaught_line as line_of_uncaught};
+ghost use Rattle.wy_text.specs.EndLines.{plain_line as plain_line_of, stop_line as line_of_stop, uncaught_line as line_of_uncaught};
 
 use crate::class::put_class_name;
 use crate::place::put_place;
@@ -14,7 +14,7 @@ use wy_kernel::program::Program;
 const UNCAUGHT: u8 = 1;
 
 /// How a run ended, by the number of its stop and what it threw last.
-#[tactic(auto, unfolding(crate::specs::Lines::stop_line))]
+#[tactic(auto, unfolding(crate::specs::EndLines::stop_line))]
 pub fn stop_line(
     alloc: Global,
     program: &Program,
@@ -31,7 +31,7 @@ pub fn stop_line(
     Vec::from_slice(alloc, plain_line(stop).as_bytes())
 }
 
-#[tactic(auto, unfolding(crate::specs::Lines::uncaught_line))]
+#[tactic(auto, unfolding(crate::specs::EndLines::uncaught_line))]
 fn uncaught_line(alloc: Global, program: &Program, thrown: &Thrown) -> Result<Vec<u8>, AllocError>
     ensures { IfOk result (λ line.
         line.items ≡ line_of_uncaught (program_of program.now) program.now.lines.items
@@ -45,7 +45,7 @@ fn uncaught_line(alloc: Global, program: &Program, thrown: &Thrown) -> Result<Ve
     Ok(line)
 }
 
-#[tactic(auto, unfolding(crate::specs::Lines::plain_line, crate::specs::Lines::plain_lines))]
+#[tactic(auto, unfolding(crate::specs::EndLines::plain_line, crate::specs::EndLines::plain_lines))]
 fn plain_line(stop: u8) -> &'static str
     ensures { result.now ≡ plain_line_of stop }
 {

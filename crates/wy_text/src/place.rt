@@ -1,7 +1,7 @@
 //! Where in its text a program threw.
 ghost use Rattle.std.specs.Prelude.{◌≡◌, ◌++◌, OnOk, option_and_then, slice_get};
 ghost use Rattle.wy_kernel.specs.View.{present};
-ghost use Rattle.wy_text.specs.Lines.{place_of, place_on};
+ghost use Rattle.wy_text.specs.EndLines.{place_of, place_on};
 
 use crate::number::put_decimal;
 use std::alloc::AllocError;
@@ -9,7 +9,7 @@ use wy_kernel::program::Program;
 use wy_kernel::types::NONE;
 
 /// Puts where a site is behind a text.
-#[tactic(auto, unfolding(crate::specs::Lines::place_of))]
+#[tactic(auto, unfolding(crate::specs::EndLines::place_of))]
 pub fn put_place(out: &mut Vec<u8>, program: &Program, site: u32) -> Result<(), AllocError>
     ensures { OnOk result (out.new.items
         ≡ out.old.items ++ place_of program.now.lines.items (present site)) }
@@ -34,7 +34,7 @@ fn line_of(program: &Program, token: u32) -> Option<u32>
     program.lines.get(token as usize).copied()
 }
 
-#[tactic(auto, unfolding(crate::specs::Lines::place_on))]
+#[tactic(auto, unfolding(crate::specs::EndLines::place_on))]
 fn put_line(out: &mut Vec<u8>, line: Option<u32>) -> Result<(), AllocError>
     ensures { OnOk result (out.new.items ≡ out.old.items ++ place_on line) }
 {

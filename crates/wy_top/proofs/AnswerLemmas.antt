@@ -5,14 +5,14 @@ use Rattle.std.specs.declared.alloc.AllocError.{AllocError}
 use Rattle.wy_kernel.specs.Program.{Program}
 use Rattle.wy_outside.specs.Counts.{Rose}
 use Rattle.wy_outside.specs.Shelf.{Files}
-use Rattle.wy_record.specs.Answers.{Mirrors}
+use Rattle.wy_record.specs.Recorders.{Mirrors}
 use Rattle.wy_words.specs.Words.{Asked, Asks, Command, Gen, Record, IsNoCommand, AskOneCommand}
 use Rattle.wy_reply.specs.declared.answer.Answer.{Answer}
 use Rattle.wy_reply.specs.declared.status.Status.{Status}
 use Rattle.wy_reply.specs.declared.status.Status.TheVariants.{Usage, Fault, Done}
 use Rattle.wy_reply.specs.Lines.{usage_line, absent_line, too_long_line}
 use Rattle.wy_reply.specs.Recordings.{Spelling}
-use Rattle.wy_gen.specs.Source.{source}
+use Rattle.wy_gen.specs.Generated.{source}
 use Rattle.wy_reply.specs.Generated.{generated_report}
 use Rattle.wy_reply.specs.Report.{recorded_report}
 use Rattle.wy_reply.specs.Statuses.{code_of, is_of_files}

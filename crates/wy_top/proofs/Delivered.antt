@@ -8,10 +8,10 @@ use Rattle.wy_reply.specs.declared.answer.Answer.{Answer}
 use Rattle.wy_reply.specs.declared.status.Status.{Status}
 use Rattle.wy_reply.specs.declared.status.Status.TheVariants.{Done, Usage, Absent, Program, Trace, Question, Fault, TooLong, NoMemory, Audit}
 use Rattle.wy_reply.specs.Statuses.{code_of}
-use Rattle.wy_session.specs.Talk.{IsFrontOf}
+use Rattle.wy_session.specs.Talk.{IsPrefixOf}
 use Rattle.wy_top.specs.Answers.{Counts, IsAnswer, IsFault, Knows}
 use Rattle.wy_top.specs.Deliveries.{Delivers, WritesPart}
-use Rattle.wy_top.specs.Call.{BeginsDue, Failures, IsFaultBehind, WritesDue, WritesFaultLine, WritesFront, alone, whole}
+use Rattle.wy_top.specs.Call.{BeginsDue, Failures, IsFaultBehind, WritesDue, WritesFaultLine, WritesPrefix, alone, whole}
 
 -- ---- statuses by their numbers
 
@@ -56,21 +56,21 @@ part_of answer status n m before after (inl (same, kept, all)) = (length answer.
 part_of answer status n m before after (inr (inl (fault, rose, part))) = part
 part_of answer status n m before after (inr (inr (memory, kept, part))) = part
 
-pub front_of : (words : List (List ℕ)) (held : Option Files) (keys : Option (List ℕ)) (old new : Failures) (before after : Option (List ℕ)) (answer : Answer) → new.keys ≡ old.keys → IsAnswer words held keys old.outside new.outside answer → WritesPart answer.text.items before after →
-    WritesFront words held keys old new before after
-front_of words held keys old new before after answer stayed is (k, within, written) = (take k answer.text.items, written, inr (of is)) where
-  begins : IsFrontOf (take k answer.text.items) answer.text.items
+pub prefix_of : (words : List (List ℕ)) (held : Option Files) (keys : Option (List ℕ)) (old new : Failures) (before after : Option (List ℕ)) (answer : Answer) → new.keys ≡ old.keys → IsAnswer words held keys old.outside new.outside answer → WritesPart answer.text.items before after →
+    WritesPrefix words held keys old new before after
+prefix_of words held keys old new before after answer stayed is (k, within, written) = (take k answer.text.items, written, inr (of is)) where
+  begins : IsPrefixOf (take k answer.text.items) answer.text.items
   begins = (drop k answer.text.items, sym (take-append-drop k answer.text.items))
 
   of : IsAnswer words held keys old.outside new.outside answer →
-      ((said : List ℕ) × (line : List ℕ) × (front : List ℕ) × IsFaultBehind words held keys old new said line × IsFrontOf front line × (take k answer.text.items ≡ said ++ front))
+      ((said : List ℕ) × (line : List ℕ) × (prefix : List ℕ) × IsFaultBehind words held keys old new said line × IsPrefixOf prefix line × (take k answer.text.items ≡ said ++ prefix))
       ⊎ ((new ≡ old) × (Knows words held keys → BeginsDue words held keys (take k answer.text.items)))
   of (inl (fault, line)) = inl ([], answer.text.items, take k answer.text.items, alone answer.text.items line, begins, refl)
   of (inr (same, due)) = inr ((λ i. record { outside = same i; keys = stayed i }), λ knows. whole (code_of answer.status) answer.text.items (due knows) begins)
 
-pub front : (words : List (List ℕ)) (held : Option Files) (keys : Option (List ℕ)) (old new : Failures) (n m : ℕ) (before after : Option (List ℕ)) (answer : Answer) (status : Status) → new.keys ≡ old.keys → IsAnswer words held keys old.outside new.outside answer →
-    Delivers answer status n m before after → WritesFront words held keys old new before after
-front words held keys old new n m before after answer status stayed is delivers = front_of words held keys old new before after answer stayed is (part_of answer status n m before after delivers)
+pub prefix : (words : List (List ℕ)) (held : Option Files) (keys : Option (List ℕ)) (old new : Failures) (n m : ℕ) (before after : Option (List ℕ)) (answer : Answer) (status : Status) → new.keys ≡ old.keys → IsAnswer words held keys old.outside new.outside answer →
+    Delivers answer status n m before after → WritesPrefix words held keys old new before after
+prefix words held keys old new n m before after answer status stayed is delivers = prefix_of words held keys old new before after answer stayed is (part_of answer status n m before after delivers)
 
 -- ---- statuses
 

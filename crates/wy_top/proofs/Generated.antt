@@ -4,7 +4,7 @@ use Rattle.std.specs.Prelude.{◌%◌}
 use Rattle.std.specs.Fmt.{decimal}
 use Rattle.std.specs.List.{range_with_len}
 use Rattle.std.proofs.lemmas.Fmt.{length-decimal-le}
-use Rattle.wy_gen.specs.Source.{addend, below, call, closing, divisor, ended, lines, loop_head, method, opening, source}
+use Rattle.wy_gen.specs.Generated.{addend, below, call, closing, divisor, ended, lines, loop_head, method, opening, source}
 
 joined : (a b : List ℕ) (x y : ℕ) → length a ≤ x → length b ≤ y → length (a ++ b) ≤ x + y
 joined a b x y p q = omega (arith, length-append a b, p, q)

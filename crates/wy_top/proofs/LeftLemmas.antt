@@ -8,7 +8,7 @@ use Rattle.wy_outside.specs.Counts.{Rose}
 use Rattle.wy_outside.specs.Shelf.{Files}
 use Rattle.wy_record.specs.declared.recorder.Phase.{Phase}
 use Rattle.wy_record.specs.declared.recorder.Phase.TheVariants as phase
-use Rattle.wy_record.specs.Answers.{Mirrors}
+use Rattle.wy_record.specs.Recorders.{Mirrors}
 use Rattle.wy_words.specs.Words.{AskOneCommand, Asked, Asks, Record}
 use Rattle.wy_reply.specs.declared.answer.Answer.{Answer}
 use Rattle.wy_reply.specs.declared.status.Status.TheVariants as status

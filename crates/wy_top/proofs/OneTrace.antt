@@ -20,16 +20,16 @@ use Rattle.wy_payload.specs.declared.ranges.Ranges.{Ranges}
 use Rattle.wy_frames.specs.declared.error.TraceError.{TraceError}
 use Rattle.wy_frames.specs.Heads.{head_of}
 use Rattle.wy_frames.specs.Scan.{Leaves, Waits, turn, Refused}
-use Rattle.wy_frames.specs.Standing.{Standing, start}
+use Rattle.wy_frames.specs.Progress.{Progress, start}
 use Rattle.wy_frames.specs.Traces.{AllStand, IsReadAs, IsReadBehind}
-use Rattle.wy_one_reading.specs.Laws.{ReadsInOneWay, SaysOfBytes}
+use Rattle.law_reading.specs.OneReading.{ReadsInOneWay, SaysOfBytes}
 use Rattle.wy_machine.specs.Audits.{OneAuditIsDue}
 use Rattle.wy_telling.specs.Output.{output_text}
 use Rattle.wy_telling.specs.Why.{OneAnswerToWhy, WhyIs}
 use Rattle.wy_tree.specs.Tokens.{SpannedToken, Tokens}
 use Rattle.wy_reply.specs.Lines.{of_trace}
 use Rattle.wy_telling.specs.Questions.{questions_text}
-use Rattle.wy_absence.specs.Whynot.{OneAnswerToWhynot, WhynotIs}
+use Rattle.wy_telling.specs.Whynot.{OneAnswerToWhynot, WhynotIs}
 use Rattle.wy_session.specs.Desk.{scene_of}
 use Rattle.wy_session.specs.Laws.{OneTalk}
 use Rattle.wy_session.specs.Scene.{Scene}
@@ -102,7 +102,7 @@ same_ranges p q parts lines = ranges_are p ∙ (λ i. ranges_in (parts i) (lines
 
 -- ---- so bytes are read alike under each
 
-all_stand : (p q : memory.Program) (head : Head) (fed : List ℕ) (t : Standing) → ranges_of p ≡ ranges_of q → AllStand p head fed t → AllStand q head fed t
+all_stand : (p q : memory.Program) (head : Head) (fed : List ℕ) (t : Progress) → ranges_of p ≡ ranges_of q → AllStand p head fed t → AllStand q head fed t
 all_stand p q head fed t same is = record {
   rest = is.rest;
   leaves = subst (λ (r : Ranges). Leaves r head.steps (start head) fed t is.rest) same is.leaves;

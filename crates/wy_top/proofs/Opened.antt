@@ -7,13 +7,13 @@ use Rattle.wy_event.specs.declared.record.Head.{Head}
 use Rattle.wy_event.specs.declared.record.Trace.{Trace}
 use Rattle.wy_event.specs.declared.record.Event.{Event}
 use Rattle.wy_event.specs.declared.record.Cover.{Cover}
-use Rattle.wy_frames.specs.Heads.{Answers, head_of}
+use Rattle.wy_frames.specs.Heads.{GivesDue, head_of}
 use Rattle.wy_frames.specs.Traces.{IsReadAs, ReadsAs}
 use Rattle.wy_frames.specs.declared.error.TraceError.{TraceError}
 use Rattle.wy_outside.specs.Counts.{Rose}
 use Rattle.wy_outside.specs.Shelf.{Files}
 use Rattle.wy_session.specs.Desk.{scene_of}
-use Rattle.wy_session.specs.Ways.{Closed, TakesManyFor, failures}
+use Rattle.wy_session.specs.Closings.{Closed, TakesManyFor, failures}
 use Rattle.wy_session.specs.declared.ending.Ending.{Ending}
 use Rattle.wy_reply.specs.declared.answer.Answer.{Answer}
 use Rattle.wy_reply.specs.declared.status.Status.{Status}
@@ -66,7 +66,7 @@ opened_by_head source bytes head end (Err e) at same h = tt
 abbrev unread : TraceError → Result (Head × ℕ) TraceError
 unread e = Err e
 
-pub no_head_any : (bytes : List ℕ) (e : TraceError) (answer : Answer) → Answers (unread e) (head_of bytes) → tellings.RefusesTrace e answer → OpensBytes bytes (Refused answer)
+pub no_head_any : (bytes : List ℕ) (e : TraceError) (answer : Answer) → GivesDue (unread e) (head_of bytes) → tellings.RefusesTrace e answer → OpensBytes bytes (Refused answer)
 no_head_any bytes e answer is h = λ w. no_head_due bytes w e (Ok answer) is h
 
 -- ---- in its file

@@ -17,20 +17,20 @@ use Rattle.wy_steps.specs.Sets.{nothing}
 use Rattle.wy_meaning.specs.Run as meaning
 use Rattle.wy_meaning.specs.Run.{events}
 use Rattle.wy_meaning.specs.Kept.{kept_tail}
-use Rattle.wy_shaped.specs.Shaped.{RecordsAreShaped}
+use Rattle.law_shaped.specs.Shaped.{RecordsAreShaped}
 use Rattle.wy_typing.specs.Programs.{IsProgram}
-use Rattle.wy_typed_states.specs.Typed.{KeepsLibrary}
-use Rattle.wy_kept_library.specs.Laws.{ProgramsKeepLibrary}
-use Rattle.wy_program_parts.specs.TableLaws.{TreesDeclareFew}
+use Rattle.law_typed_states.specs.Typed.{KeepsLibrary}
+use Rattle.law_own_traces.specs.KeptLibrary.{ProgramsKeepLibrary}
+use Rattle.law_program_parts.specs.TableLaws.{TreesDeclareFew}
 use Rattle.wy_program.specs.Laws.{TextsArePrograms}
 use Rattle.wy_program.proofs.Programs.{few_parts}
-use Rattle.wy_in_range.specs.InRange.{FitsText, IsByteOf}
-use Rattle.wy_fits_text.specs.Laws.{TreesFitTheirTexts}
-use Rattle.wy_own_traces.specs.Own.{IsOwn, OfFittingPrograms, OwnTracesAreNotRefused, OwnTracesAreRead, text_of}
+use Rattle.law_in_range.specs.InRange.{FitsText, IsByteOf}
+use Rattle.law_own_traces.specs.Laws.{TreesFitTheirTexts}
+use Rattle.law_own_traces.specs.Own.{IsOwn, OfFittingPrograms, OwnTracesAreNotRefused, OwnTracesAreRead, text_of}
 use Rattle.wy_frames.specs.declared.error.TraceError.{TraceError}
 use Rattle.wy_frames.specs.declared.error.TraceError.TheVariants.{NoMemory}
 use Rattle.wy_frames.specs.Traces.{ReadsAs}
-use Rattle.wy_readable.specs.Laws.{run_bytes}
+use Rattle.wy_spelling.specs.Spelling.{run_bytes}
 use Rattle.wy_reply.proofs.Carrying.{all_told}
 use Rattle.wy_reply.specs.Recordings.{IsTraceOf, trace_spelling}
 use Rattle.wy_top.specs.OwnTraces.{IsReadAsRun, IsRecorded, RecordedTracesAreNotRefused, RecordedTracesAreRead}

@@ -5,8 +5,8 @@ use Rattle.wy_kernel.specs.declared.program.Program as memory
 use Rattle.wy_kernel.specs.Program.{Program}
 use Rattle.wy_kernel.specs.Parts.{program_of}
 use Rattle.wy_event.specs.declared.record.Head.{Head}
-use Rattle.wy_record.specs.Answers.{Mirrors}
-use Rattle.wy_frames.specs.Heads.{Answers, head_of}
+use Rattle.wy_record.specs.Recorders.{Mirrors}
+use Rattle.wy_frames.specs.Heads.{GivesDue, head_of}
 use Rattle.wy_frames.specs.declared.error.TraceError.{TraceError}
 use Rattle.wy_frames.specs.declared.error.TraceError.TheVariants as error
 use Rattle.wy_reply.specs.declared.answer.Answer.{Answer}
@@ -90,12 +90,12 @@ pub head_due : (source bytes : List ℕ) (w : Wanted) (head : Head) (end : ℕ) 
 head_due source bytes w head end (Ok answer) is same h = by_head source bytes w head end answer is same h
 head_due source bytes w head end (Err x) is same h = tt
 
-no_head : (bytes : List ℕ) (w : Wanted) (e : TraceError) (line : List ℕ) → Answers (unread e) (head_of bytes) → IsTraceLine e line → DueForBytes bytes w 5 line
+no_head : (bytes : List ℕ) (w : Wanted) (e : TraceError) (line : List ℕ) → GivesDue (unread e) (head_of bytes) → IsTraceLine e line → DueForBytes bytes w 5 line
 no_head bytes w _ _ is (tellings.cut byte) = due.no_head (error.Cut byte) _ is (tellings.cut byte)
 no_head bytes w _ _ is (tellings.damaged byte rule) = due.no_head (error.Damaged byte rule) _ is (tellings.damaged byte rule)
 no_head bytes w _ _ is tellings.bad_seal = due.no_head error.BadSeal _ is tellings.bad_seal
 
-pub no_head_due : (bytes : List ℕ) (w : Wanted) (e : TraceError) (r : Result Answer AllocError) → Answers (unread e) (head_of bytes) → IfOk r (λ answer. tellings.RefusesTrace e answer) →
+pub no_head_due : (bytes : List ℕ) (w : Wanted) (e : TraceError) (r : Result Answer AllocError) → GivesDue (unread e) (head_of bytes) → IfOk r (λ answer. tellings.RefusesTrace e answer) →
     IfOk r (λ answer. DueForBytes bytes w (code_of answer.status) answer.text.items)
 no_head_due bytes w e (Ok answer) is h = rw (h.0) (no_head bytes w e answer.text.items is h.1)
 no_head_due bytes w e (Err x) is h = tt

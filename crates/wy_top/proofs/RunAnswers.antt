@@ -9,7 +9,7 @@ use Rattle.wy_tree.specs.TokenLaws.{TokensInOrder}
 use Rattle.wy_steps.specs.Sets.{nothing}
 use Rattle.wy_meaning.specs.Run.{events}
 use Rattle.wy_whynot.specs.Laws.{ItemsAreACut}
-use Rattle.wy_reached.specs.Laws.{EachItemIsNeeded}
+use Rattle.law_reached.specs.Laws.{EachItemIsNeeded}
 use Rattle.wy_frames.specs.Heads.{head_of}
 use Rattle.wy_frames.specs.declared.error.TraceError.{TraceError}
 use Rattle.wy_outside.specs.Shelf.{Files}

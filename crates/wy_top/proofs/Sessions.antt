@@ -12,8 +12,8 @@ use Rattle.wy_words.specs.declared.commands.Command.{Command}
 use Rattle.wy_words.specs.Words.{Asks, AskOneCommand, Command as Request, Explore, Gen, Why, WhyNot}
 use Rattle.wy_session.specs.Desk.{scene_of}
 use Rattle.wy_session.specs.Talk.{Talks}
-use Rattle.wy_session.specs.Ways.{BreaksOff, Closed, Closes, TakesManyFor, TookMany, WritesPart, keys_fault_line}
-use Rattle.wy_session.specs.Ways as session
+use Rattle.wy_session.specs.Closings.{BreaksOff, Closed, Closes, TakesManyFor, TookMany, WritesPart, keys_fault_line}
+use Rattle.wy_session.specs.Closings as session
 use Rattle.wy_session.specs.declared.ending.Ending.{Ending}
 use Rattle.wy_session.specs.declared.ending.Ending.TheVariants as ending
 use Rattle.wy_reply.specs.declared.answer.Answer.{Answer}
@@ -23,7 +23,7 @@ use Rattle.wy_reply.specs.Statuses.{code_of}
 use Rattle.wy_reply.specs.Tellings.{Wanted, covers_of}
 use Rattle.wy_reply.specs.Tellings as wanted
 use Rattle.wy_top.specs.Answers.{IsAnswer, Knows, counts}
-use Rattle.wy_top.specs.Call.{BeginsDue, AnswersEach, Carries, Cuts, Failures, IsFaultBehind, IsOpened, Traces, WritesAll, WritesCarried, WritesCut, WritesDue, WritesFaultLine, WritesFront, failures, of_keys}
+use Rattle.wy_top.specs.Call.{BeginsDue, AnswersEach, Carries, Cuts, Failures, IsFaultBehind, IsOpened, Traces, WritesAll, WritesCarried, WritesCut, WritesDue, WritesFaultLine, WritesPrefix, failures, of_keys}
 use Rattle.wy_top.specs.Call as call
 use Rattle.wy_top.specs.Deliveries.{Delivers}
 use Rattle.wy_top.specs.Due.{Due, DueForTrace}
@@ -32,7 +32,7 @@ use Rattle.wy_top.specs.Openings.{AnswersAny, Explores, Keys, Output, refused, m
 use Rattle.wy_top.specs.Openings as opening
 use Rattle.wy_top.specs.Replies.{ShelfCounts}
 use Rattle.wy_top.proofs.Requests.{explored_asked}
-use Rattle.wy_top.proofs.Delivered.{delivered_fault, front_of, part_of}
+use Rattle.wy_top.proofs.Delivered.{delivered_fault, prefix_of, part_of}
 
 -- ---- what is known
 
@@ -115,7 +115,7 @@ explored_due words name held sb sa kb ka b a _ code x (opening.session p t e sam
     (session_due words name held kb ka b a p t e x opened closed keys out knows (λ nine. some (is ∙ nine)))
 explored_due words name held sb sa kb ka b a _ code x (memory stayed kept) is shelf keys out knows some = absurd (some is)
 
--- ---- a first part
+-- ---- a prefix
 
 begins_session : (words : List (List ℕ)) (name : List ℕ) (held : Option Files) (keys : Option (List ℕ)) (p : Program) (t : Trace) (part : List ℕ) → Session words name → ((files : Files) → held ≡ Some files → IsOpened files name p t) →
     session.WritesPart (scene_of p t.events (covers_of t)) keys part → Knows words held keys → BeginsDue words held keys part
@@ -129,46 +129,46 @@ Faults s n k = failures s.faults n k.faults
 no_faults : (sb sa : ShelfCounts) (n : ℕ) (kb ka : Keys) → sa.faults ≡ sb.faults → ka.faults ≡ kb.faults → Faults sa n ka ≡ Faults sb n kb
 no_faults sb sa n kb ka shelf keys = λ i. failures (shelf i) n (keys i)
 
-all_front : (words : List (List ℕ)) (name : List ℕ) (held : Option Files) (sb sa : ShelfCounts) (n : ℕ) (kb ka : Keys) (b a : Output) (p : Program) (t : Trace) (status : ℕ) (said line : List ℕ) → Session words name → sa.faults ≡ sb.faults → ka.faults ≡ kb.faults →
+all_prefix : (words : List (List ℕ)) (name : List ℕ) (held : Option Files) (sb sa : ShelfCounts) (n : ℕ) (kb ka : Keys) (b a : Output) (p : Program) (t : Trace) (status : ℕ) (said line : List ℕ) → Session words name → sa.faults ≡ sb.faults → ka.faults ≡ kb.faults →
     ((files : Files) → held ≡ Some files → IsOpened files name p t) → session.WritesAll (scene_of p t.events (covers_of t)) kb.left status said → line ≡ [] → a.written ≡ appended b.written (said ++ line) →
-    WritesFront words held kb.left (Faults sb n kb) (Faults sa n ka) b.written a.written
-all_front words name held sb sa n kb ka b a p t status said line x shelf keys opened all none written =
+    WritesPrefix words held kb.left (Faults sb n kb) (Faults sa n ka) b.written a.written
+all_prefix words name held sb sa n kb ka b a p t status said line x shelf keys opened all none written =
     (said, nothing_more b.written a.written said line none written, inr (inr (no_faults sb sa n kb ka shelf keys, λ knows. of (given_by words name held kb.left x knows)))) where
       of : Given held kb.left → BeginsDue words held kb.left said
       of g = call.whole status said (due_of words name held kb.left p t status said x g (opened g.files g.told) (all g.input g.given)) ([], sym (append-nil said))
 
-part_front : (words : List (List ℕ)) (name : List ℕ) (held : Option Files) (sb sa : ShelfCounts) (n : ℕ) (kb ka : Keys) (b a : Output) (out_before out_after : ℕ) (p : Program) (t : Trace) (said line : List ℕ) → Session words name → sa.faults ≡ sb.faults →
+part_prefix : (words : List (List ℕ)) (name : List ℕ) (held : Option Files) (sb sa : ShelfCounts) (n : ℕ) (kb ka : Keys) (b a : Output) (out_before out_after : ℕ) (p : Program) (t : Trace) (said line : List ℕ) → Session words name → sa.faults ≡ sb.faults →
     ((files : Files) → held ≡ Some files → IsOpened files name p t) → session.WritesPart (scene_of p t.events (covers_of t)) kb.left said → BreaksOff (session.failures kb.faults ka.faults out_before out_after) line → a.written ≡ appended b.written (said ++ line) →
-    WritesFront words held kb.left (Faults sb n kb) (Faults sa n ka) b.written a.written
-part_front words name held sb sa n kb ka b a ob oa p t said line x shelf opened begins (inl (none, keys)) written =
+    WritesPrefix words held kb.left (Faults sb n kb) (Faults sa n ka) b.written a.written
+part_prefix words name held sb sa n kb ka b a ob oa p t said line x shelf opened begins (inl (none, keys)) written =
     (said, nothing_more b.written a.written said line none written, inr (inr (no_faults sb sa n kb ka shelf keys, begins_session words name held kb.left p t said x opened begins)))
-part_front words name held sb sa n kb ka b a ob oa p t said line x shelf opened begins (inr (rose, front)) written =
-    (said ++ line, written, inr (inl (said, keys_fault_line, line, of_keys said (name, x.asks) rose (begins_session words name held kb.left p t said x opened begins), front, refl)))
+part_prefix words name held sb sa n kb ka b a ob oa p t said line x shelf opened begins (inr (rose, prefix)) written =
+    (said ++ line, written, inr (inl (said, keys_fault_line, line, of_keys said (name, x.asks) rose (begins_session words name held kb.left p t said x opened begins), prefix, refl)))
 
-session_front : (words : List (List ℕ)) (name : List ℕ) (held : Option Files) (sb sa : ShelfCounts) (n : ℕ) (kb ka : Keys) (b a : Output) (p : Program) (t : Trace) (e : Ending) → Session words name → sa.faults ≡ sb.faults →
+session_prefix : (words : List (List ℕ)) (name : List ℕ) (held : Option Files) (sb sa : ShelfCounts) (n : ℕ) (kb ka : Keys) (b a : Output) (p : Program) (t : Trace) (e : Ending) → Session words name → sa.faults ≡ sb.faults →
     ((files : Files) → held ≡ Some files → IsOpened files name p t) → Closed (scene_of p t.events (covers_of t)) kb.left (session.failures kb.faults ka.faults b.faults a.faults) b.written a.written e →
-    WritesFront words held kb.left (Faults sb n kb) (Faults sa n ka) b.written a.written
-session_front words name held sb sa n kb ka b a p t ending.Done x shelf opened c = all_front words name held sb sa n kb ka b a p t 0 c.said c.line x shelf c.closes.1 opened c.closes.3 c.closes.0 c.written
-session_front words name held sb sa n kb ka b a p t ending.LongLine x shelf opened c = all_front words name held sb sa n kb ka b a p t 8 c.said c.line x shelf c.closes.1 opened c.closes.3 c.closes.0 c.written
-session_front words name held sb sa n kb ka b a p t ending.LongInput x shelf opened c = all_front words name held sb sa n kb ka b a p t 8 c.said c.line x shelf c.closes.1 opened c.closes.3 c.closes.0 c.written
-session_front words name held sb sa n kb ka b a p t ending.KeysFailed x shelf opened c =
-    part_front words name held sb sa n kb ka b a b.faults a.faults p t c.said c.line x shelf opened c.closes.3 (inr (c.closes.1, ([], sym c.closes.0 ∙ sym (append-nil c.line)))) c.written
-session_front words name held sb sa n kb ka b a p t ending.OutFailed x shelf opened c = part_front words name held sb sa n kb ka b a b.faults a.faults p t c.said c.line x shelf opened c.closes.2 c.closes.0 c.written
-session_front words name held sb sa n kb ka b a p t ending.NoMemory x shelf opened c = part_front words name held sb sa n kb ka b a b.faults a.faults p t c.said c.line x shelf opened c.closes.2 c.closes.0 c.written
+    WritesPrefix words held kb.left (Faults sb n kb) (Faults sa n ka) b.written a.written
+session_prefix words name held sb sa n kb ka b a p t ending.Done x shelf opened c = all_prefix words name held sb sa n kb ka b a p t 0 c.said c.line x shelf c.closes.1 opened c.closes.3 c.closes.0 c.written
+session_prefix words name held sb sa n kb ka b a p t ending.LongLine x shelf opened c = all_prefix words name held sb sa n kb ka b a p t 8 c.said c.line x shelf c.closes.1 opened c.closes.3 c.closes.0 c.written
+session_prefix words name held sb sa n kb ka b a p t ending.LongInput x shelf opened c = all_prefix words name held sb sa n kb ka b a p t 8 c.said c.line x shelf c.closes.1 opened c.closes.3 c.closes.0 c.written
+session_prefix words name held sb sa n kb ka b a p t ending.KeysFailed x shelf opened c =
+    part_prefix words name held sb sa n kb ka b a b.faults a.faults p t c.said c.line x shelf opened c.closes.3 (inr (c.closes.1, ([], sym c.closes.0 ∙ sym (append-nil c.line)))) c.written
+session_prefix words name held sb sa n kb ka b a p t ending.OutFailed x shelf opened c = part_prefix words name held sb sa n kb ka b a b.faults a.faults p t c.said c.line x shelf opened c.closes.2 c.closes.0 c.written
+session_prefix words name held sb sa n kb ka b a p t ending.NoMemory x shelf opened c = part_prefix words name held sb sa n kb ka b a b.faults a.faults p t c.said c.line x shelf opened c.closes.2 c.closes.0 c.written
 
 appended_none : (o : Option (List ℕ)) → o ≡ appended o []
 appended_none None = refl
 appended_none (Some text) = ap Some (sym (append-nil text))
 
-pub nothing_front : (words : List (List ℕ)) (held : Option Files) (keys : Option (List ℕ)) (old new : Failures) (o : Option (List ℕ)) → WritesFront words held keys old new o o
-nothing_front words held keys old new o = ([], appended_none o, inl refl)
+pub nothing_prefix : (words : List (List ℕ)) (held : Option Files) (keys : Option (List ℕ)) (old new : Failures) (o : Option (List ℕ)) → WritesPrefix words held keys old new o o
+nothing_prefix words held keys old new o = ([], appended_none o, inl refl)
 
-pub explored_front : (words : List (List ℕ)) (name : List ℕ) (held : Option Files) (sb sa : ShelfCounts) (n : ℕ) (kb ka : Keys) (b a : Output) (s : Status) → Session words name → Explores held name sb sa kb ka b a s →
-    WritesFront words held kb.left (Faults sb n kb) (Faults sa n ka) b.written a.written
-explored_front words name held sb sa n kb ka b a _ x (refused answer s cause any stayed delivers) =
-    front_of words held kb.left (Faults sb n kb) (Faults sa n ka) b.written a.written answer (ap (λ (k : Keys). k.faults) stayed) (answer_of words name held kb.left sb sa answer n x any) (part_of answer s b.faults a.faults b.written a.written delivers)
-explored_front words name held sb sa n kb ka b a _ x (opening.session p t e same opened closed takes) = session_front words name held sb sa n kb ka b a p t e x same opened closed
-explored_front words name held sb sa n kb ka b a _ x (memory stayed kept) = ([], ap (λ (o : Output). o.written) kept ∙ appended_none b.written, inl refl)
+pub explored_prefix : (words : List (List ℕ)) (name : List ℕ) (held : Option Files) (sb sa : ShelfCounts) (n : ℕ) (kb ka : Keys) (b a : Output) (s : Status) → Session words name → Explores held name sb sa kb ka b a s →
+    WritesPrefix words held kb.left (Faults sb n kb) (Faults sa n ka) b.written a.written
+explored_prefix words name held sb sa n kb ka b a _ x (refused answer s cause any stayed delivers) =
+    prefix_of words held kb.left (Faults sb n kb) (Faults sa n ka) b.written a.written answer (ap (λ (k : Keys). k.faults) stayed) (answer_of words name held kb.left sb sa answer n x any) (part_of answer s b.faults a.faults b.written a.written delivers)
+explored_prefix words name held sb sa n kb ka b a _ x (opening.session p t e same opened closed takes) = session_prefix words name held sb sa n kb ka b a p t e x same opened closed
+explored_prefix words name held sb sa n kb ka b a _ x (memory stayed kept) = ([], ap (λ (o : Output). o.written) kept ∙ appended_none b.written, inl refl)
 
 -- ---- causes
 

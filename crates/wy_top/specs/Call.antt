@@ -9,10 +9,10 @@ use Rattle.wy_frames.specs.Traces.{IsReadAs}
 use Rattle.wy_outside.specs.Counts.{Rose}
 use Rattle.wy_outside.specs.Shelf.{Files}
 use Rattle.wy_outside.specs.Sink.{appended}
-use Rattle.wy_record.specs.Answers.{Mirrors}
+use Rattle.wy_record.specs.Recorders.{Mirrors}
 use Rattle.wy_session.specs.Desk.{scene_of}
-use Rattle.wy_session.specs.Talk.{BeginsTalk, IsFrontOf}
-use Rattle.wy_session.specs.Ways.{keys_fault_line}
+use Rattle.wy_session.specs.Talk.{BeginsTalk, IsPrefixOf}
+use Rattle.wy_session.specs.Closings.{keys_fault_line}
 use Rattle.wy_words.specs.Words.{Asked, Asks, Command, Explore, Record, Why, WhyNot}
 use Rattle.wy_reply.specs.Carried.{CarriedAnswer}
 use Rattle.wy_reply.specs.Recordings.{HoldTrace, IsTraceOf, Spelling, trace_spelling}
@@ -40,7 +40,7 @@ pub record IsOpened (files : Files) (name : List ℕ) (p : Program) (t : Trace) 
 
 -- a text that is due begins with this part, or what a session answers to its first lines does
 pub data BeginsDue (words : List (List ℕ)) (held : Option Files) (keys : Option (List ℕ)) (part : List ℕ) : Type 0 where
-  whole : (status : ℕ) (text : List ℕ) → Due words held keys status text → IsFrontOf part text → BeginsDue words held keys part
+  whole : (status : ℕ) (text : List ℕ) → Due words held keys status text → IsPrefixOf part text → BeginsDue words held keys part
   session : (trace : List ℕ) (files : Files) (input : List ℕ) (p : Program) (t : Trace) → Asks words (Explore trace) → held ≡ Some files → keys ≡ Some input →
       IsOpened files trace p t → BeginsTalk (scene_of p t.events (covers_of t)) input part → BeginsDue words held keys part
 
@@ -63,12 +63,12 @@ abbrev pub WritesFaultLine : List (List ℕ) → Option Files → Option (List �
 WritesFaultLine words held keys faults_before faults_after before after =
     (said : List ℕ) × (line : List ℕ) × IsFaultBehind words held keys faults_before faults_after said line × (after ≡ appended before (said ++ line))
 
--- a first part of a text was written, and nothing after it: of the line of a fault where one came, behind what was written before it, else of a text that is due, where the shelf and the keys tell
-abbrev pub WritesFront : List (List ℕ) → Option Files → Option (List ℕ) → Failures → Failures → Option (List ℕ) → Option (List ℕ) → Type 0
-WritesFront words held keys faults_before faults_after before after =
+-- a prefix of a text was written, and nothing after it: of the line of a fault where one came, behind what was written before it, else of a text that is due, where the shelf and the keys tell
+abbrev pub WritesPrefix : List (List ℕ) → Option Files → Option (List ℕ) → Failures → Failures → Option (List ℕ) → Option (List ℕ) → Type 0
+WritesPrefix words held keys faults_before faults_after before after =
     (part : List ℕ) × (after ≡ appended before part)
     × ((part ≡ [])
-    ⊎ ((said : List ℕ) × (line : List ℕ) × (front : List ℕ) × IsFaultBehind words held keys faults_before faults_after said line × IsFrontOf front line × (part ≡ said ++ front))
+    ⊎ ((said : List ℕ) × (line : List ℕ) × (prefix : List ℕ) × IsFaultBehind words held keys faults_before faults_after said line × IsPrefixOf prefix line × (part ≡ said ++ prefix))
     ⊎ ((faults_after ≡ faults_before) × (Knows words held keys → BeginsDue words held keys part)))
 
 -- the run that was asked for is traced: each mirror that tells its bytes holds the trace of the source's program

@@ -7,7 +7,7 @@ use Rattle.wy_static.specs.declared.point.Link.{Link}
 use Rattle.wy_whynot.specs.Chains.{IsChain}
 use Rattle.wy_whynot.specs.Evidence.{Evidence}
 use Rattle.wy_whynot.specs.Items.{links_of}
-use Rattle.wy_reached.specs.Laws.{IsNeeded}
+use Rattle.law_reached.specs.Laws.{IsNeeded}
 use Rattle.wy_reply.specs.Blocked.{BlockedAnswer}
 
 -- every chain of links from the start to the statement has one of the items in it, and for each item some chain has it and no other

@@ -10,7 +10,7 @@ use Rattle.wy_reply.specs.declared.status.Status.TheVariants.{Fault, NoMemory}
 abbrev pub WritesPart : List ℕ → Option (List ℕ) → Option (List ℕ) → Type 0
 WritesPart text before after = (n : ℕ) × (n ≤ length text) × (after ≡ appended before (take n text))
 
--- all of it was written and the status is the answer's, or a first part of it, and the output failed or memory ran out
+-- all of it was written and the status is the answer's, or a prefix of it, and the output failed or memory ran out
 abbrev pub Delivers : Answer → Status → ℕ → ℕ → Option (List ℕ) → Option (List ℕ) → Type 0
 Delivers answer status faults_before faults_after before after =
     ((status ≡ answer.status) × (faults_after ≡ faults_before) × (after ≡ appended before answer.text.items))

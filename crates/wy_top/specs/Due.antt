@@ -9,7 +9,7 @@ use Rattle.wy_frames.specs.Heads.{head_of}
 use Rattle.wy_frames.specs.declared.error.TraceError.{TraceError}
 use Rattle.wy_words.specs.Words.{Asked, Asks, Command, Run, Record, Output, Questions, Why, WhyNot, Audit, Explore, Gen, IsNoCommand}
 use Rattle.wy_reply.specs.Lines.{usage_line, of_trace}
-use Rattle.wy_gen.specs.Source.{source}
+use Rattle.wy_gen.specs.Generated.{source}
 use Rattle.wy_reply.specs.Report.{report, recorded_report}
 use Rattle.wy_reply.specs.Generated.{generated_report}
 use Rattle.wy_reply.specs.Tellings.{DueUnder, IsTraceLine, Wanted}

@@ -5,9 +5,9 @@ use Rattle.wy_kernel.specs.Parts.{program_of}
 use Rattle.wy_outside.specs.Shelf.{Files}
 use Rattle.wy_record.specs.declared.recorder.Phase.{Phase}
 use Rattle.wy_record.specs.declared.recorder.Phase.TheVariants.{Done, Ready}
-use Rattle.wy_record.specs.Answers.{Mirrors}
+use Rattle.wy_record.specs.Recorders.{Mirrors}
 use Rattle.wy_words.specs.Words.{Asked, Asks, Record}
-use Rattle.wy_reply.specs.Recordings.{HoldByPhase, HoldFront, Spelling}
+use Rattle.wy_reply.specs.Recordings.{HoldByPhase, HoldPrefix, Spelling}
 use Rattle.wy_top.specs.Call.{Traced}
 use Rattle.wy_top.specs.Held.{Holds, IsInput, source_limit}
 use Rattle.wy_top.specs.Programs.{IsProgramOf}
@@ -16,7 +16,7 @@ use Rattle.wy_top.specs.Programs.{IsProgramOf}
 abbrev pub IsSettled : Phase → Type 0
 IsSettled phase = (phase ≡ Ready) ⊎ (phase ≡ Done)
 
--- the run that was asked for is traced so far: each mirror that tells its bytes holds a first part of the trace of the source's program
+-- the run that was asked for is traced so far: each mirror that tells its bytes holds a prefix of the trace of the source's program
 pub record TracedSoFar (s : Spelling) (files : Files) (a : Asked) (old new : Mirrors) : Type 0 where
   pub source : List ℕ
   pub holds : Holds files a.source source_limit source
@@ -24,7 +24,7 @@ pub record TracedSoFar (s : Spelling) (files : Files) (a : Asked) (old new : Mir
   pub is_input : IsInput files a.input input
   pub program : Program
   pub is_program : IsProgramOf source program
-  pub held : HoldFront s (program_of program) source input a.steps old new
+  pub held : HoldPrefix s (program_of program) source input a.steps old new
 
 -- the mirrors are as they were where the recorder was not started, the run is traced where it is done, and so far where it is neither
 abbrev pub LeftFor : Spelling → Files → Asked → Phase → Mirrors → Mirrors → Type 0

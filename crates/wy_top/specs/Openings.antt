@@ -10,8 +10,8 @@ use Rattle.wy_outside.specs.Counts.{Rose}
 use Rattle.wy_outside.specs.Shelf.{Files}
 use Rattle.wy_view.specs.References.{AllRefersBelow}
 use Rattle.wy_session.specs.Desk.{scene_of}
-use Rattle.wy_session.specs.Ways.{Closed, TakesManyFor}
-use Rattle.wy_session.specs.Ways as ways
+use Rattle.wy_session.specs.Closings.{Closed, TakesManyFor}
+use Rattle.wy_session.specs.Closings as ways
 use Rattle.wy_session.specs.declared.ending.Ending.{Ending}
 use Rattle.wy_session.specs.declared.ending.Ending.TheVariants as ending
 use Rattle.wy_reply.specs.declared.answer.Answer.{Answer}

@@ -8,11 +8,11 @@ use Rattle.wy_event.specs.declared.record.Trace.{Trace}
 use Rattle.wy_steps.specs.Sets.{nothing}
 use Rattle.wy_meaning.specs.Run.{events, tail}
 use Rattle.wy_meaning.specs.Kept.{kept_tail}
-use Rattle.wy_payload.specs.Closing.{steps_limit}
+use Rattle.wy_kernel.specs.Limits.{steps_limit}
 use Rattle.wy_frames.specs.declared.error.TraceError.{TraceError}
 use Rattle.wy_frames.specs.declared.error.TraceError.TheVariants.{NoMemory}
 use Rattle.wy_frames.specs.Traces.{IsReadAs, ReadsAs}
-use Rattle.wy_in_range.specs.InRange.{IsByteOf}
+use Rattle.law_in_range.specs.InRange.{IsByteOf}
 use Rattle.wy_reply.specs.Recordings.{IsTraceOf, trace_spelling}
 use Rattle.wy_top.specs.Held.{input_limit, source_limit, trace_limit}
 use Rattle.wy_top.specs.Programs.{IsProgramOf}

@@ -4,7 +4,7 @@ use Rattle.wy_kernel.specs.declared.program.Program.{Program}
 use Rattle.wy_kernel.specs.Parts.{program_of}
 use Rattle.wy_outside.specs.Counts.{Rose}
 use Rattle.wy_outside.specs.Shelf.{Files}
-use Rattle.wy_record.specs.Answers.{Mirrors}
+use Rattle.wy_record.specs.Recorders.{Mirrors}
 use Rattle.wy_reply.specs.declared.answer.Answer.{Answer}
 use Rattle.wy_reply.specs.declared.status.Status.TheVariants as status
 use Rattle.wy_reply.specs.Lines.{of_trace, recorder_fault_line}

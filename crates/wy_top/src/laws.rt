@@ -2,35 +2,32 @@
 //! function that does nothing.
 ghost use Rattle.std.specs.Prelude.{◌≡◌, ◌⊎◌, ℕ, List, Option};
 ghost use Rattle.wy_outside.specs.Shelf.{Files};
-ghost use Rattle.wy_reached.specs.Laws.{CallsStandOnLinks, EachItemIsNeeded, ExecutedPointsAreReached};
+ghost use Rattle.law_reached.specs.Laws.{CallsStandOnLinks, EachItemIsNeeded, ExecutedPointsAreReached};
 ghost use Rattle.wy_steps.specs.Sets.{nothing};
 ghost use Rattle.wy_top.specs.Due.{Due, AreSyntaxLines};
 ghost use Rattle.wy_top.specs.OwnTraces.{RecordedTracesAreNotRefused, RecordedTracesAreRead};
 ghost use Rattle.wy_top.specs.Texts.{OfTexts};
-ghost use Rattle.wy_typed_states.specs.Laws.{StatesAreTyped};
+ghost use Rattle.law_typed_states.specs.Laws.{StatesAreTyped};
 
-use wy_absence::laws::one_answer_to_whynot;
-use wy_choices::no_two_choices_share_a_site;
-use wy_elab_stmt::laws::a_text_has_one_program;
-use wy_fits_text::trees_fit_their_texts;
-use wy_kept_library::programs_keep_the_library;
-use wy_machine::one_audit_is_due;
-use wy_one_reading::bytes_are_read_in_one_way;
-use wy_own_traces::own_traces_are_read;
-use wy_parser::laws::a_token_list_has_one_tree;
-use wy_program::texts_are_programs;
-use wy_program_parts::trees_declare_few;
-use wy_reached::{
+use law_own_traces::{own_traces_are_read, programs_keep_the_library, trees_fit_their_texts};
+use law_program_parts::trees_declare_few;
+use law_reached::{
     calls_stand_on_links, each_item_is_needed, executed_points_are_reached, programs_stand_apart,
 };
+use law_reading::bytes_are_read_in_one_way;
+use law_shaped::references_point_below;
+use law_sites::no_two_choices_share_a_site;
+use law_structure::{each_number_is_one_statement, tests_stand_apart};
+use law_typed_states::states_are_typed;
+use wy_elab_stmt::laws::a_text_has_one_program;
+use wy_machine::one_audit_is_due;
+use wy_parser::laws::a_token_list_has_one_tree;
+use wy_program::texts_are_programs;
 use wy_session::laws::one_talk;
-use wy_shaped::references_point_below;
-use wy_structure::{each_number_is_one_statement, tests_stand_apart};
-use wy_telling::laws::one_answer_to_why;
+use wy_telling::laws::{one_answer_to_why, one_answer_to_whynot};
 use wy_tree::laws::{
     a_refused_text_has_no_tokens, a_text_has_one_token_list, tokens_stand_in_order,
 };
-use wy_typed_states::states_are_typed;
 use wy_words::laws::words_ask_one_command;
 
 /// For the same words, files and keys at most one status is due, and at most one text, but that Syntax may

@@ -8,14 +8,13 @@ use crate::answer::answer_to_lack;
 use crate::files::read_trace;
 use crate::reading::front;
 use crate::trace::answer_to_error;
+use law_reading::{decoded_events_refer_below, few_events_are_decoded, heads_are_short};
 use std::alloc::{AllocError, Global};
 use wy_event::record::Trace;
 use wy_frames::{decode, read_head};
 use wy_kernel::program::Program;
 use wy_outside::shelf::Shelf;
-use wy_referring::{decoded_events_refer_below, few_events_are_decoded};
 use wy_reply::{Answer, answer_to_trace_error};
-use wy_spelled::heads_are_short;
 
 /// A trace and the program of its head, or what is answered where there is none.
 #[derive(Drop)]

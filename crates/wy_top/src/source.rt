@@ -2,7 +2,7 @@
 ghost use Rattle.std.specs.Prelude.{◌≡◌, ◌<◌, ◌≤◌, IfOk, false, length};
 ghost use Rattle.wy_outside.specs.Counts.{Rose};
 ghost use Rattle.wy_record.specs.declared.recorder.Phase.TheVariants.{Failed, Ready};
-ghost use Rattle.wy_gen.specs.Source.{source};
+ghost use Rattle.wy_gen.specs.Generated.{source};
 ghost use Rattle.wy_reply.specs.Generated.{generated_report};
 ghost use Rattle.wy_reply.specs.Report.{report};
 ghost use Rattle.wy_reply.specs.Recordings.{spelling};

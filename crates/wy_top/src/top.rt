@@ -6,8 +6,8 @@ ghost use Rattle.wy_reply.specs.Statuses.{IsStatus};
 ghost use Rattle.wy_words.specs.Views.{command_of};
 ghost use Rattle.wy_words.specs.Words.{Explore, IsNoCommand};
 ghost use Rattle.wy_top.specs.Answers.{AsksToExplore, Knows};
-ghost use Rattle.wy_session.specs.Ways.{TookMany};
-ghost use Rattle.wy_top.specs.Call.{RecordsNothing, Traces, WritesCarried, WritesCut, WritesDue, WritesFaultLine, WritesFront, failures};
+ghost use Rattle.wy_session.specs.Closings.{TookMany};
+ghost use Rattle.wy_top.specs.Call.{RecordsNothing, Traces, WritesCarried, WritesCut, WritesDue, WritesFaultLine, WritesPrefix, failures};
 ghost use Rattle.wy_top.specs.Left.{IsSettled, Leaves};
 ghost use Rattle.wy_top.specs.Recorder.{faults_of, mirrors_of};
 ghost use Rattle.wy_reply.specs.Recordings.{trace_spelling};
@@ -16,12 +16,11 @@ use crate::answer::answer_to;
 use crate::delivery::deliver;
 use crate::exploring::explore_trace;
 use std::alloc::Global;
-use wy_framing::FrameRecorder;
+use wy_framing::{FrameRecorder, TraceSink};
 use wy_outside::shelf::Shelf;
 use wy_outside::sink::Sink;
 use wy_outside::source::Source;
 use wy_reply::Status;
-use wy_sinks::TraceSink;
 use wy_words::laws::words_ask_one_command;
 use wy_words::{Command, command};
 
@@ -41,7 +40,7 @@ fn trace_to_explore(request: Option<Command<'_>>) -> Option<&str>
 /// Runs the command of the words, without the program's own name, over the files of `shelf`, writes
 /// its text to `out` and returns its status. `keys` is read by `explore` alone, whose lines are answered
 /// as they come, and `recorder` has the trace of a run that is recorded; where it failed, or memory ran
-/// out, it has a first part of it.
+/// out, it has a prefix of it.
 ///
 /// | Status | Comes |
 /// |---|---|
@@ -64,7 +63,7 @@ pub fn whyline<S: Shelf, K: Source, O: Sink, T: TraceSink + Drop>(
     recorder: &mut FrameRecorder<T>,
 ) -> u8
     requires { recorder.old.phase ≡ Phase.Ready }
-    ensures status { IsStatus result }
+    // what is written
     ensures due { ¬ Rose (S.faults shelf.old) (S.faults shelf.new)
         → ¬ Rose (faults_of T.faults recorder.old.sinks.items)
         (faults_of T.faults recorder.new.sinks.items)
@@ -74,29 +73,40 @@ pub fn whyline<S: Shelf, K: Source, O: Sink, T: TraceSink + Drop>(
         → result ≢ 9
         → WritesDue (map string_bytes words.now) (S.held shelf.old) (K.left keys.old) result
         (O.written out.old) (O.written out.new) }
-    ensures front { WritesFront (map string_bytes words.now) (S.held shelf.old) (K.left keys.old)
+    ensures prefix { WritesPrefix (map string_bytes words.now) (S.held shelf.old) (K.left keys.old)
         (failures (S.faults shelf.old) (faults_of T.faults recorder.old.sinks.items)
         (K.faults keys.old))
         (failures (S.faults shelf.new) (faults_of T.faults recorder.new.sinks.items)
         (K.faults keys.new))
         (O.written out.old) (O.written out.new) }
-    ensures traces { result ≡ 0 → Traces trace_spelling (map string_bytes words.now)
-        (S.held shelf.old) (mirrors_of T.bytes recorder.old.sinks.items)
-        (mirrors_of T.bytes recorder.new.sinks.items) }
     ensures carried { result ≡ 0 → WritesCarried (map string_bytes words.now)
         (S.held shelf.old) (O.written out.old) (O.written out.new) }
     ensures cut { result ≡ 0 → WritesCut (map string_bytes words.now)
         (S.held shelf.old) (O.written out.old) (O.written out.new) }
-    ensures records_nothing { RecordsNothing (map string_bytes words.now)
-        → recorder.new ≡ recorder.old }
+    ensures fault_line { result ≡ 7
+        → ¬ Rose (O.faults out.old) (O.faults out.new)
+        → WritesFaultLine (map string_bytes words.now) (S.held shelf.old) (K.left keys.old)
+        (failures (S.faults shelf.old) (faults_of T.faults recorder.old.sinks.items)
+        (K.faults keys.old))
+        (failures (S.faults shelf.new) (faults_of T.faults recorder.new.sinks.items)
+        (K.faults keys.new))
+        (O.written out.old) (O.written out.new) }
+    // what is recorded
+    ensures traces { result ≡ 0 → Traces trace_spelling (map string_bytes words.now)
+        (S.held shelf.old) (mirrors_of T.bytes recorder.old.sinks.items)
+        (mirrors_of T.bytes recorder.new.sinks.items) }
     ensures leaves { Leaves trace_spelling (map string_bytes words.now) (S.held shelf.old)
         recorder.new.phase (mirrors_of T.bytes recorder.old.sinks.items)
         (mirrors_of T.bytes recorder.new.sinks.items) }
+    ensures records_nothing { RecordsNothing (map string_bytes words.now)
+        → recorder.new ≡ recorder.old }
     ensures fails { faults_of T.faults recorder.old.sinks.items
         < faults_of T.faults recorder.new.sinks.items → recorder.new.phase ≡ Phase.Failed }
     ensures finishes_first { O.faults out.old < O.faults out.new
         → ¬ Rose (faults_of T.faults recorder.old.sinks.items)
         (faults_of T.faults recorder.new.sinks.items) → IsSettled recorder.new.phase }
+    // statuses and their causes
+    ensures status { IsStatus result }
     ensures usage { result ≡ 2 → IsNoCommand (map string_bytes words.now) }
     ensures absent { result ≡ 3 → Rose (S.misses shelf.old) (S.misses shelf.new) }
     ensures too_long { result ≡ 8 → Rose (S.fulls shelf.old) (S.fulls shelf.new)
@@ -109,24 +119,17 @@ pub fn whyline<S: Shelf, K: Source, O: Sink, T: TraceSink + Drop>(
         ⊎ Rose (O.faults out.old) (O.faults out.new)
         ⊎ (AsksToExplore (map string_bytes words.now)
         × Rose (K.faults keys.old) (K.faults keys.new)) }
-    ensures fault_line { result ≡ 7
-        → ¬ Rose (O.faults out.old) (O.faults out.new)
-        → WritesFaultLine (map string_bytes words.now) (S.held shelf.old) (K.left keys.old)
-        (failures (S.faults shelf.old) (faults_of T.faults recorder.old.sinks.items)
-        (K.faults keys.old))
-        (failures (S.faults shelf.new) (faults_of T.faults recorder.new.sinks.items)
-        (K.faults keys.new))
-        (O.written out.old) (O.written out.new) }
     ensures shelf_fault { S.faults shelf.old < S.faults shelf.new → (result ≡ 7) ⊎ (result ≡ 9) }
     ensures recorder_fault { faults_of T.faults recorder.old.sinks.items
         < faults_of T.faults recorder.new.sinks.items
         → (result ≡ 7) ⊎ (result ≡ 9) }
     ensures keys_fault { K.faults keys.old < K.faults keys.new → (result ≡ 7) ⊎ (result ≡ 9) }
     ensures out_fault { O.faults out.old < O.faults out.new → (result ≡ 7) ⊎ (result ≡ 9) }
+    // what stays
     ensures files_stay { S.held shelf.new ≡ S.held shelf.old }
+    ensures keys_stay { ¬ AsksToExplore (map string_bytes words.now) → keys.new ≡ keys.old }
     ensures reads_nothing { IsNoCommand (map string_bytes words.now)
         → S.gets shelf.new ≡ S.gets shelf.old }
-    ensures keys_stay { ¬ AsksToExplore (map string_bytes words.now) → keys.new ≡ keys.old }
 {
     words_ask_one_command();
     let request = match command(alloc, words) {

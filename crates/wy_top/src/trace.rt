@@ -13,12 +13,12 @@ ghost use Rattle.wy_top.specs.Replies.{AnswersUnder, RefusesTrace};
 use crate::causes::front_cause;
 use crate::laws::runs_of_texts;
 use crate::reading::{FrontError, front};
+use law_reading::heads_are_short;
 use std::alloc::{AllocError, Global};
 use wy_elab_stmt::laws::a_text_has_one_program;
 use wy_frames::read_head;
 use wy_parser::laws::a_token_list_has_one_tree;
 use wy_reply::{Answer, Status, Wanted, answer_to_trace, answer_to_trace_error};
-use wy_spelled::heads_are_short;
 use wy_tree::laws::{
     a_refused_text_has_no_tokens, a_text_has_one_token_list, tokens_stand_in_order,
 };

@@ -9,3 +9,4 @@ pub mod line;
 pub mod measure;
 pub mod token;
 pub mod tree;
+pub mod word;

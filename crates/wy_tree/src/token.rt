@@ -5,6 +5,9 @@ ghost use Rattle.wy_tree.specs.Seen.{seen};
 
 use std::alloc::AllocError;
 
+/// A text has at most so many tokens, since it has at most so many bytes.
+pub const TOKEN_LIMIT: u32 = 1_048_576;
+
 /// A token.
 #[derive(Debug, Drop)]
 pub enum Token {

@@ -37,9 +37,9 @@ RefusedFor (Changed block kept found) old new = Rose old.changes new.changes × 
 RefusedFor NoMemory old new = new.faults ≡ old.faults
 
 -- an answer, and what rose where it is a refusal
-abbrev pub Answers : {X : Type 0} → Result X ViewError → Told → Told → Type 0
-Answers (Ok x) old new = new.faults ≡ old.faults
-Answers (Err e) old new = RefusedFor e old new
+abbrev pub KeepsCounts : {X : Type 0} → Result X ViewError → Told → Told → Type 0
+KeepsCounts (Ok x) old new = new.faults ≡ old.faults
+KeepsCounts (Err e) old new = RefusedFor e old new
 
 -- record n, where the records are told
 abbrev pub IsRecordOf : Told → ℕ → Recorded → Type 0

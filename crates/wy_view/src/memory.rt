@@ -21,7 +21,7 @@ impl EventView for MemoryView {
     ghost use Rattle.std.specs.Prelude.{Some, None, length, ◌<◌, ◌≡◌, ◌+◌, IfOk, IsOk};
     ghost use Rattle.wy_event.specs.Record.{recorded};
     ghost use Rattle.wy_view.specs.References.{RefersBelow};
-    ghost use Rattle.wy_view.specs.View.{Answers, IsRecordOf, Keeps, ReadsOnce, Rests};
+    ghost use Rattle.wy_view.specs.View.{KeepsCounts, IsRecordOf, Keeps, ReadsOnce, Rests};
     ghost use Rattle.wy_view.specs.Whole.{whole};
     ghost use Rattle.wy_view.specs.contracts.memory.MemoryView.{the_row};
 
@@ -41,7 +41,7 @@ impl EventView for MemoryView {
         ensures* after { sem 𝓛 (Rests the_row self.entry (λ now.
             let before = whole self.old.events.items None in
             let after = whole now.events.items None in
-            Keeps before after × ReadsOnce before after × Answers result before after)) }
+            Keeps before after × ReadsOnce before after × KeepsCounts result before after)) }
     {
         steps.tick();
         Ok(&self.events[n as usize])

@@ -22,7 +22,7 @@ impl EventView for TallyView {
     ghost use Rattle.std.specs.Prelude.{Some, None, length, ◌<◌, ◌≡◌, ◌+◌, IfOk, IsOk};
     ghost use Rattle.wy_event.specs.Record.{recorded};
     ghost use Rattle.wy_view.specs.References.{RefersBelow};
-    ghost use Rattle.wy_view.specs.View.{Answers, IsRecordOf, Keeps, ReadsOnce, Rests};
+    ghost use Rattle.wy_view.specs.View.{KeepsCounts, IsRecordOf, Keeps, ReadsOnce, Rests};
     ghost use Rattle.wy_view.specs.Whole.{whole};
     ghost use Rattle.wy_view.specs.contracts.tally.TallyView.{the_row};
 
@@ -42,7 +42,7 @@ impl EventView for TallyView {
         ensures* after { sem 𝓛 (Rests the_row self.entry (λ now.
             let before = whole self.old.events.items (Some self.old.reads) in
             let after = whole now.events.items (Some now.reads) in
-            Keeps before after × ReadsOnce before after × Answers result before after)) }
+            Keeps before after × ReadsOnce before after × KeepsCounts result before after)) }
     {
         steps.tick();
         self.reads = self.reads.saturating_add(1);

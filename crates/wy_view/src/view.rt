@@ -44,7 +44,7 @@ impl From<AllocError> for ViewError {
 /// The events of a trace. Each refers to earlier events alone, wherever it comes from.
 pub trait EventView {
     ghost use Rattle.std.specs.Borrow.{sem};
-    ghost use Rattle.wy_view.specs.View.{Told, Keeps, ReadsOnce, Answers, IsRecordOf, Rests};
+    ghost use Rattle.wy_view.specs.View.{Told, Keeps, ReadsOnce, KeepsCounts, IsRecordOf, Rests};
 
     ghost tells: { Self → Told };
 
@@ -61,5 +61,5 @@ pub trait EventView {
         ensures record { IfOk result (λ event. IsRecordOf (tells self.old) n (recorded event.now)) }
         ensures* after { sem 𝓛 (Rests Self.row self.entry (λ now. Keeps (tells self.old) (tells now)
             × ReadsOnce (tells self.old) (tells now)
-            × Answers result (tells self.old) (tells now))) };
+            × KeepsCounts result (tells self.old) (tells now))) };
 }

@@ -9,7 +9,7 @@ use Rattle.wy_event.specs.Record.{Recorded}
 use Rattle.wy_event.specs.Sources.{Owners, Source, source_events, sources, sources_of, event_sources}
 use Rattle.wy_view.specs.References.{RefersBelow}
 use Rattle.wy_view.specs.Counts.{RoseAtMost}
-use Rattle.wy_view.specs.View.{Told, Keeps, ReadsOnce, Answers}
+use Rattle.wy_view.specs.View.{Told, Keeps, ReadsOnce, KeepsCounts}
 use Rattle.wy_why.specs.declared.mark.Mark.{Mark}
 use Rattle.wy_why.specs.declared.mark.Mark.TheVariants.{Out}
 use Rattle.wy_why.specs.Marks.{is_marked, marked, taken}
@@ -200,7 +200,7 @@ down_passed index start a first s n k walk down le out not_flow = record {
     both false = not_flow
 
 -- what follows where all went well
-pub then_so : {X : Type 0} (r : Result X ViewError) (A B : Type 0) (a b : Told) → OnOk r A → Answers r a b → (A → b.faults ≡ a.faults → B) → OnOk r B
+pub then_so : {X : Type 0} (r : Result X ViewError) (A B : Type 0) (a b : Told) → OnOk r A → KeepsCounts r a b → (A → b.faults ≡ a.faults → B) → OnOk r B
 then_so (Ok x) A B a b well answers go = go well answers
 then_so (Err e) A B a b well answers go = tt
 

@@ -4,7 +4,7 @@ ghost use Rattle.std.specs.Prelude.{◌≡◌, ◌+◌, ◌*◌, ◌<◌, ◌≤
 ghost use Rattle.wy_event.specs.Record.{Recorded};
 ghost use Rattle.wy_event.specs.Sources.{closure, data_closure};
 ghost use Rattle.wy_view.specs.Counts.{RoseAtMost};
-ghost use Rattle.wy_view.specs.View.{Answers, Keeps};
+ghost use Rattle.wy_view.specs.View.{KeepsCounts, Keeps};
 ghost use Rattle.wy_index.specs.Halving.{IsHalvings};
 ghost use Rattle.wy_index.specs.Index.{IsIndexOfView, owners_of};
 ghost use Rattle.wy_why.specs.Answer.{Rises, up_to};
@@ -63,7 +63,7 @@ pub fn why<V: EventView, L: Ledger>(
     ensures rises { IfOk result (λ answer. Rises 0 (event + 1) answer.all.items
         × Rises 0 (event + 1) answer.flow.items) }
     ensures keeps { Keeps (V.tells view.old) (V.tells view.new) }
-    ensures answers { Answers result (V.tells view.old) (V.tells view.new) }
+    ensures answers { KeepsCounts result (V.tells view.old) (V.tells view.new) }
     ensures reads { IfOk result (λ answer. RoseAtMost (2 * vec_len answer.all)
         (V.tells view.old).reads (V.tells view.new).reads) }
     ensures forward { steps.old ≤ steps.new }

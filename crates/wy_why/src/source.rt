@@ -5,7 +5,7 @@ ghost use Rattle.std.specs.List.Sorted.{IsStrictlySortedBy};
 ghost use Rattle.wy_event.specs.Record.{Recorded, recorded};
 ghost use Rattle.wy_event.specs.Sources as records;
 ghost use Rattle.wy_view.specs.References.{RefersBelow, UseBelow, UsesBelow};
-ghost use Rattle.wy_view.specs.View.{Answers, Keeps, ReadsOnce};
+ghost use Rattle.wy_view.specs.View.{KeepsCounts, Keeps, ReadsOnce};
 ghost use Rattle.wy_index.specs.Index.{IsIndexOf, IsIndexOfView, owners_of};
 ghost use Rattle.wy_why.specs.declared.source.Source.{Source};
 ghost use Rattle.wy_why.specs.Sources.{role_rank, source_cmp, source_of};
@@ -163,7 +163,7 @@ pub fn sources<V: EventView, L: Ledger>(
     ensures below { IfOk result (λ found. (s : Source) → Contains found.items s → s.event < event) }
     ensures keeps { Keeps (V.tells view.old) (V.tells view.new) }
     ensures reads { ReadsOnce (V.tells view.old) (V.tells view.new) }
-    ensures answers { Answers result (V.tells view.old) (V.tells view.new) }
+    ensures answers { KeepsCounts result (V.tells view.old) (V.tells view.new) }
     ensures forward { steps.old ≤ steps.new }
 {
     let record = view.event(event, steps)?;

@@ -4,7 +4,7 @@ ghost use Rattle.std.specs.Prelude.{◌≡◌, ◌+◌, ◌*◌, ◌<◌, ◌≤
 ghost use Rattle.wy_event.specs.Numbers.{only, union_of};
 ghost use Rattle.wy_event.specs.Record.{Recorded};
 ghost use Rattle.wy_event.specs.Sources.{sources};
-ghost use Rattle.wy_view.specs.View.{Answers, Keeps, ReadsOnce, Told};
+ghost use Rattle.wy_view.specs.View.{KeepsCounts, Keeps, ReadsOnce, Told};
 ghost use Rattle.wy_index.specs.Halving.{IsHalvings};
 ghost use Rattle.wy_index.specs.Finds.{IsRecent};
 ghost use Rattle.wy_index.specs.Index.{IsIndexOfView, owners_of};
@@ -62,7 +62,7 @@ fn visit<V: EventView, L: Ledger>(
         steps.old steps.new k flow walk.old walk.new) }
     ensures keeps { Keeps (V.tells view.old) (V.tells view.new) }
     ensures reads { ReadsOnce (V.tells view.old) (V.tells view.new) }
-    ensures answers { Answers result (V.tells view.old) (V.tells view.new) }
+    ensures answers { KeepsCounts result (V.tells view.old) (V.tells view.new) }
     ensures forward { steps.old ≤ steps.new }
 {
     let event = view.event(k, steps)?;
@@ -88,7 +88,7 @@ pub(crate) fn step<V: EventView, L: Ledger>(
         → IsDown index.now start (V.tells view.old) first steps.old n (suc k) walk.old
         → OnOk result (IsDown index.now start (V.tells view.new) first steps.new n k walk.new) }
     ensures keeps { Keeps (V.tells view.old) (V.tells view.new) }
-    ensures answers { Answers result (V.tells view.old) (V.tells view.new) }
+    ensures answers { KeepsCounts result (V.tells view.old) (V.tells view.new) }
     ensures forward { steps.old ≤ steps.new }
 {
     match walk.marks[k as usize] {

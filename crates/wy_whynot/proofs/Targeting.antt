@@ -36,24 +36,24 @@ nat_eq-sym a b false e = by_test (nat_eq b a) refl
     by_test true f = sym (eq-eqb a b (sym (eqb-true b a f))) ∙ e
     by_test false f = refl
 
-step : (c call : Hit) (ts : List Made) → (same any : Bool) → nat_eq c.what call.what ≡ same → list_any (has_target call.what) ts ≡ any
-    → made_by c ∷ filter (has_another c.what) (cond any ts (ts ++ made_by call ∷ [])) ≡ with_target (made_by c ∷ filter (has_another c.what) ts) call
-step c call ts true true s a = ap (λ b. cond (b || list_any (has_target call.what) (filter (has_another c.what) ts)) (made_by c ∷ filter (has_another c.what) ts) ((made_by c ∷ filter (has_another c.what) ts) ++ made_by call ∷ [])) (sym s)
+step : (c call : Hit) (ts : List Made) → (same any : Bool) → nat_eq c.entity call.entity ≡ same → list_any (has_target call.entity) ts ≡ any
+    → made_by c ∷ filter (has_another c.entity) (cond any ts (ts ++ made_by call ∷ [])) ≡ with_target (made_by c ∷ filter (has_another c.entity) ts) call
+step c call ts true true s a = ap (λ b. cond (b || list_any (has_target call.entity) (filter (has_another c.entity) ts)) (made_by c ∷ filter (has_another c.entity) ts) ((made_by c ∷ filter (has_another c.entity) ts) ++ made_by call ∷ [])) (sym s)
 step c call ts true false s a =
-    ap (λ xs. made_by c ∷ xs) (filter-append (has_another c.what) ts (made_by call ∷ []) ∙ ap (λ xs. filter (has_another c.what) ts ++ xs) (filter_one c.what (made_by call) true (nat_eq-sym c.what call.what true s)) ∙ append-nil (filter (has_another c.what) ts))
-    ∙ ap (λ b. cond (b || list_any (has_target call.what) (filter (has_another c.what) ts)) (made_by c ∷ filter (has_another c.what) ts) ((made_by c ∷ filter (has_another c.what) ts) ++ made_by call ∷ [])) (sym s)
+    ap (λ xs. made_by c ∷ xs) (filter-append (has_another c.entity) ts (made_by call ∷ []) ∙ ap (λ xs. filter (has_another c.entity) ts ++ xs) (filter_one c.entity (made_by call) true (nat_eq-sym c.entity call.entity true s)) ∙ append-nil (filter (has_another c.entity) ts))
+    ∙ ap (λ b. cond (b || list_any (has_target call.entity) (filter (has_another c.entity) ts)) (made_by c ∷ filter (has_another c.entity) ts) ((made_by c ∷ filter (has_another c.entity) ts) ++ made_by call ∷ [])) (sym s)
 step c call ts false true s a =
-    ap₂ (λ b t. cond (b || t) (made_by c ∷ filter (has_another c.what) ts) ((made_by c ∷ filter (has_another c.what) ts) ++ made_by call ∷ [])) (sym s) (sym (any_but c.what call.what s ts ∙ a))
+    ap₂ (λ b t. cond (b || t) (made_by c ∷ filter (has_another c.entity) ts) ((made_by c ∷ filter (has_another c.entity) ts) ++ made_by call ∷ [])) (sym s) (sym (any_but c.entity call.entity s ts ∙ a))
 step c call ts false false s a =
-    ap (λ xs. made_by c ∷ xs) (filter-append (has_another c.what) ts (made_by call ∷ []) ∙ ap (λ xs. filter (has_another c.what) ts ++ xs) (filter_one c.what (made_by call) false (nat_eq-sym c.what call.what false s)))
-    ∙ ap₂ (λ b t. cond (b || t) (made_by c ∷ filter (has_another c.what) ts) ((made_by c ∷ filter (has_another c.what) ts) ++ made_by call ∷ [])) (sym s) (sym (any_but c.what call.what s ts ∙ a))
+    ap (λ xs. made_by c ∷ xs) (filter-append (has_another c.entity) ts (made_by call ∷ []) ∙ ap (λ xs. filter (has_another c.entity) ts ++ xs) (filter_one c.entity (made_by call) false (nat_eq-sym c.entity call.entity false s)))
+    ∙ ap₂ (λ b t. cond (b || t) (made_by c ∷ filter (has_another c.entity) ts) ((made_by c ∷ filter (has_another c.entity) ts) ++ made_by call ∷ [])) (sym s) (sym (any_but c.entity call.entity s ts ∙ a))
 
 pub targets_push : (calls : List Hit) (call : Hit) → targets_of (calls ++ call ∷ []) ≡ with_target (targets_of calls) call
 unfolding targets_of
 targets_push [] call = refl
 targets_push (c ∷ calls) call =
-    ap (λ ts. made_by c ∷ filter (has_another c.what) ts) (targets_push calls call)
-    ∙ step c call (targets_of calls) (nat_eq c.what call.what) (list_any (has_target call.what) (targets_of calls)) refl refl
+    ap (λ ts. made_by c ∷ filter (has_another c.entity) ts) (targets_push calls call)
+    ∙ step c call (targets_of calls) (nat_eq c.entity call.entity) (list_any (has_target call.entity) (targets_of calls)) refl refl
 
 pub no_targets : targets_of [] ≡ []
 unfolding targets_of
@@ -61,4 +61,4 @@ no_targets = refl
 
 -- what stands behind the last hit
 abbrev pub no_hit : Hit
-no_hit = record { event = 0; kind = event.Init; what = 0; caller = 0; value = value.None }
+no_hit = record { event = 0; kind = event.Init; entity = 0; caller = 0; value = value.None }

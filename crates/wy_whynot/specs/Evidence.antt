@@ -12,7 +12,7 @@ use Rattle.wy_static.specs.declared.point.Point.TheVariants as point
 use Rattle.wy_static.specs.declared.point.LinkKind.{LinkKind}
 use Rattle.wy_static.specs.declared.point.LinkKind.TheVariants as kind
 use Rattle.wy_static.specs.declared.point.Link.{Link}
-use Rattle.wy_static.specs.Answers.{around_of, method_of}
+use Rattle.wy_static.specs.LookUps.{around_of, method_of}
 use Rattle.wy_whynot.specs.declared.item.Item.{Item}
 use Rattle.wy_whynot.specs.declared.item.Made.{Made}
 use Rattle.wy_whynot.specs.Executed.{cover_of, is_test, is_value}
@@ -50,7 +50,7 @@ abbrev pub is_call_from : ℕ → Hit → Bool
 is_call_from body hit = is_call hit.kind && (hit.caller == body)
 
 abbrev pub made_by : Hit → Made
-made_by hit = record { method = hit.what; event = hit.event }
+made_by hit = record { method = hit.entity; event = hit.event }
 
 abbrev pub has_another : ℕ → Made → Bool
 has_another method made = not (made.method == method)
@@ -58,7 +58,7 @@ has_another method made = not (made.method == method)
 -- the targets of calls, each with its first event, in the order of these events
 unfoldable pub targets_of : List Hit → List Made
 targets_of [] = []
-targets_of (call ∷ calls) = made_by call ∷ filter (has_another call.what) (targets_of calls)
+targets_of (call ∷ calls) = made_by call ∷ filter (has_another call.entity) (targets_of calls)
 
 abbrev pub is_calling : LinkKind → Bool
 is_calling kind.Call = true

@@ -17,7 +17,7 @@ use Rattle.wy_static.specs.declared.point.Point.TheVariants as point
 use Rattle.wy_static.specs.declared.point.LinkKind.{LinkKind}
 use Rattle.wy_static.specs.declared.point.LinkKind.TheVariants as kind
 use Rattle.wy_static.specs.declared.point.Link.{Link}
-use Rattle.wy_static.specs.Answers.{method_of}
+use Rattle.wy_static.specs.LookUps.{method_of}
 
 -- ---- executed
 

@@ -12,7 +12,7 @@ has_target method made = made.method == method
 
 abbrev pub with_target : List Made → Hit → List Made
 with_target made call =
-    if list_any (has_target call.what) made then made else made ++ made_by call ∷ []
+    if list_any (has_target call.entity) made then made else made ++ made_by call ∷ []
 
 -- the methods that were noted
 abbrev pub KnowsTargets : BTreeSet ℕ → List Made → Type 0

@@ -4,7 +4,7 @@ ghost use Rattle.std.specs.Prelude.{◌≡◌, IfOk, List, map};
 ghost use Rattle.wy_kernel.specs.Program as kernel;
 ghost use Rattle.wy_event.specs.Record.{Recorded};
 ghost use Rattle.wy_index.specs.Index.{IsIndexOf};
-ghost use Rattle.wy_static.specs.Answers.{AreLinksOf};
+ghost use Rattle.wy_static.specs.LookUps.{AreLinksOf};
 ghost use Rattle.wy_whynot.specs.Evidence.{evidence, evidence_in};
 ghost use Rattle.wy_whynot.specs.Items.{WhynotIs};
 

@@ -4,7 +4,7 @@ ghost use Rattle.std.specs.Prelude.{◌≡◌, IfOk, List, OnOk, filter};
 ghost use Rattle.wy_kernel.specs.Program as kernel;
 ghost use Rattle.wy_event.specs.Record.{Recorded};
 ghost use Rattle.wy_index.specs.Index.{IsIndexOf};
-ghost use Rattle.wy_static.specs.Answers.{AreLinksOf};
+ghost use Rattle.wy_static.specs.LookUps.{AreLinksOf};
 ghost use Rattle.wy_whynot.specs.Evidence.{arm_of, calls_method, cause_of, events_of, evidence, evidence_in, gave_another, is_call_from, made_of, site_of_tests, targets_of, tests_of};
 ghost use Rattle.wy_whynot.specs.Targets.{KnowsTargets, with_target};
 
@@ -12,14 +12,11 @@ use crate::executed::{cover_of, is_test, is_value};
 use crate::item::{Item, Made};
 use std::alloc::{AllocError, Global};
 use std::collections::BTreeSet;
-use wy_event::record::{Cover, Kind};
+use wy_event::record::{Cover, GOING_ON, Kind};
 use wy_index::{Hit, Index};
 use wy_kernel::types::NONE;
 use wy_static::Links;
 use wy_static::point::{Link, LinkKind, Point};
-
-/// The cause of a statement that the end of the run found going on.
-const GOING_ON: u32 = 4294967294;
 
 fn gave_another(arm: u32, hit: &Hit) -> bool
     ensures { result ≡ gave_another arm hit.now }
@@ -82,9 +79,9 @@ fn note(methods: &mut BTreeSet<u32>, made: &mut Vec<Made>, call: &Hit) -> Result
         → KnowsTargets methods.new made.new.items
         × (made.new.items ≡ with_target made.old.items call.now)) }
 {
-    if methods.insert(call.what)? {
+    if methods.insert(call.entity)? {
         made.push(Made {
-            method: call.what,
+            method: call.entity,
             event: call.event,
         })?;
     }

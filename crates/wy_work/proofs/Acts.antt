@@ -27,17 +27,17 @@ use Rattle.wy_meaning.specs.Text.{print_value, print_nothing}
 use Rattle.wy_meaning.specs.Statement.{evaluated, tested, if_form, return_form, throw_form, print_form, declaration, jump, try_form, finally, at_throw, exec, exec_act, exec_catches, exec_other, other_or}
 use Rattle.wy_state.specs.declared.parts.Halt.{Halt}
 use Rattle.wy_state.specs.Seen.{given}
-use Rattle.wy_state.specs.Agrees.{Shape, Onward, Answers, itself}
-use Rattle.wy_operation.proofs.Runs.{answers_as}
+use Rattle.wy_state.specs.Agrees.{Shape, Onward, StepGives, itself}
+use Rattle.wy_operation.proofs.Runs.{answers_as, go_on-go_on}
 use Rattle.wy_operation.specs.Around.{IsSameAround, KeepsAt, Leaves}
 use Rattle.wy_state.proofs.Onward.{onward_as, onward_same}
 use Rattle.wy_operands.specs.Values.{Values}
-use Rattle.wy_work.specs.declared.frame.Frame.TheVariants as frame
-use Rattle.wy_work.specs.declared.frame.ExprStep.TheVariants as expr_step
-use Rattle.wy_work.specs.declared.frame.StmtStep.TheVariants as step
+use Rattle.wy_work.specs.declared.task.Task.TheVariants as task
+use Rattle.wy_work.specs.declared.task.ExprStep.TheVariants as expr_step
+use Rattle.wy_work.specs.declared.task.StmtStep.TheVariants as step
 use Rattle.wy_work.specs.Statements.{act_on, emptied, forgotten, without_values, stmt_step}
-use Rattle.wy_work.specs.Frames.{Standing, around, after, pushed, then_all, goes, Resumed}
-use Rattle.wy_work.proofs.Runs.{go_on-go_on, IsSettled, went, failed_at, kept_after}
+use Rattle.wy_work.specs.Tasks.{MachineState, around, after, pushed, then_all, goes, Resumed}
+use Rattle.wy_work.proofs.Runs.{IsSettled, went, failed_at, kept_after}
 
 -- the expression that comes first in a statement
 abbrev pub IsPartOf : Act → Expression → Type 0
@@ -75,19 +75,19 @@ part_is : (w : World nothing) (x : Memory) (e : Expression) (vs : Values) → Is
 unfolding go_on return
 part_is w x e vs part s = rw (view_statement x, act_is w x.site x.reach (act x.form) e part s) (simp go_on-go_on)
 
-module _ (p : Program) (m n : Standing) where
+module _ (p : Program) (m n : MachineState) where
   -- the frames of an expression and of the rest of its statement
-  pub within_goes : (x : Bor Memory) (e : Bor Expr) → n ≡ pushed (frame.Expr e expr_step.Find) (pushed (frame.Stmt x step.Operate) m) → IsPartOf (act x.now.form) (expression e.now) →
+  pub within_goes : (x : Bor Memory) (e : Bor Expr) → n ≡ pushed (task.Expr e expr_step.Find) (pushed (task.Stmt x step.Operate) m) → IsPartOf (act x.now.form) (expression e.now) →
       Onward p m.state (then_all p m (emptied (exec_act (world p m.depth) x.now.site x.now.reach (act x.now.form)))) n.state (goes p n)
   unfolding go_on return
   within_goes x e is part = rw is (onward_as (λ s. ap (after p (around m) m.work) (part_is (world p m.depth) x.now (expression e.now) m.values part s)) (onward_same p m.state _))
 
-  pub block_goes : (x : Memory) (parts : Vec Memory Global) (ss : Bor (List Memory)) → x.form ≡ form.Block parts → ss.now ≡ parts.items → n ≡ pushed (frame.Stmts ss) m →
+  pub block_goes : (x : Memory) (parts : Vec Memory Global) (ss : Bor (List Memory)) → x.form ≡ form.Block parts → ss.now ≡ parts.items → n ≡ pushed (task.Stmts ss) m →
       Onward p m.state (then_all p m (emptied (exec_act (world p m.depth) x.site x.reach (act x.form)))) n.state (goes p n)
   unfolding exec_act go_on return
   block_goes x parts ss is all pushes = rw (pushes, is, view_block, ← all) (onward_same p m.state _)
 
-  pub labelled_goes : (x : Memory) (body : Box Memory Global) (b : Bor Memory) → x.form ≡ form.Labelled body → b.now ≡ body.value → n ≡ pushed (frame.Stmt b step.Do) m →
+  pub labelled_goes : (x : Memory) (body : Box Memory Global) (b : Bor Memory) → x.form ≡ form.Labelled body → b.now ≡ body.value → n ≡ pushed (task.Stmt b step.Do) m →
       Onward p m.state (then_all p m (emptied (exec_act (world p m.depth) x.site x.reach (act x.form)))) n.state (goes p n)
   unfolding exec_act go_on return
   labelled_goes x body b is same pushes = rw (pushes, is, view_labelled, ← same) (onward_same p m.state _)
@@ -128,8 +128,8 @@ module _ (w : World nothing) (x : Memory) where
   unfolding exec_act print_form eval_part
   print_is ty ends_line at is s = rw (is, view_print) refl
 
-module _ (p : Program) (m : Standing) (s : Shape) (x : Memory) where
-  ended_at : (f : Run nothing (Unit {0})) (e : Halt) → ((z : State nothing) → exec_act (world p m.depth) x.site x.reach (act x.form) z ≡ f z) → Answers p (itself {X = Unit {0}}) (Err e) m.state f s → KeepsAt e m.state.calls s.calls →
+module _ (p : Program) (m : MachineState) (s : Shape) (x : Memory) where
+  ended_at : (f : Run nothing (Unit {0})) (e : Halt) → ((z : State nothing) → exec_act (world p m.depth) x.site x.reach (act x.form) z ≡ f z) → StepGives p (itself {X = Unit {0}}) (Err e) m.state f s → KeepsAt e m.state.calls s.calls →
       Resumed p (then_all p m (emptied (exec_act (world p m.depth) x.site x.reach (act x.form)))) m.state (Err e) (record m { state = s })
   ended_at f e is a same = failed_at p m s m.values (exec_act (world p m.depth) x.site x.reach (act x.form)) (λ u. return []) (itself {X = Unit {0}}) e (λ u. return m.values) (answers_as p itself (Err e) m.state s _ f is a) same
 
@@ -141,7 +141,7 @@ module _ (p : Program) (m : Standing) (s : Shape) (x : Memory) where
       Resumed p (then_all p m (emptied (exec_act (world p m.depth) x.site x.reach (act x.form)))) m.state (Err e) (record m { state = s })
   returned e is a same = ended_at (return_form x.site (return (given Nothing []))) e (return_is (world p m.depth) x is) a same
 
-  pub print_failed : (ty : Ty) (ends_line : Bool) (at : ℕ) (e : Halt) → x.form ≡ form.Print Absent ty ends_line at → Answers p (itself {X = Unit {0}}) (Err e) m.state (print_nothing ends_line at) s → KeepsAt e m.state.calls s.calls →
+  pub print_failed : (ty : Ty) (ends_line : Bool) (at : ℕ) (e : Halt) → x.form ≡ form.Print Absent ty ends_line at → StepGives p (itself {X = Unit {0}}) (Err e) m.state (print_nothing ends_line at) s → KeepsAt e m.state.calls s.calls →
       Resumed p (then_all p m (emptied (exec_act (world p m.depth) x.site x.reach (act x.form)))) m.state (Err e) (record m { state = s })
   print_failed ty ends_line at e is a same = ended_at (print_nothing ends_line at) e (print_is (world p m.depth) x ty ends_line at is) a same
 
@@ -158,14 +158,14 @@ kept_unit (run.Done x s) = refl
 kept_unit (run.Left why s) = refl
 kept_unit (run.Stopped why s) = refl
 
-module _ (p : Program) (m n : Standing) (x : Bor Memory) (main : Box Memory Global) (catches : Vec Catch Global) (b : Bor Memory) (same : b.now ≡ main.value) where
-  pub try_goes : x.now.form ≡ form.Try main catches Absent → n ≡ pushed (frame.Stmt b step.Do) (pushed (frame.Stmt x step.Catch) m) →
+module _ (p : Program) (m n : MachineState) (x : Bor Memory) (main : Box Memory Global) (catches : Vec Catch Global) (b : Bor Memory) (same : b.now ≡ main.value) where
+  pub try_goes : x.now.form ≡ form.Try main catches Absent → n ≡ pushed (task.Stmt b step.Do) (pushed (task.Stmt x step.Catch) m) →
       Onward p m.state (then_all p m (emptied (exec_act (world p m.depth) x.now.site x.now.reach (act x.now.form)))) n.state (goes p n)
   unfolding exec_act try_form catching go_on return
   try_goes is pushes = rw pushes (onward_as (λ s. ap (after p (around m) m.work)
       (rw (view_statement x.now, is, view_try, same) (ap (λ o. without_values (go_on_left o (at_throw (world p m.depth) (exec_catches (world p m.depth) (clauses_of (map clause catches.items)))))) (sym (kept_unit (exec (world p m.depth) (statement main.value) s)))))) (onward_same p m.state _))
 
-  pub finally_goes : (last : Box Memory Global) → x.now.form ≡ form.Try main catches (Some last) → n ≡ pushed (frame.Stmt b step.Do) (pushed (frame.Stmt x step.Catch) (pushed (frame.Stmt x step.Finally) m)) →
+  pub finally_goes : (last : Box Memory Global) → x.now.form ≡ form.Try main catches (Some last) → n ≡ pushed (task.Stmt b step.Do) (pushed (task.Stmt x step.Catch) (pushed (task.Stmt x step.Finally) m)) →
       Onward p m.state (then_all p m (emptied (exec_act (world p m.depth) x.now.site x.now.reach (act x.now.form)))) n.state (goes p n)
   unfolding exec_act try_form finally catching other_or ◌>>◌ ◌>>=◌ go_on return
   finally_goes last is pushes = rw pushes (onward_as (λ s. ap (after p (around m) m.work)

@@ -18,18 +18,19 @@ use Rattle.wy_meaning.specs.World.{World}
 use Rattle.wy_meaning.specs.Run.{world}
 use Rattle.wy_meaning.specs.Text.{concatenated}
 use Rattle.wy_state.specs.declared.parts.Halt.{Halt}
-use Rattle.wy_state.specs.Agrees.{Shape, Onward, Answers}
+use Rattle.wy_state.specs.Agrees.{Shape, Onward, StepGives}
 use Rattle.wy_state.specs.Seen.{given, valued}
 use Rattle.wy_state.proofs.Onward.{onward_as, onward_same}
 use Rattle.wy_operation.specs.Around.{IsSameAround, KeepsAt}
 use Rattle.wy_operation.specs.Spots.{spot_of}
 use Rattle.wy_operation.specs.Updated.{Places, updated}
 use Rattle.wy_operands.specs.Values.{Values, at, top, under_many, uses_of_last}
-use Rattle.wy_work.specs.declared.frame.Frame.TheVariants as frames
-use Rattle.wy_work.specs.declared.frame.ExprStep.TheVariants as step
+use Rattle.wy_work.specs.declared.task.Task.TheVariants as tasks
+use Rattle.wy_work.specs.declared.task.ExprStep.TheVariants as step
 use Rattle.wy_work.specs.Expressions.{expr_step, put_on, right_side, updating, updating_of}
-use Rattle.wy_work.specs.Frames.{Standing, around, after, pushed, then_all, Does, Resumed}
-use Rattle.wy_work.proofs.Runs.{go_on-go_on, turned_after, world_program}
+use Rattle.wy_work.specs.Tasks.{MachineState, around, after, pushed, then_all, Does, Resumed}
+use Rattle.wy_operation.proofs.Runs.{go_on-go_on}
+use Rattle.wy_work.proofs.Runs.{turned_after, world_program}
 use Rattle.wy_kernel.specs.Program as kernel
 use Rattle.wy_event.specs.declared.record.Slot.TheVariants as slots
 use Rattle.wy_value.specs.declared.value.Value.TheVariants.{None as Nothing}
@@ -51,18 +52,18 @@ joined_thrice : (a b c : List Use) → a ++ (b ++ c) ≡ (a ++ b) ++ c
 joined_thrice [] b c = refl
 joined_thrice (x ∷ a) b c = ap (λ all. x ∷ all) (joined_thrice a b c)
 
-module _ (p : Program) (m : Standing) (slot : Slot) (place : plain.Place) (op : BinOp) (part : plain.Part) (value_ty ty : Ty) (site : ℕ) where
+module _ (p : Program) (m : MachineState) (slot : Slot) (place : plain.Place) (op : BinOp) (part : plain.Part) (value_ty ty : Ty) (site : ℕ) where
   -- the parts of the place and the text are there
-  pub text_stored : (wide : Option Primitive) (gives_old : Bool) (r : Result (Unit {0}) Halt) (n : Standing) (x : Expression) → x ≡ plain.Upd place op part value_ty ty wide gives_old site → Storing p slot 2 site m r n → Does p (λ w. expr_step w x (step.Store slot)) m r n
+  pub text_stored : (wide : Option Primitive) (gives_old : Bool) (r : Result (Unit {0}) Halt) (n : MachineState) (x : Expression) → x ≡ plain.Upd place op part value_ty ty wide gives_old site → Storing p slot 2 site m r n → Does p (λ w. expr_step w x (step.Store slot)) m r n
   text_stored wide gives_old r n x seen a =
       subst (λ z. Does p (λ w. expr_step w z (step.Store slot)) m r n) (sym seen) (a (record { spot = spot_of slot (at 1 m.values); right = top m.values; is_slot = refl; is_right = refl; are_joined = refl }))
 
   -- the text of the old value and the right side comes first
-  pub text_next : (gives_old : Bool) (r : Result (Unit {0}) Halt) (n q : Standing) (e : Bor Expr) → expression e.now ≡ plain.Upd place op part value_ty ty Absent gives_old site → q ≡ pushed (frames.Expr e (step.Store slot)) m →
+  pub text_next : (gives_old : Bool) (r : Result (Unit {0}) Halt) (n q : MachineState) (e : Bor Expr) → expression e.now ≡ plain.Upd place op part value_ty ty Absent gives_old site → q ≡ pushed (tasks.Expr e (step.Store slot)) m →
       Does p (λ w vs. put_on (under_many 2 vs) (concatenated w site (at 1 vs) (top vs))) q r n → Does p (λ w. expr_step w (expression e.now) (step.Assign slot)) m r n
   unfolding go_on return ◌>>=◌
   text_next gives_old r n q e seen is a =
-      turned_after p m.state m n (then_all p m (expr_step (world p m.depth) (expression e.now) (step.Assign slot) m.values)) (then_all p (pushed (frames.Expr e (step.Store slot)) m) (put_on (under_many 2 m.values) (concatenated (world p m.depth) site (at 1 m.values) (top m.values)))) r (λ u. return n.values)
+      turned_after p m.state m n (then_all p m (expr_step (world p m.depth) (expression e.now) (step.Assign slot) m.values)) (then_all p (pushed (tasks.Expr e (step.Store slot)) m) (put_on (under_many 2 m.values) (concatenated (world p m.depth) site (at 1 m.values) (top m.values)))) r (λ u. return n.values)
       (onward_as (λ s. ap (after p (around m) m.work) (rw (seen) (go_on-go_on (concatenated (world p m.depth) site (at 1 m.values) (top m.values) s) _ _ ∙ sym (go_on-go_on (concatenated (world p m.depth) site (at 1 m.values) (top m.values) s) _ _)))) (onward_same p m.state _))
       (subst (λ z. Does p (λ w vs. put_on (under_many 2 vs) (concatenated w site (at 1 vs) (top vs))) z r n) is a)
 
@@ -91,7 +92,7 @@ module _ (p : Program) (m : Standing) (slot : Slot) (place : plain.Place) (op : 
         (first_went p m s run_here (λ set. return (if gives_old then at 1 m.values else set)) (under_many 3 m.values) (valued e value) (Ok tt) (record m { state = s; values = us }) (a p (world p m.depth) here (world_program p m.depth)) same
         (onward_as (λ st. ap (λ c. after p (around (record m { state = s })) m.work (return (c ∷ under_many 3 m.values) st)) back ∙ ap (λ z. after p (around (record m { state = s })) m.work (return z st)) (sym is)) (onward_same p s _)))
 
-    pub number_refused : (e : Halt) → ((q : Program) (w : World nothing) (o : Places slot left right operands used) → w.program ≡ q → Answers {X = Value × ℕ} q (λ r. valued r.1 r.0) (Err e) m.state (updated w op ty wide site o.spot o.old o.value) s) → KeepsAt e m.state.calls s.calls →
+    pub number_refused : (e : Halt) → ((q : Program) (w : World nothing) (o : Places slot left right operands used) → w.program ≡ q → StepGives {X = Value × ℕ} q (λ r. valued r.1 r.0) (Err e) m.state (updated w op ty wide site o.spot o.old o.value) s) → KeepsAt e m.state.calls s.calls →
         Resumed p (then_all p m (expr_step (world p m.depth) x (step.Assign slot) m.values)) m.state (Err e) (record m { state = s })
     number_refused e a same =
         subst (λ z. Resumed p (then_all p m (expr_step (world p m.depth) z (step.Assign slot) m.values)) m.state (Err e) (record m { state = s })) (sym seen)
@@ -100,10 +101,10 @@ module _ (p : Program) (m : Standing) (slot : Slot) (place : plain.Place) (op : 
 -- ---- an update whose parts are there
 
 -- what is done once the place is found
-abbrev pub Locating : Expression → Slot → ℕ → Standing → Result (Unit {0}) Halt → Standing → Type 0
+abbrev pub Locating : Expression → Slot → ℕ → MachineState → Result (Unit {0}) Halt → MachineState → Type 0
 Locating x slot many m r n = (p : Program) (c : Carried nothing) → c.uses ≡ uses_of_last many m.values → Does p (λ w vs. updating_of w x (spot_of slot c) (under_many many vs)) m r n
 
-module _ (p : Program) (m : Standing) (s : Shape) (n : Standing) (r : Result (Unit {0}) Halt) (x : Expression) (slot : Slot) (op : BinOp) (value : plain.Part) (value_ty ty : Ty) (wide : Option Primitive) (gives_old : Bool) (site : ℕ) where
+module _ (p : Program) (m : MachineState) (s : Shape) (n : MachineState) (r : Result (Unit {0}) Halt) (x : Expression) (slot : Slot) (op : BinOp) (value : plain.Part) (value_ty ty : Ty) (wide : Option Primitive) (gives_old : Bool) (site : ℕ) where
   abbrev right : Given
   right = right_side (world p m.depth) value
 
@@ -124,7 +125,7 @@ module _ (p : Program) (m : Standing) (s : Shape) (n : Standing) (r : Result (Un
 
   -- or it was refused
   pub update_refused : (place : plain.Place) (at : Located nothing) (f : Run nothing (Spot nothing)) (many : ℕ) (view : Slot → Spot nothing) (e : Halt) →
-      ((s : State nothing) → find (world p m.depth) at s ≡ f s) → Answers p view (Err e) m.state f s → KeepsAt e m.state.calls s.calls →
+      ((s : State nothing) → find (world p m.depth) at s ≡ f s) → StepGives p view (Err e) m.state f s → KeepsAt e m.state.calls s.calls →
       Resumed p (then_all p m (put_on (under_many many m.values) (updates at))) m.state (Err e) (record m { state = s })
   unfolding ◌>>=◌
   update_refused place at f many view e found a same =
@@ -162,7 +163,7 @@ module _ (w : World nothing) (s : State nothing) where
 updates_at : (x : Expression) (z y : plain.Place) → IsUpdate x z → z ≡ y → UpdateOf x y
 updates_at x z y is same = update_of x y (subst (IsUpdate x) same is)
 
-module _ (p : Program) (m : Standing) (s : Shape) (n : Standing) (r : Result (Unit {0}) Halt) (x : Expression) (slot : Slot) (z : plain.Place) (updated : IsUpdate x z) where
+module _ (p : Program) (m : MachineState) (s : Shape) (n : MachineState) (r : Result (Unit {0}) Halt) (x : Expression) (slot : Slot) (z : plain.Place) (updated : IsUpdate x z) where
   pub local_updated : (i : ℕ) → z ≡ plain.Local i → ((q : Program) → Onward q m.state (local_slot i) m.state (return slot)) → Locating x slot 0 m r n → Operating p x m r n
   unfolding constant
   local_updated i same a next =
@@ -190,9 +191,9 @@ module _ (p : Program) (m : Standing) (s : Shape) (n : Standing) (r : Result (Un
         (update_found p m s n r x slot of.op of.value of.value_ty of.ty of.wide of.gives_old of.site (plain.Elem array index site) (AtElem (return (at 1 m.values)) (return (top m.values)) site) (element_spot w site (at 1 m.values) (top m.values)) 2 (given Nothing used) of.is (λ st. find_element w st site (at 1 m.values) (top m.values)) (a p w (last_pair m.values left right used l h u) (world_program p m.depth)) around_it u next)
 
 -- what was refused at a place
-module _ (p : Program) (m : Standing) (s : Shape) (e : Halt) (x : Expression) (z : plain.Place) (updated : IsUpdate x z) where
+module _ (p : Program) (m : MachineState) (s : Shape) (e : Halt) (x : Expression) (z : plain.Place) (updated : IsUpdate x z) where
   module _ (f at : ℕ) (object : Expression) (value : Value) (used : List Use) where
-    pub field_update_failed : z ≡ plain.Field object f at → value ≡ (top m.values).value → used ≡ (top m.values).uses → ((q : Program) (w : World nothing) → w.program ≡ q → Answers {X = Slot} q (λ y. spot_of y (given value used)) (Err e) m.state (field_spot w f at (given value used)) s) → KeepsAt e m.state.calls s.calls → Operating p x m (Err e) (record m { state = s })
+    pub field_update_failed : z ≡ plain.Field object f at → value ≡ (top m.values).value → used ≡ (top m.values).uses → ((q : Program) (w : World nothing) → w.program ≡ q → StepGives {X = Slot} q (λ y. spot_of y (given value used)) (Err e) m.state (field_spot w f at (given value used)) s) → KeepsAt e m.state.calls s.calls → Operating p x m (Err e) (record m { state = s })
     field_update_failed same l u a around_it =
         let w = world p m.depth in
         let of = updates_at x z (plain.Field object f at) updated same in
@@ -201,7 +202,7 @@ module _ (p : Program) (m : Standing) (s : Shape) (e : Halt) (x : Expression) (z
 
   module _ (site : ℕ) (array index : Expression) (left right : Value) (used : List Use) where
     pub element_update_failed : z ≡ plain.Elem array index site → left ≡ (at 1 m.values).value → right ≡ (top m.values).value → used ≡ uses_of_last 2 m.values →
-        ((q : Program) (w : World nothing) (o : Pair left right used) → w.program ≡ q → Answers {X = Slot} q (λ y. spot_of y (given Nothing used)) (Err e) m.state (element_spot w site o.first o.second) s) → KeepsAt e m.state.calls s.calls → Operating p x m (Err e) (record m { state = s })
+        ((q : Program) (w : World nothing) (o : Pair left right used) → w.program ≡ q → StepGives {X = Slot} q (λ y. spot_of y (given Nothing used)) (Err e) m.state (element_spot w site o.first o.second) s) → KeepsAt e m.state.calls s.calls → Operating p x m (Err e) (record m { state = s })
     element_update_failed same l h u a around_it =
         let w = world p m.depth in
         let of = updates_at x z (plain.Elem array index site) updated same in
@@ -209,7 +210,7 @@ module _ (p : Program) (m : Standing) (s : Shape) (e : Halt) (x : Expression) (z
         (update_refused p m s m (Ok tt) x slots.None of.op of.value of.value_ty of.ty of.wide of.gives_old of.site (plain.Elem array index site) (AtElem (return (at 1 m.values)) (return (top m.values)) site) (element_spot w site (at 1 m.values) (top m.values)) 2 (λ (y : Slot). spot_of y (given Nothing used)) e (λ st. find_element w st site (at 1 m.values) (top m.values)) (a p w (last_pair m.values left right used l h u) (world_program p m.depth)) around_it)
 
 -- a static field
-pub static_update : (p : Program) (m q : Standing) (r : Result (Unit {0}) Halt) (n : Standing) (e : Bor Expr) (z : plain.Place) (f at : ℕ) → IsUpdate (expression e.now) z → z ≡ plain.Static f at → q ≡ pushed (frames.Expr e step.Ready) m →
+pub static_update : (p : Program) (m q : MachineState) (r : Result (Unit {0}) Halt) (n : MachineState) (e : Bor Expr) (z : plain.Place) (f at : ℕ) → IsUpdate (expression e.now) z → z ≡ plain.Static f at → q ≡ pushed (tasks.Expr e step.Ready) m →
     Does p (λ w vs. leaving vs (initialize w at (kernel.field w.program f).class)) q r n → Operating p (expression e.now) m r n
 static_update p m q r n e z f at updated same pushes a =
     let w = world p m.depth in

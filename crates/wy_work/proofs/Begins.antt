@@ -12,15 +12,15 @@ use Rattle.wy_steps.specs.Steps.{tick, reaching, end_reaches, covered, cover_end
 use Rattle.wy_meaning.specs.World.{World}
 use Rattle.wy_meaning.specs.Run.{world}
 use Rattle.wy_meaning.specs.Statement.{statement, exec, exec_act}
-use Rattle.wy_calls.specs.Calls.{Frame as Body, frame_of, event_of}
+use Rattle.wy_calls.specs.Calls.{CallFrame as Body, frame_of, event_of}
 use Rattle.wy_state.specs.declared.parts.Halt.{Halt}
-use Rattle.wy_state.specs.Agrees.{Shape, Onward, Answers, itself}
+use Rattle.wy_state.specs.Agrees.{Shape, Onward, StepGives, itself}
 use Rattle.wy_state.specs.Steps.{begin}
 use Rattle.wy_state.proofs.Onward.{within, onward_as, onward_bind, onward_then, onward_same, answers_after}
-use Rattle.wy_work.specs.declared.frame.Frame.TheVariants as frame
-use Rattle.wy_work.specs.declared.frame.Step.TheVariants as step
+use Rattle.wy_work.specs.declared.task.Task.TheVariants as task
+use Rattle.wy_work.specs.declared.task.Step.TheVariants as step
 use Rattle.wy_work.specs.Statements.{emptied, forgotten, without_values}
-use Rattle.wy_work.specs.Frames.{Standing, around, after, newest, pushed, then_all, Resumed}
+use Rattle.wy_work.specs.Tasks.{MachineState, around, after, newest, pushed, then_all, Resumed}
 use Rattle.wy_work.proofs.Runs.{settled_calls, then_settled, failed_at, keeps_calls}
 
 -- the frame that stands is the newest body's
@@ -47,7 +47,7 @@ exec_is : (w : World nothing) (number site reach : ℕ) (a : _) (f : Act) (s : S
 unfolding exec statement
 exec_is w number site reach a f s = refl
 
-module _ (p : Program) (m : Standing) (l n : Shape) (x : Memory) where
+module _ (p : Program) (m : MachineState) (l n : Shape) (x : Memory) where
   ticked : Onward p m.state tick l (return tt) → Onward p m.state (exec (world p m.depth) (seen x)) l (reaching x.number (covered x.number (exec_act (world p m.depth) x.site x.reach (act x.form))))
   unfolding ◌>>◌ ◌>>=◌ go_on return
   ticked a = rw (view_statement x) (onward_as (exec_is (world p m.depth) x.number x.site x.reach x.askable (act x.form)) (onward_bind (λ u. reaching x.number (covered x.number (exec_act (world p m.depth) x.site x.reach (act x.form)))) a))
@@ -60,7 +60,7 @@ module _ (p : Program) (m : Standing) (l n : Shape) (x : Memory) where
       (within (λ o. end_reaches (frame_of l.calls) x.number (cover_end x.number (go_on o (λ u. exec_act (world p m.depth) x.site x.reach (act x.form))))) b)))
 
   -- a statement has begun, and its end is to come
-  pub begins : Onward p m.state tick l (return tt) → l.calls ≡ m.state.calls → Onward p l (begin x.number) n (return tt) → n.calls ≡ l.calls → (q : Standing) → q ≡ pushed (frame.Plain (step.End x.number)) (record m { state = n }) →
+  pub begins : Onward p m.state tick l (return tt) → l.calls ≡ m.state.calls → Onward p l (begin x.number) n (return tt) → n.calls ≡ l.calls → (q : MachineState) → q ≡ pushed (task.Plain (step.End x.number)) (record m { state = n }) →
       Onward p m.state (then_all p m (emptied (exec (world p m.depth) (seen x)))) q.state (then_all p q (emptied (exec_act (world p q.depth) x.site x.reach (act x.form))))
   unfolding go_on
   begins a same b again q is =
@@ -71,7 +71,7 @@ module _ (p : Program) (m : Standing) (l n : Shape) (x : Memory) where
       (onward_as (λ s. ap (after p (around m) m.work) (ends s) ∙ ap (λ f. f s) (then_settled p rest (settled_calls m n (again ∙ same)))) (onward_same p n _)))
 
 -- no step was left
-pub cannot_begin : (p : Program) (m : Standing) (l : Shape) (x : Memory) (e : Halt) → Answers p (itself {X = Unit {0}}) (Err e) m.state tick l → l.calls ≡ m.state.calls →
+pub cannot_begin : (p : Program) (m : MachineState) (l : Shape) (x : Memory) (e : Halt) → StepGives p (itself {X = Unit {0}}) (Err e) m.state tick l → l.calls ≡ m.state.calls →
     Resumed p (then_all p m (emptied (exec (world p m.depth) (seen x)))) m.state (Err e) (record m { state = l })
 unfolding ◌>>◌
 cannot_begin p m l x e a same =

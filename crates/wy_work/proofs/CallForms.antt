@@ -11,7 +11,7 @@ use Rattle.wy_kernel.specs.Program.{Program}
 use Rattle.wy_kernel.specs.Program as kernel
 use Rattle.wy_kernel.specs.Form.{Expression}
 use Rattle.wy_kernel.specs.Form as plain
-use Rattle.wy_kernel.specs.View.{expression, row_of}
+use Rattle.wy_kernel.specs.View.{expression, row_of, part_seen}
 use Rattle.wy_kernel.specs.declared.form.CallForm.{CallForm}
 use Rattle.wy_kernel.specs.declared.form.CallForm.TheVariants as form
 use Rattle.wy_kernel.specs.declared.form.Expr.{Expr}
@@ -29,7 +29,7 @@ use Rattle.wy_meaning.specs.Place.{initialize}
 use Rattle.wy_meaning.specs.Array.{make_array}
 use Rattle.wy_meaning.specs.Call.{call_on, call_on_text, call_static, equals, text_equals}
 use Rattle.wy_state.specs.declared.parts.Halt.{Halt}
-use Rattle.wy_state.specs.Agrees.{Shape, Onward, Answers}
+use Rattle.wy_state.specs.Agrees.{Shape, Onward, StepGives}
 use Rattle.wy_state.specs.Seen.{given, made_of, valued}
 use Rattle.wy_state.proofs.Onward.{onward_as}
 use Rattle.wy_operation.specs.Around.{IsSameAround, KeepsAt}
@@ -37,18 +37,19 @@ use Rattle.wy_operation.specs.Operands.{carried}
 use Rattle.wy_operation.specs.declared.operand.Part.{Part}
 use Rattle.wy_operands.specs.Values.{Values, at, top, under, joined_last, last_many, under_many}
 use Rattle.wy_operation.specs.Words.{equality}
-use Rattle.wy_work.specs.declared.frame.Frame.TheVariants as frame
-use Rattle.wy_work.specs.declared.frame.ExprStep.TheVariants as step
+use Rattle.wy_work.specs.declared.task.Task.TheVariants as task
+use Rattle.wy_work.specs.declared.task.ExprStep.TheVariants as step
 use Rattle.wy_work.specs.Expressions.{expr_step, leaving, put_on}
-use Rattle.wy_work.specs.Frames.{Standing, Does, Resumed, after, around, followed, goes, main_called, pushed, then_all}
-use Rattle.wy_work.specs.Listed.{part_seen}
+use Rattle.wy_work.specs.Tasks.{MachineState, Does, Resumed, after, around, followed, goes, main_called, pushed, then_all}
 use Rattle.wy_work.specs.Operands.{evaluated, list_of, of_first}
 use Rattle.wy_work.proofs.Choices.{all_there}
 use Rattle.wy_work.proofs.Places.{once_initialized}
 use Rattle.wy_work.proofs.Rows.{last_more}
-use Rattle.wy_work.proofs.Runs.{failed, failed_at, gave_at, go_on-go_on, kept_after, same_around, settled_same, turned_after, turned_as, went, world_program}
+use Rattle.wy_operation.proofs.Runs.{go_on-go_on}
+use Rattle.wy_work.proofs.Runs.{failed, failed_at, gave_at, kept_after, same_around, settled_same, turned_after, turned_as, went, world_program}
 use Rattle.wy_work.proofs.Single.{gave_same}
-use Rattle.wy_work.proofs.Views.{listed_row, view_call}
+use Rattle.wy_kernel.proofs.ExpressionViews.{view_call}
+use Rattle.wy_work.proofs.Views.{listed_row}
 
 -- ---- `equals` and `toString` of a text
 
@@ -71,12 +72,12 @@ module _ (w : World nothing) (number count : ℕ) (vs : Values) where
   unfolding call_on_text
   shows other s = rw (other_number number other) refl
 
-module _ (p : Program) (m : Standing) (number count : ℕ) where
+module _ (p : Program) (m : MachineState) (number count : ℕ) where
   module _ (a b : Part) (left : carried a ≡ at 1 m.values) (right : carried b ≡ top m.values) (is : number ≡ 1) (one : count ≡ 1) where
     asked : (s : State nothing) → on_text (world p m.depth) number count m.values s ≡ put_on (under_many 2 m.values) (text_equals (world p m.depth) (carried a) (carried b)) s
     asked s = rw (left, right) (asks (world p m.depth) number count m.values is one s)
 
-    pub equals_refused : (e : Halt) → Answers p (equality a b) (Err e) m.state (text_equals (world p m.depth) (carried a) (carried b)) m.state → Resumed p (then_all p m (on_text (world p m.depth) number count m.values)) m.state (Err e) m
+    pub equals_refused : (e : Halt) → StepGives p (equality a b) (Err e) m.state (text_equals (world p m.depth) (carried a) (carried b)) m.state → Resumed p (then_all p m (on_text (world p m.depth) number count m.values)) m.state (Err e) m
     equals_refused e h = turned_as p m m _ _ (Err e) (λ u. return m.values) asked
         (failed p m m (text_equals (world p m.depth) (carried a) (carried b)) (λ v. return (v ∷ under_many 2 m.values)) (equality a b) e (λ u. return m.values) h (settled_same m))
 
@@ -120,13 +121,13 @@ module _ (w : World nothing) (number : ℕ) (r : Expression) (ty : Ty) (row : pl
 many_args : (args : Vec Expr Global) → length (list_of (row_of (map expression args.items))) ≡ length args.items
 many_args args = ap length (listed_row (map expression args.items)) ∙ length-map args.items expression
 
-module _ (p : Program) (m n : Standing) (r : Result (Unit {0}) Halt) (e : Bor Expr) (number : ℕ) (receiver : Option (Box Expr Global)) (ty : Ty) (args : Vec Expr Global) (site : ℕ) where
-  pub static_form : (f : CallForm) (q : Standing) (class : ℕ) → e.now ≡ memory.Call f number receiver ty args site → f ≡ form.Static → q ≡ pushed (frame.Expr e step.Ready) m → class ≡ (kernel.method p number).class →
+module _ (p : Program) (m n : MachineState) (r : Result (Unit {0}) Halt) (e : Bor Expr) (number : ℕ) (receiver : Option (Box Expr Global)) (ty : Ty) (args : Vec Expr Global) (site : ℕ) where
+  pub static_form : (f : CallForm) (q : MachineState) (class : ℕ) → e.now ≡ memory.Call f number receiver ty args site → f ≡ form.Static → q ≡ pushed (task.Expr e step.Ready) m → class ≡ (kernel.method p number).class →
       Does p (λ w vs. leaving vs (initialize w site class)) q r n → Does p (λ w. expr_step w (expression e.now) step.Operate) m r n
   static_form f q class is static pushes of a =
       let x = plain.Call form.Static number (part_seen receiver) ty (row_of (map expression args.items)) site in
       let seen = ap expression (is ∙ ap (λ z. memory.Call z number receiver ty args site) static) ∙ view_call form.Static number receiver ty args site in
-      let depth = ap (λ (z : Standing). z.depth) pushes in
+      let depth = ap (λ (z : MachineState). z.depth) pushes in
       subst (λ y. Resumed p (then_all p m (expr_step (world p m.depth) y step.Operate m.values)) m.state r n) (sym seen)
       (once_initialized p m q r n e x (initialize (world p q.depth) site class) (expr_step (world p m.depth) x step.Operate m.values) pushes seen
       (λ s. static_is (world p m.depth) number (part_seen receiver) ty (row_of (map expression args.items)) site m.values s
@@ -146,7 +147,7 @@ module _ (p : Program) (m n : Standing) (r : Result (Unit {0}) Halt) (e : Bor Ex
 
 -- ---- main
 
-module _ (p : Program) (m : Standing) (site : ℕ) (at_main : site ≡ (kernel.method p p.main).site) (us : List Use) (none : us ≡ []) where
+module _ (p : Program) (m : MachineState) (site : ℕ) (at_main : site ≡ (kernel.method p p.main).site) (us : List Use) (none : us ≡ []) where
   abbrev array_made : Run nothing (Made nothing)
   array_made = make_array (world p m.depth) site strings 0 (given (val.Int (pos 0)) us)
 
@@ -161,10 +162,10 @@ module _ (p : Program) (m : Standing) (site : ℕ) (at_main : site ≡ (kernel.m
       rw (none, at_main) (ap (λ q. go_on (go_on (make_array w (kernel.method q q.main).site strings 0 (given (val.Int (pos 0)) []) s) (k (kernel.method q q.main).site q.main)) (λ v. return (v ∷ m.values))) (world_program p m.depth)
       ∙ go_on-go_on (make_array w (kernel.method p p.main).site strings 0 (given (val.Int (pos 0)) []) s) (k (kernel.method p p.main).site p.main) (λ v. return (v ∷ m.values)))
 
-  pub main_refused : (l : Shape) (e : Halt) → Answers p made_of (Err e) m.state array_made l → KeepsAt e m.state.calls l.calls → Resumed p (then_all p m (put_on m.values (main_called (world p m.depth)))) m.state (Err e) (record m { state = l })
+  pub main_refused : (l : Shape) (e : Halt) → StepGives p made_of (Err e) m.state array_made l → KeepsAt e m.state.calls l.calls → Resumed p (then_all p m (put_on m.values (main_called (world p m.depth)))) m.state (Err e) (record m { state = l })
   main_refused l e a same = turned_as p m (record m { state = l }) _ (followed array_made main_after) (Err e) (λ u. return m.values) main_is (failed_at p m l m.values array_made main_after made_of e (λ u. return m.values) a same)
 
-  pub main_goes : (l : Shape) (vs : Values) (array : ℕ) (r : Result (Unit {0}) Halt) (q : Standing) → Onward p m.state array_made l (return (made_of array)) → IsSameAround m.state.calls l.calls → vs ≡ valued array (val.Object array) ∷ m.values →
+  pub main_goes : (l : Shape) (vs : Values) (array : ℕ) (r : Result (Unit {0}) Halt) (q : MachineState) → Onward p m.state array_made l (return (made_of array)) → IsSameAround m.state.calls l.calls → vs ≡ valued array (val.Object array) ∷ m.values →
       Does p (λ w us. put_on (under_many 1 us) (w.call site p.main Absent (last_many 1 us))) (record m { state = l; values = vs }) r q → Resumed p (then_all p m (put_on m.values (main_called (world p m.depth)))) m.state r q
   unfolding value_of
   main_goes l vs array r q a same values next =

@@ -14,26 +14,26 @@ use Rattle.wy_steps.specs.State.{State, Carried, Active, Run, Outcome, Around as
 use Rattle.wy_steps.specs.Steps.{Draft, Made, activating, active_again, scoped, go_in, entered, frame_again, in_frame, note, noting, room_for, next_event, made, with_event}
 use Rattle.wy_meaning.specs.World.{about}
 use Rattle.wy_calls.specs.declared.calls.Scope.{Scope}
-use Rattle.wy_calls.specs.Calls.{Frame as Body, Standing as Calls, opened, activated, frame_of}
+use Rattle.wy_calls.specs.Calls.{CallFrame as Body, CallStack as Calls, opened, activated, frame_of}
 use Rattle.wy_state.specs.declared.parts.Halt.{Halt}
 use Rattle.wy_state.specs.declared.parts.Halt.TheVariants.{Left, Stopped, Recorder, Memory}
-use Rattle.wy_state.specs.Agrees.{Shape, Onward, Answers}
+use Rattle.wy_state.specs.Agrees.{Shape, Onward, StepGives}
 use Rattle.wy_state.specs.Seen.{given, made_of, reason_of, stop_of}
 use Rattle.wy_state.specs.Steps.{activate, do_nothing, enter_frame}
 use Rattle.std.proofs.lemmas.Bool.Decides.{eqb_tells}
 use Rattle.wy_state.proofs.Onward.{within, onward_as, onward_then, onward_same}
 use Rattle.wy_operands.specs.Values.{Values, top, under_many}
-use Rattle.wy_work.specs.declared.frame.Frame.TheVariants as frame
-use Rattle.wy_work.specs.declared.frame.Step.{Step}
-use Rattle.wy_work.specs.declared.frame.Step.TheVariants as step
+use Rattle.wy_work.specs.declared.task.Task.TheVariants as task
+use Rattle.wy_work.specs.declared.task.Step.{Step}
+use Rattle.wy_work.specs.declared.task.Step.TheVariants as step
 use Rattle.wy_work.specs.Calls.{IsSameStack, Enters, begun, used_by}
 use Rattle.wy_work.specs.Expressions.{put_on, leaving}
 use Rattle.wy_work.specs.Statements.{emptied}
-use Rattle.wy_work.specs.Frames.{Context, Standing, around, after, pushed, then_all, followed, Turned}
+use Rattle.wy_work.specs.Tasks.{Context, MachineState, around, after, pushed, then_all, followed, Turned}
 use Rattle.wy_work.proofs.Begins.{newest_is}
 
 -- what comes after a body that begins, where the values are known
-pub settles : {X : Type 0} (p : Program) (f : Run nothing Values) (s : Shape) (m : Standing) (r : Result X Halt) (n : Standing) (us : Values) → us ≡ m.values → OnOk r (IsSameStack m n) → Turned p f s r n (λ u. return us) → Turned p f s r n (λ u. return n.values)
+pub settles : {X : Type 0} (p : Program) (f : Run nothing Values) (s : Shape) (m : MachineState) (r : Result X Halt) (n : MachineState) (us : Values) → us ≡ m.values → OnOk r (IsSameStack m n) → Turned p f s r n (λ u. return us) → Turned p f s r n (λ u. return n.values)
 settles p f s m (Ok x) n us is same a = subst (λ vs. Onward p s f n.state (then_all p n (return vs))) (is ∙ sym same.values) a
 settles p f s m (Err (Left why)) n us is same a = a
 settles p f s m (Err (Stopped why)) n us is same a = a
@@ -58,30 +58,30 @@ unfolding note room_for noting next_event made with_event
 note_given d c v us is s = rw (← is) refl
 
 -- one scope more stands around
-abbrev pub in_scope : Standing → Context
+abbrev pub in_scope : MachineState → Context
 in_scope m = record { depth = m.depth; bodies = map (λ (f : Body). f.event) m.state.calls.frames; scopes = m.state.calls.active ∷ m.state.calls.scopes; saved = m.saved }
 
 abbrev pub around_of : ℕ → List Values → Calls → Context
 around_of depth saved c = record { depth = depth; bodies = map (λ (f : Body). f.event) c.frames; scopes = c.scopes; saved = saved }
 
-module _ {X : Type 0} (p : Program) (m : Standing) (l : Shape) (scope : Scope) (noting : Run nothing (Made nothing)) (next : ℕ → Run nothing X) (put : X → Values) (opens : Onward p m.state do_nothing l (return tt)) where
+module _ {X : Type 0} (p : Program) (m : MachineState) (l : Shape) (scope : Scope) (noting : Run nothing (Made nothing)) (next : ℕ → Run nothing X) (put : X → Values) (opens : Onward p m.state do_nothing l (return tt)) where
   within_scope : Onward p m.state (begun noting next) l (λ s. active_again m.state.calls.active (go_on (activating Within noting s) (λ e. next e.number)))
   unfolding go_on ◌>>=◌ return
   within_scope = onward_then (active_here p m.state (activating Within noting >>= (λ e. next e.number))) (within (λ o. active_again m.state.calls.active (go_on o (λ u s. go_on (activating Within noting s) (λ e. next e.number)))) opens)
 
-  closed_is : (k : Run nothing X) (q : Standing) → q.work ≡ frame.Close scope ∷ m.work → around q ≡ in_scope m → (s : State nothing) →
+  closed_is : (k : Run nothing X) (q : MachineState) → q.work ≡ task.Close scope ∷ m.work → around q ≡ in_scope m → (s : State nothing) →
       after p (around m) m.work (go_on (active_again m.state.calls.active (k s)) (λ x. return (put x))) ≡ then_all p q (followed k (λ x. return (put x))) s
   closed_is k q work is s = ap (after p (around m) m.work) (closes m.state.calls.active put (k s)) ∙ ap₂ (λ a fs. after p a fs (go_on (k s) (λ x. return (put x)))) (sym is) (sym work)
 
   abbrev to_close : Run nothing X → Run nothing Values
   to_close k s = after p (around m) m.work (go_on (active_again m.state.calls.active (k s)) (λ x. return (put x)))
 
-  module _ (o : Standing) (o_is : o ≡ pushed (frame.Close scope) (record m { state = l })) where
-    work_is : (n : Shape) → (record o { state = n }).work ≡ frame.Close scope ∷ m.work
-    work_is n = ap (λ (z : Standing). z.work) o_is
+  module _ (o : MachineState) (o_is : o ≡ pushed (task.Close scope) (record m { state = l })) where
+    work_is : (n : Shape) → (record o { state = n }).work ≡ task.Close scope ∷ m.work
+    work_is n = ap (λ (z : MachineState). z.work) o_is
 
     around_is : (n : Shape) (c : Calls) → n.calls ≡ c → around_of m.depth m.saved c ≡ in_scope m → around (record o { state = n }) ≡ in_scope m
-    around_is n c is same = ap₂ (λ (z : Standing) (x : Calls). around_of z.depth z.saved x) o_is is ∙ same
+    around_is n c is same = ap₂ (λ (z : MachineState) (x : Calls). around_of z.depth z.saved x) o_is is ∙ same
 
     -- an event was recorded and is active
     pub scope_begins : l.calls ≡ opened m.state.calls → (e : ℕ) (k n : Shape) → Onward p o.state noting k (return (made_of e)) → k.calls ≡ o.state.calls → Onward p k (activate Within e) n (return tt) → n.calls ≡ activated e Within k.calls →
@@ -89,23 +89,23 @@ module _ {X : Type 0} (p : Program) (m : Standing) (l : Shape) (scope : Scope) (
     unfolding go_on return activating go_in entered
     scope_begins c e k n a ca b cb =
         let start = within (λ o. after p (around m) m.work (go_on o (λ x. return (put x)))) within_scope in
-        let noted = within (λ o. after p (around m) m.work (go_on (active_again m.state.calls.active (go_on (go_in Within o) (λ z. next z.number))) (λ x. return (put x)))) (subst (λ (z : Shape). Onward p z noting k (return (made_of e))) (ap (λ (z : Standing). z.state) o_is) a) in
+        let noted = within (λ o. after p (around m) m.work (go_on (active_again m.state.calls.active (go_on (go_in Within o) (λ z. next z.number))) (λ x. return (put x)))) (subst (λ (z : Shape). Onward p z noting k (return (made_of e))) (ap (λ (z : MachineState). z.state) o_is) a) in
         let active = within (λ o. after p (around m) m.work (go_on (active_again m.state.calls.active (go_on o (λ u. next e))) (λ x. return (put x)))) b in
-        let is = around_is n (activated e Within (opened m.state.calls)) (cb ∙ ap (activated e Within) (ca ∙ ap (λ (z : Standing). z.state.calls) o_is ∙ c)) refl in
+        let is = around_is n (activated e Within (opened m.state.calls)) (cb ∙ ap (activated e Within) (ca ∙ ap (λ (z : MachineState). z.state.calls) o_is ∙ c)) refl in
         onward_then start (onward_then noted (onward_then active (onward_as (closed_is (next e) (record o { state = n }) (work_is n) is) (onward_same p n _))))
 
     -- or there was no room for it
-    pub scope_refused : {Z : Type 0} → l.calls ≡ opened m.state.calls → (e : Halt) (n : Shape) (after_it : Z → Run nothing Values) → Answers p made_of (Err e) o.state noting n → n.calls ≡ o.state.calls →
+    pub scope_refused : {Z : Type 0} → l.calls ≡ opened m.state.calls → (e : Halt) (n : Shape) (after_it : Z → Run nothing Values) → StepGives p made_of (Err e) o.state noting n → n.calls ≡ o.state.calls →
         Turned p (then_all p m (followed (begun noting next) (λ x. return (put x)))) m.state (Err e) (record o { state = n }) after_it
     unfolding go_on return activating go_in leave stop
     scope_refused c (Left why) n after_it a ca =
         let start = within (λ o. after p (around m) m.work (go_on o (λ x. return (put x)))) within_scope in
-        let noted = within (λ o. after p (around m) m.work (go_on (active_again m.state.calls.active (go_on (go_in Within o) (λ z. next z.number))) (λ x. return (put x)))) (subst (λ (z : Shape). Onward p z noting n (leave (reason_of why))) (ap (λ (z : Standing). z.state) o_is) a) in
-        onward_then start (onward_then noted (onward_as (closed_is (leave (reason_of why)) (record o { state = n }) (work_is n) (around_is n (opened m.state.calls) (ca ∙ ap (λ (z : Standing). z.state.calls) o_is ∙ c) refl)) (onward_same p n _)))
+        let noted = within (λ o. after p (around m) m.work (go_on (active_again m.state.calls.active (go_on (go_in Within o) (λ z. next z.number))) (λ x. return (put x)))) (subst (λ (z : Shape). Onward p z noting n (leave (reason_of why))) (ap (λ (z : MachineState). z.state) o_is) a) in
+        onward_then start (onward_then noted (onward_as (closed_is (leave (reason_of why)) (record o { state = n }) (work_is n) (around_is n (opened m.state.calls) (ca ∙ ap (λ (z : MachineState). z.state.calls) o_is ∙ c) refl)) (onward_same p n _)))
     scope_refused c (Stopped why) n after_it a ca =
         let start = within (λ o. after p (around m) m.work (go_on o (λ x. return (put x)))) within_scope in
-        let noted = within (λ o. after p (around m) m.work (go_on (active_again m.state.calls.active (go_on (go_in Within o) (λ z. next z.number))) (λ x. return (put x)))) (subst (λ (z : Shape). Onward p z noting n (stop (stop_of why))) (ap (λ (z : Standing). z.state) o_is) a) in
-        onward_then start (onward_then noted (onward_as (closed_is (stop (stop_of why)) (record o { state = n }) (work_is n) (around_is n (opened m.state.calls) (ca ∙ ap (λ (z : Standing). z.state.calls) o_is ∙ c) refl)) (onward_same p n _)))
+        let noted = within (λ o. after p (around m) m.work (go_on (active_again m.state.calls.active (go_on (go_in Within o) (λ z. next z.number))) (λ x. return (put x)))) (subst (λ (z : Shape). Onward p z noting n (stop (stop_of why))) (ap (λ (z : MachineState). z.state) o_is) a) in
+        onward_then start (onward_then noted (onward_as (closed_is (stop (stop_of why)) (record o { state = n }) (work_is n) (around_is n (opened m.state.calls) (ca ∙ ap (λ (z : MachineState). z.state.calls) o_is ∙ c) refl)) (onward_same p n _)))
     scope_refused c (Recorder e) n after_it a ca = tt
     scope_refused c Memory n after_it a ca = tt
 
@@ -139,21 +139,21 @@ present_some n other = elim (eqb_tells n 4294967295) as (λ _. present n ≡ Som
 ]
 
 -- the Call uses its receiver, which is where it was
-pub call_noted : (site method : ℕ) (c : Carried nothing) (us : List Use) (m : Standing) (o : Standing) (receiver : Option ℕ) {scope : Scope} {l : Shape} → c.uses ≡ used_by receiver m.values → o ≡ pushed (frame.Close scope) (record m { state = l }) → us ≡ used_by receiver o.values → method ≢ 4294967295 → (s : State nothing) →
-    note (about kind.Call site method val.None) c s ≡ note (record { kind = kind.Call; site = site; what = present method; slot = slot.None; value = val.None; units = [] }) (given val.None us) s
+pub call_noted : (site method : ℕ) (c : Carried nothing) (us : List Use) (m : MachineState) (o : MachineState) (receiver : Option ℕ) {scope : Scope} {l : Shape} → c.uses ≡ used_by receiver m.values → o ≡ pushed (task.Close scope) (record m { state = l }) → us ≡ used_by receiver o.values → method ≢ 4294967295 → (s : State nothing) →
+    note (about kind.Call site method val.None) c s ≡ note (record { kind = kind.Call; site = site; entity = present method; slot = slot.None; value = val.None; units = [] }) (given val.None us) s
 unfolding about
-call_noted site method c us m o receiver used is same some s = rw (present_some method some) (note_given _ c val.None us (used ∙ ap (λ (z : Standing). used_by receiver z.values) (sym is) ∙ sym same) s)
+call_noted site method c us m o receiver used is same some s = rw (present_some method some) (note_given _ c val.None us (used ∙ ap (λ (z : MachineState). used_by receiver z.values) (sym is) ∙ sym same) s)
 
 -- ---- a body of a call
 
-abbrev pub within_of : ℕ → ℕ → List Values → Standing → Context
+abbrev pub within_of : ℕ → ℕ → List Values → MachineState → Context
 within_of depth event saved m = record { depth = depth; bodies = event ∷ map (λ (f : Body). f.event) m.state.calls.frames; scopes = m.state.calls.scopes; saved = saved }
 
-pub entered_around : {p : Program} {event : ℕ} {leaves : Step} {m n : Standing} → Enters p event leaves m n → around n ≡ within_of n.depth event (m.values ∷ m.saved) m
+pub entered_around : {p : Program} {event : ℕ} {leaves : Step} {m n : MachineState} → Enters p event leaves m n → around n ≡ within_of n.depth event (m.values ∷ m.saved) m
 entered_around {event = event} {m = m} {n = n} e =
     ap₂ (λ bs ss. record { depth = n.depth; bodies = bs; scopes = ss; saved = n.saved }) e.bodies e.scopes ∙ ap (λ vs. within_of n.depth event vs m) e.saved
 
-module _ (p : Program) (m n : Standing) (event : ℕ) where
+module _ (p : Program) (m n : MachineState) (event : ℕ) where
   abbrev pub leaving_to : ℕ → Option ℕ → (Values → Values) → Outcome nothing Values → Outcome nothing Values
   leaving_to depth f back o = after p (record (around m) { depth = depth }) m.work (go_on (frame_again f o) (λ vs. return (back vs)))
 

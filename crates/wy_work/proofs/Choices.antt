@@ -19,11 +19,11 @@ use Rattle.wy_state.proofs.Onward.{within, onward_as, onward_then, onward_same}
 use Rattle.wy_operands.specs.Values.{Values}
 use Rattle.wy_work.specs.Expressions.{put_on}
 use Rattle.wy_work.specs.Operands.{Given, evaluated}
-use Rattle.wy_work.specs.Frames.{Standing, around, after, then_all, Resumed}
+use Rattle.wy_work.specs.Tasks.{MachineState, around, after, then_all, Resumed}
 use Rattle.wy_work.proofs.Runs.{world_program}
 
 -- the same run, said in another way
-pub resumed_as : (p : Program) (m q : Standing) (r : Result (Unit {0}) Halt) (us : Values) (f g : Given) → ((s : State nothing) → f s ≡ g s) → Resumed p (then_all p m (put_on us g)) m.state r q → Resumed p (then_all p m (put_on us f)) m.state r q
+pub resumed_as : (p : Program) (m q : MachineState) (r : Result (Unit {0}) Halt) (us : Values) (f g : Given) → ((s : State nothing) → f s ≡ g s) → Resumed p (then_all p m (put_on us g)) m.state r q → Resumed p (then_all p m (put_on us f)) m.state r q
 resumed_as p m q (Ok x) us f g same a = onward_as (λ s. ap (λ z. after p (around m) m.work (go_on z (λ v. return (v ∷ us)))) (same s)) a
 resumed_as p m q (Err (Left why)) us f g same a = onward_as (λ s. ap (λ z. after p (around m) m.work (go_on z (λ v. return (v ∷ us)))) (same s)) a
 resumed_as p m q (Err (Stopped why)) us f g same a = onward_as (λ s. ap (λ z. after p (around m) m.work (go_on z (λ v. return (v ∷ us)))) (same s)) a
@@ -52,7 +52,7 @@ module _ (w : World nothing) (m : ℕ) (r : Carried nothing) (args : Values) (si
   direct_fails same s = direct_is s ∙ ap (λ b. choose b (fail w null_pointer site r) (w.call site m (Some r) args) s) same
 
 -- the class of the receiver is known, and what it runs
-pub chosen_first : (p : Program) (m : Standing) (us args : Values) (site number : ℕ) (r : Carried nothing) (v : Value) (ty : Ty) (class chosen : ℕ) → v ≡ r.value → Onward p m.state (type_of v) m.state (return ty) → class ≡ class_of_type ty → chosen ≡ dispatch p number class →
+pub chosen_first : (p : Program) (m : MachineState) (us args : Values) (site number : ℕ) (r : Carried nothing) (v : Value) (ty : Ty) (class chosen : ℕ) → v ≡ r.value → Onward p m.state (type_of v) m.state (return ty) → class ≡ class_of_type ty → chosen ≡ dispatch p number class →
     Onward p m.state (then_all p m (put_on us (call_chosen (world p m.depth) site number r args))) m.state (then_all p m (put_on us ((world p m.depth).call site chosen (Some r) args)))
 unfolding call_chosen ◌>>=◌ go_on return
 chosen_first p m us args site number r v ty class chosen value typed class_is chosen_is =

@@ -7,7 +7,8 @@ use Rattle.wy_value.specs.declared.value.Value.TheVariants as val
 use Rattle.wy_steps.specs.Sets.{nothing}
 use Rattle.wy_steps.specs.State as run
 use Rattle.wy_steps.specs.State.{State, Active, Carried, Run, Outcome, Around as Within, go_on, go_on_left, ◌>>=◌, ◌>>◌, return, stop, leave, choose, catching}
-use Rattle.wy_steps.specs.Steps.{constant, Draft, Made, note_new, creating, room_for, activating, go_in, entered, active_again, frame_again, scoped, in_frame, is_begun, event_limit, use_limit}
+use Rattle.wy_kernel.specs.Limits.{event_limit, use_limit}
+use Rattle.wy_steps.specs.Steps.{constant, Draft, Made, note_new, creating, room_for, activating, go_in, entered, active_again, frame_again, scoped, in_frame, is_begun}
 use Rattle.wy_meaning.specs.World.{World, about}
 use Rattle.wy_meaning.specs.Place.{initialize, initialize_source}
 use Rattle.wy_meaning.specs.Run.{world, init_block}
@@ -16,7 +17,7 @@ use Rattle.std.proofs.lemmas.Bool.Decides.{Decides-ltb}
 use Rattle.wy_calls.proofs.Entries.{is_less}
 use Rattle.wy_state.specs.Agrees.{Onward}
 use Rattle.wy_state.proofs.Onward.{onward_as, onward_same, within, onward_then}
-use Rattle.wy_work.specs.Frames.{Standing, Turned, after, around, goes, pushed, then_all}
+use Rattle.wy_work.specs.Tasks.{MachineState, Turned, after, around, goes, pushed, then_all}
 use Rattle.wy_work.specs.Calls.{IsSameStack, Enters, begun}
 use Rattle.wy_work.proofs.Runs.{world_program}
 use Rattle.wy_state.specs.declared.parts.Halt.{Halt}
@@ -31,9 +32,9 @@ use Rattle.wy_kernel.specs.Program.{Body as Code}
 use Rattle.wy_kernel.specs.View.{statement}
 use Rattle.wy_kernel.specs.declared.form.Stmt.{Stmt as Written}
 use Rattle.wy_meaning.specs.Statement.{exec}
-use Rattle.wy_work.specs.declared.frame.Frame.TheVariants as frame
-use Rattle.wy_work.specs.declared.frame.Step.TheVariants as step
-use Rattle.wy_work.specs.declared.frame.StmtStep.TheVariants as doing
+use Rattle.wy_work.specs.declared.task.Task.TheVariants as task
+use Rattle.wy_work.specs.declared.task.Step.TheVariants as step
+use Rattle.wy_work.specs.declared.task.StmtStep.TheVariants as doing
 use Rattle.wy_work.proofs.Calls.{enters_class}
 
 pub init_noted : (p : Program) (site c : ℕ) (s : State nothing) → note_new p (about kind.Init site c val.None) (constant val.None) s ≡ note_new p (about kind.Init site c val.None) (given val.None []) s
@@ -150,7 +151,7 @@ built_in c less = (Decides-ltb c 18).1 less
 pub from_source : (c : ℕ) → (c < 18 → ⊥) → nat_lt c 18 ≡ false
 from_source c other = is_untrue (nat_lt c 18) (λ is. other (is_less c 18 is))
 
-module _ (p : Program) (m : Standing) (site c : ℕ) where
+module _ (p : Program) (m : MachineState) (site c : ℕ) where
   abbrev needed : Run nothing Values
   needed = then_all p m (leaving m.values (initialize (world p m.depth) site c))
 
@@ -189,7 +190,7 @@ module _ (p : Program) (site c depth : ℕ) where
   class_is d is s = ap (λ z. (world p z).enter site c s) is ∙ ap (λ z. scoped (activating Within (note_new z (about kind.Init site c val.None) (constant val.None)) >>= (λ e. in_frame e.number (initialize_above (world p depth) (class z c).site (class z c).above >> catching (init_block (world p depth) (init_body p c)) at_failure))) s) (world_program p depth)
 
   -- the Init wasn't recorded
-  pub class_refused : {X Y : Type 0} (m l : Standing) (e : Halt) (after_it : X → Run nothing Values) (next : Y → Run nothing Values) → m.depth ≡ suc depth →
+  pub class_refused : {X Y : Type 0} (m l : MachineState) (e : Halt) (after_it : X → Run nothing Values) (next : Y → Run nothing Values) → m.depth ≡ suc depth →
       Turned p (then_all p m (leaving m.values (begun (note_new p (about kind.Init site c val.None) (constant val.None)) in_class))) m.state (Err e) l after_it → Turned p (then_all p m (leaving m.values ((world p m.depth).enter site c))) m.state (Err e) l next
   class_refused m l (Left why) after_it next is a = onward_as (λ s. ap (λ z. after p (around m) m.work (go_on z (λ u. return m.values))) (class_is m.depth is s)) a
   class_refused m l (Stopped why) after_it next is a = onward_as (λ s. ap (λ z. after p (around m) m.work (go_on z (λ u. return m.values))) (class_is m.depth is s)) a
@@ -217,14 +218,14 @@ module _ (vs : Values) where
   none_after (run.Left (run.Threw e v) s) calm = absurd calm
   none_after (run.Stopped why s) calm = refl
 
-module _ (p : Program) (n q : Standing) (site : ℕ) where
+module _ (p : Program) (n q : MachineState) (site : ℕ) where
   abbrev pub of_class : Option ℕ → Option Code → Run nothing (Unit {0})
   of_class above code = initialize_above (world p n.depth) site above >> catching (init_block (world p n.depth) code) at_failure
 
   abbrev ends : Outcome nothing (Unit {0}) → Outcome nothing Values
   ends o = after p (around n) n.work (go_on o (λ u. return []))
 
-  pub above_and_block : (c : ℕ) (x : Bor Written) (b : Code) → statement x.now ≡ b.block → q ≡ pushed (frame.Plain (step.Initialize c site)) (pushed (frame.Stmt x doing.Do) (pushed (frame.Plain step.Initialized) n)) → (s : State nothing) →
+  pub above_and_block : (c : ℕ) (x : Bor Written) (b : Code) → statement x.now ≡ b.block → q ≡ pushed (task.Plain (step.Initialize c site)) (pushed (task.Stmt x doing.Do) (pushed (task.Plain step.Initialized) n)) → (s : State nothing) →
       then_all p n (emptied (of_class (Some c) (Some b))) s ≡ goes p q s
   unfolding initialize_above init_block ◌>>◌ ◌>>=◌ return go_on
   above_and_block c x b is pushes s =
@@ -233,14 +234,14 @@ module _ (p : Program) (n q : Standing) (site : ℕ) where
       ∙ ap ends (block_after n.values (exec w (statement x.now)) (initialize w site c s) (calm_initialize w site c s (calm_world p n.depth)))
       ∙ ap (λ z. goes p z s) (sym pushes)
 
-  pub above_alone : (c : ℕ) → q ≡ pushed (frame.Plain (step.Initialize c site)) (pushed (frame.Plain step.Initialized) n) → (s : State nothing) →
+  pub above_alone : (c : ℕ) → q ≡ pushed (task.Plain (step.Initialize c site)) (pushed (task.Plain step.Initialized) n) → (s : State nothing) →
       then_all p n (emptied (of_class (Some c) Absent)) s ≡ goes p q s
   unfolding initialize_above init_block ◌>>◌ ◌>>=◌ return go_on
   above_alone c pushes s =
       let w = world p n.depth in
       ap ends (none_after n.values (initialize w site c s) (calm_initialize w site c s (calm_world p n.depth))) ∙ ap (λ z. goes p z s) (sym pushes)
 
-  pub block_alone : (x : Bor Written) (b : Code) → statement x.now ≡ b.block → q ≡ pushed (frame.Stmt x doing.Do) (pushed (frame.Plain step.Initialized) n) → (s : State nothing) →
+  pub block_alone : (x : Bor Written) (b : Code) → statement x.now ≡ b.block → q ≡ pushed (task.Stmt x doing.Do) (pushed (task.Plain step.Initialized) n) → (s : State nothing) →
       then_all p n (emptied (of_class Absent (Some b))) s ≡ goes p q s
   unfolding initialize_above init_block ◌>>◌ ◌>>=◌ return go_on
   block_alone x b is pushes s =
@@ -249,7 +250,7 @@ module _ (p : Program) (n q : Standing) (site : ℕ) where
       ∙ ap ends (block_after n.values (exec w (statement x.now)) (return tt s) tt)
       ∙ ap (λ z. goes p z s) (sym pushes)
 
-  pub none_at_all : q ≡ pushed (frame.Plain step.Initialized) n → (s : State nothing) →
+  pub none_at_all : q ≡ pushed (task.Plain step.Initialized) n → (s : State nothing) →
       then_all p n (emptied (of_class Absent Absent)) s ≡ goes p q s
   unfolding initialize_above init_block ◌>>◌ ◌>>=◌ return go_on
   none_at_all pushes s = ap ends (none_after n.values (return tt s) tt) ∙ ap (λ z. goes p z s) (sym pushes)
@@ -259,7 +260,7 @@ is_absent Absent other = refl
 is_absent (Some x) other = absurd (other x refl)
 
 -- the Init is recorded, its frame stands, and then all that is left of it
-module _ (p : Program) (site c event : ℕ) (m l n q : Standing) where
+module _ (p : Program) (site c event : ℕ) (m l n q : MachineState) where
   pub class_entered : IsSameStack m l → Enters p event step.LeaveClass l n →
       Onward p m.state (then_all p m (leaving m.values (begun (note_new p (about kind.Init site c val.None) (constant val.None)) (in_class p site c n.depth)))) l.state (then_all p l (leaving m.values (in_class p site c n.depth event))) →
       (at : ℕ) (above : Option ℕ) (code : Option Code) → (class p c).site ≡ at → (class p c).above ≡ above → init_body p c ≡ code → n.state ≡ q.state →

@@ -18,21 +18,22 @@ use Rattle.wy_meaning.specs.Place.{initialize}
 use Rattle.wy_meaning.specs.Call.{construct, create}
 use Rattle.wy_meaning.specs.Expression.{eval_row}
 use Rattle.wy_state.specs.declared.parts.Halt.{Halt}
-use Rattle.wy_state.specs.Agrees.{Shape, Onward, Answers}
+use Rattle.wy_state.specs.Agrees.{Shape, Onward, StepGives}
 use Rattle.wy_state.specs.Seen.{given, made_of, valued}
 use Rattle.wy_state.proofs.Onward.{onward_as, onward_same, onward_then}
 use Rattle.wy_operands.specs.Values.{Values, at, top, under, under_many, last_many}
-use Rattle.wy_work.specs.declared.frame.Frame.TheVariants as frames
-use Rattle.wy_work.specs.declared.frame.ExprStep.TheVariants as step
-use Rattle.wy_work.specs.declared.frame.Step.TheVariants as steps
+use Rattle.wy_work.specs.declared.task.Task.TheVariants as tasks
+use Rattle.wy_work.specs.declared.task.ExprStep.TheVariants as step
+use Rattle.wy_work.specs.declared.task.Step.TheVariants as steps
 use Rattle.wy_work.specs.Expressions.{constructed, created, expr_step, leaving, put_all, put_on}
-use Rattle.wy_work.specs.Frames.{Standing, around, after, followed, goes, pushed, then_all, Does}
+use Rattle.wy_work.specs.Tasks.{MachineState, around, after, followed, goes, pushed, then_all, Does}
 use Rattle.wy_work.specs.Listed.{IsNew, rows}
 use Rattle.wy_work.specs.Operands.{Given, list_of}
 use Rattle.wy_work.proofs.Finds.{row_found}
 use Rattle.wy_work.proofs.Forms.{new_of}
 use Rattle.wy_work.proofs.Places.{Operating, once_initialized, resumed_as}
-use Rattle.wy_work.proofs.Runs.{failed_at, go_on-go_on, keeps_calls, settled_calls, went, world_program}
+use Rattle.wy_operation.proofs.Runs.{go_on-go_on}
+use Rattle.wy_work.proofs.Runs.{failed_at, keeps_calls, settled_calls, went, world_program}
 use Rattle.wy_work.proofs.Seen.{operating_by}
 use Rattle.wy_work.proofs.Updates.{go_on_same}
 use Rattle.wy_work.proofs.Views.{listed_row}
@@ -44,7 +45,7 @@ create_is : (w : World nothing) (c : ℕ) (constructor_of : Option ℕ) (args : 
 unfolding create ◌>>=◌ ◌>>◌
 create_is w c constructor_of args site vs s = go_on-go_on (initialize w site c s) _ _
 
-pub new_begins : (p : Program) (m q : Standing) (r : Result (Unit {0}) Halt) (n : Standing) (e : Bor Expr) (class site : ℕ) → q ≡ pushed (frames.Expr e step.Ready) m → IsNew (expression e.now) class site →
+pub new_begins : (p : Program) (m q : MachineState) (r : Result (Unit {0}) Halt) (n : MachineState) (e : Bor Expr) (class site : ℕ) → q ≡ pushed (tasks.Expr e step.Ready) m → IsNew (expression e.now) class site →
     Does p (λ w vs. leaving vs (initialize w site class)) q r n → Operating p (expression e.now) m r n
 new_begins p m q r n e class site pushes is_new a =
     let of = new_of (expression e.now) class site is_new in
@@ -84,9 +85,9 @@ module _ (w : World nothing) (constructor_of : Option ℕ) (args : Row) (site : 
 abbrev pub noting : Program → ℕ → ℕ → Run nothing (Made nothing)
 noting p site c = note_new p (about kind.New site (class_code c) val.None) (given val.None [])
 
-module _ (p : Program) (m : Standing) (e : Bor Expr) (c : ℕ) (constructor_of : Option ℕ) (args : List Expr) (site : ℕ) (seen : expression e.now ≡ plain.New c constructor_of (row_of (rows args)) site) (l : Shape) (calls : l.calls ≡ m.state.calls) where
-  pub object_made : (event : ℕ) (us : Values) (row : Bor (List Expr)) (n : Standing) → Onward p m.state (noting p site c) l (return (made_of event)) → us ≡ valued event (val.Object event) ∷ valued event (val.Object event) ∷ m.values → row.now ≡ args →
-      n ≡ pushed (frames.Row row) (pushed (frames.Expr e step.Construct) (record m { state = l; values = us })) → Does p (λ w. expr_step w (expression e.now) step.Ready) m (Ok tt) n
+module _ (p : Program) (m : MachineState) (e : Bor Expr) (c : ℕ) (constructor_of : Option ℕ) (args : List Expr) (site : ℕ) (seen : expression e.now ≡ plain.New c constructor_of (row_of (rows args)) site) (l : Shape) (calls : l.calls ≡ m.state.calls) where
+  pub object_made : (event : ℕ) (us : Values) (row : Bor (List Expr)) (n : MachineState) → Onward p m.state (noting p site c) l (return (made_of event)) → us ≡ valued event (val.Object event) ∷ valued event (val.Object event) ∷ m.values → row.now ≡ args →
+      n ≡ pushed (tasks.Row row) (pushed (tasks.Expr e step.Construct) (record m { state = l; values = us })) → Does p (λ w. expr_step w (expression e.now) step.Ready) m (Ok tt) n
   unfolding go_on return value_of
   object_made event us row n a values row_is is =
       let w = world p m.depth in
@@ -99,11 +100,11 @@ module _ (p : Program) (m : Standing) (e : Bor Expr) (c : ℕ) (constructor_of :
       let same = λ (s : State nothing). ap (after p (around q) m.work) (finished_is w constructor_of (row_of (rows args)) site c object m.values s
       ∙ ap (λ es. go_on (put_all w es (object ∷ object ∷ m.values) s) (constructed w x)) (listed_row (rows args) ∙ ap rows (sym row_is))
       ∙ ap₂ (λ vs y. go_on (put_all w (rows row.now) vs s) (expr_step w y step.Construct)) (sym values) (sym seen)) in
-      subst (λ (z : Standing). Onward p m.state (ready (expression e.now)) z.state (goes p z)) (sym is)
-      (subst (λ y. Onward p m.state (ready y) l (goes p (pushed (frames.Row row) (pushed (frames.Expr e step.Construct) (record m { state = l; values = us }))))) (sym seen)
+      subst (λ (z : MachineState). Onward p m.state (ready (expression e.now)) z.state (goes p z)) (sym is)
+      (subst (λ y. Onward p m.state (ready y) l (goes p (pushed (tasks.Row row) (pushed (tasks.Expr e step.Construct) (record m { state = l; values = us }))))) (sym seen)
       (onward_then begun (onward_as same (onward_same p l _))))
 
-  pub object_failed : (er : Halt) → Answers p made_of (Err er) m.state (noting p site c) l → Does p (λ w. expr_step w (expression e.now) step.Ready) m (Err er) (record m { state = l })
+  pub object_failed : (er : Halt) → StepGives p made_of (Err er) m.state (noting p site c) l → Does p (λ w. expr_step w (expression e.now) step.Ready) m (Err er) (record m { state = l })
   object_failed er a =
       let w = world p m.depth in
       let k = λ (e : Made nothing). put_on m.values (finished w constructor_of (row_of (rows args)) site (value_of e (val.Object e.number))) in
@@ -124,8 +125,8 @@ has_one n other = elim (eqb_tells n 4294967295) as (λ _. present n ≡ Some n) 
   | inr differ ↦ ap (λ b. if b then Absent else Some n) differ.0
 ]
 
-module _ (p : Program) (m : Standing) (x : Expression) (c : ℕ) (constructor_of : Option ℕ) (args : Row) (site : ℕ) (seen : x ≡ plain.New c constructor_of args site) (k : ℕ) (many : length (list_of args) ≡ k) where
-  abbrev constructs : Result (Unit {0}) Halt → Standing → Type 0
+module _ (p : Program) (m : MachineState) (x : Expression) (c : ℕ) (constructor_of : Option ℕ) (args : Row) (site : ℕ) (seen : x ≡ plain.New c constructor_of args site) (k : ℕ) (many : length (list_of args) ≡ k) where
+  abbrev constructs : Result (Unit {0}) Halt → MachineState → Type 0
   constructs r n = Does p (λ w. expr_step w x step.Construct) m r n
 
   pub not_constructed : constructor_of ≡ Absent → (us : Values) → us ≡ under_many (suc k) m.values → Does p (λ w. expr_step w x step.Construct) m (Ok tt) (record m { values = us })
@@ -137,11 +138,11 @@ module _ (p : Program) (m : Standing) (x : Expression) (c : ℕ) (constructor_of
   unfolding construct ◌>>=◌ go_on return
   constructed_is w method some s = rw (seen, some, many) (go_on-go_on (w.call site method (Some (at k m.values)) (last_many k m.values) s) _ _ ∙ sym (go_on-go_on (w.call site method (Some (at k m.values)) (last_many k m.values) s) _ _))
 
-  pub is_constructed : (q : Standing) (r : Result (Unit {0}) Halt) (n : Standing) (method : ℕ) → constructor_of ≡ Some method → q ≡ pushed (frames.Plain steps.Forget) m →
+  pub is_constructed : (q : MachineState) (r : Result (Unit {0}) Halt) (n : MachineState) (method : ℕ) → constructor_of ≡ Some method → q ≡ pushed (tasks.Plain steps.Forget) m →
       Does p (λ w vs. put_on (under_many (suc k) vs) (w.call site method (Some (at k vs)) (last_many k vs))) q r n → Does p (λ w. expr_step w x step.Construct) m r n
   is_constructed q r n method some pushes a =
       let w = world p m.depth in
       let call = put_on (under_many (suc k) m.values) (w.call site method (Some (at k m.values)) (last_many k m.values)) in
-      resumed_as p m (then_all p m (expr_step w x step.Construct m.values)) (then_all p (pushed (frames.Plain steps.Forget) m) call) r n
+      resumed_as p m (then_all p m (expr_step w x step.Construct m.values)) (then_all p (pushed (tasks.Plain steps.Forget) m) call) r n
       (λ s. ap (after p (around m) m.work) (constructed_is w method some s))
       (subst (λ z. Does p (λ w vs. put_on (under_many (suc k) vs) (w.call site method (Some (at k vs)) (last_many k vs))) z r n) pushes a)

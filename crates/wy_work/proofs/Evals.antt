@@ -20,10 +20,10 @@ use Rattle.wy_meaning.specs.Array.{create_array, new_array}
 use Rattle.wy_meaning.specs.Library.{library, library_form}
 use Rattle.wy_meaning.specs.Expression.{binary, call, cast, conditional, constant_value, convert, eval, eval_part, eval_row, instance_of, locate, part_or, unary, update}
 use Rattle.wy_operands.specs.Values.{Values, at, last_many, under_many}
-use Rattle.wy_work.specs.declared.frame.ExprStep.TheVariants as step
+use Rattle.wy_work.specs.declared.task.ExprStep.TheVariants as step
 use Rattle.wy_work.specs.Expressions.{expr_step, put_all, put_on}
 use Rattle.wy_work.specs.Operands.{Given, list_of, of_first, operands_of}
-use Rattle.wy_work.proofs.Runs.{go_on-go_on}
+use Rattle.wy_operation.proofs.Runs.{go_on-go_on}
 use Rattle.wy_work.proofs.Updates.{go_on_same, update_is}
 use Rattle.wy_work.proofs.Finds.{all_evaluated, row_found}
 

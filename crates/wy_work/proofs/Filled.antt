@@ -21,20 +21,21 @@ use Rattle.wy_meaning.specs.Run.{world}
 use Rattle.wy_meaning.specs.Array.{create_array, create_filled, first_site, make_array, rest_sites, set_elements}
 use Rattle.wy_meaning.specs.Expression.{eval, eval_row}
 use Rattle.wy_state.specs.declared.parts.Halt.{Halt}
-use Rattle.wy_state.specs.Agrees.{Shape, Onward, Answers}
+use Rattle.wy_state.specs.Agrees.{Shape, Onward, StepGives}
 use Rattle.wy_state.specs.Seen.{given, made_of, valued}
 use Rattle.wy_state.proofs.Onward.{onward_as, onward_same, onward_then}
 use Rattle.wy_operation.specs.Around.{IsSameAround, KeepsAt}
 use Rattle.wy_operation.specs.Subarrays.{element_set}
 use Rattle.wy_operands.specs.Values.{Values, at, top, under, under_many, last_many, uses_of_last}
-use Rattle.wy_work.specs.declared.frame.Frame.TheVariants as frames
-use Rattle.wy_work.specs.declared.frame.ExprStep.TheVariants as step
+use Rattle.wy_work.specs.declared.task.Task.TheVariants as tasks
+use Rattle.wy_work.specs.declared.task.ExprStep.TheVariants as step
 use Rattle.wy_work.specs.Expressions.{elements_from, expr_step, filled_at, filled_from, leaving, put_on}
-use Rattle.wy_work.specs.Frames.{Standing, around, after, followed, pushed, then_all, Does}
+use Rattle.wy_work.specs.Tasks.{MachineState, around, after, followed, pushed, then_all, Does}
 use Rattle.wy_work.specs.Listed.{rows}
 use Rattle.wy_work.specs.Operands.{Given, array_with, evaluated, list_of}
 use Rattle.wy_work.proofs.Places.{Operating, resumed_as}
-use Rattle.wy_work.proofs.Runs.{failed_at, go_on-go_on, settled_state, went, world_program}
+use Rattle.wy_operation.proofs.Runs.{go_on-go_on}
+use Rattle.wy_work.proofs.Runs.{failed_at, settled_state, went, world_program}
 use Rattle.wy_work.proofs.Seen.{operating_by}
 use Rattle.wy_work.proofs.Updates.{go_on_same}
 
@@ -113,8 +114,8 @@ module _ (w : World nothing) where
 
 -- ---- an array initializer
 
-module _ (p : Program) (m : Standing) (e : Bor Expr) (ty : Ty) (dims : Row) (elements : List Expr) (sites : List ℕ) (site : ℕ) (seen : expression e.now ≡ plain.NewArray ty dims (row_of (rows elements)) sites site) (array i : ℕ) where
-  abbrev pub Filling : Result (Unit {0}) Halt → Standing → Type 0
+module _ (p : Program) (m : MachineState) (e : Bor Expr) (ty : Ty) (dims : Row) (elements : List Expr) (sites : List ℕ) (site : ℕ) (seen : expression e.now ≡ plain.NewArray ty dims (row_of (rows elements)) sites site) (array i : ℕ) where
+  abbrev pub Filling : Result (Unit {0}) Halt → MachineState → Type 0
   Filling r n = Does p (λ w. expr_step w (expression e.now) (step.Elements array i)) m r n
 
   pub filled : (all : List Expr) → all ≡ elements → length all ≤ i → Does p (λ w. expr_step w (expression e.now) (step.Elements array i)) m (Ok tt) m
@@ -122,13 +123,13 @@ module _ (p : Program) (m : Standing) (e : Bor Expr) (ty : Ty) (dims : Row) (ele
       let w = world p m.depth in
       onward_as (λ s. ap (after p (around m) m.work) (ap (λ y. expr_step w y (step.Elements array i) m.values s) seen ∙ none_left w ty dims (row_of (rows elements)) sites site array i m.values s (no_elements w elements all i same past))) (onward_same p m.state _)
 
-  pub element_begins : (all : List Expr) (next : Bor Expr) (n : Standing) → all ≡ elements → i < length all → next.now ≡ get_or all i next.now →
-      n ≡ pushed (frames.Expr next step.Find) (pushed (frames.Expr e (step.Element array i)) m) → Does p (λ w. expr_step w (expression e.now) (step.Elements array i)) m (Ok tt) n
+  pub element_begins : (all : List Expr) (next : Bor Expr) (n : MachineState) → all ≡ elements → i < length all → next.now ≡ get_or all i next.now →
+      n ≡ pushed (tasks.Expr next step.Find) (pushed (tasks.Expr e (step.Element array i)) m) → Does p (λ w. expr_step w (expression e.now) (step.Elements array i)) m (Ok tt) n
   unfolding go_on return
   element_begins all next n same less is pushes =
       let w = world p m.depth in
       let first = put_on m.values (eval w (expression next.now)) in
-      subst (λ (z : Standing). Does p (λ w. expr_step w (expression e.now) (step.Elements array i)) m (Ok tt) z) (sym pushes)
+      subst (λ (z : MachineState). Does p (λ w. expr_step w (expression e.now) (step.Elements array i)) m (Ok tt) z) (sym pushes)
       (onward_as (λ s. ap (after p (around m) m.work) (ap (λ y. expr_step w y (step.Elements array i) m.values s) seen
       ∙ one_left w ty dims (row_of (rows elements)) sites site array i m.values (eval w (expression next.now)) (next_element w elements all i next.now same less is) s
       ∙ ap (λ y. go_on (first s) (expr_step w y (step.Element array i))) (sym seen))) (onward_same p m.state _))
@@ -136,7 +137,7 @@ module _ (p : Program) (m : Standing) (e : Bor Expr) (ty : Ty) (dims : Row) (ele
   -- the value of an element is there
   module _ (l : Shape) (value : Value) (used us_of_array : List Use) (is_value : value ≡ (top m.values).value) (is_used : used ≡ uses_of_last 2 m.values) (of_array : us_of_array ≡ (at 1 m.values).uses) (is_array : us_of_array ≡ uses.Value array ∷ []) (set_site : ℕ) (at_site : set_site ≡ get_or sites i 0) where
     abbrev SetsElement : Result ℕ Halt → Type 0
-    SetsElement r = (q : Program) (c : Carried nothing) → c.value ≡ value → uses.Value array ∷ c.uses ≡ used → Answers q made_of r m.state (element_set set_site (made_of array) i c) l
+    SetsElement r = (q : Program) (c : Carried nothing) → c.value ≡ value → uses.Value array ∷ c.uses ≡ used → StepGives q made_of r m.state (element_set set_site (made_of array) i c) l
 
     uses_are : uses.Value array ∷ (top m.values).uses ≡ used
     uses_are = sym (is_used ∙ ap (λ us. us ++ (top m.values).uses) (sym of_array ∙ is_array))
@@ -147,19 +148,19 @@ module _ (p : Program) (m : Standing) (e : Bor Expr) (ty : Ty) (dims : Row) (ele
         ap (λ y. expr_step w y (step.Element array i) m.values s) seen ∙ at_is w ty dims (row_of (rows elements)) sites site array i m.values s
         ∙ ap (λ k. followed (element_set k (made_of array) i (top m.values)) (λ x. leaving (under m.values) (elements_from w array (suc i) sites (row_of (rows elements)))) s) (first_at sites i ∙ sym at_site)
 
-    pub element_filled : (number next : ℕ) (us : Values) (n : Standing) → ((q : Program) (c : Carried nothing) → c.value ≡ value → uses.Value array ∷ c.uses ≡ used → Onward q m.state (element_set set_site (made_of array) i c) l (return (made_of number))) →
-        IsSameAround m.state.calls l.calls → next ≡ suc i → us ≡ under m.values → n ≡ pushed (frames.Expr e (step.Elements array next)) (record m { state = l; values = us }) →
+    pub element_filled : (number next : ℕ) (us : Values) (n : MachineState) → ((q : Program) (c : Carried nothing) → c.value ≡ value → uses.Value array ∷ c.uses ≡ used → Onward q m.state (element_set set_site (made_of array) i c) l (return (made_of number))) →
+        IsSameAround m.state.calls l.calls → next ≡ suc i → us ≡ under m.values → n ≡ pushed (tasks.Expr e (step.Elements array next)) (record m { state = l; values = us }) →
         Does p (λ w. expr_step w (expression e.now) (step.Element array i)) m (Ok tt) n
     unfolding go_on return
     element_filled number next us n a same is_next values pushes =
         let w = world p m.depth in
         let q = record m { state = l } in
         let rest = leaving (under m.values) (elements_from w array (suc i) sites (row_of (rows elements))) in
-        subst (λ (z : Standing). Does p (λ w. expr_step w (expression e.now) (step.Element array i)) m (Ok tt) z) (sym pushes)
+        subst (λ (z : MachineState). Does p (λ w. expr_step w (expression e.now) (step.Element array i)) m (Ok tt) z) (sym pushes)
         (onward_then (onward_as (λ s. ap (after p (around m) m.work) (set_is s)) (went p m q (element_set set_site (made_of array) i (top m.values)) (λ x. rest) (made_of number) (a p (top m.values) (sym is_value) uses_are) (settled_state m l same)))
         (onward_as (λ s. ap (after p (around q) m.work) (ap (λ y. expr_step w y (step.Elements array (suc i)) (under m.values) s) (sym seen) ∙ ap₂ (λ k vs. expr_step w (expression e.now) (step.Elements array k) vs s) (sym is_next) (sym values))) (onward_same p l _)))
 
-    pub element_refused : (er : Halt) → ((q : Program) (c : Carried nothing) → c.value ≡ value → uses.Value array ∷ c.uses ≡ used → Answers {X = ℕ} q made_of (Err er) m.state (element_set set_site (made_of array) i c) l) → KeepsAt er m.state.calls l.calls →
+    pub element_refused : (er : Halt) → ((q : Program) (c : Carried nothing) → c.value ≡ value → uses.Value array ∷ c.uses ≡ used → StepGives {X = ℕ} q made_of (Err er) m.state (element_set set_site (made_of array) i c) l) → KeepsAt er m.state.calls l.calls →
         Does p (λ w. expr_step w (expression e.now) (step.Element array i)) m (Err er) (record m { state = l })
     element_refused er a same =
         let w = world p m.depth in
@@ -169,14 +170,14 @@ module _ (p : Program) (m : Standing) (e : Bor Expr) (ty : Ty) (dims : Row) (ele
 
 -- ---- the array is made
 
-module _ (p : Program) (m : Standing) (e : Bor Expr) (ty : Ty) (dims elements : List Expr) (sites : List ℕ) (site : ℕ) (seen : expression e.now ≡ plain.NewArray ty (row_of (rows dims)) (row_of (rows elements)) sites site) where
+module _ (p : Program) (m : MachineState) (e : Bor Expr) (ty : Ty) (dims elements : List Expr) (sites : List ℕ) (site : ℕ) (seen : expression e.now ≡ plain.NewArray ty (row_of (rows dims)) (row_of (rows elements)) sites site) where
   -- by its dimensions
   module _ (first : length dims ≢ 0) where
     by_dims : (w : World nothing) (dims : List Expr) → length dims ≢ 0 → (f : List Given → Given) (g : Given) (vs : Values) → array_with w (row_of (rows dims)) (elements_of w elements) f g vs ≡ f (evaluated vs)
     by_dims w [] other f g vs = absurd (other refl)
     by_dims w (d ∷ ds) other f g vs = refl
 
-    pub by_dimensions : (r : Result (Unit {0}) Halt) (n : Standing) (count : ℕ) → length (list_of (row_of (rows dims))) ≡ count → Does p (λ w vs. put_on (under_many count vs) (create_array w ty (evaluated (last_many count vs)) site)) m r n → Operating p (expression e.now) m r n
+    pub by_dimensions : (r : Result (Unit {0}) Halt) (n : MachineState) (count : ℕ) → length (list_of (row_of (rows dims))) ≡ count → Does p (λ w vs. put_on (under_many count vs) (create_array w ty (evaluated (last_many count vs)) site)) m r n → Operating p (expression e.now) m r n
     by_dimensions r n count many a =
         let w = world p m.depth in
         operating_by p m n r (expression e.now) (plain.NewArray ty (row_of (rows dims)) (row_of (rows elements)) sites site) seen
@@ -199,17 +200,17 @@ module _ (p : Program) (m : Standing) (e : Bor Expr) (ty : Ty) (dims elements : 
         ∙ ap (λ z. put_on m.values (λ s. go_on (make_array w site ty z (given val.None []) s) (λ x s. go_on (set_elements x 0 sites (elements_of w elements) s) (λ u. return (value_of x (val.Object x.number))))) s) (many_elements w elements n k is_length length_is)
         ∙ go_on-go_on (made w s) _ _ ∙ go_on_same (made w s) _ _ (λ x s. go_on-go_on (set_elements x 0 sites (elements_of w elements) s) _ _)
 
-    pub array_made : (number : ℕ) (us : Values) (q : Standing) → ((p : Program) (w : World nothing) (v : Value) → w.program ≡ p → Onward p m.state (make_array w site ty n (given v [])) l (return (made_of number))) → IsSameAround m.state.calls l.calls →
-        us ≡ valued number (val.Object number) ∷ m.values → q ≡ pushed (frames.Expr e (step.Elements number 0)) (record m { state = l; values = us }) → Operating p (expression e.now) m (Ok tt) q
+    pub array_made : (number : ℕ) (us : Values) (q : MachineState) → ((p : Program) (w : World nothing) (v : Value) → w.program ≡ p → Onward p m.state (make_array w site ty n (given v [])) l (return (made_of number))) → IsSameAround m.state.calls l.calls →
+        us ≡ valued number (val.Object number) ∷ m.values → q ≡ pushed (tasks.Expr e (step.Elements number 0)) (record m { state = l; values = us }) → Operating p (expression e.now) m (Ok tt) q
     unfolding go_on return value_of
     array_made number us q a same values pushes =
         let w = world p m.depth in
         let mid = record m { state = l } in
-        subst (λ (z : Standing). Operating p (expression e.now) m (Ok tt) z) (sym pushes)
+        subst (λ (z : MachineState). Operating p (expression e.now) m (Ok tt) z) (sym pushes)
         (onward_then (onward_as (λ s. ap (after p (around m) m.work) (filled_is w s)) (went p m mid (made w) (filling w) (made_of number) (a p w val.None (world_program p m.depth)) (settled_state m l same)))
         (onward_as (λ s. ap (after p (around mid) m.work) (ap (λ y. expr_step w y (step.Elements number 0) (valued number (val.Object number) ∷ m.values) s) (sym seen) ∙ ap (λ vs. expr_step w (expression e.now) (step.Elements number 0) vs s) (sym values))) (onward_same p l _)))
 
-    pub array_refused : (er : Halt) → ((p : Program) (w : World nothing) (v : Value) → w.program ≡ p → Answers {X = ℕ} p made_of (Err er) m.state (make_array w site ty n (given v [])) l) → KeepsAt er m.state.calls l.calls → Operating p (expression e.now) m (Err er) (record m { state = l })
+    pub array_refused : (er : Halt) → ((p : Program) (w : World nothing) (v : Value) → w.program ≡ p → StepGives {X = ℕ} p made_of (Err er) m.state (make_array w site ty n (given v [])) l) → KeepsAt er m.state.calls l.calls → Operating p (expression e.now) m (Err er) (record m { state = l })
     array_refused er a same =
         let w = world p m.depth in
         resumed_as p m (then_all p m (expr_step w (expression e.now) step.Operate m.values)) (then_all p m (followed (made w) (filling w))) (Err er) (record m { state = l }) (λ s. ap (after p (around m) m.work) (filled_is w s))

@@ -12,27 +12,28 @@ use Rattle.wy_meaning.specs.Expression.{eval, eval_row}
 use Rattle.wy_state.specs.declared.parts.Halt.{Halt}
 use Rattle.wy_state.proofs.Onward.{onward_as, onward_same}
 use Rattle.wy_operands.specs.Values.{Values, top, under, under_many, last_many}
-use Rattle.wy_work.specs.declared.frame.Frame.TheVariants as frames
+use Rattle.wy_work.specs.declared.task.Task.TheVariants as tasks
 use Rattle.wy_work.specs.Expressions.{put_on, put_all}
-use Rattle.wy_work.specs.Frames.{Standing, around, after, pushed, then_all, Does}
+use Rattle.wy_work.specs.Tasks.{MachineState, around, after, pushed, then_all, Does}
 use Rattle.wy_work.specs.Listed.{rows}
 use Rattle.wy_work.specs.Operands.{list_of}
 use Rattle.wy_work.proofs.Lasts.{last_many_next}
 use Rattle.wy_work.proofs.Updates.{go_on_same}
-use Rattle.wy_work.proofs.Runs.{go_on-go_on, turned_after}
+use Rattle.wy_operation.proofs.Runs.{go_on-go_on}
+use Rattle.wy_work.proofs.Runs.{turned_after}
 
-module _ (p : Program) (m q : Standing) (r : Result (Unit {0}) Halt) (n : Standing) (es : List Expr) (first : Expr) (row : Bor (List Expr)) where
+module _ (p : Program) (m q : MachineState) (r : Result (Unit {0}) Halt) (n : MachineState) (es : List Expr) (first : Expr) (row : Bor (List Expr)) where
   -- the first is found, and the row of the others is a frame
-  pub row_goes : es ≡ first ∷ row.now → q ≡ pushed (frames.Row row) m → Does p (λ w vs. put_on vs (eval w (expression first))) q r n → Does p (λ w. put_all w (rows es)) m r n
+  pub row_goes : es ≡ first ∷ row.now → q ≡ pushed (tasks.Row row) m → Does p (λ w vs. put_on vs (eval w (expression first))) q r n → Does p (λ w. put_all w (rows es)) m r n
   unfolding go_on return
   row_goes is pushes a =
       subst (λ z. Does p (λ w. put_all w (rows z)) m r n) (sym is)
-      (turned_after p m.state m n (then_all p m (put_all (world p m.depth) (rows (first ∷ row.now)) m.values)) (then_all p (pushed (frames.Row row) m) (put_on m.values (eval (world p m.depth) (expression first)))) r (λ u. return n.values)
+      (turned_after p m.state m n (then_all p m (put_all (world p m.depth) (rows (first ∷ row.now)) m.values)) (then_all p (pushed (tasks.Row row) m) (put_on m.values (eval (world p m.depth) (expression first)))) r (λ u. return n.values)
       (onward_as (λ s. ap (after p (around m) m.work) (sym (go_on-go_on (eval (world p m.depth) (expression first) s) (λ v. return (v ∷ m.values)) (put_all (world p m.depth) (map expression row.now))))) (onward_same p m.state _))
       (subst (λ z. Does p (λ w vs. put_on vs (eval w (expression first))) z r n) pushes a))
 
 -- there are no expressions left
-pub row_done : (p : Program) (m : Standing) (es : List Expr) → es ≡ [] → Does p (λ w. put_all w (rows es)) m (Ok tt) m
+pub row_done : (p : Program) (m : MachineState) (es : List Expr) → es ≡ [] → Does p (λ w. put_all w (rows es)) m (Ok tt) m
 row_done p m es is = rw is (onward_same p m.state _)
 
 -- ---- operands that are found one after another are the last on the stack

@@ -14,7 +14,7 @@ use Rattle.wy_meaning.specs.Run.{world}
 use Rattle.wy_meaning.specs.Array.{create_array}
 use Rattle.wy_meaning.specs.Library.{library}
 use Rattle.wy_state.specs.declared.parts.Halt.{Halt}
-use Rattle.wy_state.specs.Agrees.{Shape, Onward, Answers}
+use Rattle.wy_state.specs.Agrees.{Shape, Onward, StepGives}
 use Rattle.wy_state.specs.Seen.{given, valued}
 use Rattle.wy_state.proofs.Onward.{onward_as}
 use Rattle.wy_operation.specs.Around.{IsSameAround, KeepsAt}
@@ -24,10 +24,10 @@ use Rattle.wy_operation.specs.Found.{found_of}
 use Rattle.wy_operation.specs.declared.texts.found.Found.{Found}
 use Rattle.wy_operation.specs.declared.texts.found.Found.TheVariants.{Same, Made}
 use Rattle.wy_work.specs.Expressions.{put_on}
-use Rattle.wy_work.specs.Frames.{Standing, then_all, goes, Resumed}
+use Rattle.wy_work.specs.Tasks.{MachineState, then_all, goes, Resumed}
 use Rattle.wy_work.proofs.Runs.{failed_at, gave_at, world_program}
 
-module _ (p : Program) (m : Standing) (s : Shape) (us : Values) (site count : ℕ) (row : List (Carried nothing)) (used : List Use) (is : row ≡ last_many count m.values) (joins : used ≡ (joined_all (last_many count m.values)).uses) where
+module _ (p : Program) (m : MachineState) (s : Shape) (us : Values) (site count : ℕ) (row : List (Carried nothing)) (used : List Use) (is : row ≡ last_many count m.values) (joins : used ≡ (joined_all (last_many count m.values)).uses) where
   join_all : (joined_all row).uses ≡ used
   join_all = ap (λ r. (joined_all r).uses) is ∙ sym joins
 
@@ -46,7 +46,7 @@ module _ (p : Program) (m : Standing) (s : Shape) (us : Values) (site count : �
     library_made found v e found_is a same values =
         gave_at p m s us _ (valued e v) (under_many count m.values) (onward_as (library_is (world p m.depth)) (subst (λ z. Onward p m.state (library (world p m.depth) op site row) s (return (found_of used z))) found_is (a (world p m.depth) (world_program p m.depth) join_all))) same values
 
-    pub library_failed : (e : Halt) → ((w : World nothing) → w.program ≡ p → (joined_all row).uses ≡ used → Answers p (found_of used) (Err e) m.state (library w op site row) s) → KeepsAt e m.state.calls s.calls →
+    pub library_failed : (e : Halt) → ((w : World nothing) → w.program ≡ p → (joined_all row).uses ≡ used → StepGives p (found_of used) (Err e) m.state (library w op site row) s) → KeepsAt e m.state.calls s.calls →
         Resumed p (then_all p m (put_on (under_many count m.values) (library (world p m.depth) op site (last_many count m.values)))) m.state (Err e) (record m { state = s; values = us })
     library_failed e a same =
         failed_at p m s us _ (λ v. return (v ∷ under_many count m.values)) (found_of used) e (λ x. return us)
@@ -61,7 +61,7 @@ module _ (p : Program) (m : Standing) (s : Shape) (us : Values) (site count : �
     arrays_made e a same values =
         gave_at p m s us _ (valued e (val.Object e)) (under_many count m.values) (onward_as (arrays_is (world p m.depth)) (a p (world p m.depth) join_all (world_program p m.depth))) same values
 
-    pub arrays_failed : (e : Halt) → ((q : Program) (w : World nothing) → (joined_all row).uses ≡ used → w.program ≡ q → Answers {X = ℕ} q (λ n. valued n (val.Object n)) (Err e) m.state (create_array w ty (map return row) site) s) → KeepsAt e m.state.calls s.calls →
+    pub arrays_failed : (e : Halt) → ((q : Program) (w : World nothing) → (joined_all row).uses ≡ used → w.program ≡ q → StepGives {X = ℕ} q (λ n. valued n (val.Object n)) (Err e) m.state (create_array w ty (map return row) site) s) → KeepsAt e m.state.calls s.calls →
         Resumed p (then_all p m (put_on (under_many count m.values) (create_array (world p m.depth) ty (map return (last_many count m.values)) site))) m.state (Err e) (record m { state = s; values = us })
     arrays_failed e a same =
         failed_at p m s us _ (λ v. return (v ∷ under_many count m.values)) (λ (n : ℕ). valued n (val.Object n)) e (λ x. return us)

@@ -21,14 +21,14 @@ use Rattle.wy_state.specs.Agrees.{Shape, Onward}
 use Rattle.wy_state.specs.Steps.{active_be, leave_by}
 use Rattle.wy_state.proofs.Onward.{onward_as, onward_same}
 use Rattle.wy_operands.specs.Values.{Values}
-use Rattle.wy_work.specs.declared.frame.Frame.{Frame}
-use Rattle.wy_work.specs.declared.frame.Frame.TheVariants as frame
-use Rattle.wy_work.specs.declared.frame.Step.{Step}
-use Rattle.wy_work.specs.declared.frame.Step.TheVariants as step
-use Rattle.wy_work.specs.declared.frame.StmtStep.{StmtStep}
-use Rattle.wy_work.specs.declared.frame.StmtStep.TheVariants as doing
+use Rattle.wy_work.specs.declared.task.Task.{Task}
+use Rattle.wy_work.specs.declared.task.Task.TheVariants as task
+use Rattle.wy_work.specs.declared.task.Step.{Step}
+use Rattle.wy_work.specs.declared.task.Step.TheVariants as step
+use Rattle.wy_work.specs.declared.task.StmtStep.{StmtStep}
+use Rattle.wy_work.specs.declared.task.StmtStep.TheVariants as doing
 use Rattle.wy_work.specs.Calls.{Leaves}
-use Rattle.wy_work.specs.Frames.{Standing, after, around, pushed, then_all}
+use Rattle.wy_work.specs.Tasks.{MachineState, after, around, pushed, then_all}
 use Rattle.wy_work.specs.Statements.{after_all, after_first, without_values}
 use Rattle.wy_work.proofs.Finishes.{scope_ends, scope_left, scope_stopped, stopped_in}
 use Rattle.wy_work.proofs.Returns.{body_returned}
@@ -36,29 +36,29 @@ use Rattle.wy_work.proofs.Leaving.{halts_call, halts_class, passes_call, passes_
 
 -- ---- a body is left
 
-module _ (p : Program) (m k : Standing) (l : Leaves p m k) (x : Step) where
-  pub call_passed : (count : ℕ) (why : Reason nothing) → x ≡ step.LeaveCall count → Onward p m.state (then_all p (pushed (frame.Plain x) m) (leave why)) k.state (then_all p k (leave why))
+module _ (p : Program) (m k : MachineState) (l : Leaves p m k) (x : Step) where
+  pub call_passed : (count : ℕ) (why : Reason nothing) → x ≡ step.LeaveCall count → Onward p m.state (then_all p (pushed (task.Plain x) m) (leave why)) k.state (then_all p k (leave why))
   call_passed count why is = rw is (passes_call p m k l count why)
 
-  pub class_passed : (why : Reason nothing) → x ≡ step.LeaveClass → Onward p m.state (then_all p (pushed (frame.Plain x) m) (leave why)) k.state (then_all p k (leave why))
+  pub class_passed : (why : Reason nothing) → x ≡ step.LeaveClass → Onward p m.state (then_all p (pushed (task.Plain x) m) (leave why)) k.state (then_all p k (leave why))
   class_passed why is = rw is (passes_class p m k l why)
 
-  pub call_halted : (count : ℕ) (why : Stop) → x ≡ step.LeaveCall count → Onward p m.state (then_all p (pushed (frame.Plain x) m) (stop why)) k.state (then_all p k (stop why))
+  pub call_halted : (count : ℕ) (why : Stop) → x ≡ step.LeaveCall count → Onward p m.state (then_all p (pushed (task.Plain x) m) (stop why)) k.state (then_all p k (stop why))
   call_halted count why is = rw is (halts_call p m k l count why)
 
-  pub class_halted : (why : Stop) → x ≡ step.LeaveClass → Onward p m.state (then_all p (pushed (frame.Plain x) m) (stop why)) k.state (then_all p k (stop why))
+  pub class_halted : (why : Stop) → x ≡ step.LeaveClass → Onward p m.state (then_all p (pushed (task.Plain x) m) (stop why)) k.state (then_all p k (stop why))
   class_halted why is = rw is (halts_class p m k l why)
 
 -- ---- what passes a frame that does nothing with it
 
-module _ (p : Program) (m : Standing) where
-  abbrev IsPassed : Frame → Reason nothing → Type 0
+module _ (p : Program) (m : MachineState) where
+  abbrev IsPassed : Task → Reason nothing → Type 0
   IsPassed f why = Onward p m.state (then_all p (pushed f m) (leave why)) m.state (then_all p m (leave why))
 
-  abbrev IsHalted : Frame → Stop → Type 0
+  abbrev IsHalted : Task → Stop → Type 0
   IsHalted f why = Onward p m.state (then_all p (pushed f m) (stop why)) m.state (then_all p m (stop why))
 
-  pub step_passed : (x : Step) (why : Reason nothing) → ((b : Bool) (site : ℕ) → x ≡ step.BodyEnd b site → ⊥) → (x ≡ step.Initialized → ⊥) → ((n : ℕ) → x ≡ step.LeaveCall n → ⊥) → (x ≡ step.LeaveClass → ⊥) → ((n : ℕ) → x ≡ step.End n → ⊥) → IsPassed (frame.Plain x) why
+  pub step_passed : (x : Step) (why : Reason nothing) → ((b : Bool) (site : ℕ) → x ≡ step.BodyEnd b site → ⊥) → (x ≡ step.Initialized → ⊥) → ((n : ℕ) → x ≡ step.LeaveCall n → ⊥) → (x ≡ step.LeaveClass → ⊥) → ((n : ℕ) → x ≡ step.End n → ⊥) → IsPassed (task.Plain x) why
   unfolding go_on leave
   step_passed (step.ShowRight site) why a b c d e = onward_same p m.state _
   step_passed (step.Join site) why a b c d e = onward_same p m.state _
@@ -72,7 +72,7 @@ module _ (p : Program) (m : Standing) where
   step_passed step.Forget why a b c d e = onward_same p m.state _
   step_passed (step.End n) why a b c d e = absurd (e n refl)
 
-  pub stmt_passed : (s : Bor Memory) (x : StmtStep) (why : Reason nothing) → (x ≡ doing.Catch → ⊥) → (x ≡ doing.Finally → ⊥) → IsPassed (frame.Stmt s x) why
+  pub stmt_passed : (s : Bor Memory) (x : StmtStep) (why : Reason nothing) → (x ≡ doing.Catch → ⊥) → (x ≡ doing.Finally → ⊥) → IsPassed (task.Stmt s x) why
   unfolding go_on leave
   stmt_passed s doing.Do why a b = onward_same p m.state _
   stmt_passed s doing.Operate why a b = onward_same p m.state _
@@ -83,36 +83,36 @@ module _ (p : Program) (m : Standing) where
   stmt_passed s doing.Catch why a b = absurd (a refl)
   stmt_passed s doing.Finally why a b = absurd (b refl)
 
-  pub frame_passed : (f : Frame) (why : Reason nothing) → ((s : Bor Memory) (x : StmtStep) → f ≡ frame.Stmt s x → ⊥) → ((x : Step) → f ≡ frame.Plain x → ⊥) → ((scope : Scope) → f ≡ frame.Close scope → ⊥) → IsPassed f why
+  pub frame_passed : (f : Task) (why : Reason nothing) → ((s : Bor Memory) (x : StmtStep) → f ≡ task.Stmt s x → ⊥) → ((x : Step) → f ≡ task.Plain x → ⊥) → ((scope : Scope) → f ≡ task.Close scope → ⊥) → IsPassed f why
   unfolding go_on leave
-  frame_passed (frame.Expr e x) why a b c = onward_same p m.state _
-  frame_passed (frame.Row es) why a b c = onward_same p m.state _
-  frame_passed (frame.Stmt s x) why a b c = absurd (a s x refl)
-  frame_passed (frame.Stmts ss) why a b c = onward_same p m.state _
-  frame_passed (frame.Plain x) why a b c = absurd (b x refl)
-  frame_passed (frame.Close scope) why a b c = absurd (c scope refl)
+  frame_passed (task.Expr e x) why a b c = onward_same p m.state _
+  frame_passed (task.Row es) why a b c = onward_same p m.state _
+  frame_passed (task.Stmt s x) why a b c = absurd (a s x refl)
+  frame_passed (task.Stmts ss) why a b c = onward_same p m.state _
+  frame_passed (task.Plain x) why a b c = absurd (b x refl)
+  frame_passed (task.Close scope) why a b c = absurd (c scope refl)
 
   -- a jump or a throw leaves a body
-  pub body_passed : (b : Bool) (site : ℕ) (why : Cause) → ((e : ℕ) (v : Value) → why ≡ cause.Returned e v → ⊥) → IsPassed (frame.Plain (step.BodyEnd b site)) (reason_of why)
+  pub body_passed : (b : Bool) (site : ℕ) (why : Cause) → ((e : ℕ) (v : Value) → why ≡ cause.Returned e v → ⊥) → IsPassed (task.Plain (step.BodyEnd b site)) (reason_of why)
   unfolding go_on go_on_left at_return leave
   body_passed b site (cause.Jumped target e) other = onward_same p m.state _
   body_passed b site (cause.Returned e v) other = absurd (other e v refl)
   body_passed b site (cause.Threw e v) other = onward_same p m.state _
 
-  pub failure_passed : (why : Cause) → ((e : ℕ) (v : Value) → why ≡ cause.Threw e v → ⊥) → IsPassed (frame.Plain step.Initialized) (reason_of why)
+  pub failure_passed : (why : Cause) → ((e : ℕ) (v : Value) → why ≡ cause.Threw e v → ⊥) → IsPassed (task.Plain step.Initialized) (reason_of why)
   unfolding go_on go_on_left at_failure leave
   failure_passed (cause.Jumped target e) other = onward_same p m.state _
   failure_passed (cause.Returned e v) other = onward_same p m.state _
   failure_passed (cause.Threw e v) other = absurd (other e v refl)
 
   -- an initializer that throws stops the run
-  pub failure_stops : (why : Cause) (e : ℕ) (v : Value) → why ≡ cause.Threw e v → Onward p m.state (then_all p (pushed (frame.Plain step.Initialized) m) (leave (reason_of why))) m.state (then_all p m (stop (run.InitFailed e)))
+  pub failure_stops : (why : Cause) (e : ℕ) (v : Value) → why ≡ cause.Threw e v → Onward p m.state (then_all p (pushed (task.Plain step.Initialized) m) (leave (reason_of why))) m.state (then_all p m (stop (run.InitFailed e)))
   unfolding go_on go_on_left at_failure leave stop
   failure_stops why e v is = rw is (onward_same p m.state _)
 
   -- ---- what a stop passes
 
-  pub step_halted : (x : Step) (why : Stop) → ((n : ℕ) → x ≡ step.LeaveCall n → ⊥) → (x ≡ step.LeaveClass → ⊥) → ((n : ℕ) → x ≡ step.End n → ⊥) → IsHalted (frame.Plain x) why
+  pub step_halted : (x : Step) (why : Stop) → ((n : ℕ) → x ≡ step.LeaveCall n → ⊥) → (x ≡ step.LeaveClass → ⊥) → ((n : ℕ) → x ≡ step.End n → ⊥) → IsHalted (task.Plain x) why
   unfolding go_on go_on_left stop
   step_halted (step.ShowRight site) why a b c = onward_same p m.state _
   step_halted (step.Join site) why a b c = onward_same p m.state _
@@ -177,13 +177,13 @@ module _ (w : World nothing) where
   all_stopped (Stmt number site askable reach (Try main catches last)) why s = refl
   all_stopped (Stmt number site askable reach (Print operand ty ends_line at)) why s = refl
 
-module _ (p : Program) (m : Standing) where
+module _ (p : Program) (m : MachineState) where
   -- the first block ended normally
-  pub first_ends : (x : Bor Memory) (us : Values) → us ≡ [] → Onward p m.state (then_all p (pushed (frame.Stmt x doing.Catch) m) (return m.values)) m.state (then_all p (record m { values = us }) (return us))
+  pub first_ends : (x : Bor Memory) (us : Values) → us ≡ [] → Onward p m.state (then_all p (pushed (task.Stmt x doing.Catch) m) (return m.values)) m.state (then_all p (record m { values = us }) (return us))
   unfolding go_on return
   first_ends x us none = rw none (onward_as (λ s. ap (λ o. after p (around m) m.work (without_values o)) (first_done (world p m.depth) (statement x.now) s)) (onward_same p m.state _))
 
-  stmt_halted : (s : Bor Memory) (x : StmtStep) (why : Stop) → IsHalted p m (frame.Stmt s x) why
+  stmt_halted : (s : Bor Memory) (x : StmtStep) (why : Stop) → IsHalted p m (task.Stmt s x) why
   unfolding go_on stop
   stmt_halted s doing.Do why = onward_same p m.state _
   stmt_halted s doing.Operate why = onward_same p m.state _
@@ -194,18 +194,18 @@ module _ (p : Program) (m : Standing) where
   stmt_halted s doing.Catch why = onward_as (λ z. ap (λ o. after p (around m) m.work (without_values o)) (first_stopped (world p m.depth) (statement s.now) why z)) (onward_same p m.state _)
   stmt_halted s doing.Finally why = onward_as (λ z. ap (λ o. after p (around m) m.work (without_values o)) (all_stopped (world p m.depth) (statement s.now) why z)) (onward_same p m.state _)
 
-  pub frame_halted : (f : Frame) (why : Stop) → ((x : Step) → f ≡ frame.Plain x → ⊥) → ((scope : Scope) → f ≡ frame.Close scope → ⊥) → IsHalted p m f why
+  pub frame_halted : (f : Task) (why : Stop) → ((x : Step) → f ≡ task.Plain x → ⊥) → ((scope : Scope) → f ≡ task.Close scope → ⊥) → IsHalted p m f why
   unfolding go_on stop
-  frame_halted (frame.Expr e x) why a b = onward_same p m.state _
-  frame_halted (frame.Row es) why a b = onward_same p m.state _
-  frame_halted (frame.Stmt s x) why a b = stmt_halted s x why
-  frame_halted (frame.Stmts ss) why a b = onward_same p m.state _
-  frame_halted (frame.Plain x) why a b = absurd (a x refl)
-  frame_halted (frame.Close scope) why a b = absurd (b scope refl)
+  frame_halted (task.Expr e x) why a b = onward_same p m.state _
+  frame_halted (task.Row es) why a b = onward_same p m.state _
+  frame_halted (task.Stmt s x) why a b = stmt_halted s x why
+  frame_halted (task.Stmts ss) why a b = onward_same p m.state _
+  frame_halted (task.Plain x) why a b = absurd (a x refl)
+  frame_halted (task.Close scope) why a b = absurd (b scope refl)
 
 -- ---- the end of a scope and of a statement
 
-module _ (p : Program) (m : Standing) (s : Shape) (f : Frame) (scope : Scope) (is : f ≡ frame.Close scope) (same : s.calls ≡ closed m.state.calls) (a : Onward p m.state (active_be (first_of m.state.calls.scopes)) s (return tt)) where
+module _ (p : Program) (m : MachineState) (s : Shape) (f : Task) (scope : Scope) (is : f ≡ task.Close scope) (same : s.calls ≡ closed m.state.calls) (a : Onward p m.state (active_be (first_of m.state.calls.scopes)) s (return tt)) where
   pub close_ends : Onward p m.state (then_all p (pushed f m) (return m.values)) s (then_all p (record m { state = s }) (return m.values))
   close_ends = rw is (scope_ends p m s scope same a)
 
@@ -215,10 +215,10 @@ module _ (p : Program) (m : Standing) (s : Shape) (f : Frame) (scope : Scope) (i
   pub close_stopped : (why : Stop) → Onward p m.state (then_all p (pushed f m) (stop why)) s (then_all p (record m { state = s }) (stop why))
   close_stopped why = rw is (scope_stopped p m s scope same a why)
 
-pub end_stopped : (p : Program) (m : Standing) (n : ℕ) (s : Shape) (x : Step) → x ≡ step.End n → s.calls ≡ ended n m.state.calls → (why : Stop) (e : ℕ) → e ≡ stop_cause why → Onward p m.state (leave_by n e) s (return tt) →
-    Onward p m.state (then_all p (pushed (frame.Plain x) m) (stop why)) s (then_all p (record m { state = s }) (stop why))
+pub end_stopped : (p : Program) (m : MachineState) (n : ℕ) (s : Shape) (x : Step) → x ≡ step.End n → s.calls ≡ ended n m.state.calls → (why : Stop) (e : ℕ) → e ≡ stop_cause why → Onward p m.state (leave_by n e) s (return tt) →
+    Onward p m.state (then_all p (pushed (task.Plain x) m) (stop why)) s (then_all p (record m { state = s }) (stop why))
 end_stopped p m n s x is same why e by a = rw is (stopped_in p m n s same why e by a)
 
-pub body_gives : (p : Program) (m : Standing) (b : Bool) (site : ℕ) (us : Values) (e : ℕ) (v : Value) (why : Cause) → why ≡ cause.Returned e v → us ≡ valued e v ∷ [] →
-    Onward p m.state (then_all p (pushed (frame.Plain (step.BodyEnd b site)) m) (leave (reason_of why))) m.state (then_all p (record m { values = us }) (return us))
+pub body_gives : (p : Program) (m : MachineState) (b : Bool) (site : ℕ) (us : Values) (e : ℕ) (v : Value) (why : Cause) → why ≡ cause.Returned e v → us ≡ valued e v ∷ [] →
+    Onward p m.state (then_all p (pushed (task.Plain (step.BodyEnd b site)) m) (leave (reason_of why))) m.state (then_all p (record m { values = us }) (return us))
 body_gives p m b site us e v why is values = rw is (body_returned p m b site us e v values)

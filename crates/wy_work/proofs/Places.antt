@@ -10,7 +10,7 @@ use Rattle.wy_kernel.specs.declared.form.Place.{Place}
 use Rattle.wy_kernel.specs.declared.form.Place.TheVariants as places
 use Rattle.std.specs.declared.alloc.Global.{Global}
 use Rattle.std.specs.declared.boxed.Box.{Box}
-use Rattle.wy_work.proofs.Views.{view_elem, view_field, view_local, view_static}
+use Rattle.wy_kernel.proofs.ExpressionViews.{view_elem, view_field, view_local, view_static}
 use Rattle.wy_kernel.specs.declared.form.Expr.{Expr}
 use Rattle.wy_value.specs.declared.value.Value.{Value}
 use Rattle.wy_value.specs.declared.value.Value.TheVariants.{None as Nothing}
@@ -24,56 +24,56 @@ use Rattle.wy_meaning.specs.World.{World}
 use Rattle.wy_meaning.specs.Run.{world}
 use Rattle.wy_meaning.specs.Place.{AtLocal, AtStatic, AtField, AtElem, element_spot, fetch, field_spot, find, initialize, local_spot, read_place, set_place, static_spot, store}
 use Rattle.wy_state.specs.declared.parts.Halt.{Halt}
-use Rattle.wy_state.specs.Agrees.{Shape, Onward, Answers}
+use Rattle.wy_state.specs.Agrees.{Shape, Onward, StepGives}
 use Rattle.wy_state.specs.Seen.{given}
 use Rattle.wy_state.specs.Steps.{local_slot}
 use Rattle.wy_state.proofs.Onward.{onward_as, onward_same}
 use Rattle.wy_operation.specs.Around.{IsSameAround, KeepsAt}
 use Rattle.wy_operation.specs.Operands.{Pair}
 use Rattle.wy_operation.specs.Spots.{Stored, spot_of}
-use Rattle.wy_operation.proofs.Runs.{done_first}
+use Rattle.wy_operation.proofs.Runs.{done_first, go_on-go_on}
 use Rattle.wy_operands.specs.Values.{Values, at, top, under, under_many, uses_of_last}
-use Rattle.wy_work.specs.declared.frame.Frame.TheVariants as frames
-use Rattle.wy_work.specs.declared.frame.ExprStep.TheVariants as step
+use Rattle.wy_work.specs.declared.task.Task.TheVariants as tasks
+use Rattle.wy_work.specs.declared.task.ExprStep.TheVariants as step
 use Rattle.wy_work.specs.Expressions.{put_on, leaving, expr_step}
-use Rattle.wy_work.specs.Frames.{Standing, around, after, pushed, then_all, followed, Does, Resumed}
+use Rattle.wy_work.specs.Tasks.{MachineState, around, after, pushed, then_all, followed, Does, Resumed}
 use Rattle.wy_work.specs.Operands.{Given}
-use Rattle.wy_work.proofs.Runs.{failed_at, go_on-go_on, settled_state, turned_after, went, world_program}
+use Rattle.wy_work.proofs.Runs.{failed_at, settled_state, turned_after, went, world_program}
 use Rattle.wy_work.proofs.Operates.{last_pair}
 
 -- ---- what is done first, and a value that comes after it
 
 -- the same run, said in another way
-pub resumed_as : (p : Program) (m : Standing) (f g : Run nothing Values) (r : Result (Unit {0}) Halt) (n : Standing) → ((s : State nothing) → f s ≡ g s) → Resumed p g m.state r n → Resumed p f m.state r n
+pub resumed_as : (p : Program) (m : MachineState) (f g : Run nothing Values) (r : Result (Unit {0}) Halt) (n : MachineState) → ((s : State nothing) → f s ≡ g s) → Resumed p g m.state r n → Resumed p f m.state r n
 resumed_as p m f g r n same a = turned_after p m.state m n f g r (λ u. return n.values) (onward_as same (onward_same p m.state g)) a
 
 -- what a value is found by, said in another way
-pub put_as : (p : Program) (m : Standing) (f g : Given) (vs : Values) (r : Result (Unit {0}) Halt) (n : Standing) → ((s : State nothing) → f s ≡ g s) → Resumed p (then_all p m (put_on vs g)) m.state r n → Resumed p (then_all p m (put_on vs f)) m.state r n
+pub put_as : (p : Program) (m : MachineState) (f g : Given) (vs : Values) (r : Result (Unit {0}) Halt) (n : MachineState) → ((s : State nothing) → f s ≡ g s) → Resumed p (then_all p m (put_on vs g)) m.state r n → Resumed p (then_all p m (put_on vs f)) m.state r n
 put_as p m f g vs r n same a = resumed_as p m (then_all p m (put_on vs f)) (then_all p m (put_on vs g)) r n (λ s. ap (λ o. after p (around m) m.work (go_on o (λ v. return (v ∷ vs)))) (same s)) a
 
-module _ {X : Type 0} (p : Program) (m : Standing) (s : Shape) (f : Run nothing X) (k : X → Given) (vs : Values) where
+module _ {X : Type 0} (p : Program) (m : MachineState) (s : Shape) (f : Run nothing X) (k : X → Given) (vs : Values) where
   first_is : (at : State nothing) → then_all p m (put_on vs (f >>= k)) at ≡ then_all p m (followed f (λ x. put_on vs (k x))) at
   unfolding ◌>>=◌
   first_is at = ap (after p (around m) m.work) (go_on-go_on (f at) k (λ v. return (v ∷ vs)))
 
   -- it was done, and the rest is done from there
-  pub first_went : (x : X) (r : Result (Unit {0}) Halt) (n : Standing) → Onward p m.state f s (return x) → IsSameAround m.state.calls s.calls →
+  pub first_went : (x : X) (r : Result (Unit {0}) Halt) (n : MachineState) → Onward p m.state f s (return x) → IsSameAround m.state.calls s.calls →
       Resumed p (then_all p (record m { state = s }) (put_on vs (k x))) s r n → Resumed p (then_all p m (put_on vs (f >>= k))) m.state r n
   first_went x r n a same next =
       turned_after p m.state (record m { state = s }) n (then_all p m (put_on vs (f >>= k))) (then_all p (record m { state = s }) (put_on vs (k x))) r (λ u. return n.values)
       (onward_as first_is (went p m (record m { state = s }) f (λ y. put_on vs (k y)) x a (settled_state m s same))) next
 
-  pub first_failed : {Y : Type 0} (view : Y → X) (e : Halt) → Answers p view (Err e) m.state f s → KeepsAt e m.state.calls s.calls → Resumed p (then_all p m (put_on vs (f >>= k))) m.state (Err e) (record m { state = s })
+  pub first_failed : {Y : Type 0} (view : Y → X) (e : Halt) → StepGives p view (Err e) m.state f s → KeepsAt e m.state.calls s.calls → Resumed p (then_all p m (put_on vs (f >>= k))) m.state (Err e) (record m { state = s })
   first_failed view e a same =
       resumed_as p m (then_all p m (put_on vs (f >>= k))) (then_all p m (followed f (λ y. put_on vs (k y)))) (Err e) (record m { state = s }) first_is
       (failed_at p m s m.values f (λ y. put_on vs (k y)) view e (λ u. return m.values) a same)
 
 -- an expression goes on once a class is initialized
-pub once_initialized : (p : Program) (m q : Standing) (r : Result (Unit {0}) Halt) (n : Standing) (e : Bor Expr) (x : Expression) (init : Run nothing (Unit {0})) (f : Run nothing Values) → q ≡ pushed (frames.Expr e step.Ready) m → expression e.now ≡ x →
+pub once_initialized : (p : Program) (m q : MachineState) (r : Result (Unit {0}) Halt) (n : MachineState) (e : Bor Expr) (x : Expression) (init : Run nothing (Unit {0})) (f : Run nothing Values) → q ≡ pushed (tasks.Expr e step.Ready) m → expression e.now ≡ x →
     ((s : State nothing) → f s ≡ go_on (init s) (λ u. expr_step (world p m.depth) x step.Ready m.values)) → Resumed p (then_all p q (leaving q.values init)) q.state r n → Resumed p (then_all p m f) m.state r n
 unfolding go_on return
 once_initialized p m q r n e x init f is form same a =
-    resumed_as p m (then_all p m f) (then_all p (pushed (frames.Expr e step.Ready) m) (leaving m.values init)) r n
+    resumed_as p m (then_all p m f) (then_all p (pushed (tasks.Expr e step.Ready) m) (leaving m.values init)) r n
     (λ s. ap (after p (around m) m.work) (same s ∙ ap (λ y. go_on (init s) (λ u. expr_step (world p m.depth) y step.Ready m.values)) (sym form) ∙ sym (go_on-go_on (init s) (λ u. return m.values) (expr_step (world p m.depth) (expression e.now) step.Ready))))
     (subst (λ z. Resumed p (then_all p z (leaving z.values init)) z.state r n) is a)
 
@@ -126,16 +126,16 @@ unfolding constant
 constant_uses v = refl
 
 -- what a slot's reads do, whatever the parts of its place carry
-abbrev pub Fetching : Slot → ℕ → Standing → Result (Unit {0}) Halt → Standing → Type 0
+abbrev pub Fetching : Slot → ℕ → MachineState → Result (Unit {0}) Halt → MachineState → Type 0
 Fetching slot many m r n = (p : Program) (c : Carried nothing) → c.uses ≡ uses_of_last many m.values → Does p (λ w vs. put_on (under_many many vs) (fetch (spot_of slot c))) m r n
 
-abbrev pub Storing : Program → Slot → ℕ → ℕ → Standing → Result (Unit {0}) Halt → Standing → Type 0
+abbrev pub Storing : Program → Slot → ℕ → ℕ → MachineState → Result (Unit {0}) Halt → MachineState → Type 0
 Storing p slot many site m r n = (o : Stored slot (top m.values).value (uses_of_last many m.values)) → Does p (λ w vs. put_on (under_many many vs) (store w site o.spot o.right)) m r n
 
-abbrev pub Operating : Program → Expression → Standing → Result (Unit {0}) Halt → Standing → Type 0
+abbrev pub Operating : Program → Expression → MachineState → Result (Unit {0}) Halt → MachineState → Type 0
 Operating p x m r n = Does p (λ w. expr_step w x step.Operate) m r n
 
-module _ (p : Program) (m : Standing) (s : Shape) (n : Standing) (r : Result (Unit {0}) Halt) (x : Expression) (slot : Slot) where
+module _ (p : Program) (m : MachineState) (s : Shape) (n : MachineState) (r : Result (Unit {0}) Halt) (x : Expression) (slot : Slot) where
   pub local_read : (i : ℕ) → x ≡ plain.Read (plain.Local i) → ((q : Program) → Onward q m.state (local_slot i) m.state (return slot)) → Fetching slot 0 m r n → Operating p x m r n
   local_read i is a next =
       rw is (put_as p m (read_place (world p m.depth) (AtLocal i)) (local_spot i >>= fetch) m.values r n (λ at. read_local_is (world p m.depth) at i)
@@ -183,15 +183,15 @@ module _ (p : Program) (m : Standing) (s : Shape) (n : Standing) (r : Result (Un
         (next (record { spot = spot_of slot (given Nothing used); right = top m.values; is_slot = refl; is_right = refl; are_joined = ap (λ us. us ++ (top m.values).uses) u }))))
 
 -- what was refused at a place
-module _ (p : Program) (m : Standing) (s : Shape) (e : Halt) (x : Expression) where
+module _ (p : Program) (m : MachineState) (s : Shape) (e : Halt) (x : Expression) where
   module _ (f at : ℕ) (object : Expression) (value : Value) (used : List Use) where
-    pub field_read_failed : x ≡ plain.Read (plain.Field object f at) → value ≡ (top m.values).value → used ≡ (top m.values).uses → ((q : Program) (w : World nothing) → w.program ≡ q → Answers {X = Slot} q (λ z. spot_of z (given value used)) (Err e) m.state (field_spot w f at (given value used)) s) → KeepsAt e m.state.calls s.calls → Operating p x m (Err e) (record m { state = s })
+    pub field_read_failed : x ≡ plain.Read (plain.Field object f at) → value ≡ (top m.values).value → used ≡ (top m.values).uses → ((q : Program) (w : World nothing) → w.program ≡ q → StepGives {X = Slot} q (λ z. spot_of z (given value used)) (Err e) m.state (field_spot w f at (given value used)) s) → KeepsAt e m.state.calls s.calls → Operating p x m (Err e) (record m { state = s })
     field_read_failed is l u a same =
         let w = world p m.depth in
         subst (λ z. Operating p z m (Err e) (record m { state = s })) (sym is) (put_as p m (read_place w (AtField (return (top m.values)) f at)) (field_spot w f at (given value used) >>= fetch) (under m.values) (Err e) (record m { state = s }) (λ st. read_field_is w st f at (top m.values) value used l u)
         (first_failed p m s (field_spot w f at (given value used)) fetch (under m.values) (λ (z : Slot). spot_of z (given value used)) e (a p w (world_program p m.depth)) same))
 
-    pub field_set_failed : (site : ℕ) (right : Expression) → x ≡ plain.Set (plain.Field object f at) right site → value ≡ (top (under m.values)).value → used ≡ (top (under m.values)).uses → ((q : Program) (w : World nothing) → w.program ≡ q → Answers {X = Slot} q (λ z. spot_of z (given value used)) (Err e) m.state (field_spot w f at (given value used)) s) → KeepsAt e m.state.calls s.calls → Operating p x m (Err e) (record m { state = s })
+    pub field_set_failed : (site : ℕ) (right : Expression) → x ≡ plain.Set (plain.Field object f at) right site → value ≡ (top (under m.values)).value → used ≡ (top (under m.values)).uses → ((q : Program) (w : World nothing) → w.program ≡ q → StepGives {X = Slot} q (λ z. spot_of z (given value used)) (Err e) m.state (field_spot w f at (given value used)) s) → KeepsAt e m.state.calls s.calls → Operating p x m (Err e) (record m { state = s })
     field_set_failed site right is l u a same =
         let w = world p m.depth in
         subst (λ z. Operating p z m (Err e) (record m { state = s })) (sym is) (put_as p m (set_place w (AtField (return (top (under m.values))) f at) (return (top m.values)) site) (field_spot w f at (given value used) >>= (λ spot. store w site spot (top m.values))) (under (under m.values)) (Err e) (record m { state = s }) (λ st. set_field_is w st f at site (top (under m.values)) (top m.values) value used l u)
@@ -199,21 +199,21 @@ module _ (p : Program) (m : Standing) (s : Shape) (e : Halt) (x : Expression) wh
 
   module _ (site : ℕ) (array index : Expression) (left right : Value) (used : List Use) where
     pub element_read_failed : x ≡ plain.Read (plain.Elem array index site) → left ≡ (at 1 m.values).value → right ≡ (top m.values).value → used ≡ uses_of_last 2 m.values →
-        ((q : Program) (w : World nothing) (o : Pair left right used) → w.program ≡ q → Answers {X = Slot} q (λ z. spot_of z (given Nothing used)) (Err e) m.state (element_spot w site o.first o.second) s) → KeepsAt e m.state.calls s.calls → Operating p x m (Err e) (record m { state = s })
+        ((q : Program) (w : World nothing) (o : Pair left right used) → w.program ≡ q → StepGives {X = Slot} q (λ z. spot_of z (given Nothing used)) (Err e) m.state (element_spot w site o.first o.second) s) → KeepsAt e m.state.calls s.calls → Operating p x m (Err e) (record m { state = s })
     element_read_failed is l h u a same =
         let w = world p m.depth in
         subst (λ z. Operating p z m (Err e) (record m { state = s })) (sym is) (put_as p m (read_place w (AtElem (return (at 1 m.values)) (return (top m.values)) site)) (element_spot w site (at 1 m.values) (top m.values) >>= fetch) (under_many 2 m.values) (Err e) (record m { state = s }) (λ st. read_element_is w st site (at 1 m.values) (top m.values))
         (first_failed p m s (element_spot w site (at 1 m.values) (top m.values)) fetch (under_many 2 m.values) (λ (z : Slot). spot_of z (given Nothing used)) e (a p w (last_pair m.values left right used l h u) (world_program p m.depth)) same))
 
     pub element_set_failed : (at_site : ℕ) (value : Expression) → x ≡ plain.Set (plain.Elem array index site) value at_site → left ≡ (at 2 m.values).value → right ≡ (at 1 m.values).value → used ≡ uses_of_last 2 (under m.values) →
-        ((q : Program) (w : World nothing) (o : Pair left right used) → w.program ≡ q → Answers {X = Slot} q (λ z. spot_of z (given Nothing used)) (Err e) m.state (element_spot w site o.first o.second) s) → KeepsAt e m.state.calls s.calls → Operating p x m (Err e) (record m { state = s })
+        ((q : Program) (w : World nothing) (o : Pair left right used) → w.program ≡ q → StepGives {X = Slot} q (λ z. spot_of z (given Nothing used)) (Err e) m.state (element_spot w site o.first o.second) s) → KeepsAt e m.state.calls s.calls → Operating p x m (Err e) (record m { state = s })
     element_set_failed at_site value is l h u a same =
         let w = world p m.depth in
         subst (λ z. Operating p z m (Err e) (record m { state = s })) (sym is) (put_as p m (set_place w (AtElem (return (at 2 m.values)) (return (at 1 m.values)) site) (return (top m.values)) at_site) (element_spot w site (at 2 m.values) (at 1 m.values) >>= (λ spot. store w at_site spot (top m.values))) (under_many 3 m.values) (Err e) (record m { state = s }) (λ st. set_element_is w st site at_site (at 2 m.values) (at 1 m.values) (top m.values))
         (first_failed p m s (element_spot w site (at 2 m.values) (at 1 m.values)) (λ spot. store w at_site spot (top m.values)) (under_many 3 m.values) (λ (z : Slot). spot_of z (given Nothing used)) e (a p w (last_pair (under m.values) left right used l h u) (world_program p m.depth)) same))
 
 -- a static field: first its class
-module _ (p : Program) (m q : Standing) (r : Result (Unit {0}) Halt) (n : Standing) (e : Bor Expr) (f at : ℕ) (pushes : q ≡ pushed (frames.Expr e step.Ready) m) where
+module _ (p : Program) (m q : MachineState) (r : Result (Unit {0}) Halt) (n : MachineState) (e : Bor Expr) (f at : ℕ) (pushes : q ≡ pushed (tasks.Expr e step.Ready) m) where
   pub static_read : expression e.now ≡ plain.Read (plain.Static f at) → Does p (λ w vs. leaving vs (initialize w at (kernel.field w.program f).class)) q r n → Operating p (expression e.now) m r n
   static_read is a =
       rw is (once_initialized p m q r n e (plain.Read (plain.Static f at)) (initialize (world p q.depth) at (kernel.field (world p q.depth).program f).class) (put_on m.values (read_place (world p m.depth) (AtStatic f at))) pushes is

@@ -22,9 +22,9 @@ use Rattle.wy_steps.specs.Steps.{constant}
 use Rattle.wy_state.specs.declared.parts.Halt.{Halt}
 use Rattle.wy_operation.specs.Spots.{spot_of}
 use Rattle.wy_operands.specs.Values.{top, under_many, last_many, uses_of_last}
-use Rattle.wy_work.specs.declared.frame.ExprStep.TheVariants as step
+use Rattle.wy_work.specs.declared.task.ExprStep.TheVariants as step
 use Rattle.wy_work.specs.Expressions.{expr_step, put_on, updating_of}
-use Rattle.wy_work.specs.Frames.{Standing, Does}
+use Rattle.wy_work.specs.Tasks.{MachineState, Does}
 use Rattle.wy_work.specs.Listed.{IsStatic}
 use Rattle.wy_work.specs.Operands.{list_of}
 use Rattle.wy_work.proofs.Places.{Fetching, Storing}
@@ -42,10 +42,10 @@ static_of (plain.Static f site) slot h = record { field = f; site = site; is = r
 static_of (plain.Field object f site) slot h = absurd h
 static_of (plain.Elem array index site) slot h = absurd h
 
-abbrev pub Readying : Program → Expression → Standing → Result (Unit {0}) Halt → Standing → Type 0
+abbrev pub Readying : Program → Expression → MachineState → Result (Unit {0}) Halt → MachineState → Type 0
 Readying p x m r n = Does p (λ w. expr_step w x step.Ready) m r n
 
-module _ (p : Program) (m : Standing) (r : Result (Unit {0}) Halt) (n : Standing) (x : Expression) (z : plain.Place) (slot : Slot) (static : IsStatic z slot) where
+module _ (p : Program) (m : MachineState) (r : Result (Unit {0}) Halt) (n : MachineState) (x : Expression) (z : plain.Place) (slot : Slot) (static : IsStatic z slot) where
   pub static_fetched : x ≡ plain.Read z → Fetching slot 0 m r n → Readying p x m r n
   unfolding constant
   static_fetched is a =
@@ -71,7 +71,7 @@ module _ (p : Program) (m : Standing) (r : Result (Unit {0}) Halt) (n : Standing
       (subst (λ (y : Expression). Does p (λ w vs. updating_of w y (spot_of slot (constant val.None)) vs) m r n) seen (a p (constant val.None) refl)))
 
 -- a static call
-pub static_called : (p : Program) (m : Standing) (r : Result (Unit {0}) Halt) (n : Standing) (x : Expression) (method count : ℕ) (receiver : plain.Part) (ty : Ty) (args : plain.Row) (site : ℕ) → x ≡ plain.Call call_form.Static method receiver ty args site → count ≡ length (list_of args) →
+pub static_called : (p : Program) (m : MachineState) (r : Result (Unit {0}) Halt) (n : MachineState) (x : Expression) (method count : ℕ) (receiver : plain.Part) (ty : Ty) (args : plain.Row) (site : ℕ) → x ≡ plain.Call call_form.Static method receiver ty args site → count ≡ length (list_of args) →
     Does p (λ w vs. put_on (under_many count vs) (w.call site method Absent (last_many count vs))) m r n → Readying p x m r n
 static_called p m r n x method count receiver ty args site is many a =
     subst (λ y. Readying p y m r n) (sym is) (subst (λ k. Does p (λ w vs. put_on (under_many k vs) (w.call site method Absent (last_many k vs))) m r n) many a)

@@ -8,18 +8,19 @@ use Rattle.wy_event.specs.declared.record.Kind.TheVariants as kind
 use Rattle.wy_steps.specs.Sets.{nothing}
 use Rattle.wy_steps.specs.State as run
 use Rattle.wy_steps.specs.State.{State, Carried, Reason, Run, Outcome, choose, go_on, go_on_left, ◌>>=◌, return, leave, stop}
-use Rattle.wy_steps.specs.Steps.{constant, Draft, event_limit, note, noting, room_for, use_limit, value_of}
+use Rattle.wy_kernel.specs.Limits.{event_limit, use_limit}
+use Rattle.wy_steps.specs.Steps.{constant, Draft, note, noting, room_for, value_of}
 use Rattle.wy_meaning.specs.World.{plain}
 use Rattle.wy_meaning.specs.Call.{at_return, end_body}
 use Rattle.wy_state.specs.declared.parts.Halt.{Halt}
 use Rattle.wy_state.specs.Seen.{valued}
-use Rattle.wy_state.specs.Agrees.{Shape, Onward, Answers}
+use Rattle.wy_state.specs.Agrees.{Shape, Onward, StepGives}
 use Rattle.wy_state.proofs.Onward.{onward_as, onward_same}
 use Rattle.wy_operation.specs.Around.{IsSameAround, KeepsAt}
 use Rattle.wy_operands.specs.Values.{Values}
-use Rattle.wy_work.specs.declared.frame.Frame.TheVariants as frame
-use Rattle.wy_work.specs.declared.frame.Step.TheVariants as step
-use Rattle.wy_work.specs.Frames.{Standing, after, around, pushed, then_all, followed, Resumed}
+use Rattle.wy_work.specs.declared.task.Task.TheVariants as task
+use Rattle.wy_work.specs.declared.task.Step.TheVariants as step
+use Rattle.wy_work.specs.Tasks.{MachineState, after, around, pushed, then_all, followed, Resumed}
 use Rattle.wy_work.proofs.Runs.{failed_at, kept_after, turned_after, went}
 
 -- ---- the end of a body is never left
@@ -55,21 +56,21 @@ left_alone (run.Done x s) f going = refl
 left_alone (run.Left why s) f going = absurd going
 left_alone (run.Stopped why s) f going = refl
 
-module _ (p : Program) (m : Standing) (b : Bool) (site : ℕ) where
-  body_ends : (s : State nothing) → then_all p (pushed (frame.Plain (step.BodyEnd b site)) m) (return m.values) s ≡ then_all p m (followed (end_body b site) (λ v. return (v ∷ []))) s
+module _ (p : Program) (m : MachineState) (b : Bool) (site : ℕ) where
+  body_ends : (s : State nothing) → then_all p (pushed (task.Plain (step.BodyEnd b site)) m) (return m.values) s ≡ then_all p m (followed (end_body b site) (λ v. return (v ∷ []))) s
   unfolding go_on return
   body_ends s = ap (λ o. after p (around m) m.work (go_on o (λ v. return (v ∷ [])))) (left_alone (end_body b site s) at_return (end_going b site s))
 
   module _ (s : Shape) (us : Values) where
     pub body_ended : (e : ℕ) → Onward p m.state (end_body b site) s (return (valued e val.None)) → IsSameAround m.state.calls s.calls → us ≡ valued e val.None ∷ [] →
-        Onward p m.state (then_all p (pushed (frame.Plain (step.BodyEnd b site)) m) (return m.values)) s (then_all p (record m { state = s; values = us }) (return us))
+        Onward p m.state (then_all p (pushed (task.Plain (step.BodyEnd b site)) m) (return m.values)) s (then_all p (record m { state = s; values = us }) (return us))
     body_ended e a same values = rw values (onward_as body_ends (went p m (record m { state = s; values = valued e val.None ∷ [] }) (end_body b site) (λ v. return (v ∷ [])) (valued e val.None) a (kept_after p m s (valued e val.None ∷ []) same)))
 
-    pub body_refused : (e : Halt) → Answers p (λ n. valued n val.None) (Err e) m.state (end_body b site) s → KeepsAt e m.state.calls s.calls →
-        Resumed p (then_all p (pushed (frame.Plain (step.BodyEnd b site)) m) (return m.values)) m.state (Err e) (record m { state = s; values = us })
+    pub body_refused : (e : Halt) → StepGives p (λ n. valued n val.None) (Err e) m.state (end_body b site) s → KeepsAt e m.state.calls s.calls →
+        Resumed p (then_all p (pushed (task.Plain (step.BodyEnd b site)) m) (return m.values)) m.state (Err e) (record m { state = s; values = us })
     body_refused e a same = turned_after p m.state m (record m { state = s; values = us }) _ _ (Err e) (λ u. return us) (onward_as body_ends (onward_same p m.state _)) (failed_at p m s us (end_body b site) (λ v. return (v ∷ [])) (λ n. valued n val.None) e (λ u. return us) a same)
 
   -- what a Return gives is the value of the body
-  pub body_returned : (us : Values) (e : ℕ) (v : Value) → us ≡ valued e v ∷ [] → Onward p m.state (then_all p (pushed (frame.Plain (step.BodyEnd b site)) m) (leave (run.Returned e (valued e v)))) m.state (then_all p (record m { values = us }) (return us))
+  pub body_returned : (us : Values) (e : ℕ) (v : Value) → us ≡ valued e v ∷ [] → Onward p m.state (then_all p (pushed (task.Plain (step.BodyEnd b site)) m) (leave (run.Returned e (valued e v)))) m.state (then_all p (record m { values = us }) (return us))
   unfolding at_return go_on go_on_left leave return
   body_returned us e v values = rw values (onward_same p m.state _)

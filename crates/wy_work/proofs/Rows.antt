@@ -4,8 +4,8 @@ use Rattle.std.proofs.lemmas.List.{map-append, reverse-append}
 use Rattle.wy_steps.specs.Sets.{nothing}
 use Rattle.wy_steps.specs.State.{Carried}
 use Rattle.wy_calls.proofs.Last.{split_at_last}
-use Rattle.wy_calls.specs.Calls.{Frame as Body, event_of, first_of, rest_of}
-use Rattle.wy_work.specs.Frames.{newest}
+use Rattle.wy_calls.specs.Calls.{CallFrame as Body, event_of, first_of, rest_of}
+use Rattle.wy_work.specs.Tasks.{newest}
 use Rattle.wy_work.proofs.Begins.{newest_is}
 use Rattle.wy_operands.specs.Values.{Values, at, top, under, last_many}
 

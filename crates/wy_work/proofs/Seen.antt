@@ -20,7 +20,7 @@ use Rattle.wy_meaning.specs.Library.{library, library_form}
 use Rattle.wy_state.specs.declared.parts.Halt.{Halt}
 use Rattle.wy_operands.specs.Values.{Values, at, top, last_many, under_many}
 use Rattle.wy_work.specs.Expressions.{put_on}
-use Rattle.wy_work.specs.Frames.{Standing, Does}
+use Rattle.wy_work.specs.Tasks.{MachineState, Does}
 use Rattle.wy_work.specs.Listed.{IsNew, IsTestOf, IsUpdate, rows}
 use Rattle.wy_work.specs.Operands.{evaluated, list_of}
 use Rattle.wy_work.proofs.Finds.{all_evaluated}
@@ -40,7 +40,7 @@ new_given x class site constructor_of args is = rw is (refl, refl)
 pub row_length : (es : List Expr) (count : ℕ) → count ≡ length es → length (list_of (row_of (rows es))) ≡ count
 row_length es count is = ap length (listed_row (rows es)) ∙ length-map es expression ∙ sym is
 
-module _ (p : Program) (m n : Standing) (r : Result (Unit {0}) Halt) (x : Expression) where
+module _ (p : Program) (m n : MachineState) (r : Result (Unit {0}) Halt) (x : Expression) where
   -- the same expression
   pub operating_by : (y : Expression) → x ≡ y → Operating p y m r n → Operating p x m r n
   operating_by y is a = subst (λ z. Operating p z m r n) (sym is) a

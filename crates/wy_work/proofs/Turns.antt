@@ -23,13 +23,14 @@ use Rattle.wy_state.specs.declared.parts.Halt.{Halt}
 use Rattle.wy_state.specs.Agrees.{Shape, Onward}
 use Rattle.wy_state.proofs.Onward.{within, onward_as, onward_then, onward_same}
 use Rattle.wy_operands.specs.Values.{Values, top}
-use Rattle.wy_work.specs.declared.frame.Frame.TheVariants as frame
-use Rattle.wy_work.specs.declared.frame.ExprStep.TheVariants as expr_step
-use Rattle.wy_work.specs.declared.frame.StmtStep.TheVariants as step
+use Rattle.wy_work.specs.declared.task.Task.TheVariants as task
+use Rattle.wy_work.specs.declared.task.ExprStep.TheVariants as expr_step
+use Rattle.wy_work.specs.declared.task.StmtStep.TheVariants as step
 use Rattle.wy_work.specs.Expressions.{put_on}
 use Rattle.wy_work.specs.Statements.{IsDo, counted, emptied, loop_body, loop_test, looping, stmt_step}
-use Rattle.wy_work.specs.Frames.{Standing, around, after, pushed, then_all, goes, followed, Resumed, Turned}
-use Rattle.wy_work.proofs.Runs.{go_on-go_on, refused, turned_after, turned_as}
+use Rattle.wy_work.specs.Tasks.{MachineState, around, after, pushed, then_all, goes, followed, Resumed, Turned}
+use Rattle.wy_operation.proofs.Runs.{go_on-go_on}
+use Rattle.wy_work.proofs.Runs.{refused, turned_after, turned_as}
 
 -- a `while` is its turns
 pub while_is : (w : World nothing) (x : Memory) (test : Expr) (body : Box Memory Global) (vs : Values) → x.form ≡ form.While test body → (s : State nothing) →
@@ -73,13 +74,13 @@ pub for_condition : (f : StmtForm) (inits updates : Vec Memory Global) (part : O
 unfolding for_test eval_part
 for_condition f inits updates part test e body is some same = record { is = λ w site reach. rw (is, view_for, some, same) refl }
 
-module _ (p : Program) (m n : Standing) where
+module _ (p : Program) (m n : MachineState) where
   turning_is : (x : Memory) (e : Expr) (k : ℕ) → IsCondition x.form e → (s : State nothing) →
       stmt_step (world p m.depth) (statement x) (step.Turn (suc k)) m.values s ≡ go_on (put_on m.values (eval (world p m.depth) (expression e)) s) (stmt_step (world p m.depth) (statement x) (step.Decide k))
   turning_is x e k condition s = rw (view_statement x) (turn_of x.site x.reach (eval (world p m.depth) (expression e)) _ (loop_body (world p m.depth) (act x.form)) k m.values s (condition.is (world p m.depth) x.site x.reach))
 
   -- a turn begins with its condition
-  pub turn_goes : (x : Bor Memory) (e : Bor Expr) (k j : ℕ) → k ≡ suc j → IsCondition x.now.form e.now → n ≡ pushed (frame.Expr e expr_step.Find) (pushed (frame.Stmt x (step.Decide j)) m) →
+  pub turn_goes : (x : Bor Memory) (e : Bor Expr) (k j : ℕ) → k ≡ suc j → IsCondition x.now.form e.now → n ≡ pushed (task.Expr e expr_step.Find) (pushed (task.Stmt x (step.Decide j)) m) →
       Onward p m.state (then_all p m (stmt_step (world p m.depth) (statement x.now) (step.Turn k) m.values)) n.state (goes p n)
   unfolding go_on return
   turn_goes x e k j more condition pushes = rw (more, pushes) (onward_as (λ s. ap (after p (around m) m.work) (turning_is x.now e.now j condition s)) (onward_same p m.state _))
@@ -88,7 +89,7 @@ module _ (p : Program) (m n : Standing) where
   unfolding turns stop go_on
   no_turns x k none = rw (none, view_statement x) (onward_same p m.state _)
 
-  pub turns_begin : (x : Bor Memory) (k : ℕ) → ((next : ℕ → Run nothing Values) → Onward p m.state (counted next) m.state (next k)) → n ≡ pushed (frame.Stmt x (step.Turn k)) m →
+  pub turns_begin : (x : Bor Memory) (k : ℕ) → ((next : ℕ → Run nothing Values) → Onward p m.state (counted next) m.state (next k)) → n ≡ pushed (task.Stmt x (step.Turn k)) m →
       Onward p m.state (then_all p m (stmt_step (world p m.depth) (statement x.now) step.Loop m.values)) n.state (goes p n)
   unfolding go_on return
   turns_begin x k counts pushes = rw pushes (onward_as (λ s. ap (after p (around m) m.work) (loop_is (world p m.depth) x.now m.values s))
@@ -103,7 +104,7 @@ module _ (p : Program) (m n : Standing) where
   unfolding exec_act do_form ◌>>=◌ ◌>>◌ go_on return
   do_is x test body first is same s = rw (view_statement x, is, view_do, same) (simp go_on-go_on)
 
-  pub do_goes : (x b : Bor Memory) (k : ℕ) → IsDo x.now.form b.now → ((next : ℕ → Run nothing Values) → Onward p m.state (counted next) m.state (next k)) → n ≡ pushed (frame.Stmt b step.Do) (pushed (frame.Stmt x (step.Turn k)) m) →
+  pub do_goes : (x b : Bor Memory) (k : ℕ) → IsDo x.now.form b.now → ((next : ℕ → Run nothing Values) → Onward p m.state (counted next) m.state (next k)) → n ≡ pushed (task.Stmt b step.Do) (pushed (task.Stmt x (step.Turn k)) m) →
       Onward p m.state (then_all p m (emptied (exec_act (world p m.depth) x.now.site x.now.reach (act x.now.form)))) n.state (goes p n)
   unfolding go_on return
   do_goes x b k is counts pushes = rw pushes (onward_as (λ s. ap (after p (around m) m.work) (do_is x.now is.test is.body b.now is.is is.same s))
@@ -115,31 +116,31 @@ module _ (p : Program) (m n : Standing) where
   unfolding exec_act for_form ◌>>=◌ ◌>>◌ go_on return
   for_is x inits updates test body ss is same s = rw (view_statement x, is, view_for, same) (simp go_on-go_on)
 
-  pub for_goes : (x : Bor Memory) (inits updates : Vec Memory Global) (test : Option Expr) (body : Box Memory Global) (ss : Bor (List Memory)) → x.now.form ≡ form.For inits test updates body → ss.now ≡ inits.items → n ≡ pushed (frame.Stmts ss) (pushed (frame.Stmt x step.Loop) m) →
+  pub for_goes : (x : Bor Memory) (inits updates : Vec Memory Global) (test : Option Expr) (body : Box Memory Global) (ss : Bor (List Memory)) → x.now.form ≡ form.For inits test updates body → ss.now ≡ inits.items → n ≡ pushed (task.Stmts ss) (pushed (task.Stmt x step.Loop) m) →
       Onward p m.state (then_all p m (emptied (exec_act (world p m.depth) x.now.site x.now.reach (act x.now.form)))) n.state (goes p n)
   unfolding go_on return
   for_goes x inits updates test body ss is same pushes = rw pushes (onward_as (λ s. ap (after p (around m) m.work) (for_is x.now inits updates test body ss.now is same s)) (onward_same p m.state _))
 
   -- a turn goes on with the body, and the turns after it
-  pub while_on : (x b : Bor Memory) (test : Expr) (body : Box Memory Global) (k : ℕ) → x.now.form ≡ form.While test body → b.now ≡ body.value → n ≡ pushed (frame.Stmt b step.Do) (pushed (frame.Stmt x (step.Turn k)) m) →
+  pub while_on : (x b : Bor Memory) (test : Expr) (body : Box Memory Global) (k : ℕ) → x.now.form ≡ form.While test body → b.now ≡ body.value → n ≡ pushed (task.Stmt b step.Do) (pushed (task.Stmt x (step.Turn k)) m) →
       Onward p m.state (then_all p m (emptied (looping (world p m.depth) (statement x.now) k))) n.state (goes p n)
   unfolding ◌>>◌ ◌>>=◌ go_on return
   while_on x b test body k is same pushes = rw pushes (onward_as (λ s. ap (after p (around m) m.work) (rw (view_statement x.now, is, view_while, same) (simp go_on-go_on))) (onward_same p m.state _))
 
-  pub do_on : (x b : Bor Memory) (test : Expr) (body : Box Memory Global) (k : ℕ) → x.now.form ≡ form.Do body test → b.now ≡ body.value → n ≡ pushed (frame.Stmt b step.Do) (pushed (frame.Stmt x (step.Turn k)) m) →
+  pub do_on : (x b : Bor Memory) (test : Expr) (body : Box Memory Global) (k : ℕ) → x.now.form ≡ form.Do body test → b.now ≡ body.value → n ≡ pushed (task.Stmt b step.Do) (pushed (task.Stmt x (step.Turn k)) m) →
       Onward p m.state (then_all p m (emptied (looping (world p m.depth) (statement x.now) k))) n.state (goes p n)
   unfolding ◌>>◌ ◌>>=◌ go_on return
   do_on x b test body k is same pushes = rw pushes (onward_as (λ s. ap (after p (around m) m.work) (rw (view_statement x.now, is, view_do, same) (simp go_on-go_on))) (onward_same p m.state _))
 
   pub for_on : (x b : Bor Memory) (inits updates : Vec Memory Global) (test : Option Expr) (body : Box Memory Global) (ss : Bor (List Memory)) (k : ℕ) → x.now.form ≡ form.For inits test updates body → b.now ≡ body.value → ss.now ≡ updates.items →
-      n ≡ pushed (frame.Stmt b step.Do) (pushed (frame.Stmts ss) (pushed (frame.Stmt x (step.Turn k)) m)) →
+      n ≡ pushed (task.Stmt b step.Do) (pushed (task.Stmts ss) (pushed (task.Stmt x (step.Turn k)) m)) →
       Onward p m.state (then_all p m (emptied (looping (world p m.depth) (statement x.now) k))) n.state (goes p n)
   unfolding ◌>>◌ ◌>>=◌ go_on return
   for_on x b inits updates test body ss k is same all pushes = rw pushes (onward_as (λ s. ap (after p (around m) m.work) (rw (view_statement x.now, is, view_for, same, all) (simp go_on-go_on))) (onward_same p m.state _))
 
 -- ---- a turn is decided
 
-module _ (p : Program) (m q : Standing) where
+module _ (p : Program) (m q : MachineState) where
   decides : (x : Memory) (k : ℕ) (s : State nothing) → stmt_step (world p m.depth) (statement x) (step.Decide k) m.values s ≡ followed (tested x.site x.reach (return (top m.values))) (λ b. emptied (choose b (looping (world p m.depth) (statement x) k) (return tt))) s
   unfolding ◌>>=◌
   decides x k s = rw (view_statement x) (go_on-go_on (tested x.site x.reach (return (top m.values)) s) _ _)
@@ -149,7 +150,7 @@ module _ (p : Program) (m q : Standing) where
   turn_refused x k e a = refused p _ m.state q e _ (λ u. return q.values) (turned_as p m q _ _ (Err e) _ (decides x k) (a (λ b. emptied (choose b (looping (world p m.depth) (statement x) k) (return tt)))))
 
   -- the condition held, and the body and the turns after it go on
-  pub turn_held : (x : Memory) (k : ℕ) (l : Standing) (r : Result (Unit {0}) Halt) → ((next : Bool → Run nothing Values) → Onward p m.state (then_all p m (followed (tested x.site x.reach (return (top m.values))) next)) l.state (then_all p l (next true))) → l.depth ≡ m.depth →
+  pub turn_held : (x : Memory) (k : ℕ) (l : MachineState) (r : Result (Unit {0}) Halt) → ((next : Bool → Run nothing Values) → Onward p m.state (then_all p m (followed (tested x.site x.reach (return (top m.values))) next)) l.state (then_all p l (next true))) → l.depth ≡ m.depth →
       Resumed p (then_all p l (emptied (looping (world p l.depth) (statement x) k))) l.state r q → Resumed p (then_all p m (stmt_step (world p m.depth) (statement x) (step.Decide k) m.values)) m.state r q
   unfolding choose
   turn_held x k l r a depth b =
@@ -168,6 +169,6 @@ for_ever : (w : World nothing) (x : Memory) (inits updates : Vec Memory Global) 
 unfolding turns for_test eval_part choose ◌>>=◌ ◌>>◌ go_on return
 for_ever w x inits updates part body k j vs is none more s = rw (view_statement x, is, view_for, none, more) refl
 
-pub for_ever_goes : (p : Program) (m q : Standing) (x : Memory) (inits updates : Vec Memory Global) (part : Option Expr) (body : Box Memory Global) (k j : ℕ) (r : Result (Unit {0}) Halt) → x.form ≡ form.For inits part updates body → part ≡ Absent → k ≡ suc j →
+pub for_ever_goes : (p : Program) (m q : MachineState) (x : Memory) (inits updates : Vec Memory Global) (part : Option Expr) (body : Box Memory Global) (k j : ℕ) (r : Result (Unit {0}) Halt) → x.form ≡ form.For inits part updates body → part ≡ Absent → k ≡ suc j →
     Resumed p (then_all p m (emptied (looping (world p m.depth) (statement x) j))) m.state r q → Resumed p (then_all p m (stmt_step (world p m.depth) (statement x) (step.Turn k) m.values)) m.state r q
 for_ever_goes p m q x inits updates part body k j r is none more a = turned_as p m q _ _ r (λ u. return q.values) (for_ever (world p m.depth) x inits updates part body k j m.values is none more) a

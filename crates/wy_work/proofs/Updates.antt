@@ -4,14 +4,13 @@ use Rattle.std.specs.Prelude.{None as Absent}
 use Rattle.wy_kernel.specs.Program.{Program}
 use Rattle.wy_kernel.specs.Form.{Expression}
 use Rattle.wy_kernel.specs.Form as plain
-use Rattle.wy_kernel.specs.View.{expression}
+use Rattle.wy_kernel.specs.View.{expression, part_seen}
 use Rattle.wy_kernel.specs.View.{place as place_seen}
 use Rattle.wy_kernel.specs.declared.form.Place.{Place}
 use Rattle.wy_kernel.specs.declared.form.Expr.TheVariants as form
 use Rattle.std.specs.declared.alloc.Global.{Global}
 use Rattle.std.specs.declared.boxed.Box.{Box}
-use Rattle.wy_work.specs.Listed.{part_seen}
-use Rattle.wy_work.proofs.Views.{view_upd}
+use Rattle.wy_kernel.proofs.ExpressionViews.{view_upd}
 use Rattle.wy_kernel.specs.declared.form.Expr.{Expr}
 use Rattle.wy_kernel.specs.declared.operator.BinOp.{BinOp}
 use Rattle.wy_kernel.specs.declared.operator.Primitive.{Primitive}
@@ -31,18 +30,19 @@ use Rattle.wy_meaning.specs.Text.{append_place, concatenated}
 use Rattle.wy_meaning.specs.Place.{Spot, Located, assign, check_store, fetch, find, store, update_place}
 use Rattle.wy_meaning.specs.Expression.{eval, eval_part, part_or, update}
 use Rattle.wy_state.specs.declared.parts.Halt.{Halt}
-use Rattle.wy_state.specs.Agrees.{Onward, Answers}
+use Rattle.wy_state.specs.Agrees.{Onward, StepGives}
 use Rattle.wy_state.specs.Seen.{given}
 use Rattle.wy_state.proofs.Onward.{onward_as, onward_same, onward_then}
 use Rattle.wy_operation.specs.Spots.{spot_of}
 use Rattle.wy_operation.specs.Updated.{updated}
 use Rattle.wy_operands.specs.Values.{Values, top}
 use Rattle.wy_work.specs.Expressions.{expr_step, put_on, right_side, update_rest, updating, updating_of}
-use Rattle.wy_work.specs.Frames.{Standing, around, after, goes, pushed, then_all, followed, Resumed}
+use Rattle.wy_work.specs.Tasks.{MachineState, around, after, goes, pushed, then_all, followed, Resumed}
 use Rattle.wy_work.specs.Operands.{Given}
-use Rattle.wy_work.specs.declared.frame.Frame.TheVariants as frames
-use Rattle.wy_work.specs.declared.frame.ExprStep.TheVariants as step
-use Rattle.wy_work.proofs.Runs.{failed_at, go_on-go_on, keeps_calls, settled_same, turned_after, went}
+use Rattle.wy_work.specs.declared.task.Task.TheVariants as tasks
+use Rattle.wy_work.specs.declared.task.ExprStep.TheVariants as step
+use Rattle.wy_operation.proofs.Runs.{go_on-go_on}
+use Rattle.wy_work.proofs.Runs.{failed_at, keeps_calls, settled_same, turned_after, went}
 
 -- what goes on alike from each end
 pub go_on_same : {X Y : Type 0} (o : Outcome nothing X) (f g : X → Run nothing Y) → ((x : X) (s : State nothing) → f x s ≡ g x s) → go_on o f ≡ go_on o g
@@ -87,7 +87,7 @@ module _ (w : World nothing) (spot : Spot nothing) (op : BinOp) (ty : Ty) (wide 
   unfolding ◌>>=◌
   updating_is right s = go_on-go_on (fetch spot s) _ _ ∙ go_on_same (fetch spot s) _ _ (λ old s. go_on-go_on (right s) _ _)
 
-module _ (p : Program) (m : Standing) (slot : Slot) (c : Carried nothing) (us : List Use) (own : c.uses ≡ us) (op : BinOp) (ty : Ty) (wide : Option Primitive) (gives_old : Bool) (site : ℕ) (vs : Values) (old : Value) (used : Use)
+module _ (p : Program) (m : MachineState) (slot : Slot) (c : Carried nothing) (us : List Use) (own : c.uses ≡ us) (op : BinOp) (ty : Ty) (wide : Option Primitive) (gives_old : Bool) (site : ℕ) (vs : Values) (old : Value) (used : Use)
     (a : (q : Program) (c : Carried nothing) → Onward q m.state (fetch (spot_of slot c)) m.state (return (given old (c.uses ++ used ∷ [])))) where
   rest_is : (right : Given) (s : State nothing) → right_and_rest (world p m.depth) (spot_of slot c) op ty wide gives_old site vs right (given old (c.uses ++ used ∷ [])) s ≡ right_and_rest (world p m.depth) (spot_of slot (given val.None us)) op ty wide gives_old site vs right (given old (us ++ used ∷ [])) s
   rest_is right s =
@@ -111,7 +111,7 @@ module _ (p : Program) (m : Standing) (slot : Slot) (c : Carried nothing) (us : 
     stack = given old (us ++ used ∷ []) ∷ given val.None us ∷ vs
 
     -- what was begun, and how the frames say it
-    begun_with : (part : plain.Part) (n : Standing) (k : Run nothing Values) → expression e.now ≡ plain.Upd place op part value_ty ty wide gives_old site →
+    begun_with : (part : plain.Part) (n : MachineState) (k : Run nothing Values) → expression e.now ≡ plain.Upd place op part value_ty ty wide gives_old site →
         ((s : State nothing) → then_all p m (right_and_rest (world p m.depth) (spot_of slot (given val.None us)) op ty wide gives_old site vs (right_side (world p m.depth) part) (given old (us ++ used ∷ []))) s ≡ k s) →
         Onward p m.state (then_all p m (updating_of (world p m.depth) (expression e.now) (spot_of slot c) vs)) m.state k
     begun_with part n k seen same =
@@ -119,34 +119,34 @@ module _ (p : Program) (m : Standing) (slot : Slot) (c : Carried nothing) (us : 
         (onward_then (old_found (right_side (world p m.depth) part)) (onward_as same (onward_same p m.state k)))
 
     -- the right side is found next
-    pub right_next : (value : Bor Expr) (n : Standing) → expression e.now ≡ plain.Upd place op (plain.the (expression value.now)) value_ty ty wide gives_old site →
-        n ≡ pushed (frames.Expr value step.Find) (pushed (frames.Expr e (step.Assign slot)) (record m { values = second })) →
+    pub right_next : (value : Bor Expr) (n : MachineState) → expression e.now ≡ plain.Upd place op (plain.the (expression value.now)) value_ty ty wide gives_old site →
+        n ≡ pushed (tasks.Expr value step.Find) (pushed (tasks.Expr e (step.Assign slot)) (record m { values = second })) →
         Onward p m.state (then_all p m (updating_of (world p m.depth) (expression e.now) (spot_of slot c) vs)) n.state (goes p n)
     unfolding go_on return part_or eval_part
     right_next value n seen is =
         let w = world p m.depth in
         let o = λ (s : State nothing). eval w (expression value.now) s in
-        subst (λ (z : Standing). Onward p m.state (then_all p m (updating_of w (expression e.now) (spot_of slot c) vs)) z.state (goes p z)) (sym is)
-        (begun_with (plain.the (expression value.now)) n (goes p (pushed (frames.Expr value step.Find) (pushed (frames.Expr e (step.Assign slot)) (record m { values = second })))) seen
+        subst (λ (z : MachineState). Onward p m.state (then_all p m (updating_of w (expression e.now) (spot_of slot c) vs)) z.state (goes p z)) (sym is)
+        (begun_with (plain.the (expression value.now)) n (goes p (pushed (tasks.Expr value step.Find) (pushed (tasks.Expr e (step.Assign slot)) (record m { values = second })))) seen
         (λ s. ap (after p (around m) m.work) (sym (go_on-go_on (o s) (λ v. return (v ∷ stack)) (expr_step w (plain.Upd place op (plain.the (expression value.now)) value_ty ty wide gives_old site) (step.Assign slot)))
         ∙ ap (λ y. go_on (go_on (o s) (λ v. return (v ∷ stack))) (expr_step w y (step.Assign slot))) (sym seen)
         ∙ ap (λ (r : Values). go_on (go_on (o s) (λ v. return (v ∷ r))) (expr_step w (expression e.now) (step.Assign slot))) (sym stacked))))
 
     -- it is the number one
-    pub right_one : (q : Standing) (third : Values) → expression e.now ≡ plain.Upd place op plain.absent value_ty ty wide gives_old site →
-        q ≡ pushed (frames.Expr e (step.Assign slot)) (record m { values = second }) → third ≡ given (val.Int (pos 1)) [] ∷ q.values →
+    pub right_one : (q : MachineState) (third : Values) → expression e.now ≡ plain.Upd place op plain.absent value_ty ty wide gives_old site →
+        q ≡ pushed (tasks.Expr e (step.Assign slot)) (record m { values = second }) → third ≡ given (val.Int (pos 1)) [] ∷ q.values →
         Onward p m.state (then_all p m (updating_of (world p m.depth) (expression e.now) (spot_of slot c) vs)) q.state (goes p (record q { values = third }))
     unfolding go_on return part_or eval_part constant
     right_one q third seen is t =
         let w = world p m.depth in
-        let all = t ∙ ap (λ (z : Standing). given (val.Int (pos 1)) [] ∷ z.values) is ∙ ap (λ (r : Values). given (val.Int (pos 1)) [] ∷ r) stacked in
-        subst (λ (z : Standing). Onward p m.state (then_all p m (updating_of w (expression e.now) (spot_of slot c) vs)) z.state (goes p (record z { values = third }))) (sym is)
-        (begun_with plain.absent q (goes p (record (pushed (frames.Expr e (step.Assign slot)) m) { values = third })) seen
+        let all = t ∙ ap (λ (z : MachineState). given (val.Int (pos 1)) [] ∷ z.values) is ∙ ap (λ (r : Values). given (val.Int (pos 1)) [] ∷ r) stacked in
+        subst (λ (z : MachineState). Onward p m.state (then_all p m (updating_of w (expression e.now) (spot_of slot c) vs)) z.state (goes p (record z { values = third }))) (sym is)
+        (begun_with plain.absent q (goes p (record (pushed (tasks.Expr e (step.Assign slot)) m) { values = third })) seen
         (λ s. ap (after p (around m) m.work) (ap (λ y. expr_step w y (step.Assign slot) (given (val.Int (pos 1)) [] ∷ stack) s) (sym seen) ∙ ap (λ (r : Values). expr_step w (expression e.now) (step.Assign slot) r s) (sym all))))
 
 -- the old value was refused
-pub old_refused : (p : Program) (m : Standing) (slot : Slot) (c : Carried nothing) (vs first : Values) (x : Expression) (place : plain.Place) (op : BinOp) (part : plain.Part) (value_ty ty : Ty) (wide : Option Primitive) (gives_old : Bool) (site : ℕ) → x ≡ plain.Upd place op part value_ty ty wide gives_old site → (er : Halt) →
-    ((q : Program) (c : Carried nothing) → Answers {X = Value × Use} q (λ r. given r.0 (c.uses ++ r.1 ∷ [])) (Err er) m.state (fetch (spot_of slot c)) m.state) →
+pub old_refused : (p : Program) (m : MachineState) (slot : Slot) (c : Carried nothing) (vs first : Values) (x : Expression) (place : plain.Place) (op : BinOp) (part : plain.Part) (value_ty ty : Ty) (wide : Option Primitive) (gives_old : Bool) (site : ℕ) → x ≡ plain.Upd place op part value_ty ty wide gives_old site → (er : Halt) →
+    ((q : Program) (c : Carried nothing) → StepGives {X = Value × Use} q (λ r. given r.0 (c.uses ++ r.1 ∷ [])) (Err er) m.state (fetch (spot_of slot c)) m.state) →
     Resumed p (then_all p m (updating_of (world p m.depth) x (spot_of slot c) vs)) m.state (Err er) (record m { values = first })
 old_refused p m slot c vs first x place op part value_ty ty wide gives_old site seen er a =
     let w = world p m.depth in

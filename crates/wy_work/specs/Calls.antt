@@ -10,9 +10,9 @@ use Rattle.wy_state.specs.Agrees.{Onward}
 use Rattle.wy_calls.specs.Calls.{first_of, rest_of}
 use Rattle.wy_state.specs.Steps.{back_to, enter_frame}
 use Rattle.wy_operands.specs.Values.{Values, at}
-use Rattle.wy_work.specs.declared.frame.Frame.TheVariants as frame
-use Rattle.wy_work.specs.declared.frame.Step.{Step}
-use Rattle.wy_work.specs.Frames.{Standing, around, newest}
+use Rattle.wy_work.specs.declared.task.Task.TheVariants as task
+use Rattle.wy_work.specs.declared.task.Step.{Step}
+use Rattle.wy_work.specs.Tasks.{MachineState, around, newest}
 
 -- the uses of a receiver by its place on the stack, or none
 abbrev pub used_by : Option ℕ → Values → List Use
@@ -24,15 +24,15 @@ abbrev pub begun : {X : Type 0} → Run nothing (Made nothing) → (ℕ → Run 
 begun noting next = scoped (activating Within noting >>= (λ e. next e.number))
 
 -- the values are as they were, and so are those of the bodies that wait
-pub record IsSameStack (m n : Standing) : Type 0 where
+pub record IsSameStack (m n : MachineState) : Type 0 where
   pub depth : n.depth ≡ m.depth
   pub values : n.values ≡ m.values
   pub saved : n.saved ≡ m.saved
 
 -- a frame stands for an event from now on, with no value yet; at its end the step is taken, and the frame that is left is back
-pub record Enters (p : Program) (event : ℕ) (leave : Step) (m n : Standing) : Type 0 where
+pub record Enters (p : Program) (event : ℕ) (leave : Step) (m n : MachineState) : Type 0 where
   pub onward : (f : Run nothing Values) → Onward p m.state (enter_frame event >>= (λ u. f)) n.state f
-  pub work : n.work ≡ frame.Plain leave ∷ m.work
+  pub work : n.work ≡ task.Plain leave ∷ m.work
   pub depth : suc n.depth ≡ m.depth
   pub bodies : (around n).bodies ≡ event ∷ (around m).bodies
   pub scopes : (around n).scopes ≡ (around m).scopes
@@ -40,7 +40,7 @@ pub record Enters (p : Program) (event : ℕ) (leave : Step) (m n : Standing) : 
   pub saved : n.saved ≡ m.values ∷ m.saved
 
 -- the newest frame ends, and the body that waited has its values again
-pub record Leaves (p : Program) (m n : Standing) : Type 0 where
+pub record Leaves (p : Program) (m n : MachineState) : Type 0 where
   pub onward : (f : Run nothing Values) → Onward p m.state (back_to (newest (rest_of (around m).bodies)) >>= (λ u. f)) n.state f
   pub work : n.work ≡ m.work
   pub depth : n.depth ≡ suc m.depth

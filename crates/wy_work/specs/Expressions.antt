@@ -25,8 +25,8 @@ use Rattle.wy_operation.specs.Spots.{spot_of}
 use Rattle.wy_operation.specs.Updated.{updated}
 use Rattle.wy_operation.specs.Words.{joined_texts}
 use Rattle.wy_operands.specs.Values.{Values, top, under, at, under_many, last_many}
-use Rattle.wy_work.specs.declared.frame.ExprStep.{ExprStep}
-use Rattle.wy_work.specs.declared.frame.ExprStep.TheVariants as step
+use Rattle.wy_work.specs.declared.task.ExprStep.{ExprStep}
+use Rattle.wy_work.specs.declared.task.ExprStep.TheVariants as step
 use Rattle.wy_work.specs.Operands.{Given, list_of, operands_of, operate}
 
 -- a value comes on the stack, or what was done leaves it

@@ -2,7 +2,7 @@ pub mod Operands
 pub mod Listed
 pub mod Expressions
 pub mod Statements
-pub mod Frames
+pub mod Tasks
 pub mod Machines
 pub mod Calls
 pub mod Handlers

@@ -1,17 +1,14 @@
 -- The operands that the code lists, as what they say.
-use Rattle.std.specs.Prelude.{◌≡◌, ℕ, List, [], ◌∷◌, map, Option, Some}
-use Rattle.std.specs.Prelude.{None as Absent}
-use Rattle.std.specs.declared.boxed.Box.{Box}
-use Rattle.std.specs.declared.alloc.Global.{Global}
+use Rattle.std.specs.Prelude.{◌≡◌, ℕ, List, [], ◌∷◌, map}
 use Rattle.wy_kernel.specs.declared.form.Expr.{Expr}
-use Rattle.wy_kernel.specs.Form.{Expression, Part, absent, the}
+use Rattle.wy_kernel.specs.Form.{Expression}
 use Rattle.wy_kernel.specs.View.{expression}
 use Rattle.wy_kernel.specs.Form as form
 use Rattle.wy_event.specs.declared.record.Slot.{Slot}
 use Rattle.wy_event.specs.declared.record.Slot.TheVariants as slot
-use Rattle.wy_work.specs.declared.frame.Frame.{Frame}
-use Rattle.wy_work.specs.declared.frame.Frame.TheVariants as frame
-use Rattle.wy_work.specs.declared.frame.ExprStep.TheVariants as step
+use Rattle.wy_work.specs.declared.task.Task.{Task}
+use Rattle.wy_work.specs.declared.task.Task.TheVariants as task
+use Rattle.wy_work.specs.declared.task.ExprStep.TheVariants as step
 use Rattle.wy_work.specs.declared.operand.Listed.{Listed}
 use Rattle.wy_work.specs.declared.operand.Listed.TheVariants.{None, One, Two, Three, Row, Headed}
 
@@ -23,21 +20,17 @@ listed (Three a b c) = expression a.now ∷ expression b.now ∷ expression c.no
 listed (Row es) = map expression es.now
 listed (Headed a es) = expression a.now ∷ map expression es.now
 
-abbrev pub part_seen : Option (Box Expr Global) → Part
-part_seen Absent = absent
-part_seen (Some e) = the (expression e.value)
-
 abbrev pub rows : List Expr → List Expression
 rows = map expression
 
 -- the frames that find them, the first on top
-abbrev pub finding : Listed → List Frame
+abbrev pub finding : Listed → List Task
 finding None = []
-finding (One a) = frame.Expr a step.Find ∷ []
-finding (Two a b) = frame.Expr a step.Find ∷ frame.Expr b step.Find ∷ []
-finding (Three a b c) = frame.Expr a step.Find ∷ frame.Expr b step.Find ∷ frame.Expr c step.Find ∷ []
-finding (Row es) = frame.Row es ∷ []
-finding (Headed a es) = frame.Expr a step.Find ∷ frame.Row es ∷ []
+finding (One a) = task.Expr a step.Find ∷ []
+finding (Two a b) = task.Expr a step.Find ∷ task.Expr b step.Find ∷ []
+finding (Three a b c) = task.Expr a step.Find ∷ task.Expr b step.Find ∷ task.Expr c step.Find ∷ []
+finding (Row es) = task.Row es ∷ []
+finding (Headed a es) = task.Expr a step.Find ∷ task.Row es ∷ []
 
 -- what a form has that the code was given of it
 abbrev pub IsTestOf : Expression → Expression → Type 0

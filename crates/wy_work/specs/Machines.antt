@@ -4,9 +4,9 @@ use Rattle.wy_event.specs.Record.{Recorded}
 use Rattle.wy_state.specs.Agrees.{shape}
 use Rattle.wy_operands.specs.Layout.{values_of}
 use Rattle.wy_work.specs.declared.machine.Machine.{Machine}
-use Rattle.wy_work.specs.Frames.{Standing}
+use Rattle.wy_work.specs.Tasks.{MachineState}
 
-abbrev pub standing : {R : Type 0} → Bool → (R → List Recorded) → Machine R → Standing
+abbrev pub standing : {R : Type 0} → Bool → (R → List Recorded) → Machine R → MachineState
 standing keeps kept m = record {
   state = shape keeps kept m.state;
   depth = m.depth;

@@ -18,8 +18,8 @@ use Rattle.wy_operation.specs.Words.{printed}
 use Rattle.wy_meaning.specs.Expression.{eval, eval_part}
 use Rattle.wy_meaning.specs.Statement.{tested, for_test, if_form, while_form, turns, return_form, throw_form, at_throw, other_or, exec, exec_all, exec_catches, exec_other}
 use Rattle.wy_operands.specs.Values.{Values, top}
-use Rattle.wy_work.specs.declared.frame.StmtStep.{StmtStep}
-use Rattle.wy_work.specs.declared.frame.StmtStep.TheVariants as step
+use Rattle.wy_work.specs.declared.task.StmtStep.{StmtStep}
+use Rattle.wy_work.specs.declared.task.StmtStep.TheVariants as step
 
 -- a statement leaves no value
 abbrev pub emptied : Run nothing (Unit {0}) → Run nothing Values

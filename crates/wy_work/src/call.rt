@@ -19,18 +19,19 @@ ghost use Rattle.wy_steps.specs.Steps.{note};
 ghost use Rattle.wy_value.specs.declared.value.Value.TheVariants as val;
 ghost use Rattle.wy_work.specs.Calls.{Enters, IsSameStack, begun, used_by};
 ghost use Rattle.wy_work.specs.Expressions.{expr_step, put_on};
-ghost use Rattle.wy_work.specs.Frames.{Does, Turned, followed, main_called, then_all};
+ghost use Rattle.wy_work.specs.Tasks.{Does, Turned, followed, main_called, then_all};
 ghost use Rattle.wy_work.specs.Machines.{standing};
 ghost use Rattle.wy_work.specs.Operands.{Given, evaluated};
-ghost use Rattle.wy_work.specs.declared.frame.ExprStep.TheVariants as step;
+ghost use Rattle.wy_work.specs.declared.task.ExprStep.TheVariants as step;
 
-use crate::frame::{ExprStep, Frame, Step, StmtStep};
 use crate::machine::Machine;
 use crate::parts::parts;
+use crate::task::{ExprStep, Step, StmtStep, Task};
 use std::alloc::AllocError;
 use std::mem;
 use wy_calls::Dispatcher;
 use wy_event::record::{Kind, Slot, Use};
+use wy_kernel::code::class_of_type;
 use wy_kernel::form::{Body, CallForm, Expr};
 use wy_kernel::types::{Base, MethodForm, NONE, Ty};
 use wy_operands::Operands;
@@ -41,7 +42,6 @@ use wy_operation::operand::{Part, is_null};
 use wy_operation::texts::text_equals;
 use wy_record::Recorder;
 use wy_state::parts::{Draft, Halt, Limit};
-use wy_state::subtype::class_of_type;
 use wy_value::Value;
 
 /// On a text at run time `equals` and `toString` are operations of the library.
@@ -281,12 +281,12 @@ impl<'a, R: Recorder> Machine<'a, R> {
             return Err(Halt::Memory);
         }
         let scope = self.state.open_scope()?;
-        self.push(Frame::Close { scope })?;
+        self.push(Task::Close { scope })?;
         let uses = used_by(&self.stack, receiver);
         let draft = Draft {
             kind: Kind::Call,
             site,
-            what: method,
+            entity: method,
             slot: Slot::None,
             value: Value::None,
         };

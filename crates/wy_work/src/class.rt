@@ -13,11 +13,11 @@ ghost use Rattle.wy_steps.specs.Steps.{constant, note_new};
 ghost use Rattle.wy_value.specs.declared.value.Value.TheVariants as val;
 ghost use Rattle.wy_work.specs.Calls.{IsSameStack, begun};
 ghost use Rattle.wy_work.specs.Expressions.{leaving};
-ghost use Rattle.wy_work.specs.Frames.{Does, Turned, then_all};
+ghost use Rattle.wy_work.specs.Tasks.{Does, Turned, then_all};
 ghost use Rattle.wy_work.specs.Machines.{standing};
 
-use crate::frame::{Frame, Step, StmtStep};
 use crate::machine::Machine;
+use crate::task::{Step, StmtStep, Task};
 use wy_calls::Dispatcher;
 use wy_kernel::builtin::FIRST_SOURCE_CLASS;
 use wy_kernel::types::NONE;
@@ -84,7 +84,7 @@ impl<'a, R: Recorder> Machine<'a, R> {
             (standing R.keeps R.kept self.new)) }
     {
         let scope = self.state.open_scope()?;
-        self.push(Frame::Close { scope })?;
+        self.push(Task::Close { scope })?;
         if self.state.is_begun(class) {
             return Err(Halt::Memory);
         }

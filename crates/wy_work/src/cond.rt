@@ -4,13 +4,13 @@ ghost use Rattle.std.specs.Prelude.{◌≡◌, if◌then◌else◌};
 ghost use Rattle.wy_kernel.specs.Program as kernel;
 ghost use Rattle.wy_kernel.specs.View.{expression};
 ghost use Rattle.wy_work.specs.Expressions.{expr_step};
-ghost use Rattle.wy_work.specs.Frames.{Does};
+ghost use Rattle.wy_work.specs.Tasks.{Does};
 ghost use Rattle.wy_work.specs.Listed.{IsTestOf};
 ghost use Rattle.wy_work.specs.Machines.{standing};
-ghost use Rattle.wy_work.specs.declared.frame.ExprStep.TheVariants as step;
+ghost use Rattle.wy_work.specs.declared.task.ExprStep.TheVariants as step;
 
-use crate::frame::{ExprStep, Frame};
 use crate::machine::Machine;
+use crate::task::{ExprStep, Task};
 use wy_event::record::Use;
 use wy_kernel::form::Expr;
 use wy_operation::operand::is_true;
@@ -27,7 +27,7 @@ impl<'a, R: Recorder> Machine<'a, R> {
             (standing R.keeps R.kept self.old) result (standing R.keeps R.kept self.new) }
     {
         let scope = self.state.open_scope()?;
-        self.push(Frame::Close { scope })?;
+        self.push(Task::Close { scope })?;
         self.push_expr(expr, ExprStep::Decide)?;
         self.push_expr(test, ExprStep::Find)?;
         Ok(())

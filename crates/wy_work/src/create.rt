@@ -10,14 +10,14 @@ ghost use Rattle.wy_kernel.specs.Parts.{program_of};
 ghost use Rattle.wy_kernel.specs.Program as kernel;
 ghost use Rattle.wy_kernel.specs.View.{expression};
 ghost use Rattle.wy_work.specs.Expressions.{expr_step};
-ghost use Rattle.wy_work.specs.Frames.{Does};
+ghost use Rattle.wy_work.specs.Tasks.{Does};
 ghost use Rattle.wy_work.specs.Machines.{standing};
-ghost use Rattle.wy_work.specs.declared.frame.ExprStep.TheVariants as step;
+ghost use Rattle.wy_work.specs.declared.task.ExprStep.TheVariants as step;
 ghost use Rattle.wy_work.specs.Listed.{IsNew};
 
-use crate::frame::{ExprStep, Frame, Step};
 use crate::machine::Machine;
 use crate::parts::parts;
+use crate::task::{ExprStep, Step, Task};
 use wy_calls::Dispatcher;
 use wy_event::record::Use;
 use wy_kernel::form::Expr;
@@ -67,7 +67,7 @@ impl<'a, R: Recorder> Machine<'a, R> {
         self.stack
             .push_with(Value::Object(event), Use::Value { event })?;
         self.push_expr(expr, ExprStep::Construct)?;
-        self.push(Frame::Row {
+        self.push(Task::Row {
             exprs: args.as_slice(),
         })?;
         Ok(())

@@ -8,14 +8,14 @@ ghost use Rattle.wy_meaning.specs.Expression.{constant_value, eval};
 ghost use Rattle.wy_steps.specs.State.{return};
 ghost use Rattle.wy_steps.specs.Steps.{constant};
 ghost use Rattle.wy_work.specs.Expressions.{expr_step, put_all, put_on};
-ghost use Rattle.wy_work.specs.Frames.{Does, pushed_all};
+ghost use Rattle.wy_work.specs.Tasks.{Does, pushed_all};
 ghost use Rattle.wy_work.specs.Listed.{finding, listed, rows};
 ghost use Rattle.wy_work.specs.Machines.{standing};
-ghost use Rattle.wy_work.specs.declared.frame.ExprStep.TheVariants as step;
+ghost use Rattle.wy_work.specs.declared.task.ExprStep.TheVariants as step;
 
-use crate::frame::{ExprStep, Frame};
 use crate::machine::Machine;
 use crate::operand::{Listed, operands};
+use crate::task::{ExprStep, Task};
 use std::alloc::AllocError;
 use wy_calls::Dispatcher;
 use wy_kernel::form::{Const, Expr};
@@ -61,9 +61,9 @@ impl<'a, R: Recorder> Machine<'a, R> {
                 self.push_expr(second, ExprStep::Find)?;
                 self.push_expr(first, ExprStep::Find)
             }
-            Listed::Row(exprs) => self.push(Frame::Row { exprs }),
+            Listed::Row(exprs) => self.push(Task::Row { exprs }),
             Listed::Headed(first, exprs) => {
-                self.push(Frame::Row { exprs })?;
+                self.push(Task::Row { exprs })?;
                 self.push_expr(first, ExprStep::Find)
             }
         }
@@ -77,7 +77,7 @@ impl<'a, R: Recorder> Machine<'a, R> {
         match exprs.split_first() {
             None => Ok(()),
             Some((first, rest)) => {
-                self.push(Frame::Row { exprs: rest })?;
+                self.push(Task::Row { exprs: rest })?;
                 self.find(on, first)
             }
         }

@@ -5,28 +5,28 @@ ghost use Rattle.wy_kernel.specs.Parts.{program_of};
 ghost use Rattle.wy_kernel.specs.Program as kernel;
 ghost use Rattle.wy_state.specs.Seen.{reason_of};
 ghost use Rattle.wy_steps.specs.State.{leave, return};
-ghost use Rattle.wy_work.specs.Frames.{Does, Ends};
+ghost use Rattle.wy_work.specs.Tasks.{Does, Ends};
 ghost use Rattle.wy_work.specs.Handlers.{caught_by};
 ghost use Rattle.wy_work.specs.Machines.{standing};
 ghost use Rattle.wy_work.specs.Statements.{emptied};
-ghost use Rattle.wy_work.specs.declared.frame.Frame.TheVariants as frames;
-ghost use Rattle.wy_work.specs.declared.frame.StmtStep.TheVariants as step;
+ghost use Rattle.wy_work.specs.declared.task.Task.TheVariants as tasks;
+ghost use Rattle.wy_work.specs.declared.task.StmtStep.TheVariants as step;
 
-use crate::frame::{Step, StmtStep};
 use crate::machine::Machine;
+use crate::task::{Step, StmtStep};
 use wy_calls::Dispatcher;
 use wy_event::record::{Kind, Use};
+use wy_kernel::code::class_of_type;
 use wy_kernel::form::{Catch, Stmt, StmtForm};
 use wy_operation::clause::find_clause;
 use wy_record::Recorder;
 use wy_state::parts::{Draft, Halt, Reason};
-use wy_state::subtype::class_of_type;
 use wy_value::Value;
 
 impl<'a, R: Recorder> Machine<'a, R> {
     /// The first block and the clauses ended normally, and the last block runs.
     pub fn finish_last(&mut self, stmt: &'a Stmt) -> Result<(), Halt>
-        ensures goes { (p : kernel.Program) → Ends p (frames.Stmt stmt.entry step.Finally)
+        ensures goes { (p : kernel.Program) → Ends p (tasks.Stmt stmt.entry step.Finally)
             (return (standing R.keeps R.kept self.old).values)
             (standing R.keeps R.kept self.old) result (standing R.keeps R.kept self.new) }
     {
@@ -43,7 +43,7 @@ impl<'a, R: Recorder> Machine<'a, R> {
 
     /// The first block was left: a clause takes what was thrown.
     pub fn handle(&mut self, on: &Dispatcher<'a>, stmt: &'a Stmt, why: Reason) -> Result<(), Halt>
-        ensures goes { Ends (program_of on.now.program.now) (frames.Stmt stmt.entry step.Catch)
+        ensures goes { Ends (program_of on.now.program.now) (tasks.Stmt stmt.entry step.Catch)
             (leave (reason_of why))
             (standing R.keeps R.kept self.old) result (standing R.keeps R.kept self.new) }
     {
@@ -62,7 +62,7 @@ impl<'a, R: Recorder> Machine<'a, R> {
 
     /// What was left goes on being left once the last block is done.
     pub fn handle_last(&mut self, stmt: &'a Stmt, why: Reason) -> Result<(), Halt>
-        ensures goes { (p : kernel.Program) → Ends p (frames.Stmt stmt.entry step.Finally)
+        ensures goes { (p : kernel.Program) → Ends p (tasks.Stmt stmt.entry step.Finally)
             (leave (reason_of why))
             (standing R.keeps R.kept self.old) result (standing R.keeps R.kept self.new) }
     {

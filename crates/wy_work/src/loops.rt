@@ -8,15 +8,15 @@ ghost use Rattle.wy_operands.specs.Values.{Values};
 ghost use Rattle.wy_state.specs.Agrees.{Onward};
 ghost use Rattle.wy_steps.specs.Sets.{nothing};
 ghost use Rattle.wy_steps.specs.State.{Run};
-ghost use Rattle.wy_work.specs.Frames.{Does, pushed};
+ghost use Rattle.wy_work.specs.Tasks.{Does, pushed};
 ghost use Rattle.wy_work.specs.Machines.{standing};
 ghost use Rattle.wy_work.specs.Statements.{IsDo, IsFor, counted, emptied, looping, stmt_step};
-ghost use Rattle.wy_work.specs.declared.frame.ExprStep.TheVariants as expr_steps;
-ghost use Rattle.wy_work.specs.declared.frame.Frame.TheVariants as frames;
-ghost use Rattle.wy_work.specs.declared.frame.StmtStep.TheVariants as step;
+ghost use Rattle.wy_work.specs.declared.task.ExprStep.TheVariants as expr_steps;
+ghost use Rattle.wy_work.specs.declared.task.Task.TheVariants as tasks;
+ghost use Rattle.wy_work.specs.declared.task.StmtStep.TheVariants as step;
 
-use crate::frame::{ExprStep, Frame, StmtStep};
 use crate::machine::Machine;
+use crate::task::{ExprStep, StmtStep, Task};
 use std::alloc::AllocError;
 use wy_kernel::form::{Expr, Stmt, StmtForm};
 use wy_record::Recorder;
@@ -33,7 +33,7 @@ impl<'a, R: Recorder> Machine<'a, R> {
             StmtForm::Do { body, .. } => self.begin_do(stmt, &**body),
             StmtForm::For { inits, .. } => {
                 self.push_stmt(stmt, StmtStep::Loop)?;
-                self.push(Frame::Stmts {
+                self.push(Task::Stmts {
                     stmts: inits.as_slice(),
                 })?;
                 Ok(())
@@ -115,8 +115,8 @@ impl<'a, R: Recorder> Machine<'a, R> {
         turns: u32,
     ) -> Result<(), AllocError>
         ensures { OnOk result (standing R.keeps R.kept self.new
-            ≡ pushed (frames.Expr test.entry expr_steps.Find)
-            (pushed (frames.Stmt stmt.entry (step.Decide turns))
+            ≡ pushed (tasks.Expr test.entry expr_steps.Find)
+            (pushed (tasks.Stmt stmt.entry (step.Decide turns))
             (standing R.keeps R.kept self.old))) }
     {
         self.push_stmt(stmt, StmtStep::Decide { turns })?;
@@ -146,7 +146,7 @@ impl<'a, R: Recorder> Machine<'a, R> {
             StmtForm::While { body, .. } => self.push_stmt(&**body, StmtStep::Do)?,
             StmtForm::Do { body, .. } => self.push_stmt(&**body, StmtStep::Do)?,
             StmtForm::For { updates, body, .. } => {
-                self.push(Frame::Stmts {
+                self.push(Task::Stmts {
                     stmts: updates.as_slice(),
                 })?;
                 self.push_stmt(&**body, StmtStep::Do)?;

@@ -1,8 +1,8 @@
 //! The operands of an expression: what is evaluated first, in order, whatever comes after it.
 
 ghost use Rattle.std.specs.Prelude.{◌≡◌, ◌++◌, ◌∷◌, [], IfSome, map};
-ghost use Rattle.wy_kernel.specs.View.{expression, part_of, place};
-ghost use Rattle.wy_work.specs.Listed.{listed, part_seen};
+ghost use Rattle.wy_kernel.specs.View.{expression, part_of, place, part_seen};
+ghost use Rattle.wy_work.specs.Listed.{listed};
 ghost use Rattle.wy_work.specs.Operands.{operands_of, place_operands, receiver_operands};
 
 use wy_kernel::form::{CallForm, Expr, Place};

@@ -11,9 +11,9 @@ ghost use Rattle.wy_steps.specs.State.{return};
 ghost use Rattle.wy_steps.specs.Steps.{constant};
 ghost use Rattle.wy_value.specs.declared.value.Value.TheVariants as val;
 ghost use Rattle.wy_work.specs.Expressions.{expr_step, put_on};
-ghost use Rattle.wy_work.specs.Frames.{Does};
+ghost use Rattle.wy_work.specs.Tasks.{Does};
 ghost use Rattle.wy_work.specs.Machines.{standing};
-ghost use Rattle.wy_work.specs.declared.frame.ExprStep.TheVariants as step;
+ghost use Rattle.wy_work.specs.declared.task.ExprStep.TheVariants as step;
 
 use crate::machine::Machine;
 use crate::parts::parts;

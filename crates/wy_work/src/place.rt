@@ -11,12 +11,12 @@ ghost use Rattle.wy_operation.specs.Spots.{Stored, spot_of};
 ghost use Rattle.wy_steps.specs.Sets.{nothing};
 ghost use Rattle.wy_steps.specs.State.{Carried};
 ghost use Rattle.wy_work.specs.Expressions.{expr_step, leaving, put_on};
-ghost use Rattle.wy_work.specs.Frames.{Does};
+ghost use Rattle.wy_work.specs.Tasks.{Does};
 ghost use Rattle.wy_work.specs.Machines.{standing};
-ghost use Rattle.wy_work.specs.declared.frame.ExprStep.TheVariants as step;
+ghost use Rattle.wy_work.specs.declared.task.ExprStep.TheVariants as step;
 
-use crate::frame::ExprStep;
 use crate::machine::Machine;
+use crate::task::ExprStep;
 use wy_calls::Dispatcher;
 use wy_event::record::Slot;
 use wy_kernel::form::{Expr, Place};

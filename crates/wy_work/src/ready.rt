@@ -7,12 +7,12 @@ ghost use Rattle.wy_kernel.specs.Parts.{program_of};
 ghost use Rattle.wy_kernel.specs.Program as kernel;
 ghost use Rattle.wy_kernel.specs.View.{expression};
 ghost use Rattle.wy_work.specs.Expressions.{expr_step};
-ghost use Rattle.wy_work.specs.Frames.{Does};
+ghost use Rattle.wy_work.specs.Tasks.{Does};
 ghost use Rattle.wy_work.specs.Machines.{standing};
-ghost use Rattle.wy_work.specs.declared.frame.ExprStep.TheVariants as step;
+ghost use Rattle.wy_work.specs.declared.task.ExprStep.TheVariants as step;
 
-use crate::frame::ExprStep;
 use crate::machine::Machine;
+use crate::task::ExprStep;
 use wy_calls::Dispatcher;
 use wy_event::record::Slot;
 use wy_kernel::form::{CallForm, Expr, Place};

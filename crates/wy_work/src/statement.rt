@@ -10,15 +10,15 @@ ghost use Rattle.wy_meaning.specs.Statement.{exec, exec_act, exec_all, tested};
 ghost use Rattle.wy_operands.specs.Values.{Values, top};
 ghost use Rattle.wy_steps.specs.Sets.{nothing};
 ghost use Rattle.wy_steps.specs.State.{Run, return};
-ghost use Rattle.wy_work.specs.Frames.{Does, Turned, followed, pushed, then_all};
+ghost use Rattle.wy_work.specs.Tasks.{Does, Turned, followed, pushed, then_all};
 ghost use Rattle.wy_work.specs.Machines.{standing};
 ghost use Rattle.wy_work.specs.Statements.{IsIf, IsTry, emptied, stmt_step};
-ghost use Rattle.wy_work.specs.declared.frame.ExprStep.TheVariants as expr_steps;
-ghost use Rattle.wy_work.specs.declared.frame.Frame.TheVariants as frames;
-ghost use Rattle.wy_work.specs.declared.frame.StmtStep.TheVariants as step;
+ghost use Rattle.wy_work.specs.declared.task.ExprStep.TheVariants as expr_steps;
+ghost use Rattle.wy_work.specs.declared.task.Task.TheVariants as tasks;
+ghost use Rattle.wy_work.specs.declared.task.StmtStep.TheVariants as step;
 
-use crate::frame::{ExprStep, Frame, Step, StmtStep};
 use crate::machine::Machine;
+use crate::task::{ExprStep, Step, StmtStep, Task};
 use std::alloc::AllocError;
 use wy_calls::Dispatcher;
 use wy_kernel::form::{Expr, Stmt, StmtForm};
@@ -56,7 +56,7 @@ impl<'a, R: Recorder> Machine<'a, R> {
                 Ok(())
             }
             Some((first, rest)) => {
-                self.push(Frame::Stmts { stmts: rest })?;
+                self.push(Task::Stmts { stmts: rest })?;
                 self.begin(first)
             }
         }
@@ -69,7 +69,7 @@ impl<'a, R: Recorder> Machine<'a, R> {
             (standing R.keeps R.kept self.old) result (standing R.keeps R.kept self.new) }
     {
         match &stmt.form {
-            StmtForm::Block { parts } => self.push(Frame::Stmts {
+            StmtForm::Block { parts } => self.push(Task::Stmts {
                 stmts: parts.as_slice(),
             })?,
             StmtForm::Eval { value } => self.within(stmt, value)?,
@@ -165,8 +165,8 @@ impl<'a, R: Recorder> Machine<'a, R> {
     /// An expression of a statement comes first.
     pub fn within(&mut self, stmt: &'a Stmt, part: &'a Expr) -> Result<(), AllocError>
         ensures { OnOk result (standing R.keeps R.kept self.new
-            ≡ pushed (frames.Expr part.entry expr_steps.Find)
-            (pushed (frames.Stmt stmt.entry step.Operate)
+            ≡ pushed (tasks.Expr part.entry expr_steps.Find)
+            (pushed (tasks.Stmt stmt.entry step.Operate)
             (standing R.keeps R.kept self.old))) }
     {
         self.push_stmt(stmt, StmtStep::Operate)?;

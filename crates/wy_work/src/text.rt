@@ -6,11 +6,11 @@ ghost use Rattle.wy_meaning.specs.Text.{concatenated, shown};
 ghost use Rattle.wy_operands.specs.Values.{at, top, under_many};
 ghost use Rattle.wy_operation.specs.Words.{joined_texts};
 ghost use Rattle.wy_work.specs.Expressions.{put_on, showing_right};
-ghost use Rattle.wy_work.specs.Frames.{Does};
+ghost use Rattle.wy_work.specs.Tasks.{Does};
 ghost use Rattle.wy_work.specs.Machines.{standing};
 
-use crate::frame::Step;
 use crate::machine::Machine;
+use crate::task::Step;
 use wy_calls::Dispatcher;
 use wy_operation::texts::join_texts;
 use wy_record::Recorder;

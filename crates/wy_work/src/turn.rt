@@ -10,23 +10,20 @@ ghost use Rattle.wy_steps.specs.State.{leave, return, stop};
 ghost use Rattle.wy_steps.specs.Steps.{arrives, event_of, stop_cause};
 ghost use Rattle.wy_work.specs.Calls.{Leaves};
 ghost use Rattle.wy_work.specs.Expressions.{expr_step};
-ghost use Rattle.wy_work.specs.Frames.{Does, Ends, outcome_at};
+ghost use Rattle.wy_work.specs.Tasks.{Does, Ends, outcome_at};
 ghost use Rattle.wy_work.specs.Machines.{standing};
-ghost use Rattle.wy_work.specs.declared.frame.Frame.TheVariants as frames;
-ghost use Rattle.wy_work.specs.declared.frame.Step.TheVariants as steps;
+ghost use Rattle.wy_work.specs.declared.task.Task.TheVariants as tasks;
+ghost use Rattle.wy_work.specs.declared.task.Step.TheVariants as steps;
 
-use crate::frame::{ExprStep, Frame, Step, StmtStep};
 use crate::machine::Machine;
+use crate::task::{ExprStep, Step, StmtStep, Task};
 use wy_calls::{Dispatcher, Scope};
-use wy_event::record::Use;
+use wy_event::record::{GOING_ON, Use};
 use wy_kernel::form::{Expr, Stmt};
 use wy_operation::ending::end_body;
 use wy_record::Recorder;
 use wy_state::parts::{Halt, Limit, Reason};
 use wy_value::Value;
-
-/// What leaves a statement that a stop finds going on.
-const GOING_ON: u32 = 4294967294;
 
 /// How what was done so far ended.
 #[derive(Clone, Copy)]
@@ -38,12 +35,7 @@ pub enum Signal {
 
 impl<'a, R: Recorder> Machine<'a, R> {
     /// A frame at how what was before it ended.
-    pub fn turn(
-        &mut self,
-        on: &Dispatcher<'a>,
-        frame: Frame<'a>,
-        signal: Signal,
-    ) -> Result<(), Halt>
+    pub fn turn(&mut self, on: &Dispatcher<'a>, frame: Task<'a>, signal: Signal) -> Result<(), Halt>
         ensures goes { Ends (program_of on.now.program.now) frame.entry
             (outcome_at signal (standing R.keeps R.kept self.old).values)
             (standing R.keeps R.kept self.old) result (standing R.keeps R.kept self.new) }
@@ -56,18 +48,18 @@ impl<'a, R: Recorder> Machine<'a, R> {
     }
 
     /// A frame where all before it went through.
-    fn resume(&mut self, on: &Dispatcher<'a>, frame: Frame<'a>) -> Result<(), Halt>
+    fn resume(&mut self, on: &Dispatcher<'a>, frame: Task<'a>) -> Result<(), Halt>
         ensures goes { Ends (program_of on.now.program.now) frame.entry
             (return (standing R.keeps R.kept self.old).values)
             (standing R.keeps R.kept self.old) result (standing R.keeps R.kept self.new) }
     {
         match frame {
-            Frame::Expr { expr, step } => self.resume_expr(on, expr, step),
-            Frame::Row { exprs } => self.find_all(on, exprs),
-            Frame::Stmt { stmt, step } => self.resume_stmt(on, stmt, step),
-            Frame::Stmts { stmts } => self.begin_all(stmts),
-            Frame::Plain { step } => self.resume_step(on, step),
-            Frame::Close { scope } => {
+            Task::Expr { expr, step } => self.resume_expr(on, expr, step),
+            Task::Row { exprs } => self.find_all(on, exprs),
+            Task::Stmt { stmt, step } => self.resume_stmt(on, stmt, step),
+            Task::Stmts { stmts } => self.begin_all(stmts),
+            Task::Plain { step } => self.resume_step(on, step),
+            Task::Close { scope } => {
                 self.state.close_scope(scope)?;
                 Ok(())
             }
@@ -120,7 +112,7 @@ impl<'a, R: Recorder> Machine<'a, R> {
         stmt: &'a Stmt,
         step: StmtStep,
     ) -> Result<(), Halt>
-        ensures goes { Ends (program_of on.now.program.now) (frames.Stmt stmt.entry step)
+        ensures goes { Ends (program_of on.now.program.now) (tasks.Stmt stmt.entry step)
             (return (standing R.keeps R.kept self.old).values)
             (standing R.keeps R.kept self.old) result (standing R.keeps R.kept self.new) }
     {
@@ -140,7 +132,7 @@ impl<'a, R: Recorder> Machine<'a, R> {
     }
 
     fn resume_step(&mut self, on: &Dispatcher<'a>, step: Step) -> Result<(), Halt>
-        ensures goes { Ends (program_of on.now.program.now) (frames.Plain step)
+        ensures goes { Ends (program_of on.now.program.now) (tasks.Plain step)
             (return (standing R.keeps R.kept self.old).values)
             (standing R.keeps R.kept self.old) result (standing R.keeps R.kept self.new) }
     {
@@ -157,7 +149,7 @@ impl<'a, R: Recorder> Machine<'a, R> {
     }
 
     fn resume_end(&mut self, step: Step) -> Result<(), Halt>
-        ensures goes { (p : kernel.Program) → Ends p (frames.Plain step)
+        ensures goes { (p : kernel.Program) → Ends p (tasks.Plain step)
             (return (standing R.keeps R.kept self.old).values)
             (standing R.keeps R.kept self.old) result (standing R.keeps R.kept self.new) }
     {
@@ -179,7 +171,7 @@ impl<'a, R: Recorder> Machine<'a, R> {
     /// The Return at the end of a body whose block ended normally.
     fn end_body(&mut self, returns_none: bool, site: u32) -> Result<(), Halt>
         ensures goes { (p : kernel.Program)
-            → Ends p (frames.Plain (steps.BodyEnd returns_none site))
+            → Ends p (tasks.Plain (steps.BodyEnd returns_none site))
             (return (standing R.keeps R.kept self.old).values)
             (standing R.keeps R.kept self.old) result (standing R.keeps R.kept self.new) }
     {
@@ -191,7 +183,7 @@ impl<'a, R: Recorder> Machine<'a, R> {
 
     /// The value of a body that ends goes to the body that called it, in place of so many operands.
     fn leave_call(&mut self, count: usize) -> Result<(), Halt>
-        ensures goes { (p : kernel.Program) → Ends p (frames.Plain (steps.LeaveCall count))
+        ensures goes { (p : kernel.Program) → Ends p (tasks.Plain (steps.LeaveCall count))
             (return (standing R.keeps R.kept self.old).values)
             (standing R.keeps R.kept self.old) result (standing R.keeps R.kept self.new) }
     {
@@ -226,7 +218,7 @@ impl<'a, R: Recorder> Machine<'a, R> {
 
     /// The normal end of a statement.
     fn end(&mut self, statement: u32) -> Result<(), Halt>
-        ensures goes { (p : kernel.Program) → Ends p (frames.Plain (steps.End statement))
+        ensures goes { (p : kernel.Program) → Ends p (tasks.Plain (steps.End statement))
             (return (standing R.keeps R.kept self.old).values)
             (standing R.keeps R.kept self.old) result (standing R.keeps R.kept self.new) }
     {
@@ -236,14 +228,14 @@ impl<'a, R: Recorder> Machine<'a, R> {
     }
 
     /// A frame that stands above where what was left goes on.
-    fn pass(&mut self, on: &Dispatcher<'a>, frame: Frame<'a>, why: Reason) -> Result<(), Halt>
+    fn pass(&mut self, on: &Dispatcher<'a>, frame: Task<'a>, why: Reason) -> Result<(), Halt>
         ensures goes { Ends (program_of on.now.program.now) frame.entry (leave (reason_of why))
             (standing R.keeps R.kept self.old) result (standing R.keeps R.kept self.new) }
     {
         match frame {
-            Frame::Stmt { stmt, step } => self.pass_stmt(on, stmt, step, why),
-            Frame::Plain { step } => self.pass_step(step, why),
-            Frame::Close { scope } => {
+            Task::Stmt { stmt, step } => self.pass_stmt(on, stmt, step, why),
+            Task::Plain { step } => self.pass_step(step, why),
+            Task::Close { scope } => {
                 self.state.close_scope(scope)?;
                 Err(Halt::Left(why))
             }
@@ -258,7 +250,7 @@ impl<'a, R: Recorder> Machine<'a, R> {
         step: StmtStep,
         why: Reason,
     ) -> Result<(), Halt>
-        ensures goes { Ends (program_of on.now.program.now) (frames.Stmt stmt.entry step)
+        ensures goes { Ends (program_of on.now.program.now) (tasks.Stmt stmt.entry step)
             (leave (reason_of why))
             (standing R.keeps R.kept self.old) result (standing R.keeps R.kept self.new) }
     {
@@ -270,7 +262,7 @@ impl<'a, R: Recorder> Machine<'a, R> {
     }
 
     fn pass_step(&mut self, step: Step, why: Reason) -> Result<(), Halt>
-        ensures goes { (p : kernel.Program) → Ends p (frames.Plain step) (leave (reason_of why))
+        ensures goes { (p : kernel.Program) → Ends p (tasks.Plain step) (leave (reason_of why))
             (standing R.keeps R.kept self.old) result (standing R.keeps R.kept self.new) }
     {
         match step {
@@ -292,7 +284,7 @@ impl<'a, R: Recorder> Machine<'a, R> {
     /// A Return ends its body, which has its value.
     fn pass_body(&mut self, returns_none: bool, site: u32, why: Reason) -> Result<(), Halt>
         ensures goes { (p : kernel.Program)
-            → Ends p (frames.Plain (steps.BodyEnd returns_none site))
+            → Ends p (tasks.Plain (steps.BodyEnd returns_none site))
             (leave (reason_of why))
             (standing R.keeps R.kept self.old) result (standing R.keeps R.kept self.new) }
     {
@@ -306,7 +298,7 @@ impl<'a, R: Recorder> Machine<'a, R> {
 
     /// An initializer that ends by a throw stops the run.
     fn pass_failure(&mut self, why: Reason) -> Result<(), Halt>
-        ensures goes { (p : kernel.Program) → Ends p (frames.Plain steps.Initialized)
+        ensures goes { (p : kernel.Program) → Ends p (tasks.Plain steps.Initialized)
             (leave (reason_of why))
             (standing R.keeps R.kept self.old) result (standing R.keeps R.kept self.new) }
     {
@@ -320,7 +312,7 @@ impl<'a, R: Recorder> Machine<'a, R> {
 
     /// The end of a statement that is left, or at which a jump arrives.
     fn end_left(&mut self, statement: u32, why: Reason) -> Result<(), Halt>
-        ensures goes { (p : kernel.Program) → Ends p (frames.Plain (steps.End statement))
+        ensures goes { (p : kernel.Program) → Ends p (tasks.Plain (steps.End statement))
             (leave (reason_of why))
             (standing R.keeps R.kept self.old) result (standing R.keeps R.kept self.new) }
     {
@@ -332,13 +324,13 @@ impl<'a, R: Recorder> Machine<'a, R> {
     }
 
     /// A frame that a stop finds.
-    fn halt(&mut self, frame: Frame<'a>, why: Limit) -> Result<(), Halt>
+    fn halt(&mut self, frame: Task<'a>, why: Limit) -> Result<(), Halt>
         ensures goes { (p : kernel.Program) → Ends p frame.entry (stop (stop_of why))
             (standing R.keeps R.kept self.old) result (standing R.keeps R.kept self.new) }
     {
         match frame {
-            Frame::Plain { step } => self.halt_step(step, why),
-            Frame::Close { scope } => {
+            Task::Plain { step } => self.halt_step(step, why),
+            Task::Close { scope } => {
                 self.state.close_scope(scope)?;
                 Err(Halt::Stopped(why))
             }
@@ -347,7 +339,7 @@ impl<'a, R: Recorder> Machine<'a, R> {
     }
 
     fn halt_step(&mut self, step: Step, why: Limit) -> Result<(), Halt>
-        ensures goes { (p : kernel.Program) → Ends p (frames.Plain step) (stop (stop_of why))
+        ensures goes { (p : kernel.Program) → Ends p (tasks.Plain step) (stop (stop_of why))
             (standing R.keeps R.kept self.old) result (standing R.keeps R.kept self.new) }
     {
         match step {

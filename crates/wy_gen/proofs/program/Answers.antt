@@ -1,5 +1,5 @@
 use Rattle.std.proofs.Common.{◌≡◌, ◌∙◌, List, ℕ, ◌++◌, map, ap, string_bytes, rules}
-use Rattle.wy_gen.specs.Source.{opening, loop_head, closing, ended, method, call, below}
+use Rattle.wy_gen.specs.Generated.{opening, loop_head, closing, ended, method, call, below}
 use Rattle.wy_gen.proofs.Lines.{five_parts}
 use Rattle.wy_gen.proofs.program.Goals as goal
 

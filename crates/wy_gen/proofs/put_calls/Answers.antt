@@ -1,5 +1,5 @@
 use Rattle.std.proofs.Common.{rules, arith, string_bytes}
-use Rattle.wy_gen.specs.Source.{call}
+use Rattle.wy_gen.specs.Generated.{call}
 use Rattle.wy_gen.proofs.Lines.{one_more}
 use Rattle.wy_gen.proofs.put_calls.Goals as goal
 

@@ -1,6 +1,6 @@
 use Rattle.std.proofs.Common.{◌≡◌, ◌++◌, ◌-◌, map, string_bytes}
 use Rattle.std.specs.List.{range_with_len}
-use Rattle.wy_gen.specs.Source.{below, call, ended}
+use Rattle.wy_gen.specs.Generated.{below, call, ended}
 use Rattle.wy_gen.proofs.put_calls.Given as goal
 
 -- what is written and the lines that are left are the whole

@@ -13,7 +13,7 @@ ghost use Rattle.wy_kernel.specs.Program.{first_source_class};
 use crate::broken::cycle::{Judged, is_judged};
 use crate::broken::least::{lesser, token_where};
 use crate::written_type::has;
-use wy_overloads::member::FIRST_SOURCE_CLASS;
+use wy_kernel::builtin::FIRST_SOURCE_CLASS;
 use wy_syntax::declaration::{ClassSyntax, Header, Member, Modifier};
 use wy_syntax::statement::Block;
 

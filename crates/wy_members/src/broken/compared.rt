@@ -3,16 +3,17 @@
 
 ghost use Rattle.std.specs.Prelude.{◌<◌, ◌↔◌, ℕ, IfOk, IsTrue, false, true};
 ghost use Rattle.wy_kernel.specs.View.{method_of};
-ghost use Rattle.wy_members.specs.Alike.{HasAlike, HasEarlier, IsExtended, IsFound, IsMarked, IsSought, ListsFound};
+ghost use Rattle.wy_members.specs.Alike.{HasAlike, HasEarlier, IsExtended, IsFound, IsMarked, IsSought, ListsFound, abstract_alone};
 ghost use Rattle.wy_overloads.specs.Choice.{IsMethod};
 ghost use Rattle.wy_overloads.specs.LineageView.{lineage_of};
-ghost use Rattle.wy_table.specs.Methods.{IsAlike, IsByName};
+ghost use Rattle.wy_table.specs.Methods.{IsAlike};
 
 use crate::broken::extended::is_marked;
 use std::alloc::{AllocError, Global};
-use wy_kernel::types::{Method, MethodForm};
+use wy_kernel::types::Method;
 use wy_overloads::lineage::Lineage;
 use wy_overloads::signature::are_same_types;
+use wy_table::methods::is_by_name;
 
 /// What is compared, with the first of each set of methods that have one name and the same parameter types.
 #[derive(Clone, Copy)]
@@ -26,9 +27,32 @@ pub struct Compared<'a> {
     pub ghost lists_unfinished: { ∥ ListsFound (lineage_of lineage.now) true unfinished.now ∥₁ },
 }
 
-/// For each method that a class may inherit and that has an alike one, or each abstract one, the first that is alike to it.
+/// Which of the methods that are called by name are sought.
+#[derive(Clone, Copy)]
+pub enum Sought {
+    Each,
+    Abstract,
+}
+
+/// For each method that is sought, that a class may inherit and that has an alike one or is abstract, the first that is alike to it.
 /// Linear in the number of methods.
 pub fn first_alike(
+    alloc: Global,
+    lineage: &Lineage,
+    marks: &[bool],
+    sought: Sought,
+) -> Result<Vec<u32>, AllocError>
+    requires { (d : ℕ) → IsExtended (lineage_of lineage.now).classes d → IsMarked marks.now d }
+    ensures { IfOk result (λ numbers.
+        ListsFound (lineage_of lineage.now) (abstract_alone sought) numbers.items) }
+{
+    match sought {
+        Sought::Each => first_found(alloc, lineage, marks, false),
+        Sought::Abstract => first_found(alloc, lineage, marks, true),
+    }
+}
+
+fn first_found(
     alloc: Global,
     lineage: &Lineage,
     marks: &[bool],
@@ -65,17 +89,6 @@ pub fn is_sought(only_abstract: bool, m: &Method) -> bool
     ensures { IsTrue result ↔ IsSought only_abstract (method_of m.now) }
 {
     is_by_name(m.form) && (m.is_abstract || !only_abstract)
-}
-
-fn is_by_name(form: MethodForm) -> bool
-    ensures { IsTrue result ↔ IsByName form }
-{
-    match form {
-        MethodForm::Static => true,
-        MethodForm::Instance => true,
-        MethodForm::Constructor => false,
-        MethodForm::Fields => false,
-    }
 }
 
 // Whether another method of a marked class is listed with method `k`.

@@ -8,10 +8,9 @@ ghost use Rattle.wy_members.specs.Alike.{IsExtended, IsMarked};
 ghost use Rattle.wy_overloads.specs.LineageView.{lineage_of};
 
 use std::alloc::{AllocError, Global};
+use wy_kernel::builtin::OBJECT;
 use wy_kernel::types::{Class, NONE};
 use wy_overloads::lineage::Lineage;
-
-const OBJECT: u32 = 0;
 
 /// A mark for each class, set where others extend or implement it.
 pub fn extended(alloc: Global, lineage: &Lineage) -> Result<Vec<bool>, AllocError>

@@ -7,9 +7,8 @@ ghost use Rattle.wy_kernel.specs.View.{class_of, present};
 ghost use Rattle.wy_members.specs.Broken.{is_interface_in, with_fitting_supertypes};
 
 use std::alloc::{AllocError, Global};
+use wy_kernel::builtin::OBJECT;
 use wy_kernel::types::{Class, NONE};
-
-const OBJECT: u32 = 0;
 
 pub fn fitting_classes(alloc: Global, classes: &[Class]) -> Result<Vec<Class>, AllocError>
     ensures { IfOk result (λ fitting. map class_of fitting.items

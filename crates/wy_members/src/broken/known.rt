@@ -16,8 +16,8 @@ use crate::method_row::add_methods_of;
 use crate::names::{Names, next_number};
 use std::alloc::{AllocError, Global};
 use wy_kernel::builtin;
+use wy_kernel::builtin::FIRST_SOURCE_CLASS;
 use wy_kernel::types::{Method, NONE};
-use wy_overloads::member::FIRST_SOURCE_CLASS;
 use wy_syntax::declaration::{ClassSyntax, Declaration, Member, Outcome, Parameter};
 use wy_syntax::name::{WrittenBase, WrittenType};
 

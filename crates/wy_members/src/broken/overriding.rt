@@ -5,13 +5,13 @@ ghost use Rattle.std.specs.Prelude.{◌≡◌, ◌↔◌, IsTrue, MatchOption, f
 ghost use Rattle.wy_kernel.specs.Program.{Method as PlainMethod};
 ghost use Rattle.wy_kernel.specs.Subtyping.{Substitutable, class_type};
 ghost use Rattle.wy_kernel.specs.View.{method_of};
-ghost use Rattle.wy_members.specs.Alike.{AreByName, AreMethods, InheritsAlike, InheritsAlikeWrongly, IsEqualSought, LeavesAlikeAbstract, SomeListed};
+ghost use Rattle.wy_members.specs.Alike.{AreByName, AreMethods, InheritsAlike, InheritsAlikeWrongly, IsEqualSought, LeavesAlikeAbstract, SomeListed, abstract_alone};
 ghost use Rattle.wy_members.specs.Broken.{HasNoCommonResult, StandsForEach};
 ghost use Rattle.wy_overloads.specs.Choice.{IsEquivalent, IsMethod};
 ghost use Rattle.wy_overloads.specs.LineageView.{lineage_of};
 ghost use Rattle.wy_members.specs.Within.{Conflicts, DiffersInForm, InheritsWrongly, IsCommonResult, LeavesAbstract, OverridesWrongly, SomeMethod, StandsWrongly, WrongToOverride};
 
-use crate::broken::compared::{Compared, is_sought};
+use crate::broken::compared::{Compared, Sought, is_sought};
 use wy_kernel::types::{Method, Ty};
 use wy_overloads::counting::{is_counted, nearest_has_body};
 use wy_overloads::lineage::Lineage;
@@ -69,7 +69,7 @@ fn inherits_alike_wrongly(lineage: &Lineage, c: u32, k: u32, m: &Method) -> bool
     ensures { IsTrue result
         ↔ InheritsAlikeWrongly (lineage_of lineage.now) c (method_of m.now) }
 {
-    match inherited_alike(lineage, c, k, m, false) {
+    match inherited_alike(lineage, c, k, m, Sought::Each) {
         Some(j) => stands_wrongly(lineage, &type_of_class(c), j, lineage.method(j)),
         None => false,
     }
@@ -93,13 +93,28 @@ fn leaves_alike_abstract(lineage: &Lineage, c: u32, k: u32, m: &Method) -> bool
     requires { IsMethod (lineage_of lineage.now) k (method_of m.now) }
     ensures { IsTrue result ↔ LeavesAlikeAbstract (lineage_of lineage.now) c (method_of m.now) }
 {
-    inherited_alike(lineage, c, k, m, true).is_some()
+    inherited_alike(lineage, c, k, m, Sought::Abstract).is_some()
         && !nearest_has_body(lineage, &type_of_class(c), k, m)
 }
 
 // A method alike to method `k` that a class has from a class or an interface above it: it declares none with this name and these
 // parameter types.
-fn inherited_alike(
+fn inherited_alike(lineage: &Lineage, c: u32, k: u32, m: &Method, sought: Sought) -> Option<u32>
+    requires { IsMethod (lineage_of lineage.now) k (method_of m.now) }
+    ensures { MatchOption result
+        (SomeMethod (lineage_of lineage.now)
+        (InheritsAlike (lineage_of lineage.now) c (abstract_alone sought) (method_of m.now)) → ⊥)
+        (λ j. (other : PlainMethod) × IsMethod (lineage_of lineage.now) j other
+        × InheritsAlike (lineage_of lineage.now) c (abstract_alone sought) (method_of m.now)
+        j other) }
+{
+    match sought {
+        Sought::Each => inherited_where(lineage, c, k, m, false),
+        Sought::Abstract => inherited_where(lineage, c, k, m, true),
+    }
+}
+
+fn inherited_where(
     lineage: &Lineage,
     c: u32,
     k: u32,

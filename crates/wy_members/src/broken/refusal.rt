@@ -10,7 +10,7 @@ ghost use Rattle.wy_members.specs.Rows.{AreRows};
 ghost use Rattle.wy_overloads.specs.LineageView.{lineage_of};
 
 use crate::broken::breach::Breach;
-use crate::broken::compared::{Compared, first_alike};
+use crate::broken::compared::{Compared, Sought, first_alike};
 use crate::broken::cycle::{Judged, cyclic_classes};
 use crate::broken::extended::extended;
 use crate::broken::fitting::fitting_classes;
@@ -86,8 +86,8 @@ fn refusal_by(
         cyclic: cyclic.as_slice(),
     };
     let marks = extended(alloc, inherited)?;
-    let shared = first_alike(alloc, inherited, &marks, false)?;
-    let unfinished = first_alike(alloc, inherited, &marks, true)?;
+    let shared = first_alike(alloc, inherited, &marks, Sought::Each)?;
+    let unfinished = first_alike(alloc, inherited, &marks, Sought::Abstract)?;
     let compared = Compared {
         lineage: inherited,
         shared: shared.as_slice(),

@@ -14,16 +14,12 @@ ghost use Rattle.wy_kernel.specs.Program.{first_source_class};
 use crate::broken::cycle::{Judged, is_judged};
 use crate::broken::least::{lesser, token_where};
 use crate::names::Names;
+use wy_kernel::builtin::{FIRST_SOURCE_CLASS, OBJECT, THROWABLE};
 use wy_kernel::types::Class;
 use wy_overloads::lineage::Lineage;
-use wy_overloads::member::FIRST_SOURCE_CLASS;
 use wy_overloads::subtyping::is_supertype;
 use wy_syntax::declaration::ClassSyntax;
 use wy_syntax::name::Named;
-
-const OBJECT: u32 = 0;
-
-const THROWABLE: u32 = 2;
 
 pub fn least_in_classes(names: &Names, judged: &Judged, classes: &[&ClassSyntax]) -> Option<u32>
     requires { length classes.now + first_source_class < 2 ^ 32 }

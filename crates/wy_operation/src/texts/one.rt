@@ -8,8 +8,9 @@ ghost use Rattle.wy_kernel.specs.Program as kernel;
 ghost use Rattle.wy_meaning.specs.Text.{make_text};
 ghost use Rattle.wy_meaning.specs.World.{World};
 ghost use Rattle.wy_value.specs.Numeral.{text_of};
+ghost use Rattle.wy_operation.specs.Gives.{GivesOfOne};
 ghost use Rattle.wy_operation.specs.Around.{Keeps};
-ghost use Rattle.wy_state.specs.Agrees.{shape, Answers};
+ghost use Rattle.wy_state.specs.Agrees.{shape, StepGives};
 ghost use Rattle.wy_state.specs.Seen.{given};
 ghost use Rattle.wy_steps.specs.Sets.{nothing};
 ghost use Rattle.wy_operation.specs.Found.{found_of};
@@ -36,11 +37,8 @@ pub fn library_one<R: Recorder>(
     uses: &[Use],
     site: u32,
 ) -> Result<Found, Halt>
-    ensures step { (w : World nothing) (own : List Use) → w.program ≡ program_of program.now
-        → Answers (program_of program.now) (found_of uses.now) result
-        (shape R.keeps R.kept state.old)
-        (library_one w op site (given Value.None uses.now) (given value own))
-        (shape R.keeps R.kept state.new) }
+    ensures step { GivesOfOne (program_of program.now) op site value uses.now result
+        (shape R.keeps R.kept state.old) (shape R.keeps R.kept state.new) }
     ensures around { Keeps result state.old.calls state.new.calls }
 {
     match op {
@@ -61,7 +59,7 @@ fn array_length<R: Recorder>(
     site: u32,
 ) -> Result<Found, Halt>
     ensures step { (p : kernel.Program) (w : World nothing) (own : List Use) → w.program ≡ p
-        → Answers p (found_of uses.now) result (shape R.keeps R.kept state.old)
+        → StepGives p (found_of uses.now) result (shape R.keeps R.kept state.old)
         (library_one w LibOp.ArrayLength site (given Value.None uses.now) (given array own))
         (shape R.keeps R.kept state.new) }
     ensures around { Keeps result state.old.calls state.new.calls }
@@ -85,11 +83,8 @@ fn of_text<R: Recorder>(
     uses: &[Use],
     site: u32,
 ) -> Result<Found, Halt>
-    ensures step { (w : World nothing) (own : List Use) → w.program ≡ program_of program.now
-        → Answers (program_of program.now) (found_of uses.now) result
-        (shape R.keeps R.kept state.old)
-        (library_one w op site (given Value.None uses.now) (given text own))
-        (shape R.keeps R.kept state.new) }
+    ensures step { GivesOfOne (program_of program.now) op site text uses.now result
+        (shape R.keeps R.kept state.old) (shape R.keeps R.kept state.new) }
     ensures around { Keeps result state.old.calls state.new.calls }
 {
     match op {
@@ -108,11 +103,8 @@ fn text_length<R: Recorder>(
     uses: &[Use],
     site: u32,
 ) -> Result<Found, Halt>
-    ensures step { (w : World nothing) (own : List Use) → w.program ≡ program_of program.now
-        → Answers (program_of program.now) (found_of uses.now) result
-        (shape R.keeps R.kept state.old)
-        (library_one w LibOp.Length site (given Value.None uses.now) (given text own))
-        (shape R.keeps R.kept state.new) }
+    ensures step { GivesOfOne (program_of program.now) LibOp.Length site text uses.now result
+        (shape R.keeps R.kept state.old) (shape R.keeps R.kept state.new) }
     ensures around { Keeps result state.old.calls state.new.calls }
 {
     if !is_text(text) {
@@ -131,11 +123,8 @@ fn is_empty<R: Recorder>(
     uses: &[Use],
     site: u32,
 ) -> Result<Found, Halt>
-    ensures step { (w : World nothing) (own : List Use) → w.program ≡ program_of program.now
-        → Answers (program_of program.now) (found_of uses.now) result
-        (shape R.keeps R.kept state.old)
-        (library_one w LibOp.IsEmpty site (given Value.None uses.now) (given text own))
-        (shape R.keeps R.kept state.new) }
+    ensures step { GivesOfOne (program_of program.now) LibOp.IsEmpty site text uses.now result
+        (shape R.keeps R.kept state.old) (shape R.keeps R.kept state.new) }
     ensures around { Keeps result state.old.calls state.new.calls }
 {
     if !is_text(text) {
@@ -152,11 +141,8 @@ fn itself<R: Recorder>(
     uses: &[Use],
     site: u32,
 ) -> Result<Found, Halt>
-    ensures step { (w : World nothing) (own : List Use) → w.program ≡ program_of program.now
-        → Answers (program_of program.now) (found_of uses.now) result
-        (shape R.keeps R.kept state.old)
-        (library_one w LibOp.Itself site (given Value.None uses.now) (given text own))
-        (shape R.keeps R.kept state.new) }
+    ensures step { GivesOfOne (program_of program.now) LibOp.Itself site text uses.now result
+        (shape R.keeps R.kept state.old) (shape R.keeps R.kept state.new) }
     ensures around { Keeps result state.old.calls state.new.calls }
 {
     if !is_text(text) {
@@ -174,11 +160,8 @@ fn parse<R: Recorder>(
     uses: &[Use],
     site: u32,
 ) -> Result<Found, Halt>
-    ensures step { (w : World nothing) (own : List Use) → w.program ≡ program_of program.now
-        → Answers (program_of program.now) (found_of uses.now) result
-        (shape R.keeps R.kept state.old)
-        (library_one w LibOp.ParseInt site (given Value.None uses.now) (given text own))
-        (shape R.keeps R.kept state.new) }
+    ensures step { GivesOfOne (program_of program.now) LibOp.ParseInt site text uses.now result
+        (shape R.keeps R.kept state.old) (shape R.keeps R.kept state.new) }
     ensures around { Keeps result state.old.calls state.new.calls }
 {
     if !is_text(text) {
@@ -197,7 +180,7 @@ fn value_text<R: Recorder>(
     uses: &[Use],
     site: u32,
 ) -> Result<Found, Halt>
-    ensures step { (p : kernel.Program) (us : List Use) → Answers p (found_of us) result
+    ensures step { (p : kernel.Program) (us : List Use) → StepGives p (found_of us) result
         (shape R.keeps R.kept state.old)
         (make_text site (text_of value) (given Value.None uses.now))
         (shape R.keeps R.kept state.new) }
@@ -215,11 +198,8 @@ fn class_text<R: Recorder>(
     uses: &[Use],
     site: u32,
 ) -> Result<Found, Halt>
-    ensures step { (w : World nothing) (own : List Use) → w.program ≡ program_of program.now
-        → Answers (program_of program.now) (found_of uses.now) result
-        (shape R.keeps R.kept state.old)
-        (library_one w LibOp.ClassText site (given Value.None uses.now) (given object own))
-        (shape R.keeps R.kept state.new) }
+    ensures step { GivesOfOne (program_of program.now) LibOp.ClassText site object uses.now result
+        (shape R.keeps R.kept state.old) (shape R.keeps R.kept state.new) }
     ensures around { Keeps result state.old.calls state.new.calls }
 {
     let ty = state.type_of(object)?;
@@ -235,11 +215,8 @@ fn text_of_object<R: Recorder>(
     uses: &[Use],
     site: u32,
 ) -> Result<Found, Halt>
-    ensures step { (w : World nothing) (own : List Use) → w.program ≡ program_of program.now
-        → Answers (program_of program.now) (found_of uses.now) result
-        (shape R.keeps R.kept state.old)
-        (library_one w LibOp.ObjectText site (given Value.None uses.now) (given object own))
-        (shape R.keeps R.kept state.new) }
+    ensures step { GivesOfOne (program_of program.now) LibOp.ObjectText site object uses.now result
+        (shape R.keeps R.kept state.old) (shape R.keeps R.kept state.new) }
     ensures around { Keeps result state.old.calls state.new.calls }
 {
     let ty = state.type_of(object)?;

@@ -6,7 +6,7 @@ ghost use Rattle.wy_kernel.specs.Parts.{program_of};
 ghost use Rattle.wy_meaning.specs.Library.{byte_value, library, read_byte};
 ghost use Rattle.wy_meaning.specs.World.{World};
 ghost use Rattle.wy_operation.specs.Around.{Keeps};
-ghost use Rattle.wy_state.specs.Agrees.{shape, Answers};
+ghost use Rattle.wy_state.specs.Agrees.{shape, StepGives};
 ghost use Rattle.wy_state.specs.Seen.{given};
 ghost use Rattle.wy_steps.specs.Sets.{nothing};
 ghost use Rattle.wy_operation.specs.Found.{found_of};
@@ -38,7 +38,7 @@ pub fn library<R: Recorder>(
 ) -> Result<Found, Halt>
     ensures step { (w : World nothing) → w.program ≡ program_of program.now
         → (joined_all (map carried parts.now)).uses ≡ all.now
-        → Answers (program_of program.now) (found_of all.now) result
+        → StepGives (program_of program.now) (found_of all.now) result
         (shape R.keeps R.kept state.old) (library w op site (map carried parts.now))
         (shape R.keeps R.kept state.new) }
     ensures around { Keeps result state.old.calls state.new.calls }
@@ -65,7 +65,7 @@ pub fn library<R: Recorder>(
 
 /// The next byte of the input, or -1 at its end.
 fn read_byte<R: Recorder>(state: &mut State<'_, R>, site: u32) -> Result<Found, Halt>
-    ensures step { (p : kernel.Program) (us : List Use) → Answers p (found_of us) result
+    ensures step { (p : kernel.Program) (us : List Use) → StepGives p (found_of us) result
         (shape R.keeps R.kept state.old) (read_byte site) (shape R.keeps R.kept state.new) }
     ensures around { Keeps result state.old.calls state.new.calls }
 {

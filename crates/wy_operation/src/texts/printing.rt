@@ -6,7 +6,7 @@ ghost use Rattle.wy_kernel.specs.Program as kernel;
 ghost use Rattle.wy_meaning.specs.Text.{line_end, print_nothing};
 ghost use Rattle.wy_meaning.specs.World.{World};
 ghost use Rattle.wy_operation.specs.Around.{Keeps};
-ghost use Rattle.wy_state.specs.Agrees.{shape, Answers, itself};
+ghost use Rattle.wy_state.specs.Agrees.{shape, StepGives, itself};
 ghost use Rattle.wy_state.specs.Seen.{given};
 ghost use Rattle.wy_steps.specs.Sets.{nothing};
 ghost use Rattle.wy_value.specs.Encoding.{utf8_of};
@@ -33,7 +33,7 @@ pub fn print_text<R: Recorder>(
     site: u32,
 ) -> Result<(), Halt>
     ensures step { (w : World nothing) → w.program ≡ program_of program.now
-        → Answers (program_of program.now) itself result (shape R.keeps R.kept state.old)
+        → StepGives (program_of program.now) itself result (shape R.keeps R.kept state.old)
         (printed w ends_line site (given value uses.now)) (shape R.keeps R.kept state.new) }
     ensures around { Keeps result state.old.calls state.new.calls }
 {
@@ -48,7 +48,7 @@ pub fn print_nothing<R: Recorder>(
     ends_line: bool,
     site: u32,
 ) -> Result<(), Halt>
-    ensures step { (p : kernel.Program) → Answers p itself result (shape R.keeps R.kept state.old)
+    ensures step { (p : kernel.Program) → StepGives p itself result (shape R.keeps R.kept state.old)
         (print_nothing ends_line site) (shape R.keeps R.kept state.new) }
     ensures around { Keeps result state.old.calls state.new.calls }
 {

@@ -9,7 +9,7 @@ ghost use Rattle.wy_meaning.specs.Text.{make_text, spelled_as};
 ghost use Rattle.wy_meaning.specs.World.{World, is_text};
 ghost use Rattle.wy_operation.specs.Around.{Keeps};
 ghost use Rattle.wy_operation.specs.Operands.{Pair, carried};
-ghost use Rattle.wy_state.specs.Agrees.{shape, Answers, Meets, itself};
+ghost use Rattle.wy_state.specs.Agrees.{shape, StepGives, Meets, itself};
 ghost use Rattle.wy_state.specs.Seen.{given};
 ghost use Rattle.wy_steps.specs.Sets.{nothing};
 ghost use Rattle.wy_value.specs.Numeral.{text_of};
@@ -53,7 +53,7 @@ pub fn spelling_units<R: Recorder>(
     value: Value,
 ) -> Result<Vec<u16>, Halt>
     ensures { (w : World nothing) → w.program ≡ program_of program.now
-        → Answers (program_of program.now) (λ units. units.items) result
+        → StepGives (program_of program.now) (λ units. units.items) result
         (shape R.keeps R.kept state.now) (spelled_as w value) (shape R.keeps R.kept state.now) }
 {
     if !is_text(value) {
@@ -70,7 +70,7 @@ pub fn make_text<R: Recorder>(
     units: Vec<u16>,
     uses: &[Use],
 ) -> Result<u32, Halt>
-    ensures step { (p : kernel.Program) (v : Value) → Answers p text_of_event result
+    ensures step { (p : kernel.Program) (v : Value) → StepGives p text_of_event result
         (shape R.keeps R.kept state.old) (make_text site units.items (given v uses.now))
         (shape R.keeps R.kept state.new) }
     ensures around { Keeps result state.old.calls state.new.calls }
@@ -85,7 +85,7 @@ pub fn made_text<R: Recorder>(
     units: Vec<u16>,
     uses: &[Use],
 ) -> Result<Found, Halt>
-    ensures step { (p : kernel.Program) (us : List Use) → Answers p (found_of us) result
+    ensures step { (p : kernel.Program) (us : List Use) → StepGives p (found_of us) result
         (shape R.keeps R.kept state.old) (make_text site units.items (given Value.None uses.now))
         (shape R.keeps R.kept state.new) }
     ensures around { Keeps result state.old.calls state.new.calls }
@@ -104,7 +104,7 @@ pub fn join_texts<R: Recorder>(
     uses: &[Use],
 ) -> Result<u32, Halt>
     ensures step { (w : World nothing) (o : Pair left right uses.now)
-        → w.program ≡ program_of program.now → Answers (program_of program.now) text_of_event result
+        → w.program ≡ program_of program.now → StepGives (program_of program.now) text_of_event result
         (shape R.keeps R.kept state.old) (joined_texts w site o.first o.second)
         (shape R.keeps R.kept state.new) }
     ensures around { Keeps result state.old.calls state.new.calls }
@@ -139,7 +139,7 @@ pub fn text_equals<R: Recorder>(
     right: Part<'_>,
 ) -> Result<bool, Halt>
     ensures { (w : World nothing) → w.program ≡ program_of program.now
-        → Answers (program_of program.now) (equality left.entry right.entry) result
+        → StepGives (program_of program.now) (equality left.entry right.entry) result
         (shape R.keeps R.kept state.now) (text_equals w (carried left.entry) (carried right.entry))
         (shape R.keeps R.kept state.now) }
 {

@@ -1,12 +1,12 @@
 //! Operations of the library of three arguments, and parts of texts.
 
-ghost use Rattle.std.specs.Prelude.{◌≡◌, List, IfOk, option_map};
-ghost use Rattle.wy_event.specs.declared.record.Use.{Use};
+ghost use Rattle.std.specs.Prelude.{◌≡◌, IfOk, option_map};
 ghost use Rattle.wy_kernel.specs.Parts.{program_of};
-ghost use Rattle.wy_meaning.specs.Library.{library_three, part_or_fail};
+ghost use Rattle.wy_meaning.specs.Library.{part_or_fail};
 ghost use Rattle.wy_meaning.specs.World.{World};
+ghost use Rattle.wy_operation.specs.Gives.{GivesOfThree};
 ghost use Rattle.wy_operation.specs.Around.{Keeps};
-ghost use Rattle.wy_state.specs.Agrees.{shape, Answers};
+ghost use Rattle.wy_state.specs.Agrees.{shape, StepGives};
 ghost use Rattle.wy_state.specs.Seen.{given};
 ghost use Rattle.wy_steps.specs.Sets.{nothing};
 ghost use Rattle.wy_operation.specs.Found.{found_of};
@@ -36,12 +36,8 @@ pub fn library_three<R: Recorder>(
     uses: &[Use],
     site: u32,
 ) -> Result<Found, Halt>
-    ensures step { (w : World nothing) (a b c : List Use) → w.program ≡ program_of program.now
-        → Answers (program_of program.now) (found_of uses.now) result
-        (shape R.keeps R.kept state.old)
-        (library_three w op site (given Value.None uses.now)
-        (given text a) (given from b) (given to c))
-        (shape R.keeps R.kept state.new) }
+    ensures step { GivesOfThree (program_of program.now) op site text from to uses.now result
+        (shape R.keeps R.kept state.old) (shape R.keeps R.kept state.new) }
     ensures around { Keeps result state.old.calls state.new.calls }
 {
     match op {
@@ -59,12 +55,8 @@ fn part_between<R: Recorder>(
     uses: &[Use],
     site: u32,
 ) -> Result<Found, Halt>
-    ensures step { (w : World nothing) (a b c : List Use) → w.program ≡ program_of program.now
-        → Answers (program_of program.now) (found_of uses.now) result
-        (shape R.keeps R.kept state.old)
-        (library_three w LibOp.Part site (given Value.None uses.now)
-        (given text a) (given from b) (given to c))
-        (shape R.keeps R.kept state.new) }
+    ensures step { GivesOfThree (program_of program.now) LibOp.Part site text from to uses.now result
+        (shape R.keeps R.kept state.old) (shape R.keeps R.kept state.new) }
     ensures around { Keeps result state.old.calls state.new.calls }
 {
     if !is_text(text) {
@@ -104,7 +96,7 @@ pub fn part_or_fail<R: Recorder>(
     site: u32,
 ) -> Result<Found, Halt>
     ensures step { (p : kernel.Program) (w : World nothing) → w.program ≡ p
-        → Answers p (found_of uses.now) result (shape R.keeps R.kept state.old)
+        → StepGives p (found_of uses.now) result (shape R.keeps R.kept state.old)
         (part_or_fail w site (given Value.None uses.now) (option_map (λ v. v.items) found))
         (shape R.keeps R.kept state.new) }
     ensures around { Keeps result state.old.calls state.new.calls }

@@ -1,15 +1,9 @@
 //! Operations of the library of two arguments.
 
-ghost use Rattle.std.specs.Prelude.{◌≡◌, List};
-ghost use Rattle.wy_event.specs.declared.record.Use.{Use};
 ghost use Rattle.wy_kernel.specs.Parts.{program_of};
-ghost use Rattle.wy_meaning.specs.Library.{library_two};
-ghost use Rattle.wy_meaning.specs.World.{World};
+ghost use Rattle.wy_operation.specs.Gives.{GivesOfTwo};
 ghost use Rattle.wy_operation.specs.Around.{Keeps};
-ghost use Rattle.wy_state.specs.Agrees.{shape, Answers};
-ghost use Rattle.wy_state.specs.Seen.{given};
-ghost use Rattle.wy_steps.specs.Sets.{nothing};
-ghost use Rattle.wy_operation.specs.Found.{found_of};
+ghost use Rattle.wy_state.specs.Agrees.{shape};
 
 use crate::exception::{NULL_POINTER, STRING_INDEX, fail};
 use crate::texts::found::Found;
@@ -34,12 +28,8 @@ pub fn library_two<R: Recorder>(
     uses: &[Use],
     site: u32,
 ) -> Result<Found, Halt>
-    ensures step { (w : World nothing) (a b : List Use) → w.program ≡ program_of program.now
-        → Answers (program_of program.now) (found_of uses.now) result
-        (shape R.keeps R.kept state.old)
-        (library_two w op site (given Value.None uses.now)
-        (given left a) (given right b))
-        (shape R.keeps R.kept state.new) }
+    ensures step { GivesOfTwo (program_of program.now) op site left right uses.now result
+        (shape R.keeps R.kept state.old) (shape R.keeps R.kept state.new) }
     ensures around { Keeps result state.old.calls state.new.calls }
 {
     match op {
@@ -61,12 +51,8 @@ fn char_at<R: Recorder>(
     uses: &[Use],
     site: u32,
 ) -> Result<Found, Halt>
-    ensures step { (w : World nothing) (a b : List Use) → w.program ≡ program_of program.now
-        → Answers (program_of program.now) (found_of uses.now) result
-        (shape R.keeps R.kept state.old)
-        (library_two w LibOp.CharAt site (given Value.None uses.now)
-        (given text a) (given index b))
-        (shape R.keeps R.kept state.new) }
+    ensures step { GivesOfTwo (program_of program.now) LibOp.CharAt site text index uses.now result
+        (shape R.keeps R.kept state.old) (shape R.keeps R.kept state.new) }
     ensures around { Keeps result state.old.calls state.new.calls }
 {
     if !is_text(text) {
@@ -89,12 +75,8 @@ fn part_from<R: Recorder>(
     uses: &[Use],
     site: u32,
 ) -> Result<Found, Halt>
-    ensures step { (w : World nothing) (a b : List Use) → w.program ≡ program_of program.now
-        → Answers (program_of program.now) (found_of uses.now) result
-        (shape R.keeps R.kept state.old)
-        (library_two w LibOp.PartFrom site (given Value.None uses.now)
-        (given text a) (given from b))
-        (shape R.keeps R.kept state.new) }
+    ensures step { GivesOfTwo (program_of program.now) LibOp.PartFrom site text from uses.now result
+        (shape R.keeps R.kept state.old) (shape R.keeps R.kept state.new) }
     ensures around { Keeps result state.old.calls state.new.calls }
 {
     if !is_text(text) {
@@ -119,12 +101,8 @@ fn same_text<R: Recorder>(
     uses: &[Use],
     site: u32,
 ) -> Result<Found, Halt>
-    ensures step { (w : World nothing) (a b : List Use) → w.program ≡ program_of program.now
-        → Answers (program_of program.now) (found_of uses.now) result
-        (shape R.keeps R.kept state.old)
-        (library_two w LibOp.Same site (given Value.None uses.now)
-        (given left a) (given right b))
-        (shape R.keeps R.kept state.new) }
+    ensures step { GivesOfTwo (program_of program.now) LibOp.Same site left right uses.now result
+        (shape R.keeps R.kept state.old) (shape R.keeps R.kept state.new) }
     ensures around { Keeps result state.old.calls state.new.calls }
 {
     if !is_text(left) {
@@ -142,12 +120,8 @@ fn compare_texts<R: Recorder>(
     uses: &[Use],
     site: u32,
 ) -> Result<Found, Halt>
-    ensures step { (w : World nothing) (a b : List Use) → w.program ≡ program_of program.now
-        → Answers (program_of program.now) (found_of uses.now) result
-        (shape R.keeps R.kept state.old)
-        (library_two w LibOp.Compare site (given Value.None uses.now)
-        (given left a) (given right b))
-        (shape R.keeps R.kept state.new) }
+    ensures step { GivesOfTwo (program_of program.now) LibOp.Compare site left right uses.now result
+        (shape R.keeps R.kept state.old) (shape R.keeps R.kept state.new) }
     ensures around { Keeps result state.old.calls state.new.calls }
 {
     if !is_text(left) {

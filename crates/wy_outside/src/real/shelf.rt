@@ -53,7 +53,7 @@ fn read_file<R: Files>(rt: &R, alloc: Global, path: &str, max: u32) -> Result<Ve
     ensures { IfOk result (λ bytes. vec_len bytes ≤ max) }
 {
     match fs::open(rt, path) {
-        Ok(mut file) => read_front(&mut file, alloc, max),
+        Ok(mut file) => read_prefix(&mut file, alloc, max),
         Err(error) if error.kind() == ErrorKind::NotFound => Err(ShelfError::Absent),
         Err(_) => Err(ShelfError::Failed),
     }
@@ -63,7 +63,7 @@ fn read_file<R: Files>(rt: &R, alloc: Global, path: &str, max: u32) -> Result<Ve
 const PIECE: usize = 8192;
 
 /// The first `max` bytes of what a file has left, or all of them if there are fewer.
-pub fn read_front<T: Read>(file: &mut T, alloc: Global, max: u32) -> Result<Vec<u8>, ShelfError>
+pub fn read_prefix<T: Read>(file: &mut T, alloc: Global, max: u32) -> Result<Vec<u8>, ShelfError>
     ensures content { IfSome (T.remaining file.old)
         (λ left. IfOk result (λ bytes. bytes.items ≡ take max left)) }
     ensures bound { IfOk result (λ bytes. vec_len bytes ≤ max) }

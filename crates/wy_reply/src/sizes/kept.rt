@@ -7,13 +7,13 @@ ghost use Rattle.wy_meaning.specs.Run.{events, tail};
 ghost use Rattle.wy_steps.specs.Sets.{nothing};
 ghost use Rattle.wy_view.specs.References.{AllRefersBelow};
 
+use law_shaped::references_point_below;
 use std::alloc::{AllocError, Global};
 use wy_event::record::{Event, Head};
 use wy_event::sequence::Sequence;
 use wy_kernel::program::Program;
 use wy_machine::run;
 use wy_record::{MemoryRecorder, Recorder};
-use wy_shaped::references_point_below;
 
 /// A recorder that keeps the events of a run, ready for the first.
 fn empty_recorder(alloc: Global) -> Result<MemoryRecorder, AllocError>

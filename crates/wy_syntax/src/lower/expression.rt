@@ -361,7 +361,7 @@ fn listed(
 // What stands in braces, behind the token of this number.
 #[cycle(lowering)]
 fn elements(alloc: Global, parts: &[Tree], first: u32) -> Result<Vec<Element>, AllocError>
-    requires { first + widths (views parts.now) < 1048576 }
+    requires { first + widths (views parts.now) < token_limit }
     ensures { IfOk result (λ found.
         elements_of (map element_of found.items) ≡ elements first (views parts.now)) }
 {

@@ -2,8 +2,9 @@ use Rattle.std.proofs.Common.{◌≡◌, ◌∙◌, [], ap, subst, rules}
 use Rattle.std.specs.Prelude.{IfOk}
 use Rattle.std.proofs.lemmas.List.Sorted.{answers_always, IsNonDecreasingBy-from_sort}
 use Rattle.wy_ask.specs.declared.askable.Askable.{Askable}
-use Rattle.wy_ask.specs.Listing.{in_order, placed}
-use Rattle.wy_ask.proofs.Sorting.{in_order_from_sort}
+use Rattle.wy_kernel.specs.Order.{in_order}
+use Rattle.wy_ask.specs.Listing.{placed}
+use Rattle.wy_kernel.proofs.Sorting.{in_order_from_sort}
 use Rattle.wy_ask.proofs.never.places_in.Goals as goal
 
 pub returns : goal.returns

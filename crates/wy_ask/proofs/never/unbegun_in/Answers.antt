@@ -1,8 +1,9 @@
 use Rattle.std.proofs.Common.{◌∙◌, ap, filter, rules}
 use Rattle.std.proofs.lemmas.List.Sorted.{answers_always, IsNonDecreasingBy-from_sort}
 use Rattle.wy_ask.specs.declared.never.PlacedStatement.{PlacedStatement}
-use Rattle.wy_ask.specs.Listing.{in_order, never_began}
-use Rattle.wy_ask.proofs.Sorting.{in_order_from_sort}
+use Rattle.wy_kernel.specs.Order.{in_order}
+use Rattle.wy_ask.specs.Listing.{never_began}
+use Rattle.wy_kernel.proofs.Sorting.{in_order_from_sort}
 use Rattle.wy_ask.proofs.never.unbegun_in.Goals as goal
 
 pub returns : goal.returns

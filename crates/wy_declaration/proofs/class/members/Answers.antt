@@ -1,6 +1,6 @@
 use Rattle.std.proofs.Common.{map}
 use Rattle.wy_syntax.specs.View.{member_of}
-use Rattle.wy_declaration.proofs.Rows.{ended}
+use Rattle.wy_syntax.proofs.Heads.{row_ends as ended}
 use Rattle.wy_declaration.proofs.Classes.{members_go, members_alone, members_end}
 use Rattle.wy_declaration.proofs.class.members.Goals as goal
 

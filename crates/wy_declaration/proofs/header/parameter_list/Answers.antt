@@ -2,7 +2,7 @@ use Rattle.std.proofs.Common.{ap, ◌∙◌, map}
 use Rattle.wy_tree.specs.Ast.{view}
 use Rattle.wy_syntax.specs.Declarations.{parameter}
 use Rattle.wy_syntax.specs.View.{parameter_of}
-use Rattle.wy_declaration.proofs.Rows.{ended}
+use Rattle.wy_syntax.proofs.Heads.{row_ends as ended}
 use Rattle.wy_declaration.proofs.Headers.{parameters_go, parameters_alone, parameters_end}
 use Rattle.wy_declaration.proofs.header.parameter_list.Goals as goal
 

@@ -2,7 +2,7 @@ use Rattle.std.proofs.Common.{ap, ◌∙◌, map}
 use Rattle.wy_tree.specs.Ast.{view}
 use Rattle.wy_syntax.specs.Declarations.{declaration}
 use Rattle.wy_syntax.specs.View.{declaration_of}
-use Rattle.wy_declaration.proofs.Rows.{ended}
+use Rattle.wy_syntax.proofs.Heads.{row_ends as ended}
 use Rattle.wy_declaration.proofs.Programs.{declarations_go, declarations_end}
 use Rattle.wy_declaration.proofs.program.declarations.Goals as goal
 

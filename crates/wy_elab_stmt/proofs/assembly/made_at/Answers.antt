@@ -1,7 +1,7 @@
 use Rattle.std.proofs.Common.{ap, ◌∙◌, refl, map}
 use Rattle.wy_table.specs.ClassTable.{table_of}
 use Rattle.wy_syntax.specs.View.{declaration_of}
-use Rattle.wy_statement.specs.Places.{at, number_at}
+use Rattle.wy_elab_body.specs.Places.{at, number_at}
 use Rattle.wy_elab_stmt.specs.Program.{setting}
 use Rattle.wy_elab_stmt.proofs.assembly.made_at.Goals as goal
 

@@ -1,8 +1,8 @@
 use Rattle.std.proofs.Common.{◌≡◌, drop, map}
 use Rattle.wy_syntax.specs.View.{declaration_of}
 use Rattle.wy_members.specs.Declarations.{classes_of}
-use Rattle.wy_statement.specs.Statements.{Setting as PlainSetting}
-use Rattle.wy_statement.specs.Views.{IsSetting}
+use Rattle.wy_elab_body.specs.Statements.{Setting as PlainSetting}
+use Rattle.wy_elab_body.specs.Views.{IsSetting}
 use Rattle.wy_elab_stmt.specs.Program.{bodies_from}
 use Rattle.wy_elab_stmt.specs.Whole.{behind_bodies, bodies_view}
 use Rattle.wy_elab_stmt.proofs.assembly.put_bodies.Given as goal

@@ -1,8 +1,8 @@
 use Rattle.std.proofs.Common.{ap}
 use Rattle.std.proofs.lemmas.Result.{err_from_is_err_and}
 use Rattle.wy_syntax.specs.View.{block_of, class_of}
-use Rattle.wy_statement.specs.declared.place.Role.TheVariants.{FieldsBody}
-use Rattle.wy_statement.specs.Bodies.{initializer_block}
+use Rattle.wy_elab_body.specs.declared.place.Role.TheVariants.{FieldsBody}
+use Rattle.wy_elab_body.specs.Bodies.{initializer_block}
 use Rattle.wy_elab_stmt.specs.ClassViews.{at_rest, growth_of}
 use Rattle.wy_elab_stmt.proofs.ClassParts.{in_fields_made, in_fields_refused}
 use Rattle.wy_elab_stmt.proofs.class_body.add_instance_block.Goals as goal

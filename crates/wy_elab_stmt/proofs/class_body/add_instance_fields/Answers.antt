@@ -1,7 +1,7 @@
 use Rattle.std.proofs.Common.{ap, map, false}
 use Rattle.std.proofs.lemmas.Result.{err_from_is_err_and}
 use Rattle.wy_syntax.specs.View.{declarator_of, type_seen}
-use Rattle.wy_statement.specs.Bodies.{field_initials}
+use Rattle.wy_elab_body.specs.Bodies.{field_initials}
 use Rattle.wy_elab_stmt.specs.ClassViews.{at_rest, growth_of}
 use Rattle.wy_elab_stmt.proofs.ClassParts.{in_fields_made, in_fields_refused}
 use Rattle.wy_elab_stmt.proofs.class_body.add_instance_fields.Goals as goal

@@ -2,7 +2,7 @@ use Rattle.std.proofs.Common.{map}
 use Rattle.std.specs.Prelude.{option_map}
 use Rattle.std.proofs.lemmas.Result.{err_from_is_err_and}
 use Rattle.wy_syntax.specs.View.{class_of, header_of, own_call_of, statement_of, statements_of}
-use Rattle.wy_statement.specs.Bodies.{constructor_block}
+use Rattle.wy_elab_body.specs.Bodies.{constructor_block}
 use Rattle.wy_elab_stmt.proofs.Resumed.{made, refuses}
 use Rattle.wy_elab_stmt.proofs.class_body.constructor_body.Goals as goal
 

@@ -2,9 +2,9 @@ use Rattle.std.proofs.Common.{◌≡◌, subst, List, Option, true}
 use Rattle.std.specs.Prelude.{IfOk}
 use Rattle.wy_kernel.specs.Program.{Body}
 use Rattle.wy_syntax.specs.View.{class_of}
-use Rattle.wy_statement.specs.Places.{has_fields_unit}
+use Rattle.wy_elab_body.specs.Places.{has_fields_unit}
 use Rattle.wy_elab_stmt.specs.ClassViews.{growing_of}
-use Rattle.wy_statement.specs.Views.{bodies_seen}
+use Rattle.wy_elab_body.specs.Views.{bodies_seen}
 use Rattle.wy_elab_stmt.proofs.ClassParts.{fields_there}
 use Rattle.wy_elab_stmt.proofs.class_body.fields_body.Goals as goal
 

@@ -1,6 +1,6 @@
 use Rattle.wy_syntax.specs.View.{class_of}
 use Rattle.wy_elab_stmt.specs.ClassViews.{growth_of}
-use Rattle.wy_statement.specs.Views.{bodies_seen}
+use Rattle.wy_elab_body.specs.Views.{bodies_seen}
 use Rattle.wy_elab_stmt.proofs.ClassParts.{finished_is}
 use Rattle.wy_elab_stmt.proofs.class_body.finished.Goals as goal
 

@@ -1,6 +1,6 @@
 use Rattle.std.proofs.lemmas.Result.{err_from_is_err_and}
 use Rattle.wy_syntax.specs.View.{class_of}
-use Rattle.wy_statement.specs.Bodies.{implied_constructor_block}
+use Rattle.wy_elab_body.specs.Bodies.{implied_constructor_block}
 use Rattle.wy_elab_stmt.proofs.Resumed.{made, refuses}
 use Rattle.wy_elab_stmt.proofs.class_body.implied_constructor_body.Goals as goal
 

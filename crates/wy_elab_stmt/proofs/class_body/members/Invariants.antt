@@ -2,9 +2,9 @@ use Rattle.std.proofs.Common.{◌≡◌, List, drop, map}
 use Rattle.wy_constant.specs.Scope.{FixedText}
 use Rattle.wy_syntax.specs.View.{class_of, member_of}
 use Rattle.wy_elab_stmt.specs.Classes.{members}
-use Rattle.wy_statement.specs.Statements.{Setting as PlainSetting}
+use Rattle.wy_elab_body.specs.Statements.{Setting as PlainSetting}
 use Rattle.wy_elab_stmt.specs.ClassViews.{growth_of}
-use Rattle.wy_statement.specs.Views.{IsSetting}
+use Rattle.wy_elab_body.specs.Views.{IsSetting}
 use Rattle.wy_elab_stmt.proofs.Members.{Stale}
 use Rattle.wy_elab_stmt.proofs.class_body.members.Given as goal
 

@@ -1,8 +1,8 @@
 use Rattle.std.proofs.Common.{ap, ◌∙◌}
 use Rattle.std.proofs.lemmas.Result.{err_from_is_err_and}
 use Rattle.wy_syntax.specs.View.{block_of, header_of, outcome_of}
-use Rattle.wy_statement.specs.Bodies.{end_of, method_block}
-use Rattle.wy_statement.specs.Making.{begun}
+use Rattle.wy_elab_body.specs.Bodies.{end_of, method_block}
+use Rattle.wy_elab_body.specs.Making.{begun}
 use Rattle.wy_elab_stmt.proofs.Resumed.{made, refuses}
 use Rattle.wy_elab_stmt.proofs.class_body.method_body.Goals as goal
 

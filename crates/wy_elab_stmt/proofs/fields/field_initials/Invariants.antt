@@ -1,10 +1,10 @@
 use Rattle.std.proofs.Common.{◌≡◌, drop, map}
 use Rattle.wy_kernel.specs.View.{statement}
 use Rattle.wy_syntax.specs.View.{declarator_of, type_seen}
-use Rattle.wy_statement.specs.Bodies.{field_initials}
-use Rattle.wy_statement.specs.Making.{each}
-use Rattle.wy_statement.specs.Statements.{Setting as PlainSetting}
-use Rattle.wy_statement.specs.Views.{IsSetting, making_of}
+use Rattle.wy_elab_body.specs.Bodies.{field_initials}
+use Rattle.wy_elab_body.specs.Making.{each}
+use Rattle.wy_elab_body.specs.Statements.{Setting as PlainSetting}
+use Rattle.wy_elab_body.specs.Views.{IsSetting, making_of}
 use Rattle.wy_elab_stmt.proofs.Appended.{appended, initial_in}
 use Rattle.wy_elab_stmt.proofs.fields.field_initials.Given as goal
 

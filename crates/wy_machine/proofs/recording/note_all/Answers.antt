@@ -3,7 +3,7 @@ use Rattle.std.specs.Prelude.{slice_get}
 use Rattle.std.specs.List.{concat}
 use Rattle.wy_event.specs.Record.{Recorded, recorded}
 use Rattle.wy_record.specs.declared.recorder.RecordError.{RecordError}
-use Rattle.wy_record.specs.Answers.{DiffersFor, MirrorsTake, with_more}
+use Rattle.wy_record.specs.Recorders.{DiffersFor, MirrorsTake, with_more}
 use Rattle.wy_machine.specs.Differences.{DiffersAsFirst}
 use Rattle.wy_machine.proofs.Agreeing.{agree_more, differs_at, risen, seen_at}
 use Rattle.wy_machine.proofs.Mirrors.{front_of_events, one_more, with_both, with_nothing}

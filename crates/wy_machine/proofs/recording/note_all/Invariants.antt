@@ -3,7 +3,7 @@ use Rattle.std.proofs.Common.{◌≡◌, map, take, true}
 use Rattle.std.specs.List.{concat}
 use Rattle.wy_event.specs.Record.{recorded}
 use Rattle.wy_machine.specs.Differences.{AgreeBelow}
-use Rattle.wy_record.specs.Answers.{with_more}
+use Rattle.wy_record.specs.Recorders.{with_more}
 use Rattle.wy_record.specs.declared.recorder.Phase.TheVariants.{Recording}
 use Rattle.wy_machine.proofs.recording.note_all.Given as goal
 

@@ -4,7 +4,7 @@ use Rattle.wy_event.specs.Record.{Recorded, recorded}
 use Rattle.wy_kernel.specs.Parts.{program_of}
 use Rattle.wy_meaning.specs.Run as meaning
 use Rattle.wy_record.specs.declared.recorder.RecordError.{RecordError}
-use Rattle.wy_record.specs.Answers.{HaveFront, with_more}
+use Rattle.wy_record.specs.Recorders.{HavePrefix, with_more}
 use Rattle.wy_steps.specs.Sets.{nothing}
 use Rattle.wy_machine.specs.Differences.{DiffersAsFirst}
 use Rattle.wy_machine.specs.Ended.{IsTailOf}
@@ -33,7 +33,7 @@ pub returns-in_err-note_all-clause-begun : goal.returns-in_err-note_all-clause-b
 returns-in_err-note_all-clause-begun g c =
     any_error c.from_residual-in_err-note_all.result _ (begun_events g.R.Recorder.closing (IsTailOf (program_of c.args.program.now) c.args.head.now.input c.args.head.now.steps) (g.R.Recorder.opening c.args.head.now) _ (g.R.Recorder.mirrors c.args.recorder.now) (g.R.Recorder.mirrors c.start.new.self) (g.R.Recorder.mirrors c.note_all.new.recorder)
     (c.in_ok-start.ensures {u = tt}).mirrors
-    (subst (λ (es : List Recorded). HaveFront (concat (map g.R.Recorder.frame es)) (g.R.Recorder.mirrors c.start.new.self) (g.R.Recorder.mirrors c.note_all.new.recorder)) (ap (map recorded) c.as_slice.ensures.value ∙ c.in-Ok.ensures.events) (c.in_err-note_all.ensures {u = tt}).mirrors))
+    (subst (λ (es : List Recorded). HavePrefix (concat (map g.R.Recorder.frame es)) (g.R.Recorder.mirrors c.start.new.self) (g.R.Recorder.mirrors c.note_all.new.recorder)) (ap (map recorded) c.as_slice.ensures.value ∙ c.in-Ok.ensures.events) (c.in_err-note_all.ensures {u = tt}).mirrors))
 
 pub returns-in_err-finish-clause-begun : goal.returns-in_err-finish-clause-begun
 returns-in_err-finish-clause-begun g c =

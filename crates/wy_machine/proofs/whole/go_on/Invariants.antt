@@ -4,7 +4,7 @@ use Rattle.wy_steps.specs.Sets.{nothing}
 use Rattle.wy_steps.specs.State.{Outcome}
 use Rattle.wy_operands.specs.Values.{Values}
 use Rattle.wy_state.specs.Agrees.{Comes}
-use Rattle.wy_work.specs.Frames.{goes}
+use Rattle.wy_work.specs.Tasks.{goes}
 use Rattle.wy_work.specs.Machines.{standing}
 use Rattle.wy_machine.proofs.Going.{Before}
 use Rattle.wy_machine.proofs.whole.go_on.Given as goal

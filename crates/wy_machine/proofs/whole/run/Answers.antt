@@ -3,7 +3,7 @@ use Rattle.wy_kernel.specs.Parts.{program_of}
 use Rattle.wy_meaning.specs.Run.{events}
 use Rattle.wy_steps.specs.Sets.{nothing}
 use Rattle.wy_state.specs.Agrees.{Comes}
-use Rattle.wy_work.specs.Frames.{outcome_at}
+use Rattle.wy_work.specs.Tasks.{outcome_at}
 use Rattle.wy_work.specs.Machines.{standing}
 use Rattle.wy_machine.specs.Ended.{IsEndFor, IsEndOf, events_of, whole}
 use Rattle.wy_machine.proofs.Ends.{all_events, run_left}

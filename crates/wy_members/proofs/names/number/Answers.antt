@@ -3,8 +3,9 @@ use Rattle.std.specs.Prelude.{string_bytes, is_some}
 use Rattle.std.specs.Str.{bytes_eq}
 use Rattle.std.specs.HashMap.{get_by_text}
 use Rattle.std.proofs.lemmas.Map.Text.{hash_map_updates_text}
-use Rattle.wy_members.specs.Numbers.{numbered_also}
-use Rattle.wy_members.proofs.Numbering.{numbered_update, absent}
+use Rattle.wy_table.specs.Names.{numbered_also}
+use Rattle.wy_table.proofs.FirstNumbers.{absent}
+use Rattle.wy_members.proofs.Numbering.{numbered_update}
 use Rattle.wy_members.proofs.names.number.Goals as goal
 
 pub returns-in_ok-insert : goal.returns-in_ok-insert

@@ -3,7 +3,7 @@ use Rattle.wy_kernel.specs.Parts.{program_of}
 use Rattle.wy_event.specs.declared.record.Cover.{Cover}
 use Rattle.wy_event.specs.declared.record.Event.{Event}
 use Rattle.wy_event.specs.Record.{recorded}
-use Rattle.wy_absence.specs.Whynot.{TellsWhynot}
+use Rattle.wy_telling.specs.Whynot.{TellsWhynot}
 use Rattle.wy_reply.specs.Tellings.{covers_of, whynot}
 use Rattle.wy_reply.proofs.Tellings.{denied}
 use Rattle.wy_reply.proofs.telling.answer_to_statement.Goals as goal

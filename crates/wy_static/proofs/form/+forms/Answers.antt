@@ -1,11 +1,11 @@
 use Rattle.std.proofs.Common.{OnOk, ◌≡◌, map, ap, ◌∙◌, ⊎_elim, ◌++◌, List}
-use Rattle.wy_kernel.specs.View.{expression, row_of}
+use Rattle.wy_kernel.specs.View.{expression, row_of, part_seen}
 use Rattle.wy_kernel.specs.View.{place as place_seen}
 use Rattle.wy_static.specs.Forms.{arm_owner, forms, part_forms, place_forms, row_forms}
-use Rattle.wy_static.specs.Seen.{forms_seen, form_seen, part_seen}
+use Rattle.wy_static.specs.Seen.{forms_seen, form_seen}
 use Rattle.wy_static.proofs.Behind.{all_of, at, behind_on, seen_more}
 use Rattle.wy_static.proofs.Forms.{alone, no_part, of_each, of_row, with_itself}
-use Rattle.wy_static.proofs.Views.{view_read, view_set, view_upd, view_un, view_bin, view_conv, view_cast, view_instance, view_cond, view_new, view_new_array, view_call, view_cat, view_lib, view_field, view_elem}
+use Rattle.wy_kernel.proofs.ExpressionViews.{view_read, view_set, view_upd, view_un, view_bin, view_conv, view_cast, view_instance, view_cond, view_new, view_new_array, view_call, view_cat, view_lib, view_field, view_elem}
 use Rattle.wy_static.proofs.form.+forms.Goals as goal
 
 pub put_forms-returns-in-Read : goal.put_forms-returns-in-Read

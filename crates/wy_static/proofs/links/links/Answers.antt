@@ -4,7 +4,7 @@ use Rattle.wy_static.specs.Seen.{seen_by}
 use Rattle.wy_static.specs.declared.point.Link.{Link}
 use Rattle.wy_static.specs.declared.standing.Standing.{Standing}
 use Rattle.wy_static.specs.Along.{AreCalled}
-use Rattle.wy_static.specs.Answers.{standing_at}
+use Rattle.wy_static.specs.LookUps.{standing_at}
 use Rattle.wy_static.specs.Links.{AreLinks}
 use Rattle.wy_static.proofs.Whole.{all_links, all_targets}
 use Rattle.wy_static.proofs.links.links.Goals as goal

@@ -1,7 +1,7 @@
 use Rattle.std.proofs.Common.{◌≡◌, take}
 use Rattle.wy_static.specs.declared.point.Point.{Point}
 use Rattle.wy_static.specs.Along.{kept_at}
-use Rattle.wy_static.specs.Answers.{standing_at}
+use Rattle.wy_static.specs.LookUps.{standing_at}
 use Rattle.wy_static.proofs.links.standings_at.Given as goal
 
 abbrev pub invariant-loop-standing : goal.invariant-loop-standing

@@ -5,7 +5,7 @@ use Rattle.wy_static.specs.Seen.{seen_by}
 use Rattle.wy_static.specs.Ways.{constructing, converting, form_ways, initializing, is_absent, placing, updating}
 use Rattle.wy_static.proofs.Behind.{at, behind_on}
 use Rattle.wy_static.proofs.Rules.{nowhere}
-use Rattle.wy_static.proofs.Views.{view_read, view_set, view_upd, view_cond, view_new, view_call, view_cat}
+use Rattle.wy_kernel.proofs.ExpressionViews.{view_read, view_set, view_upd, view_cond, view_new, view_call, view_cat}
 use Rattle.wy_static.proofs.rule.put_form.Goals as goal
 
 pub returns-in_ok-put_placing-in-Upd : goal.returns-in_ok-put_placing-in-Upd

@@ -4,7 +4,7 @@ use Rattle.wy_kernel.specs.View.{place as place_seen}
 use Rattle.wy_static.specs.Ways.{placing}
 use Rattle.wy_static.proofs.Behind.{at}
 use Rattle.wy_static.proofs.Rules.{no_static}
-use Rattle.wy_static.proofs.Views.{view_static}
+use Rattle.wy_kernel.proofs.ExpressionViews.{view_static}
 use Rattle.wy_static.proofs.rule.put_placing.Goals as goal
 
 pub returns-in_ok-class_of_field-in-Static : goal.returns-in_ok-class_of_field-in-Static

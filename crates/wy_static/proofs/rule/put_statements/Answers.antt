@@ -1,7 +1,8 @@
 use Rattle.std.proofs.Common.{ap, sym, ◌∙◌, ◌++◌, List}
 use Rattle.std.proofs.lemmas.List.Folds.{flat_map-map}
 use Rattle.wy_static.specs.declared.way.Way.{Way}
-use Rattle.wy_static.specs.Seen.{statement_seen, seen_by}
+use Rattle.wy_kernel.specs.Substatements.{statement_seen}
+use Rattle.wy_static.specs.Seen.{seen_by}
 use Rattle.wy_static.specs.Ways.{statement_ways}
 use Rattle.wy_static.proofs.Behind.{all_of}
 use Rattle.wy_static.proofs.rule.put_statements.Goals as goal

@@ -1,6 +1,7 @@
 use Rattle.std.proofs.Common.{◌≡◌, ◌++◌, take}
 use Rattle.std.specs.List.{flat_map}
-use Rattle.wy_static.specs.Seen.{statement_seen, seen_by}
+use Rattle.wy_kernel.specs.Substatements.{statement_seen}
+use Rattle.wy_static.specs.Seen.{seen_by}
 use Rattle.wy_static.specs.Ways.{statement_ways}
 use Rattle.wy_static.proofs.rule.put_statements.Given as goal
 

@@ -1,7 +1,7 @@
 use Rattle.std.proofs.Common.{ap, sym, ◌∙◌, ◌++◌, List}
 use Rattle.std.proofs.lemmas.List.Folds.{flat_map-map}
 use Rattle.wy_static.specs.declared.standing.Standing.{Standing}
-use Rattle.wy_static.specs.Seen.{statement_seen}
+use Rattle.wy_kernel.specs.Substatements.{statement_seen}
 use Rattle.wy_static.specs.Standings.{standings_in}
 use Rattle.wy_static.proofs.Behind.{all_of}
 use Rattle.wy_static.proofs.standing.put_all.Goals as goal

@@ -1,6 +1,6 @@
 use Rattle.std.proofs.Common.{◌≡◌, ◌++◌, take}
 use Rattle.std.specs.List.{flat_map}
-use Rattle.wy_static.specs.Seen.{statement_seen}
+use Rattle.wy_kernel.specs.Substatements.{statement_seen}
 use Rattle.wy_static.specs.Standings.{standings_in}
 use Rattle.wy_static.proofs.standing.put_all.Given as goal
 

@@ -3,7 +3,7 @@ use Rattle.wy_kernel.specs.View.{expression}
 use Rattle.wy_static.specs.Standings.{form_standings}
 use Rattle.wy_static.proofs.Behind.{at}
 use Rattle.wy_static.proofs.Stands.{no_arm}
-use Rattle.wy_static.proofs.Views.{view_cond}
+use Rattle.wy_kernel.proofs.ExpressionViews.{view_cond}
 use Rattle.wy_static.proofs.standing.put_arms.Goals as goal
 
 pub returns-in-Cond : goal.returns-in-Cond

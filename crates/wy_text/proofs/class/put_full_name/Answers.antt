@@ -1,6 +1,6 @@
 use Rattle.std.proofs.Common.{◌∙◌, ◌++◌, List, ℕ, ap, arith}
 use Rattle.wy_kernel.specs.Parts.{program_of}
-use Rattle.wy_text.proofs.Names.{built_in_behind, of_source}
+use Rattle.wy_text.proofs.ClassNames.{built_in_behind, of_source}
 use Rattle.wy_text.proofs.class.put_full_name.Goals as goal
 
 pub returns-then-number-lt-FIRST_SOURCE_CLASS : goal.returns-then-number-lt-FIRST_SOURCE_CLASS

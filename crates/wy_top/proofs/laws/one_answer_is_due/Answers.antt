@@ -2,7 +2,7 @@ use Rattle.std.proofs.Common.{◌≡◌, ◌∙◌, sym, ap, subst, refl, inl, i
 use Rattle.wy_kernel.specs.Program.{Program}
 use Rattle.wy_outside.specs.Shelf.{Files}
 use Rattle.wy_words.specs.Words.{Asked, Asks, Command, Run, Record, Output, Questions, Why, WhyNot, Audit, Explore, Gen, AskOneCommand}
-use Rattle.wy_gen.specs.Source.{source}
+use Rattle.wy_gen.specs.Generated.{source}
 use Rattle.wy_reply.specs.Generated.{generated_report}
 use Rattle.wy_reply.specs.Report.{report, recorded_report}
 use Rattle.wy_reply.specs.Tellings.{Wanted}

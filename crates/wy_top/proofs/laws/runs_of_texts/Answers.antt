@@ -4,8 +4,8 @@ use Rattle.wy_tree.specs.Ast.{tokens}
 use Rattle.wy_tree.specs.Tokens.{SpannedToken}
 use Rattle.wy_syntax.specs.Declarations.{unit as unit_of}
 use Rattle.wy_typing.specs.Programs.{IsProgram}
-use Rattle.wy_typed_states.specs.Typed.{KeepsLibrary}
-use Rattle.wy_reached.specs.Laws.{StandsApart}
+use Rattle.law_typed_states.specs.Typed.{KeepsLibrary}
+use Rattle.law_reached.specs.Laws.{StandsApart}
 use Rattle.wy_program.proofs.Programs.{few_parts}
 use Rattle.wy_top.proofs.laws.runs_of_texts.Goals as goal
 

@@ -2,7 +2,7 @@ use Rattle.std.proofs.Common.{◌≡◌, List, map, take}
 use Rattle.wy_kernel.specs.Program.{Program}
 use Rattle.wy_event.specs.Record.{Recorded}
 use Rattle.wy_index.specs.Index.{IsIndexOf}
-use Rattle.wy_static.specs.Answers.{AreLinksOf}
+use Rattle.wy_static.specs.LookUps.{AreLinksOf}
 use Rattle.wy_whynot.specs.Evidence.{evidence, evidence_in}
 use Rattle.wy_whynot.proofs.answer.items.Given as goal
 

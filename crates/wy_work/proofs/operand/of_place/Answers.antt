@@ -1,5 +1,5 @@
 use Rattle.std.proofs.Common.{rules}
-use Rattle.wy_work.proofs.Views.{view_elem, view_field, view_local, view_static}
+use Rattle.wy_kernel.proofs.ExpressionViews.{view_elem, view_field, view_local, view_static}
 use Rattle.wy_work.proofs.operand.of_place.Goals as goal
 
 pub returns-in-Local : goal.returns-in-Local

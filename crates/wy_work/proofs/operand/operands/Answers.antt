@@ -1,5 +1,5 @@
 use Rattle.std.proofs.Common.{rules}
-use Rattle.wy_work.proofs.Views.{view_upd, view_bin, view_const, view_conv, view_read, view_set, view_str, view_un}
+use Rattle.wy_kernel.proofs.ExpressionViews.{view_upd, view_bin, view_const, view_conv, view_read, view_set, view_str, view_un}
 use Rattle.wy_work.proofs.operand.operands.Goals as goal
 
 pub returns-in-Const : goal.returns-in-Const

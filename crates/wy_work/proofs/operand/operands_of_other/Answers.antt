@@ -1,5 +1,6 @@
 use Rattle.std.proofs.Common.{rules}
-use Rattle.wy_work.proofs.Views.{view_cond, view_call, listed_row, view_cast, view_cat, view_instance, view_lib, view_new, view_new_array}
+use Rattle.wy_kernel.proofs.ExpressionViews.{view_cond, view_call, view_cast, view_cat, view_instance, view_lib, view_new, view_new_array}
+use Rattle.wy_work.proofs.Views.{listed_row}
 use Rattle.wy_work.proofs.operand.operands_of_other.Goals as goal
 
 pub returns-in-New : goal.returns-in-New

@@ -1,5 +1,5 @@
 use Rattle.std.proofs.Common.{refl}
-use Rattle.wy_work.proofs.Views.{view_static}
+use Rattle.wy_kernel.proofs.ExpressionViews.{view_static}
 use Rattle.wy_work.proofs.ready.static_slot.Goals as goal
 
 pub returns-in-Static : goal.returns-in-Static

@@ -2,7 +2,7 @@ use Rattle.std.proofs.Common.{◌∙◌, ap, subst}
 use Rattle.wy_steps.specs.State.{Around}
 use Rattle.wy_calls.specs.Calls.{activated}
 use Rattle.wy_calls.specs.Layout.{IsNext}
-use Rattle.wy_calls.proofs.Standing.{activated_is, stands_with_more}
+use Rattle.wy_calls.proofs.CallStacks.{activated_is, stands_with_more}
 use Rattle.wy_calls.proofs.calls.Calls.activate.Goals as goal
 
 pub invariant_of-self-2 : goal.invariant_of-self-2

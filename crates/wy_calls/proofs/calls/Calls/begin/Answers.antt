@@ -2,7 +2,7 @@ use Rattle.std.proofs.Common.{subst, reverse, List}
 use Rattle.wy_calls.specs.declared.parts.Begun.{Begun}
 use Rattle.wy_calls.specs.Layout.{MayBegin}
 use Rattle.wy_calls.proofs.Last.{turned}
-use Rattle.wy_calls.proofs.Standing.{stands_begun}
+use Rattle.wy_calls.proofs.CallStacks.{stands_begun}
 use Rattle.wy_calls.proofs.calls.Calls.begin.Goals as goal
 
 pub invariant_of-self-2 : goal.invariant_of-self-2

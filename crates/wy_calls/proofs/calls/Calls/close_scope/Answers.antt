@@ -2,7 +2,7 @@ use Rattle.std.proofs.Common.{◌∙◌, ap, sym, reverse}
 use Rattle.wy_calls.specs.Calls.{closed}
 use Rattle.wy_calls.specs.Layout.{framed}
 use Rattle.wy_calls.proofs.Last.{turned}
-use Rattle.wy_calls.proofs.Standing.{seen, stands_without, stands_closed, closed_is}
+use Rattle.wy_calls.proofs.CallStacks.{seen, stands_without, stands_closed, closed_is}
 use Rattle.wy_calls.proofs.calls.Calls.close_scope.Goals as goal
 
 pub invariant_of-self-then-len-scope : goal.invariant_of-self-then-len-scope

@@ -5,7 +5,7 @@ use Rattle.wy_calls.specs.declared.parts.Entry.{Entry}
 use Rattle.wy_calls.specs.Calls.{ended}
 use Rattle.wy_calls.specs.Layout.{mark_in, newest_of, IsBelow}
 use Rattle.wy_calls.proofs.Frames.{newest_has_event}
-use Rattle.wy_calls.proofs.Standing.{stay_below, stands_ended, scopes_ended, ended_is}
+use Rattle.wy_calls.proofs.CallStacks.{stay_below, stands_ended, scopes_ended, ended_is}
 use Rattle.wy_calls.proofs.calls.Calls.end.Goals as goal
 
 pub end-requires-clause-below : goal.end-requires-clause-below

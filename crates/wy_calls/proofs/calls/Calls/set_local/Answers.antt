@@ -1,6 +1,6 @@
 use Rattle.std.proofs.Common.{◌∙◌, ap}
 use Rattle.wy_calls.specs.Calls.{with_local}
-use Rattle.wy_calls.proofs.Standing.{set_is}
+use Rattle.wy_calls.proofs.CallStacks.{set_is}
 use Rattle.wy_calls.proofs.calls.Calls.set_local.Goals as goal
 
 pub returns-clause-set : goal.returns-clause-set

@@ -2,10 +2,10 @@ use Rattle.std.proofs.Common.{◌≡◌, ◌∙◌, ap, sym, reverse, subst, ◌
 use Rattle.std.specs.Option.{IsSomeAnd}
 use Rattle.wy_calls.specs.declared.parts.Begun.{Begun}
 use Rattle.wy_steps.specs.State.{Through}
-use Rattle.wy_calls.specs.Calls.{Standing, activated, event_of}
+use Rattle.wy_calls.specs.Calls.{CallStack, activated, event_of}
 use Rattle.wy_calls.specs.Layout.{mark_in, newest_of, IsNext}
 use Rattle.wy_calls.proofs.Frames.{newest_has_event}
-use Rattle.wy_calls.proofs.Standing.{activated_is, stands_with_more}
+use Rattle.wy_calls.proofs.CallStacks.{activated_is, stands_with_more}
 use Rattle.wy_calls.proofs.calls.Calls.test.Goals as goal
 
 pub invariant_of-self-2 : goal.invariant_of-self-2
@@ -19,7 +19,7 @@ invariant_of-self-2 c =
 pub returns : goal.returns
 returns c =
     let newest : event_of c.args.self.now.frames ≡ Some c.in_ok-frame.frame =
-    ap event_of (ap (λ (s : Standing). s.frames) (sym c.self.view_is)) ∙ newest_has_event (reverse c.self.inside.frames.items) c.self.inside.locals.items ∙ ap (λ ls. newest_of (reverse ls)) (sym c.deref.ensures.value) ∙ c.in_ok-frame.ensures in
+    ap event_of (ap (λ (s : CallStack). s.frames) (sym c.self.view_is)) ∙ newest_has_event (reverse c.self.inside.frames.items) c.self.inside.locals.items ∙ ap (λ ls. newest_of (reverse ls)) (sym c.deref.ensures.value) ∙ c.in_ok-frame.ensures in
     activated_is _ _ _ _ _ _ c.in_ok-push.ensures.items c.self.invariant
     ∙ ap (activated c.args.event (Through (Some c.in_ok-frame.frame) c.args.statement)) c.self.view_is
     ∙ ap (λ f. activated c.args.event (Through f c.args.statement) c.args.self.now) (sym newest)

@@ -1,5 +1,5 @@
 use Rattle.std.proofs.Common.{refl}
-use Rattle.wy_frames.specs.Standing.{start}
+use Rattle.wy_frames.specs.Progress.{start}
 use Rattle.wy_frames.proofs.decoder.Decoder.new.Goals as goal
 
 pub returns : goal.returns

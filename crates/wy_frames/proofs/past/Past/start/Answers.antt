@@ -1,5 +1,5 @@
 use Rattle.std.proofs.Common.{arith, ap, sym, refl, ◌∙◌, ◌+◌}
-use Rattle.wy_frames.specs.Standing.{start}
+use Rattle.wy_frames.specs.Progress.{start}
 use Rattle.wy_frames.proofs.Openings.{opening_is_long}
 use Rattle.wy_frames.proofs.past.Past.start.Goals as goal
 

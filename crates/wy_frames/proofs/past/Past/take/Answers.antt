@@ -1,6 +1,6 @@
 use Rattle.std.proofs.Common.{refl, sym, ◌∙◌}
 use Rattle.wy_frames.specs.Pieces.{frame_in}
-use Rattle.wy_frames.specs.Standing.{next_at}
+use Rattle.wy_frames.specs.Progress.{next_at}
 use Rattle.wy_frames.proofs.Takes.{next_when}
 use Rattle.wy_frames.proofs.past.Past.take.Goals as goal
 

@@ -1,6 +1,6 @@
 use Rattle.std.proofs.Common.{refl, ap, ◌∙◌, ◌++◌}
 use Rattle.wy_payload.specs.Ranges.{ranges_of}
-use Rattle.wy_frames.specs.Standing.{start}
+use Rattle.wy_frames.specs.Progress.{start}
 use Rattle.wy_frames.proofs.Fed.{Handed, stands, leaves, refused, scanned}
 use Rattle.wy_frames.proofs.scanner.Scanner.scan.Goals as goal
 

@@ -5,7 +5,7 @@ use Rattle.wy_kernel.specs.Program.{Program}
 use Rattle.wy_kernel.specs.View.{NONE}
 use Rattle.wy_static.specs.declared.point.Point.{Point}
 use Rattle.wy_static.specs.Standings.{standings_of}
-use Rattle.wy_static.specs.Answers.{method_of, standing_at}
+use Rattle.wy_static.specs.LookUps.{method_of, standing_at}
 use Rattle.wy_static.proofs.answer.Links.method.Goals as goal
 
 abbrev in_body : Program → Point → ℕ

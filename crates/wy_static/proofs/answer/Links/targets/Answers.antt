@@ -1,5 +1,5 @@
 use Rattle.std.proofs.Common.{ℕ, List, sym, subst}
-use Rattle.wy_static.specs.Answers.{AreTargetsAt}
+use Rattle.wy_static.specs.LookUps.{AreTargetsAt}
 use Rattle.wy_static.proofs.answer.Links.targets.Goals as goal
 
 pub returns : goal.returns

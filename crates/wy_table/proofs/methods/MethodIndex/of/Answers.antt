@@ -12,4 +12,3 @@ returns c =
     indexed _ c.args.methods.now c.in_ok-named_groups.named_groups.items c.in_ok-classes.classes.items c.in_ok-groups.ensures named c.in_ok-classes.ensures c.in_ok-by_name.ensures
     (subst (λ keys. ListsByKey keys c.in_ok-by_key.field-0) c.as_slice-2.ensures.value c.in_ok-by_key.ensures)
     (subst (λ keys. ListsByKey keys c.in_ok-by_key-2.field-0) c.as_slice-3.ensures.value c.in_ok-by_key-2.ensures)
-    c.in_ok-shared.ensures

@@ -1,5 +1,5 @@
 use Rattle.std.proofs.Common.{◌∙◌, ap}
-use Rattle.wy_work.specs.Frames.{pushed}
+use Rattle.wy_work.specs.Tasks.{pushed}
 use Rattle.wy_work.specs.Machines.{standing}
 use Rattle.wy_work.proofs.Turns.{for_goes, while_goes}
 use Rattle.wy_work.proofs.machine.Machine.act_loop.Goals as goal

@@ -2,11 +2,10 @@ use Rattle.std.proofs.Common.{◌∙◌, ap}
 use Rattle.std.specs.Prelude.{if◌then◌else◌}
 use Rattle.std.proofs.lemmas.Result.{err_from_is_err_and}
 use Rattle.wy_kernel.specs.Form as plain
-use Rattle.wy_kernel.specs.View.{expression, place}
+use Rattle.wy_kernel.specs.View.{expression, place, part_seen}
 use Rattle.wy_state.specs.Seen.{valued}
 use Rattle.wy_operands.specs.Values.{at}
 use Rattle.wy_work.specs.Machines.{standing}
-use Rattle.wy_work.specs.Listed.{part_seen}
 use Rattle.wy_work.proofs.Updates.{update_seen}
 use Rattle.wy_work.proofs.Assigns.{number_refused, number_set, text_next}
 use Rattle.wy_work.proofs.machine.Machine.assign.Goals as goal

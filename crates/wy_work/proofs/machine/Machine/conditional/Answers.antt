@@ -1,6 +1,6 @@
 use Rattle.std.proofs.Common.{◌∙◌, ap}
 use Rattle.wy_work.specs.Machines.{standing}
-use Rattle.wy_work.specs.Frames.{pushed}
+use Rattle.wy_work.specs.Tasks.{pushed}
 use Rattle.wy_work.proofs.Conds.{conditional_goes}
 use Rattle.wy_work.proofs.machine.Machine.conditional.Goals as goal
 

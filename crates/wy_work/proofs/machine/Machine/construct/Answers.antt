@@ -4,7 +4,7 @@ use Rattle.wy_operands.specs.Values.{under_many}
 use Rattle.wy_work.specs.Machines.{standing}
 use Rattle.wy_work.proofs.Created.{has_none, has_one, is_constructed, not_constructed}
 use Rattle.wy_work.proofs.Seen.{row_length}
-use Rattle.wy_work.proofs.Views.{view_new}
+use Rattle.wy_kernel.proofs.ExpressionViews.{view_new}
 use Rattle.wy_work.proofs.machine.Machine.construct.Goals as goal
 
 pub returns-then-constructor : goal.returns-then-constructor

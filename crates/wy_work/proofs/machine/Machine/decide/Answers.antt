@@ -5,7 +5,7 @@ use Rattle.wy_kernel.specs.View.{expression}
 use Rattle.wy_value.specs.declared.value.Value.TheVariants as val
 use Rattle.wy_event.specs.declared.record.Use.TheVariants as uses
 use Rattle.wy_operands.specs.Values.{given}
-use Rattle.wy_work.specs.Frames.{pushed}
+use Rattle.wy_work.specs.Tasks.{pushed}
 use Rattle.wy_work.specs.Machines.{standing}
 use Rattle.wy_work.proofs.Conds.{arm_empty, arm_found, cond_seen, no_arm, one_arm, test_refused}
 use Rattle.wy_work.proofs.machine.Machine.decide.Goals as goal

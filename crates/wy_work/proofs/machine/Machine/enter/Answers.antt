@@ -1,6 +1,6 @@
 use Rattle.std.proofs.Common.{ap, arith, map, refl}
 use Rattle.std.proofs.lemmas.List.{reverse-append, map-append}
-use Rattle.wy_calls.specs.Calls.{Frame as Body, Standing as Calls}
+use Rattle.wy_calls.specs.Calls.{CallFrame as Body, CallStack as Calls}
 use Rattle.wy_operation.proofs.Runs.{done_first}
 use Rattle.wy_work.proofs.machine.Machine.enter.Goals as goal
 

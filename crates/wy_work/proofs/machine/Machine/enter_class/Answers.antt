@@ -5,7 +5,7 @@ use Rattle.wy_calls.proofs.Chain.{nobody, somebody}
 use Rattle.wy_kernel.specs.Parts.{program_of}
 use Rattle.wy_kernel.specs.Program as kernel
 use Rattle.wy_kernel.specs.View.{body_of, present}
-use Rattle.wy_work.specs.Frames.{Standing, pushed}
+use Rattle.wy_work.specs.Tasks.{MachineState, pushed}
 use Rattle.wy_work.specs.Machines.{standing}
 use Rattle.wy_work.proofs.Classes.{above_alone, above_and_block, block_alone, class_entered, class_refused, class_too_deep, in_class, is_absent, none_at_all}
 use Rattle.wy_work.proofs.machine.Machine.enter_class.Goals as goal
@@ -41,11 +41,11 @@ returns-in_ok-push_step-2 g c = record {
       elim c.match-body-2.branch [
         | in-Some-body+in_ok-push_stmt w ↦
             (let pushes = c.in_ok-push_step-2.ensures ∙ ap (pushed _) (ap (standing g.R.Recorder.keeps g.R.Recorder.kept) w.self-is ∙ w.in_ok-push_stmt.ensures ∙ ap (pushed _) c.in_ok-push_step.ensures) in
-            class_entered p c.args.site c.args.class c.in_ok-event.event m l n q c.in_ok-event.ensures.same (c.in_ok-enter.ensures.goes p) begins declared.site _ _ at_is above_is (sym c.init_body-body.ensures ∙ ap (option_map (λ b. body_of b.now)) w.in-Some-body.is) (sym (ap (λ (z : Standing). z.state) pushes))
+            class_entered p c.args.site c.args.class c.in_ok-event.event m l n q c.in_ok-event.ensures.same (c.in_ok-enter.ensures.goes p) begins declared.site _ _ at_is above_is (sym c.init_body-body.ensures ∙ ap (option_map (λ b. body_of b.now)) w.in-Some-body.is) (sym (ap (λ (z : MachineState). z.state) pushes))
             (above_and_block p n q declared.site declared.above _ _ refl pushes))
         | in_default w ↦
             (let pushes = c.in_ok-push_step-2.ensures ∙ ap (pushed _) (ap (standing g.R.Recorder.keeps g.R.Recorder.kept) w.self-is ∙ c.in_ok-push_step.ensures) in
-            class_entered p c.args.site c.args.class c.in_ok-event.event m l n q c.in_ok-event.ensures.same (c.in_ok-enter.ensures.goes p) begins declared.site _ _ at_is above_is (sym c.init_body-body.ensures ∙ ap (option_map (λ b. body_of b.now)) (is_absent _ w.in_default.not-Some)) (sym (ap (λ (z : Standing). z.state) pushes))
+            class_entered p c.args.site c.args.class c.in_ok-event.event m l n q c.in_ok-event.ensures.same (c.in_ok-enter.ensures.goes p) begins declared.site _ _ at_is above_is (sym c.init_body-body.ensures ∙ ap (option_map (λ b. body_of b.now)) (is_absent _ w.in_default.not-Some)) (sym (ap (λ (z : MachineState). z.state) pushes))
             (above_alone p n q declared.site declared.above pushes))
       ];
 }
@@ -65,11 +65,11 @@ returns-else-declared g c = record {
       elim c.match-body-2.branch [
         | in-Some-body+in_ok-push_stmt w ↦
             (let pushes = ap (standing g.R.Recorder.keeps g.R.Recorder.kept) w.self-is ∙ w.in_ok-push_stmt.ensures ∙ ap (pushed _) c.in_ok-push_step.ensures in
-            class_entered p c.args.site c.args.class c.in_ok-event.event m l n q c.in_ok-event.ensures.same (c.in_ok-enter.ensures.goes p) begins declared.site _ _ at_is above_is (sym c.init_body-body.ensures ∙ ap (option_map (λ b. body_of b.now)) w.in-Some-body.is) (sym (ap (λ (z : Standing). z.state) pushes))
+            class_entered p c.args.site c.args.class c.in_ok-event.event m l n q c.in_ok-event.ensures.same (c.in_ok-enter.ensures.goes p) begins declared.site _ _ at_is above_is (sym c.init_body-body.ensures ∙ ap (option_map (λ b. body_of b.now)) w.in-Some-body.is) (sym (ap (λ (z : MachineState). z.state) pushes))
             (block_alone p n q declared.site _ _ refl pushes))
         | in_default w ↦
             (let pushes = ap (standing g.R.Recorder.keeps g.R.Recorder.kept) w.self-is ∙ c.in_ok-push_step.ensures in
-            class_entered p c.args.site c.args.class c.in_ok-event.event m l n q c.in_ok-event.ensures.same (c.in_ok-enter.ensures.goes p) begins declared.site _ _ at_is above_is (sym c.init_body-body.ensures ∙ ap (option_map (λ b. body_of b.now)) (is_absent _ w.in_default.not-Some)) (sym (ap (λ (z : Standing). z.state) pushes))
+            class_entered p c.args.site c.args.class c.in_ok-event.event m l n q c.in_ok-event.ensures.same (c.in_ok-enter.ensures.goes p) begins declared.site _ _ at_is above_is (sym c.init_body-body.ensures ∙ ap (option_map (λ b. body_of b.now)) (is_absent _ w.in_default.not-Some)) (sym (ap (λ (z : MachineState). z.state) pushes))
             (none_at_all p n q declared.site pushes))
       ];
 }

@@ -4,7 +4,7 @@ use Rattle.std.proofs.Math.Nat.{le_refl}
 use Rattle.std.proofs.lemmas.Result.{err_from_is_err_and}
 use Rattle.wy_kernel.specs.View.{expression}
 use Rattle.wy_work.specs.Machines.{standing}
-use Rattle.wy_work.proofs.Views.{view_new_array}
+use Rattle.wy_kernel.proofs.ExpressionViews.{view_new_array}
 use Rattle.wy_work.proofs.Filled.{element_filled, element_refused}
 use Rattle.wy_work.proofs.machine.Machine.fill_element.Goals as goal
 

@@ -1,7 +1,7 @@
 use Rattle.std.proofs.Common.{◌∙◌, ap, sym}
 use Rattle.std.proofs.lemmas.Result.{err_from_is_err_and}
 use Rattle.wy_kernel.specs.View.{expression}
-use Rattle.wy_work.specs.Frames.{pushed_all}
+use Rattle.wy_work.specs.Tasks.{pushed_all}
 use Rattle.wy_work.specs.Listed.{finding, listed}
 use Rattle.wy_work.specs.Machines.{standing}
 use Rattle.wy_work.proofs.Operands.{none_found, none_left, operands_next}

@@ -1,8 +1,8 @@
 use Rattle.std.proofs.Common.{◌∙◌, ap}
 use Rattle.wy_kernel.specs.View.{expression}
 use Rattle.wy_work.specs.Machines.{standing}
-use Rattle.wy_work.proofs.Views.{view_new_array}
-use Rattle.wy_work.specs.Frames.{pushed}
+use Rattle.wy_kernel.proofs.ExpressionViews.{view_new_array}
+use Rattle.wy_work.specs.Tasks.{pushed}
 use Rattle.wy_work.proofs.Filled.{element_begins, filled}
 use Rattle.wy_work.proofs.machine.Machine.find_element.Goals as goal
 

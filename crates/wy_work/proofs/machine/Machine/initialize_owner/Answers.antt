@@ -4,7 +4,7 @@ use Rattle.wy_kernel.specs.Program as kernel
 use Rattle.wy_meaning.specs.Place.{initialize}
 use Rattle.wy_meaning.specs.Run.{world}
 use Rattle.wy_work.specs.Expressions.{leaving}
-use Rattle.wy_work.specs.Frames.{Resumed, then_all}
+use Rattle.wy_work.specs.Tasks.{Resumed, then_all}
 use Rattle.wy_work.specs.Machines.{standing}
 use Rattle.wy_work.proofs.Runs.{world_program}
 use Rattle.wy_work.proofs.machine.Machine.initialize_owner.Goals as goal

@@ -1,5 +1,5 @@
 use Rattle.std.proofs.Common.{add-one, ap, map, refl, sym, ◌∙◌}
-use Rattle.wy_calls.specs.Calls.{Frame as Body, Standing as Calls, first_of, rest_of}
+use Rattle.wy_calls.specs.Calls.{CallFrame as Body, CallStack as Calls, first_of, rest_of}
 use Rattle.wy_operands.specs.Layout.{values_of}
 use Rattle.wy_operation.proofs.Runs.{done_first}
 use Rattle.wy_work.proofs.Rows.{events_rest, newest_rest, popped}

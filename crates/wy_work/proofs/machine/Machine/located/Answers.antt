@@ -2,7 +2,7 @@ use Rattle.std.proofs.Common.{◌∙◌, ap}
 use Rattle.std.proofs.lemmas.Result.{err_from_is_err_and}
 use Rattle.wy_work.specs.Machines.{standing}
 use Rattle.wy_operands.specs.Values.{under_many}
-use Rattle.wy_work.specs.Frames.{pushed}
+use Rattle.wy_work.specs.Tasks.{pushed}
 use Rattle.wy_work.proofs.Updates.{old_refused, right_next, right_one, update_seen, with_part, without_part}
 use Rattle.wy_work.proofs.machine.Machine.located.Goals as goal
 

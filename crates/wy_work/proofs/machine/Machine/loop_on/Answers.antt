@@ -1,5 +1,5 @@
 use Rattle.std.proofs.Common.{◌∙◌, ap}
-use Rattle.wy_work.specs.Frames.{pushed}
+use Rattle.wy_work.specs.Tasks.{pushed}
 use Rattle.wy_work.specs.Machines.{standing}
 use Rattle.wy_work.proofs.Turns.{do_on, for_on, while_on}
 use Rattle.wy_work.proofs.machine.Machine.loop_on.Goals as goal

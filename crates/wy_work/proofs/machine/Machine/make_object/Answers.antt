@@ -4,10 +4,10 @@ use Rattle.wy_kernel.specs.View.{expression}
 use Rattle.wy_state.specs.Seen.{valued}
 use Rattle.wy_value.specs.declared.value.Value.TheVariants as val
 use Rattle.wy_operands.specs.Values.{Values}
-use Rattle.wy_work.specs.Frames.{pushed}
+use Rattle.wy_work.specs.Tasks.{pushed}
 use Rattle.wy_work.specs.Machines.{standing}
 use Rattle.wy_work.proofs.Created.{object_failed, object_made}
-use Rattle.wy_work.proofs.Views.{view_new}
+use Rattle.wy_kernel.proofs.ExpressionViews.{view_new}
 use Rattle.wy_work.proofs.machine.Machine.make_object.Goals as goal
 
 pub returns-in_err-event : goal.returns-in_err-event

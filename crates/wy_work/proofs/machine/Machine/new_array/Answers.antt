@@ -4,7 +4,7 @@ use Rattle.std.proofs.lemmas.List.{nil_from_length}
 use Rattle.std.proofs.lemmas.Result.{err_from_is_err_and}
 use Rattle.wy_kernel.specs.View.{expression}
 use Rattle.wy_work.specs.Machines.{standing}
-use Rattle.wy_work.proofs.Views.{view_new_array}
+use Rattle.wy_kernel.proofs.ExpressionViews.{view_new_array}
 use Rattle.wy_work.proofs.Filled.{array_made, array_refused, by_dimensions}
 use Rattle.wy_work.proofs.Seen.{row_length}
 use Rattle.wy_work.proofs.machine.Machine.new_array.Goals as goal

@@ -2,7 +2,7 @@ use Rattle.std.proofs.Common.{◌∙◌, ap}
 use Rattle.wy_kernel.specs.View.{expression}
 use Rattle.wy_work.specs.Machines.{standing}
 use Rattle.wy_work.proofs.Seen.{new_given, operating_by, test_given, update_given}
-use Rattle.wy_work.proofs.Views.{view_cond, view_const, view_new, view_read, view_set, view_str, view_upd}
+use Rattle.wy_kernel.proofs.ExpressionViews.{view_cond, view_const, view_new, view_read, view_set, view_str, view_upd}
 use Rattle.wy_work.proofs.machine.Machine.operate.Goals as goal
 
 pub returns-in-Const : goal.returns-in-Const

@@ -2,7 +2,7 @@ use Rattle.std.proofs.Common.{◌∙◌, ap}
 use Rattle.wy_kernel.specs.View.{expression}
 use Rattle.wy_work.specs.Machines.{standing}
 use Rattle.wy_work.proofs.Seen.{operating_by}
-use Rattle.wy_work.proofs.Views.{view_bin, view_cast, view_conv, view_instance, view_un}
+use Rattle.wy_kernel.proofs.ExpressionViews.{view_bin, view_cast, view_conv, view_instance, view_un}
 use Rattle.wy_work.proofs.machine.Machine.operate_on.Goals as goal
 
 pub returns-in-Un : goal.returns-in-Un

@@ -2,7 +2,7 @@ use Rattle.std.proofs.Common.{◌∙◌, ap}
 use Rattle.wy_kernel.specs.View.{expression}
 use Rattle.wy_work.specs.Machines.{standing}
 use Rattle.wy_work.proofs.Seen.{cat_by, library_by, row_length}
-use Rattle.wy_work.proofs.Views.{view_cat, view_lib}
+use Rattle.wy_kernel.proofs.ExpressionViews.{view_cat, view_lib}
 use Rattle.wy_work.proofs.machine.Machine.operate_texts.Goals as goal
 
 pub returns-in-Cat : goal.returns-in-Cat

@@ -1,9 +1,8 @@
 use Rattle.std.proofs.Common.{◌∙◌, ap, map}
 use Rattle.wy_kernel.specs.Form as plain
-use Rattle.wy_kernel.specs.View.{expression, row_of}
+use Rattle.wy_kernel.specs.View.{expression, row_of, part_seen}
 use Rattle.wy_work.specs.Machines.{standing}
-use Rattle.wy_work.specs.Listed.{part_seen}
-use Rattle.wy_work.proofs.Views.{view_call, view_read, view_set}
+use Rattle.wy_kernel.proofs.ExpressionViews.{view_call, view_read, view_set}
 use Rattle.wy_work.proofs.Updates.{update_seen}
 use Rattle.wy_work.proofs.Readies.{as_many, static_called, static_fetched, static_stored, static_updated}
 use Rattle.wy_work.proofs.machine.Machine.ready.Goals as goal

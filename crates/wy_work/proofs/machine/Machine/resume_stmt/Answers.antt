@@ -1,6 +1,6 @@
 use Rattle.wy_kernel.specs.Parts.{program_of}
 use Rattle.wy_work.specs.Machines.{standing}
-use Rattle.wy_work.specs.declared.frame.StmtStep.TheVariants as step
+use Rattle.wy_work.specs.declared.task.StmtStep.TheVariants as step
 use Rattle.wy_work.proofs.Resuming.{first_goes_on, stmt_at}
 use Rattle.wy_work.proofs.machine.Machine.resume_stmt.Goals as goal
 

@@ -1,0 +1,12 @@
+pub mod Sets
+pub mod Closures
+pub mod Fits
+pub mod Rules
+pub mod Forms
+pub mod Wholes
+pub mod Programs
+pub mod Theorem
+pub mod Values
+pub mod Erased
+pub mod Alike
+pub mod Whole

@@ -1,0 +1,11 @@
+pub mod BodiesLaws
+pub mod DeclaredLaws
+pub mod Mains
+pub mod MembersLaws
+pub mod TableLaws
+pub mod FirstLaws
+pub mod RunningLaws
+pub mod Classes
+pub mod Rows
+pub mod Shapes
+pub mod Programs

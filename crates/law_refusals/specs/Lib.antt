@@ -1,0 +1,14 @@
+pub mod Operands
+pub mod Found
+pub mod Calls
+pub mod Breaches
+pub mod Alike
+pub mod Quiet
+pub mod ExpressionLaws
+pub mod Surroundings
+pub mod Missteps
+pub mod Members
+pub mod BodyLaws
+pub mod Units
+pub mod ProgramLaws
+pub mod Laws

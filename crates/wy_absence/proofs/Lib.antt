@@ -1,3 +1,0 @@
-mod Clauses
-mod Named
-mod One

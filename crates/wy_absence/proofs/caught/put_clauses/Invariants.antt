@@ -1,6 +1,0 @@
-use Rattle.std.proofs.Common.{◌≡◌, ◌++◌, map, take}
-use Rattle.wy_absence.proofs.Clauses.{kept}
-use Rattle.wy_absence.proofs.caught.put_clauses.Given as goal
-
-abbrev pub invariant-loop-catch : goal.invariant-loop-catch
-invariant-loop-catch l = l.out.items ≡ l.fn.out.items ++ map kept (take l.catch-index l.catches)

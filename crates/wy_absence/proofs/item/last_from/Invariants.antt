@@ -1,6 +1,0 @@
-use Rattle.std.proofs.Common.{◌≡◌, drop}
-use Rattle.wy_absence.specs.Items.{last_from}
-use Rattle.wy_absence.proofs.item.last_from.Given as goal
-
-abbrev pub invariant-loop-number : goal.invariant-loop-number
-invariant-loop-number l = last_from l.first l.rest ≡ last_from l.last (drop l.number-index l.rest)

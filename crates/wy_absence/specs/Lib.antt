@@ -1,3 +1,0 @@
-pub mod Caught
-pub mod Items
-pub mod Whynot

@@ -1,6 +1,0 @@
-use Rattle.std.proofs.Common.{take}
-use Rattle.wy_view.specs.References.{UsesBelow}
-use Rattle.wy_answer_tests.proofs.checked.uses_are_below.Given as goal
-
-abbrev pub invariant-loop-used : goal.invariant-loop-used
-invariant-loop-used l = UsesBelow l.n (take l.used-index l.uses)

@@ -1,9 +1,0 @@
-pub mod Sets
-pub mod Closures
-pub mod Fits
-pub mod Rules
-pub mod Forms
-pub mod Wholes
-pub mod Programs
-pub mod Theorem
-pub mod Values

@@ -1,8 +1,0 @@
-use Rattle.wy_backward.proofs.Theorem.{backward_is_forward, stored_is_last_write}
-use Rattle.wy_backward.proofs.backward_is_forward.Goals as goal
-
-pub returns-clause-events : goal.returns-clause-events
-returns-clause-events c = backward_is_forward
-
-pub returns-clause-stored : goal.returns-clause-stored
-returns-clause-stored c = stored_is_last_write

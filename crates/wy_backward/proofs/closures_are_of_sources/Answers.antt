@@ -1,8 +1,0 @@
-use Rattle.wy_backward.proofs.Closures.{closure_by_sources, data_closure_by_sources}
-use Rattle.wy_backward.proofs.closures_are_of_sources.Goals as goal
-
-pub returns-clause-all : goal.returns-clause-all
-returns-clause-all c = closure_by_sources
-
-pub returns-clause-data : goal.returns-clause-data
-returns-clause-data c = data_closure_by_sources

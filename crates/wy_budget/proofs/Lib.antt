@@ -1,4 +1,0 @@
-pub mod Rules
-pub mod Forms
-pub mod Programs
-pub mod Theorem

@@ -1,5 +1,0 @@
-use Rattle.wy_judgement.proofs.One.{one}
-use Rattle.wy_judgement.proofs.one_judgement_stands.Goals as goal
-
-pub returns : goal.returns
-returns c = one

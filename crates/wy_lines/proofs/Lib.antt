@@ -1,4 +1,0 @@
-mod Names
-mod Looks
-mod Leading
-mod Rows

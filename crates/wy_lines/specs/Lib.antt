@@ -1,5 +1,0 @@
-pub mod Names
-pub mod Values
-pub mod Places
-pub mod Lines
-pub mod Sources

@@ -1,3 +1,0 @@
-mod Rules
-mod Instance
-mod Theorem

@@ -1,6 +1,0 @@
-mod Known
-mod Slots
-mod Values
-mod Records
-mod Ends
-mod Whole

@@ -1,5 +1,0 @@
-use Rattle.wy_program_parts.proofs.MainRows.{mains_run_first}
-use Rattle.wy_program_parts.proofs.mains_run_first.Goals as goal
-
-pub returns : goal.returns
-returns c = mains_run_first

@@ -1,5 +1,0 @@
-use Rattle.wy_program_parts.proofs.Keeping.{trees_keep}
-use Rattle.wy_program_parts.proofs.methods_without_bodies_are_abstract.Goals as goal
-
-pub returns : goal.returns
-returns c = trees_keep

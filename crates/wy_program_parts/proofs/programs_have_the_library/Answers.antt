@@ -1,5 +1,0 @@
-use Rattle.wy_program_parts.proofs.DeclaredTexts.{programs_have_library}
-use Rattle.wy_program_parts.proofs.programs_have_the_library.Goals as goal
-
-pub returns : goal.returns
-returns c = programs_have_library

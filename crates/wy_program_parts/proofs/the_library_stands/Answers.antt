@@ -1,5 +1,0 @@
-use Rattle.wy_program_parts.proofs.Made.{library_stands}
-use Rattle.wy_program_parts.proofs.the_library_stands.Goals as goal
-
-pub returns : goal.returns
-returns c = library_stands

@@ -1,5 +1,0 @@
-use Rattle.wy_program_parts.proofs.TreeMains.{trees_have_main}
-use Rattle.wy_program_parts.proofs.trees_have_a_main.Goals as goal
-
-pub returns : goal.returns
-returns c = trees_have_main c.methods_of_programs_have_bodies.ensures

@@ -1,4 +1,0 @@
-pub mod Numbers
-pub mod Fields
-pub mod Events
-pub mod Traces

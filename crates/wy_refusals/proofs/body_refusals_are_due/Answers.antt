@@ -1,5 +1,0 @@
-use Rattle.wy_refusals.proofs.Bodies.{method_due, constructor_due, implied_due, field_due}
-use Rattle.wy_refusals.proofs.body_refusals_are_due.Goals as goal
-
-pub returns : goal.returns
-returns c = record { methods = method_due; constructors = constructor_due; implied = implied_due; fields = field_due }

@@ -1,5 +1,0 @@
-use Rattle.wy_refusals.proofs.Given.{nothing_broken}
-use Rattle.wy_refusals.proofs.fields_given_nothing_break_nothing.Goals as goal
-
-pub returns : goal.returns
-returns c = nothing_broken

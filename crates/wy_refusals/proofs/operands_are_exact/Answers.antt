@@ -1,5 +1,0 @@
-use Rattle.wy_refusals.proofs.Exact.{casts_exact, assignments_exact, unary_exact, binary_exact, updates_exact, choices_exact}
-use Rattle.wy_refusals.proofs.operands_are_exact.Goals as goal
-
-pub returns : goal.returns
-returns c = record { casts = casts_exact; assignments = assignments_exact; unary = unary_exact; binary = binary_exact; updates = updates_exact; choices = choices_exact }

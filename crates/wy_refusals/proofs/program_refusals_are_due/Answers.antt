@@ -1,5 +1,0 @@
-use Rattle.wy_refusals.proofs.Programs.{due, accepted}
-use Rattle.wy_refusals.proofs.program_refusals_are_due.Goals as goal
-
-pub returns : goal.returns
-returns c = record { due = due; accepted = accepted }

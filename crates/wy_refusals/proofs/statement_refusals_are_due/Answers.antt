@@ -1,5 +1,0 @@
-use Rattle.wy_refusals.proofs.Nested.{due, block_due}
-use Rattle.wy_refusals.proofs.statement_refusals_are_due.Goals as goal
-
-pub returns : goal.returns
-returns c = record { statements = due; blocks = block_due }

@@ -1,5 +1,0 @@
-use Rattle.wy_refusals.proofs.Once.{found_once, denoted_once, refused_always}
-use Rattle.wy_refusals.proofs.what_is_found_is_one.Goals as goal
-
-pub returns : goal.returns
-returns c = record { found = found_once; denoted = denoted_once; refused = refused_always }

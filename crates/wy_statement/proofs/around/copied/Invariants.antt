@@ -1,6 +1,0 @@
-use Rattle.std.proofs.Common.{◌≡◌, take, map}
-use Rattle.wy_statement.specs.Views.{label_of}
-use Rattle.wy_statement.proofs.around.copied.Given as goal
-
-abbrev pub invariant-loop-label : goal.invariant-loop-label
-invariant-loop-label l = map label_of l.all.items ≡ map label_of (take l.label-index l.labels)

@@ -1,6 +1,0 @@
-use Rattle.std.proofs.Common.{ap, sym, ◌∙◌}
-use Rattle.wy_statement.specs.Places.{calls_superclass}
-use Rattle.wy_statement.proofs.body.has_super_call.Goals as goal
-
-pub returns : goal.returns
-returns c = λ w s. c.calls_superclass.ensures ∙ ap (λ t. calls_superclass t c.args.class) (sym s.table)

@@ -1,9 +1,0 @@
--- What is found in the scope, in the body.
-use Rattle.wy_kernel.specs.View.{expression as kernel_expression}
-use Rattle.wy_syntax.specs.View.{expression_of}
-use Rattle.wy_statement.specs.Parts.{thrown}
-use Rattle.wy_statement.proofs.Expressed.{expressed_in}
-use Rattle.wy_statement.proofs.found.thrown.Goals as goal
-
-pub returns : goal.returns
-returns c = λ w s. expressed_in (λ j t. thrown j t (expression_of c.args.value.now) c.args.token) c.args.setting.now w s kernel_expression _ c.args.making.now _ _ c.thrown.ensures

@@ -1,6 +1,0 @@
-use Rattle.wy_table.specs.ClassTable.{table_of}
-use Rattle.wy_statement.proofs.Printing.{no_call}
-use Rattle.wy_statement.proofs.parts.is_output_call.Goals as goal
-
-pub returns-in_default : goal.returns-in_default
-returns-in_default c = no_call (table_of c.args.table.now) c.args.scope.now c.args.e.now c.in_default.not-InvokeOn

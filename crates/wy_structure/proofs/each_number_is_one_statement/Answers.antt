@@ -1,5 +1,0 @@
-use Rattle.wy_structure.proofs.Texts.{numbers_are_dense}
-use Rattle.wy_structure.proofs.each_number_is_one_statement.Goals as goal
-
-pub returns : goal.returns
-returns c = numbers_are_dense

@@ -1,5 +1,0 @@
-use Rattle.wy_structure.proofs.Texts.{numbers_are_in_order}
-use Rattle.wy_structure.proofs.numbers_follow_the_text.Goals as goal
-
-pub returns : goal.returns
-returns c = numbers_are_in_order

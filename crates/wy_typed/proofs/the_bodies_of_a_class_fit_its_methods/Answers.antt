@@ -1,5 +1,0 @@
-use Rattle.wy_typed.proofs.Rows.{bodies_fit_rows}
-use Rattle.wy_typed.proofs.the_bodies_of_a_class_fit_its_methods.Goals as goal
-
-pub returns : goal.returns
-returns c = bodies_fit_rows

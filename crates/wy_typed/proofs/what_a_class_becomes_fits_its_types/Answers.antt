@@ -1,5 +1,0 @@
-use Rattle.wy_typed.proofs.Members.{classes_are_typed}
-use Rattle.wy_typed.proofs.what_a_class_becomes_fits_its_types.Goals as goal
-
-pub returns : goal.returns
-returns c = classes_are_typed

@@ -1,4 +1,0 @@
-pub mod Classes
-pub mod Rows
-pub mod Shapes
-pub mod Programs

@@ -1,3 +1,0 @@
-pub mod Throughout
-pub mod Written
-pub mod Typed

@@ -1,5 +1,0 @@
-use Rattle.wy_well_formed.proofs.Keywords.{no_keywords}
-use Rattle.wy_well_formed.proofs.names_are_no_keywords.Goals as goal
-
-pub returns : goal.returns
-returns c = no_keywords
