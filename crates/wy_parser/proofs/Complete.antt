@@ -84,7 +84,7 @@ some_is e = cc
 pub one_tree : OneTree
 one_tree t u v w e = some_is (sym (complete t v) ∙ ap whole e ∙ complete u w)
 
-read_back : (s : List Tok) (t : Ast) → IsTreeOf s t → whole s ≡ Some t
+pub read_back : (s : List Tok) (t : Ast) → IsTreeOf s t → whole s ≡ Some t
 read_back s t w = subst (λ z. whole z ≡ Some t) w.1 (complete t w.0)
 
 -- what parsing returned, in the words of its contract

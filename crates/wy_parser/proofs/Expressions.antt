@@ -14,7 +14,7 @@ use Rattle.wy_tree.specs.declared.grammar.Sort.TheVariants as sorts
 use Rattle.wy_tree.specs.declared.grammar.Row.TheVariants as rows
 use Rattle.wy_tree.specs.declared.grammar.Item.{Item}
 use Rattle.wy_tree.specs.declared.grammar.Item.TheVariants.{One, Part, Parts}
-use Rattle.wy_parser.specs.Prediction.{first_kind, rest, second, third, casts, casts_to_name, begins_operand, predict_operator, predict_unary, predict_new, predict_dimension}
+use Rattle.wy_parser.specs.Prediction.{first_kind, rest, second, third, is_element, casts, casts_to_name, begins_operand, predict_operator, predict_unary, predict_new, predict_dimension}
 use Rattle.wy_parser.proofs.Truth.{and_left, or_left, or_right, both, neither, not_both, is_not, is_false}
 use Rattle.wy_parser.proofs.Firsts.{within, begins, first_in, every, implied, starts, front_first}
 use Rattle.wy_parser.proofs.Follows.{after_unary}
@@ -61,7 +61,7 @@ reference t (made (part {t = t'} v done) f q) r =
 reference t (grown v (grammar.operator f) w e q) r = absurd (cc)
 
 -- what the operand of a cast to a reference type begins with
-unsigned_unary : (t : Ast) → Is sorts.Unary t → not (is_signed t) ≡ true → (s : List Tok) → begins_operand (first_kind (tokens t ++ s)) ≡ true
+pub unsigned_unary : (t : Ast) → Is sorts.Unary t → not (is_signed t) ≡ true → (s : List Tok) → begins_operand (first_kind (tokens t ++ s)) ≡ true
 unsigned_unary t (made (chosen grammar.negated (token {o} e (chosen grammar.big (token g done)))) f q) i s =
     absurd (let h : not (is_sign (kind_of o)) ≡ true = sym (ap (λ z. not (is_signed z)) q) ∙ i in let j = minus_is_sign (kind_of o) e in let l = is_false (is_sign (kind_of o)) h in cc)
 unsigned_unary t (made (chosen grammar.negated (token {o} e (chosen grammar.small (part v done)))) f q) i s =
@@ -78,6 +78,20 @@ unsigned_unary t (made (chosen grammar.a_cast (part {t = t'} v done)) f q) i s =
 unsigned_unary t (made (chosen grammar.a_postfix (part {t = t'} v done)) f q) i s =
     ap (λ z. begins_operand (first_kind (tokens z ++ s))) q ∙ postfix_operand (first_kind (tokens t' ++ s)) (starts sorts.Postfix t' v s)
 unsigned_unary t (grown v (grammar.operator f) w e q) i s = absurd (cc)
+
+sign_is_no_operand : (k : Kind) → begins_operand k ≡ true → not (is_sign k) ≡ true
+unfolding every
+sign_is_no_operand k e = implied begins_operand (λ k. not (is_sign k)) refl k e
+
+-- what begins with a sign is signed
+pub signed_unary : (t : Ast) → Is sorts.Unary t → (s : List Tok) → is_sign (first_kind (tokens t ++ s)) ≡ true → is_signed t ≡ true
+signed_unary t v s e = by (is_signed t) refl
+  where
+    by : (b : Bool) → is_signed t ≡ b → b ≡ true
+    by true f = refl
+    by false f =
+        let k = first_kind (tokens t ++ s) in
+        let g = is_false (is_sign k) (sign_is_no_operand k (unsigned_unary t v (is_not (is_signed t) f) s)) in absurd (cc)
 
 operand_begins : (t : Ast) → Is sorts.Operand t → (s : List Tok) → begins_operand (first_kind (tokens t ++ s)) ≡ true
 operand_begins t (made (part {t = t'} v done) f q) s =
@@ -339,22 +353,32 @@ tells_to_reference items _ (part {t} {ts} v w) s =
     no (same (first_kind u) kinds.Prim && same (second u) kinds.CloseParen) _ _
     (subst (λ z. not (same (first_kind z) kinds.Prim && same (second z) kinds.CloseParen) ≡ true) (sym (append_assoc (tokens t) (tokens_all ts) s)) (reference_no_primitive (tokens t ++ (tokens_all ts ++ s)) (tokens_all ts ++ s) (reference t v (tokens_all ts ++ s))))
 
+name_is_element : (k : Kind) → is_name k ≡ true → is_element k ≡ true
+unfolding every
+name_is_element k e = implied is_name is_element refl k e
+
 pub tells_an_object : (items : List Item) (ts : Asts) → Match (name ∷ Part sorts.Args ∷ items) ts → (s : List Tok) → predict_new (tokens_all ts ++ s) ≡ name ∷ Part sorts.Args ∷ []
 unfolding predict_new
 tells_an_object items _ (token {o} e (part {t} {ts} v w)) s =
-    let u = o ∷ (tokens_all (more t ts) ++ s) in yes (same (second u) kinds.OpenParen) _ _ (arguments_open (second u) (part_front sorts.Args t ts v s))
+    let u = o ∷ (tokens_all (more t ts) ++ s) in yes (is_element (first_kind u) && same (second u) kinds.OpenParen) _ _ (both (is_element (first_kind u)) (same (second u) kinds.OpenParen) (name_is_element (first_kind u) e) (arguments_open (second u) (part_front sorts.Args t ts v s)))
 
 pub tells_sized : (items : List Item) (ts : Asts) → Match (One Element ∷ a kinds.OpenBracket ∷ Part sorts.Expr ∷ items) ts → (s : List Tok) → predict_new (tokens_all ts ++ s) ≡ One Element ∷ a kinds.OpenBracket ∷ Part sorts.Expr ∷ a kinds.CloseBracket ∷ Parts rows.Dimensions ∷ []
 unfolding predict_new
 tells_sized items _ (token {o} e (token {o = o'} e' (part {t} {ts} v w))) s =
     let u = o ∷ (o' ∷ (tokens_all (more t ts) ++ s)) in
-    no (same (second u) kinds.OpenParen) _ _ (bracket_is_no_parenthesis (second u) e') ∙ no (same (third u) kinds.CloseBracket) _ _ (expr_is_no_close (third u) (part_front sorts.Expr t ts v s))
+    no (is_element (first_kind u) && same (second u) kinds.OpenParen) _ _ (not_both (is_element (first_kind u)) (same (second u) kinds.OpenParen) (λ f. is_false (same (second u) kinds.OpenParen) (bracket_is_no_parenthesis (second u) e')))
+    ∙ no (is_element (first_kind u) && (same (second u) kinds.OpenBracket && same (third u) kinds.CloseBracket)) _ _
+    (not_both (is_element (first_kind u)) (same (second u) kinds.OpenBracket && same (third u) kinds.CloseBracket)
+    (λ f. is_false (same (second u) kinds.OpenBracket && same (third u) kinds.CloseBracket)
+    (not_both (same (second u) kinds.OpenBracket) (same (third u) kinds.CloseBracket) (λ g. is_false (same (third u) kinds.CloseBracket) (expr_is_no_close (third u) (part_front sorts.Expr t ts v s))))))
 
 pub tells_listed : (items : List Item) (ts : Asts) → Match (One Element ∷ a kinds.OpenBracket ∷ a kinds.CloseBracket ∷ items) ts → (s : List Tok) → predict_new (tokens_all ts ++ s) ≡ One Element ∷ a kinds.OpenBracket ∷ a kinds.CloseBracket ∷ Parts rows.Brackets ∷ a kinds.OpenBrace ∷ Parts rows.Elements ∷ a kinds.CloseBrace ∷ []
 unfolding predict_new
 tells_listed items _ (token {o} e (token {o = o'} e' (token {o = o''} {ts} e'' w))) s =
     let u = o ∷ (o' ∷ (o'' ∷ (tokens_all ts ++ s))) in
-    no (same (second u) kinds.OpenParen) _ _ (bracket_is_no_parenthesis (second u) e') ∙ yes (same (third u) kinds.CloseBracket) _ _ e''
+    no (is_element (first_kind u) && same (second u) kinds.OpenParen) _ _ (not_both (is_element (first_kind u)) (same (second u) kinds.OpenParen) (λ f. is_false (same (second u) kinds.OpenParen) (bracket_is_no_parenthesis (second u) e')))
+    ∙ yes (is_element (first_kind u) && (same (second u) kinds.OpenBracket && same (third u) kinds.CloseBracket)) _ _
+    (both (is_element (first_kind u)) (same (second u) kinds.OpenBracket && same (third u) kinds.CloseBracket) e (both (same (second u) kinds.OpenBracket) (same (third u) kinds.CloseBracket) e' e''))
 
 pub tells_dimension : (items : List Item) (ts : Asts) → Match (a kinds.OpenBracket ∷ Part sorts.Expr ∷ items) ts → (s : List Tok) → predict_dimension (tokens_all ts ++ s) ≡ a kinds.OpenBracket ∷ Part sorts.Expr ∷ a kinds.CloseBracket ∷ Parts rows.Dimensions ∷ []
 unfolding predict_dimension

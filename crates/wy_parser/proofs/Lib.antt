@@ -1,5 +1,7 @@
 pub mod Runs
 pub mod Loops
+pub mod Sights
+pub mod Looks
 pub mod Ways
 pub mod Sound
 pub mod Limits
@@ -19,3 +21,4 @@ pub mod Clear
 pub mod Suffixes
 pub mod Creations
 pub mod Complete
+pub mod Places

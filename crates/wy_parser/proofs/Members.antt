@@ -13,8 +13,8 @@ use Rattle.wy_tree.specs.declared.grammar.Sort.TheVariants as sorts
 use Rattle.wy_tree.specs.declared.grammar.Row.TheVariants as rows
 use Rattle.wy_tree.specs.declared.grammar.Item.{Item}
 use Rattle.wy_tree.specs.declared.grammar.Item.TheVariants.{Part, Parts}
-use Rattle.wy_parser.specs.Prediction.{first_kind, rest, second, past, modifies, is_bracket, heads_method, heads_interface, predict_declared, predict_declaration, predict_member, predict_member_tail}
-use Rattle.wy_parser.proofs.Truth.{or_left, or_right, both, neither, not_both, is_not, is_false}
+use Rattle.wy_parser.specs.Prediction.{first_kind, rest, second, past_modifiers, past_pairs, is_element, names_method, heads_method, heads_interface, predict_declared, predict_declaration, predict_member, predict_member_tail}
+use Rattle.wy_parser.proofs.Truth.{or_left, or_right, both, neither, not_both, is_not, is_false, if_so, if_not}
 use Rattle.wy_parser.proofs.Firsts.{begins, row_begins, first_in, every, implied, node_front, starts, front_first}
 use Rattle.wy_parser.proofs.Follows.{row_meets}
 use Rattle.wy_parser.proofs.Fronts.{yes, no, no_sign_static_initializer, no_sign_a_member}
@@ -25,50 +25,63 @@ part_front x t ts v s = ap (λ z. begins x (first_kind z)) (append_assoc (tokens
 pub retell : (x : Sort) (t : Ast) (ts : Asts) (s : List Tok) → t ≡ node (form_of x) ts → tokens t ++ s ≡ tokens_all ts ++ s
 retell x t ts s q = ap (λ z. tokens z ++ s) q ∙ node_front (form_of x) ts s
 
-past_more : (p : Kind → Bool) (o : Tok) (s : List Tok) → p (kind_of o) ≡ true → past p (o ∷ s) ≡ past p s
-unfolding past
-past_more p o s e = ap (λ b. if b then past p s else o ∷ s) e
+-- no modifier begins with this kind
+abbrev pub stays : Kind → Bool
+stays k = not (is_modifying k) && not (same k kinds.At)
 
-past_here : (p : Kind → Bool) (o : Tok) (s : List Tok) → p (kind_of o) ≡ false → past p (o ∷ s) ≡ o ∷ s
-unfolding past
-past_here p o s e = ap (λ b. if b then past p s else o ∷ s) e
-
-modifying_modifies : (k : Kind) → is_modifying k ≡ true → modifies k ≡ true
+stays_unmodified : (k : Kind) → stays k ≡ true → not (is_modifying k) ≡ true
 unfolding every
-modifying_modifies k e = implied is_modifying modifies refl k e
+stays_unmodified k e = implied stays (λ k. not (is_modifying k)) refl k e
 
-at_modifies : (k : Kind) → same k kinds.At ≡ true → modifies k ≡ true
+stays_unmarked : (k : Kind) → stays k ≡ true → not (same k kinds.At) ≡ true
 unfolding every
-at_modifies k e = implied (λ k. same k kinds.At) modifies refl k e
+stays_unmarked k e = implied stays (λ k. not (same k kinds.At)) refl k e
 
-override_modifies : (k : Kind) → same k kinds.Override ≡ true → modifies k ≡ true
+mark_is_no_modifier : (k : Kind) → same k kinds.At ≡ true → not (is_modifying k) ≡ true
 unfolding every
-override_modifies k e = implied (λ k. same k kinds.Override) modifies refl k e
+mark_is_no_modifier k e = implied (λ k. same k kinds.At) (λ k. not (is_modifying k)) refl k e
 
-class_stays : (k : Kind) → same k kinds.Class ≡ true → not (modifies k) ≡ true
+class_stays : (k : Kind) → same k kinds.Class ≡ true → stays k ≡ true
 unfolding every
-class_stays k e = implied (λ k. same k kinds.Class) (λ k. not (modifies k)) refl k e
+class_stays k e = implied (λ k. same k kinds.Class) stays refl k e
 
-interface_stays : (k : Kind) → same k kinds.Interface ≡ true → not (modifies k) ≡ true
+interface_stays : (k : Kind) → same k kinds.Interface ≡ true → stays k ≡ true
 unfolding every
-interface_stays k e = implied (λ k. same k kinds.Interface) (λ k. not (modifies k)) refl k e
+interface_stays k e = implied (λ k. same k kinds.Interface) stays refl k e
+
+past_modifier : (o : Tok) (s : List Tok) → is_modifying (kind_of o) ≡ true → past_modifiers (o ∷ s) ≡ past_modifiers s
+unfolding past_modifiers
+past_modifier o [] e = if_so (is_modifying (kind_of o)) _ _ e
+past_modifier o (o' ∷ s) e = if_so (is_modifying (kind_of o)) _ _ e
+
+past_annotation : (o o' : Tok) (s : List Tok) → same (kind_of o) kinds.At ≡ true → same (kind_of o') kinds.Override ≡ true → past_modifiers (o ∷ (o' ∷ s)) ≡ past_modifiers s
+unfolding past_modifiers
+past_annotation o o' s e f =
+    if_not (is_modifying (kind_of o)) _ _ (mark_is_no_modifier (kind_of o) e)
+    ∙ if_so (same (kind_of o) kinds.At && same (kind_of o') kinds.Override) _ _ (both (same (kind_of o) kinds.At) (same (kind_of o') kinds.Override) e f)
+
+pub past_here : (o : Tok) (s : List Tok) → stays (kind_of o) ≡ true → past_modifiers (o ∷ s) ≡ o ∷ s
+unfolding past_modifiers
+past_here o [] e = if_not (is_modifying (kind_of o)) _ _ (stays_unmodified (kind_of o) e)
+past_here o (o' ∷ s) e =
+    if_not (is_modifying (kind_of o)) _ _ (stays_unmodified (kind_of o) e)
+    ∙ if_not (same (kind_of o) kinds.At && same (kind_of o') kinds.Override) _ _
+    (not_both (same (kind_of o) kinds.At) (same (kind_of o') kinds.Override) (λ f. absurd (let g = is_false (same (kind_of o) kinds.At) (stays_unmarked (kind_of o) e) in cc)))
 
 class_is_no_interface : (k : Kind) → same k kinds.Class ≡ true → not (same k kinds.Interface) ≡ true
 unfolding every
 class_is_no_interface k e = implied (λ k. same k kinds.Class) (λ k. not (same k kinds.Interface)) refl k e
 
-mod_past : (t : Ast) → Is sorts.Mod t → (r : List Tok) → past modifies (tokens t ++ r) ≡ past modifies r
-mod_past t (made (chosen grammar.modifier (token {o} e done)) f q) r =
-    ap (λ z. past modifies (tokens z ++ r)) q ∙ past_more modifies o r (modifying_modifies (kind_of o) e)
-mod_past t (made (chosen grammar.annotation (token {o} e (token {o = o'} e' done))) f q) r =
-    ap (λ z. past modifies (tokens z ++ r)) q ∙ past_more modifies o (o' ∷ r) (at_modifies (kind_of o) e) ∙ past_more modifies o' r (override_modifies (kind_of o') e')
+mod_past : (t : Ast) → Is sorts.Mod t → (r : List Tok) → past_modifiers (tokens t ++ r) ≡ past_modifiers r
+mod_past t (made (chosen grammar.modifier (token {o} e done)) f q) r = ap (λ z. past_modifiers (tokens z ++ r)) q ∙ past_modifier o r e
+mod_past t (made (chosen grammar.annotation (token {o} e (token {o = o'} e' done))) f q) r = ap (λ z. past_modifiers (tokens z ++ r)) q ∙ past_annotation o o' r e e'
 mod_past t (grown v (grammar.operator f) w e q) r = absurd (cc)
 
 -- the parts behind the modifiers
 record Behind (items : List Item) (ts : Asts) (s : List Tok) : Type 0 where
   parts : Asts
   are : Match items parts
-  same_past : past modifies (tokens_all ts ++ s) ≡ past modifies (tokens_all parts ++ s)
+  same_past : past_modifiers (tokens_all ts ++ s) ≡ past_modifiers (tokens_all parts ++ s)
 
 behind_mods : (items : List Item) (ts : Asts) → Match (Parts (rows.Any sorts.Mod) ∷ items) ts → (s : List Tok) → Behind items ts s
 behind_mods items ts (chosen grammar.none_of w) s = record { parts = ts; are = w; same_past = refl }
@@ -77,14 +90,14 @@ behind_mods items _ (chosen grammar.some_of (part {t} {ts} v w)) s =
     record {
       parts = i.parts;
       are = i.are;
-      same_past = ap (past modifies) (append_assoc (tokens t) (tokens_all ts) s) ∙ mod_past t v (tokens_all ts ++ s) ∙ i.same_past;
+      same_past = ap past_modifiers (append_assoc (tokens t) (tokens_all ts) s) ∙ mod_past t v (tokens_all ts ++ s) ∙ i.same_past;
     }
 
-first_past : (k : Kind) (items : List Item) (ts : Asts) → Match (a k ∷ items) ts → (s : List Tok) → ((j : Kind) → same j k ≡ true → not (modifies j) ≡ true) → same (first_kind (past modifies (tokens_all ts ++ s))) k ≡ true
-first_past k items _ (token {o} {ts} e w) s f = ap (λ z. same (first_kind z) k) (past_here modifies o (tokens_all ts ++ s) (is_false (modifies (kind_of o)) (f (kind_of o) e))) ∙ e
+first_past : (k : Kind) (items : List Item) (ts : Asts) → Match (a k ∷ items) ts → (s : List Tok) → ((j : Kind) → same j k ≡ true → stays j ≡ true) → same (first_kind (past_modifiers (tokens_all ts ++ s))) k ≡ true
+first_past k items _ (token {o} {ts} e w) s f = ap (λ z. same (first_kind z) k) (past_here o (tokens_all ts ++ s) (f (kind_of o) e)) ∙ e
 
-head_past : (k : Kind) (items : List Item) (ts : Asts) → Match (Parts (rows.Any sorts.Mod) ∷ a k ∷ items) ts → (s : List Tok) → ((j : Kind) → same j k ≡ true → not (modifies j) ≡ true)
-    → same (first_kind (past modifies (tokens_all ts ++ s))) k ≡ true
+head_past : (k : Kind) (items : List Item) (ts : Asts) → Match (Parts (rows.Any sorts.Mod) ∷ a k ∷ items) ts → (s : List Tok) → ((j : Kind) → same j k ≡ true → stays j ≡ true)
+    → same (first_kind (past_modifiers (tokens_all ts ++ s))) k ≡ true
 head_past k items ts w s f =
     let b = behind_mods (a k ∷ items) ts w s in
     ap (λ z. same (first_kind z) k) b.same_past ∙ first_past k items b.parts b.are s f
@@ -92,14 +105,14 @@ head_past k items ts w s f =
 class_head : (t : Ast) → Is sorts.Class t → (s : List Tok) → heads_interface (tokens t ++ s) ≡ false
 unfolding heads_interface
 class_head t (made {ts} w e q) s =
-    ap (λ z. same (first_kind (past modifies z)) kinds.Interface) (retell sorts.Class t ts s q)
-    ∙ is_false (same (first_kind (past modifies (tokens_all ts ++ s))) kinds.Interface) (class_is_no_interface (first_kind (past modifies (tokens_all ts ++ s))) (head_past kinds.Class _ ts w s class_stays))
+    ap (λ z. same (first_kind (past_modifiers z)) kinds.Interface) (retell sorts.Class t ts s q)
+    ∙ is_false (same (first_kind (past_modifiers (tokens_all ts ++ s))) kinds.Interface) (class_is_no_interface (first_kind (past_modifiers (tokens_all ts ++ s))) (head_past kinds.Class _ ts w s class_stays))
 class_head t (grown v (grammar.operator f) w e q) s = absurd (cc)
 
 interface_head : (t : Ast) → Is sorts.Interface t → (s : List Tok) → heads_interface (tokens t ++ s) ≡ true
 unfolding heads_interface
 interface_head t (made {ts} w e q) s =
-    ap (λ z. same (first_kind (past modifies z)) kinds.Interface) (retell sorts.Interface t ts s q) ∙ head_past kinds.Interface _ ts w s interface_stays
+    ap (λ z. same (first_kind (past_modifiers z)) kinds.Interface) (retell sorts.Interface t ts s q) ∙ head_past kinds.Interface _ ts w s interface_stays
 interface_head t (grown v (grammar.operator f) w e q) s = absurd (cc)
 
 class_is_no_semicolon : (k : Kind) → begins sorts.Class k ≡ true → not (same k kinds.Semicolon) ≡ true
@@ -180,17 +193,13 @@ void_is_no_name : (k : Kind) → same k kinds.Void ≡ true → not (is_name k) 
 unfolding every
 void_is_no_name k e = implied (λ k. same k kinds.Void) (λ k. not (is_name k)) refl k e
 
-name_is_no_bracket : (k : Kind) → is_name k ≡ true → not (is_bracket k) ≡ true
+name_is_no_bracket : (k : Kind) → is_name k ≡ true → not (same k kinds.OpenBracket) ≡ true
 unfolding every
-name_is_no_bracket k e = implied is_name (λ k. not (is_bracket k)) refl k e
+name_is_no_bracket k e = implied is_name (λ k. not (same k kinds.OpenBracket)) refl k e
 
-open_is_bracket : (k : Kind) → same k kinds.OpenBracket ≡ true → is_bracket k ≡ true
+type_element : (k : Kind) → begins sorts.Type k ≡ true → is_element k ≡ true
 unfolding every
-open_is_bracket k e = implied (λ k. same k kinds.OpenBracket) is_bracket refl k e
-
-close_is_bracket : (k : Kind) → same k kinds.CloseBracket ≡ true → is_bracket k ≡ true
-unfolding every
-close_is_bracket k e = implied (λ k. same k kinds.CloseBracket) is_bracket refl k e
+type_element k e = implied (begins sorts.Type) is_element refl k e
 
 behind_element : (k : Kind) → ((same k kinds.OpenBracket || false) || (true && is_name k)) ≡ true → not (same k kinds.OpenParen) ≡ true
 unfolding every
@@ -214,14 +223,15 @@ tells_a_constructor items _ (token {o} e (part {t} {ts} v w)) s =
     let u = o ∷ (tokens_all (more t ts) ++ s) in
     yes (is_name (first_kind u) && same (second u) kinds.OpenParen) _ _ (both (is_name (first_kind u)) (same (second u) kinds.OpenParen) e (params_open (second u) (part_front sorts.Params t ts v s)))
 
-brackets_past : (ts : Asts) → Match (Parts rows.Brackets ∷ []) ts → (r : List Tok) → past is_bracket (tokens_all ts ++ r) ≡ past is_bracket r
+brackets_past : (ts : Asts) → Match (Parts rows.Brackets ∷ []) ts → (r : List Tok) → past_pairs (tokens_all ts ++ r) ≡ past_pairs r
+unfolding past_pairs
 brackets_past _ (chosen grammar.no_brackets done) r = refl
 brackets_past _ (chosen grammar.brackets (token {o} e (token {o = o'} {ts} f w))) r =
-    past_more is_bracket o (o' ∷ (tokens_all ts ++ r)) (open_is_bracket (kind_of o) e) ∙ past_more is_bracket o' (tokens_all ts ++ r) (close_is_bracket (kind_of o') f) ∙ brackets_past ts w r
+    if_so (same (kind_of o) kinds.OpenBracket && same (kind_of o') kinds.CloseBracket) _ _ (both (same (kind_of o) kinds.OpenBracket) (same (kind_of o') kinds.CloseBracket) e f) ∙ brackets_past ts w r
 
 -- past the brackets of a type comes what follows it
-type_past : (t : Ast) → Is sorts.Type t → (r : List Tok) → past is_bracket (rest (tokens t ++ r)) ≡ past is_bracket r
-type_past t (made (token {o} {ts} e w) f q) r = ap (λ z. past is_bracket (rest z)) (retell sorts.Type t (more (Leaf o) ts) r q) ∙ brackets_past ts w r
+type_past : (t : Ast) → Is sorts.Type t → (r : List Tok) → past_pairs (rest (tokens t ++ r)) ≡ past_pairs r
+type_past t (made (token {o} {ts} e w) f q) r = ap (λ z. past_pairs (rest z)) (retell sorts.Type t (more (Leaf o) ts) r q) ∙ brackets_past ts w r
 type_past t (grown v (grammar.operator f) w e q) r = absurd (cc)
 
 -- no parenthesis stands behind the first token of a type before a name
@@ -231,21 +241,33 @@ type_second t (made (token {o} {ts} e w) f q) r n =
     ∙ is_false (same (first_kind (tokens_all ts ++ r)) kinds.OpenParen) (behind_element (first_kind (tokens_all ts ++ r)) (front_first (Parts rows.Brackets ∷ []) ts w is_name r n))
 type_second t (grown v (grammar.operator f) w e q) r n = absurd (cc)
 
-name_past : (r : List Tok) → is_name (first_kind r) ≡ true → past is_bracket r ≡ r
-unfolding past
+name_past : (r : List Tok) → is_name (first_kind r) ≡ true → past_pairs r ≡ r
+unfolding past_pairs
 name_past [] n = refl
-name_past (o ∷ r) n = past_here is_bracket o r (is_false (is_bracket (kind_of o)) (name_is_no_bracket (kind_of o) n))
+name_past (o ∷ []) n = refl
+name_past (o ∷ (o' ∷ r)) n =
+    if_not (same (kind_of o) kinds.OpenBracket && same (kind_of o') kinds.CloseBracket) _ _
+    (not_both (same (kind_of o) kinds.OpenBracket) (same (kind_of o') kinds.CloseBracket) (λ f. absurd (let g = is_false (same (kind_of o) kinds.OpenBracket) (name_is_no_bracket (kind_of o) n) in cc)))
+
+-- what stands behind a type before a name
+type_names : (t : Ast) → Is sorts.Type t → (r : List Tok) → is_name (first_kind r) ≡ true → (b : Bool) → same (second r) kinds.OpenParen ≡ b
+    → (is_element (first_kind (tokens t ++ r)) && names_method (past_pairs (rest (tokens t ++ r)))) ≡ b
+type_names t v r n b p =
+    ap (λ z. z && names_method (past_pairs (rest (tokens t ++ r)))) (type_element (first_kind (tokens t ++ r)) (starts sorts.Type t v r))
+    ∙ ap names_method (type_past t v r ∙ name_past r n)
+    ∙ ap (λ z. z && same (second r) kinds.OpenParen) n
+    ∙ p
 
 -- a result, before the name and the parameters of a method
 result_heads : (t : Ast) → Is sorts.Result t → (r : List Tok) → is_name (first_kind r) ≡ true → same (second r) kinds.OpenParen ≡ true → heads_method (tokens t ++ r) ≡ true
 unfolding heads_method
 result_heads t (made (chosen grammar.no_result (token {o} e done)) f q) r n p =
-    ap (λ z. same (first_kind z) kinds.Void || same (second (past is_bracket (rest z))) kinds.OpenParen) (ap (λ z. tokens z ++ r) q)
-    ∙ or_left (same (kind_of o) kinds.Void) (same (second (past is_bracket r)) kinds.OpenParen) e
+    ap (λ z. same (first_kind z) kinds.Void || (is_element (first_kind z) && names_method (past_pairs (rest z)))) (ap (λ z. tokens z ++ r) q)
+    ∙ or_left (same (kind_of o) kinds.Void) (is_element (kind_of o) && names_method (past_pairs r)) e
 result_heads t (made (chosen grammar.a_result (part {t = t'} v done)) f q) r n p =
-    ap (λ z. same (first_kind z) kinds.Void || same (second (past is_bracket (rest z))) kinds.OpenParen) (ap (λ z. tokens z ++ r) q)
-    ∙ or_right (same (first_kind (tokens t' ++ r)) kinds.Void) (same (second (past is_bracket (rest (tokens t' ++ r)))) kinds.OpenParen)
-    (ap (λ z. same (second z) kinds.OpenParen) (type_past t' v r ∙ name_past r n) ∙ p)
+    ap (λ z. same (first_kind z) kinds.Void || (is_element (first_kind z) && names_method (past_pairs (rest z)))) (ap (λ z. tokens z ++ r) q)
+    ∙ or_right (same (first_kind (tokens t' ++ r)) kinds.Void) (is_element (first_kind (tokens t' ++ r)) && names_method (past_pairs (rest (tokens t' ++ r))))
+    (type_names t' v r n true p)
 result_heads t (grown v (grammar.operator f) w e q) r n p = absurd (cc)
 
 result_second : (t : Ast) → Is sorts.Result t → (r : List Tok) → is_name (first_kind r) ≡ true → is_name (first_kind (tokens t ++ r)) ≡ true → same (second (tokens t ++ r)) kinds.OpenParen ≡ false
@@ -287,10 +309,10 @@ tells_fields items _ (part {t} v (part {t = t'} v' (token {o} {ts} e w))) s =
     let u = tokens t ++ r in
     let same_tokens : tokens_all (more t (more t' (more (Leaf o) ts))) ++ s ≡ u =
     append_assoc (tokens t) (tokens t' ++ (o ∷ tokens_all ts)) s ∙ ap (λ z. tokens t ++ z) (append_assoc (tokens t') (o ∷ tokens_all ts) s) in
-    let p : same (second (past is_bracket (rest u))) kinds.OpenParen ≡ false = ap (λ z. same (second z) kinds.OpenParen) (type_past t v r ∙ name_past r n) ∙ decls_second t' v' (o ∷ (tokens_all ts ++ s)) e in
+    let p : (is_element (first_kind u) && names_method (past_pairs (rest u))) ≡ false = type_names t v r n false (decls_second t' v' (o ∷ (tokens_all ts ++ s)) e) in
     let q : same (first_kind u) kinds.Void ≡ false = is_false (same (first_kind u) kinds.Void) (type_is_no_void (first_kind u) (starts sorts.Type t v r)) in
-    let m : (same (first_kind u) kinds.Void || same (second (past is_bracket (rest u))) kinds.OpenParen) ≡ false = neither (same (first_kind u) kinds.Void) (same (second (past is_bracket (rest u))) kinds.OpenParen) q p in
-    subst (λ z. (if is_name (first_kind z) && same (second z) kinds.OpenParen then name ∷ Part sorts.Params ∷ Parts (rows.Maybe sorts.Throws) ∷ a kinds.OpenBrace ∷ Parts rows.OwnCall ∷ Parts (rows.Any sorts.Local) ∷ a kinds.CloseBrace ∷ [] else (if same (first_kind z) kinds.Void || same (second (past is_bracket (rest z))) kinds.OpenParen then Part sorts.Result ∷ name ∷ Part sorts.Params ∷ Parts (rows.Maybe sorts.Throws) ∷ Parts rows.MethodBody ∷ [] else Part sorts.Type ∷ Part sorts.Decls ∷ a kinds.Semicolon ∷ [])) ≡ Part sorts.Type ∷ Part sorts.Decls ∷ a kinds.Semicolon ∷ [])
+    let m : (same (first_kind u) kinds.Void || (is_element (first_kind u) && names_method (past_pairs (rest u)))) ≡ false = neither (same (first_kind u) kinds.Void) ((is_element (first_kind u) && names_method (past_pairs (rest u)))) q p in
+    subst (λ z. (if is_name (first_kind z) && same (second z) kinds.OpenParen then name ∷ Part sorts.Params ∷ Parts (rows.Maybe sorts.Throws) ∷ a kinds.OpenBrace ∷ Parts rows.OwnCall ∷ Parts (rows.Any sorts.Local) ∷ a kinds.CloseBrace ∷ [] else (if same (first_kind z) kinds.Void || (is_element (first_kind z) && names_method (past_pairs (rest z))) then Part sorts.Result ∷ name ∷ Part sorts.Params ∷ Parts (rows.Maybe sorts.Throws) ∷ Parts rows.MethodBody ∷ [] else Part sorts.Type ∷ Part sorts.Decls ∷ a kinds.Semicolon ∷ [])) ≡ Part sorts.Type ∷ Part sorts.Decls ∷ a kinds.Semicolon ∷ [])
     (sym same_tokens)
     (no (is_name (first_kind u) && same (second u) kinds.OpenParen) _ _ (not_both (is_name (first_kind u)) (same (second u) kinds.OpenParen) (λ b. type_second t v r n))
-    ∙ no (same (first_kind u) kinds.Void || same (second (past is_bracket (rest u))) kinds.OpenParen) _ _ (is_not (same (first_kind u) kinds.Void || same (second (past is_bracket (rest u))) kinds.OpenParen) m))
+    ∙ no (same (first_kind u) kinds.Void || (is_element (first_kind u) && names_method (past_pairs (rest u)))) _ _ (is_not (same (first_kind u) kinds.Void || (is_element (first_kind u) && names_method (past_pairs (rest u)))) m))

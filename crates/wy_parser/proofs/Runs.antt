@@ -1,7 +1,7 @@
 -- What the functions of the parser need to know of reading.
 use Rattle.std.proofs.Common.{ℕ, zero, suc, true, false, ◌≡◌, ◌<◌, ◌≤◌, ◌+◌, ◌-◌, List, [], ◌∷◌, ◌++◌, Option, Some, None, length, nat_le, refl, sym, ◌∙◌, ap, arith}
 use Rattle.std.proofs.lemmas.Bool.{le-leb, lt-leb}
-use Rattle.std.specs.Prelude.{reverse}
+use Rattle.std.specs.Prelude.{reverse, min}
 use Rattle.std.proofs.lemmas.List.{reverse-append}
 use Rattle.wy_tree.specs.Seen.{Tok}
 use Rattle.wy_tree.specs.Ast.{Ast, Asts, Leaf, Node, none, more, one, joined, views, deepest}
@@ -13,6 +13,7 @@ use Rattle.wy_tree.specs.declared.grammar.Row.{Row}
 use Rattle.wy_tree.specs.declared.grammar.Item.{Item}
 use Rattle.wy_tree.specs.declared.grammar.Item.TheVariants.{One, Part, Parts}
 use Rattle.wy_parser.specs.Prediction.{predict}
+use Rattle.wy_parser.specs.Looks.{reach, Looker, later, looked_parts, looked_step, looked_ranked, looked}
 use Rattle.wy_parser.specs.Reading.{ReadAll, Reader, read_then, guard, taken, before, parts, closed_by, base, grow, growing, ranked, reader}
 
 pub reader_shallow : (r : ℕ) (x : Sort) (s : List Tok) → reader 0 r x s ≡ None
@@ -81,12 +82,12 @@ pub reads_out : (whole : ReadAll) (found : Asts) (first next : Reader) (k : ℕ)
 unfolding parts
 reads_out whole found first next k items s w e = w.same ∙ ap (λ z. before_all found (parts first next z items s)) e ∙ before_none found
 
-step_token : (first next : Reader) (k : ℕ) (c : Class) (items : List Item) (s : List Tok) → 0 < k → parts first next k (One c ∷ items) s ≡ read_then (taken c s) (λ o r. before (Leaf o) (parts next next (k - 1) items r))
+pub step_token : (first next : Reader) (k : ℕ) (c : Class) (items : List Item) (s : List Tok) → 0 < k → parts first next k (One c ∷ items) s ≡ read_then (taken c s) (λ o r. before (Leaf o) (parts next next (k - 1) items r))
 unfolding parts
 step_token first next zero c items s lt = absurd (omega arith)
 step_token first next (suc k) c items s lt = let e : k ≡ suc k - 1 = omega arith in ap (λ z. read_then (taken c s) (λ o r. before (Leaf o) (parts next next z items r))) e
 
-step_part : (first next : Reader) (k : ℕ) (x : Sort) (items : List Item) (s : List Tok) → 0 < k → parts first next k (Part x ∷ items) s ≡ read_then (first x s) (λ t r. before t (parts next next (k - 1) items r))
+pub step_part : (first next : Reader) (k : ℕ) (x : Sort) (items : List Item) (s : List Tok) → 0 < k → parts first next k (Part x ∷ items) s ≡ read_then (first x s) (λ t r. before t (parts next next (k - 1) items r))
 unfolding parts
 step_part first next zero x items s lt = absurd (omega arith)
 step_part first next (suc k) x items s lt = let e : k ≡ suc k - 1 = omega arith in ap (λ z. read_then (first x s) (λ t r. before t (parts next next z items r))) e
@@ -136,6 +137,99 @@ reads_row whole found first next k items s row items' items'' w lt e f = record 
   same = w.same ∙ ap (λ z. before_all found (parts first next k z s)) e ∙ ap (before_all found) (step_row first next k row items' s lt)
       ∙ sym (ap (λ z. before_all found (parts first next (k - 1) z s)) f);
 }
+
+-- what was looked at so far, and what is still to be looked at
+pub record IsLooking (sight : ℕ) (first next : Reader) (sees see : Looker) (k : ℕ) (items : List Item) (s : List Tok) (n : ℕ) : Type 0 where
+  pub same : sight ≡ looked_parts first next sees see k items s n
+
+pub looking : (first next : Reader) (sees see : Looker) (k : ℕ) (items : List Item) (s : List Tok) (n : ℕ) → IsLooking (looked_parts first next sees see k items s n) first next sees see k items s n
+looking first next sees see k items s n = record { same = refl }
+
+pub looks_end : (sight : ℕ) (first next : Reader) (sees see : Looker) (k : ℕ) (items : List Item) (s : List Tok) (n : ℕ) → IsLooking sight first next sees see k items s n → 0 < k → items ≡ [] → n ≡ sight
+unfolding looked_parts
+looks_end sight first next sees see k items s n w lt e =
+    let go : looked_parts first next sees see k [] s n ≡ n = positive (λ k. looked_parts first next sees see k [] s n ≡ n) k lt (λ j. refl) in
+    sym (w.same ∙ ap (λ z. looked_parts first next sees see k z s n) e ∙ go)
+
+pub looks_out : (sight : ℕ) (first next : Reader) (sees see : Looker) (k : ℕ) (items : List Item) (s : List Tok) (n : ℕ) → IsLooking sight first next sees see k items s n → k ≡ 0 → 0 ≡ sight
+unfolding looked_parts
+looks_out sight first next sees see k items s n w e = sym (w.same ∙ ap (λ z. looked_parts first next sees see z items s n) e)
+
+look_token : (first next : Reader) (sees see : Looker) (k : ℕ) (c : Class) (items : List Item) (s : List Tok) (n : ℕ) → 0 < k
+    → looked_parts first next sees see k (One c ∷ items) s n ≡ later (taken c s) (min n (length s)) (λ o r. looked_parts next next see see (k - 1) items r)
+unfolding looked_parts
+look_token first next sees see zero c items s n lt = absurd (omega arith)
+look_token first next sees see (suc k) c items s n lt = let e : k ≡ suc k - 1 = omega arith in ap (λ z. later (taken c s) (min n (length s)) (λ o r. looked_parts next next see see z items r)) e
+
+look_part : (first next : Reader) (sees see : Looker) (k : ℕ) (x : Sort) (items : List Item) (s : List Tok) (n : ℕ) → 0 < k
+    → looked_parts first next sees see k (Part x ∷ items) s n ≡ later (first x s) (sees x s n) (λ t r. looked_parts next next see see (k - 1) items r)
+unfolding looked_parts
+look_part first next sees see zero x items s n lt = absurd (omega arith)
+look_part first next sees see (suc k) x items s n lt = let e : k ≡ suc k - 1 = omega arith in ap (λ z. later (first x s) (sees x s n) (λ t r. looked_parts next next see see z items r)) e
+
+look_row : (first next : Reader) (sees see : Looker) (k : ℕ) (row : Row) (items : List Item) (s : List Tok) (n : ℕ) → 0 < k
+    → looked_parts first next sees see k (Parts row ∷ items) s n ≡ looked_parts first next sees see (k - 1) (predict row s ++ items) s (min n (reach row s))
+unfolding looked_parts
+look_row first next sees see zero row items s n lt = absurd (omega arith)
+look_row first next sees see (suc k) row items s n lt = let e : k ≡ suc k - 1 = omega arith in ap (λ z. looked_parts first next sees see z (predict row s ++ items) s (min n (reach row s))) e
+
+pub looks_token : (sight : ℕ) (first next : Reader) (sees see : Looker) (k : ℕ) (items : List Item) (s : List Tok) (n : ℕ) (c : Class) (items' : List Item) (x : Tok × List Tok) (m : ℕ)
+    → IsLooking sight first next sees see k items s n → 0 < k → items ≡ One c ∷ items' → taken c s ≡ Some x → m ≡ min n (length s) → IsLooking sight next next see see (k - 1) items' x.1 m
+looks_token sight first next sees see k items s n c items' x m w lt e f g = record {
+  same = w.same ∙ ap (λ z. looked_parts first next sees see k z s n) e ∙ look_token first next sees see k c items' s n lt
+      ∙ ap (λ z. later z (min n (length s)) (λ o r. looked_parts next next see see (k - 1) items' r)) f
+      ∙ ap (looked_parts next next see see (k - 1) items' x.1) (sym g);
+}
+
+pub looks_no_token : (sight : ℕ) (first next : Reader) (sees see : Looker) (k : ℕ) (items : List Item) (s : List Tok) (n : ℕ) (c : Class) (items' : List Item) (m : ℕ)
+    → IsLooking sight first next sees see k items s n → 0 < k → items ≡ One c ∷ items' → taken c s ≡ None → m ≡ min n (length s) → m ≡ sight
+looks_no_token sight first next sees see k items s n c items' m w lt e f g =
+    g ∙ sym (w.same ∙ ap (λ z. looked_parts first next sees see k z s n) e ∙ look_token first next sees see k c items' s n lt
+    ∙ ap (λ z. later z (min n (length s)) (λ o r. looked_parts next next see see (k - 1) items' r)) f)
+
+pub looks_part : (sight : ℕ) (first next : Reader) (sees see : Looker) (k : ℕ) (items : List Item) (s : List Tok) (n : ℕ) (x : Sort) (items' : List Item) (t : Ast) (r : List Tok) (m : ℕ)
+    → IsLooking sight first next sees see k items s n → 0 < k → items ≡ Part x ∷ items' → first x s ≡ Some (t, r) → m ≡ sees x s n → IsLooking sight next next see see (k - 1) items' r m
+looks_part sight first next sees see k items s n x items' t r m w lt e f g = record {
+  same = w.same ∙ ap (λ z. looked_parts first next sees see k z s n) e ∙ look_part first next sees see k x items' s n lt
+      ∙ ap (λ z. later z (sees x s n) (λ t r. looked_parts next next see see (k - 1) items' r)) f
+      ∙ ap (looked_parts next next see see (k - 1) items' r) (sym g);
+}
+
+pub looks_no_part : (sight : ℕ) (first next : Reader) (sees see : Looker) (k : ℕ) (items : List Item) (s : List Tok) (n : ℕ) (x : Sort) (items' : List Item)
+    → IsLooking sight first next sees see k items s n → 0 < k → items ≡ Part x ∷ items' → first x s ≡ None → sees x s n ≡ sight
+looks_no_part sight first next sees see k items s n x items' w lt e f =
+    sym (w.same ∙ ap (λ z. looked_parts first next sees see k z s n) e ∙ look_part first next sees see k x items' s n lt
+    ∙ ap (λ z. later z (sees x s n) (λ t r. looked_parts next next see see (k - 1) items' r)) f)
+
+pub looks_row : (sight : ℕ) (first next : Reader) (sees see : Looker) (k : ℕ) (items : List Item) (s : List Tok) (n : ℕ) (row : Row) (items' items'' : List Item) (m : ℕ)
+    → IsLooking sight first next sees see k items s n → 0 < k → items ≡ Parts row ∷ items' → items'' ≡ predict row s ++ items' → m ≡ min n (reach row s) → IsLooking sight first next sees see (k - 1) items'' s m
+looks_row sight first next sees see k items s n row items' items'' m w lt e f g = record {
+  same = w.same ∙ ap (λ z. looked_parts first next sees see k z s n) e ∙ look_row first next sees see k row items' s n lt
+      ∙ ap (looked_parts first next sees see (k - 1) (predict row s ++ items') s) (sym g)
+      ∙ sym (ap (λ z. looked_parts first next sees see (k - 1) z s m) f);
+}
+
+pub looked_shallow : (r : ℕ) (x : Sort) (s : List Tok) (n : ℕ) → looked 0 r x s n ≡ n
+unfolding looked
+looked_shallow r x s n = refl
+
+pub looked_rankless : (d : ℕ) (x : Sort) (s : List Tok) (n : ℕ) → looked d 0 x s n ≡ n
+unfolding looked looked_ranked
+looked_rankless zero x s n = refl
+looked_rankless (suc d) x s n = refl
+
+pub looked_stepped : (d r : ℕ) (x : Sort) (s : List Tok) (n : ℕ) → 0 < d → 0 < r
+    → looked d r x s n ≡ looked_step (reader (d - 1 + 1) (r - 1)) (reader (d - 1) 24) (looked (d - 1 + 1) (r - 1)) (looked (d - 1) 24) (d - 1) x s n
+unfolding looked looked_ranked reader
+looked_stepped zero r x s n lt lr = absurd (omega arith)
+looked_stepped (suc d) zero x s n lt lr = absurd (omega arith)
+looked_stepped (suc d) (suc r) x s n lt lr =
+    let e : d ≡ suc d - 1 = omega arith in
+    let f : r ≡ suc r - 1 = omega arith in
+    let g : suc d ≡ d + 1 = omega arith in
+    ap (λ z. looked_step (reader z r) (reader d 24) (looked z r) (looked d 24) d x s n) g
+    ∙ ap (λ z. looked_step (reader (d + 1) z) (reader d 24) (looked (d + 1) z) (looked d 24) d x s n) f
+    ∙ ap (λ z. looked_step (reader (z + 1) (suc r - 1)) (reader z 24) (looked (z + 1) (suc r - 1)) (looked z 24) z x s n) e
 
 several : (ts : List Tree) → (length ts ≡ 1 → ⊥) → (d : ℕ) (x : Sort) (s : List Tok) → closed_by d x (views ts) s ≡ guard (nat_le (deepest (views ts)) d) (Some (Node (form_of x) (views ts), s))
 several [] f d x s = refl

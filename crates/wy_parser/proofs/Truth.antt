@@ -1,5 +1,5 @@
 -- Truth values.
-use Rattle.std.proofs.Common.{Bool, true, false, not, ◌&&◌, ◌||◌, ◌≡◌, refl}
+use Rattle.std.proofs.Common.{Bool, true, false, not, ◌&&◌, ◌||◌, if◌then◌else◌, ◌≡◌, refl}
 
 pub and_left : (b c : Bool) → (b && c) ≡ true → b ≡ true
 and_left true c e = refl
@@ -41,3 +41,11 @@ is_false false e = refl
 pub not_not : (b : Bool) → b ≡ true → not (not b) ≡ true
 not_not true e = refl
 not_not false e = absurd (cc)
+
+pub if_so : {A : Type 0} (b : Bool) (x y : A) → b ≡ true → (if b then x else y) ≡ x
+if_so true x y e = refl
+if_so false x y e = absurd (cc)
+
+pub if_not : {A : Type 0} (b : Bool) (x y : A) → not b ≡ true → (if b then x else y) ≡ y
+if_not true x y e = absurd (cc)
+if_not false x y e = refl

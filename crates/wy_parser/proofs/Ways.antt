@@ -14,7 +14,7 @@ use Rattle.wy_tree.specs.declared.grammar.Row.{Row}
 use Rattle.wy_tree.specs.declared.grammar.Row.TheVariants as rows
 use Rattle.wy_tree.specs.declared.grammar.Item.{Item}
 use Rattle.wy_tree.specs.declared.grammar.Item.TheVariants.{One, Part, Parts}
-use Rattle.wy_parser.specs.Prediction.{first_kind, casts, comes, declares, heads_interface, heads_method, is_there, second, third, predict, continued, continued_level, continued_primary, continued_relation, predict_list, predict_declared, predict_method, predict_declaration, predict_member_form, predict_member_tail, predict_member, predict_elements, predict_initial, predict_leaving, predict_looping, predict_statement_form, predict_statement, predict_unary, predict_operator, predict_primary, predict_new, predict_dimension}
+use Rattle.wy_parser.specs.Prediction.{first_kind, is_element, casts, comes, declares, heads_interface, heads_method, is_there, second, third, predict, continued, continued_level, continued_primary, continued_relation, predict_list, predict_declared, predict_method, predict_declaration, predict_member_form, predict_member_tail, predict_member, predict_elements, predict_initial, predict_leaving, predict_looping, predict_statement_form, predict_statement, predict_unary, predict_operator, predict_primary, predict_new, predict_dimension}
 
 -- of two ways the one that a test tells
 either : (P : List Item → Type 0) (b : Bool) (x y : List Item) → P x → P y → P (if b then x else y)
@@ -207,7 +207,7 @@ primary_is s = either (Alternative rows.PrimaryForm) (same (first_kind s) kinds.
 
 new_is : (s : List Tok) → Alternative rows.NewForm (predict_new s)
 unfolding predict_new
-new_is s = either (Alternative rows.NewForm) (same (second s) kinds.OpenParen) (name ∷ Part sorts.Args ∷ []) (if same (third s) kinds.CloseBracket then One Element ∷ a kinds.OpenBracket ∷ a kinds.CloseBracket ∷ Parts rows.Brackets ∷ a kinds.OpenBrace ∷ Parts rows.Elements ∷ a kinds.CloseBrace ∷ [] else One Element ∷ a kinds.OpenBracket ∷ Part sorts.Expr ∷ a kinds.CloseBracket ∷ Parts rows.Dimensions ∷ []) (grammar.an_object) (either (Alternative rows.NewForm) (same (third s) kinds.CloseBracket) (One Element ∷ a kinds.OpenBracket ∷ a kinds.CloseBracket ∷ Parts rows.Brackets ∷ a kinds.OpenBrace ∷ Parts rows.Elements ∷ a kinds.CloseBrace ∷ []) (One Element ∷ a kinds.OpenBracket ∷ Part sorts.Expr ∷ a kinds.CloseBracket ∷ Parts rows.Dimensions ∷ []) (grammar.listed) (grammar.sized))
+new_is s = either (Alternative rows.NewForm) (is_element (first_kind s) && same (second s) kinds.OpenParen) (name ∷ Part sorts.Args ∷ []) (if is_element (first_kind s) && (same (second s) kinds.OpenBracket && same (third s) kinds.CloseBracket) then One Element ∷ a kinds.OpenBracket ∷ a kinds.CloseBracket ∷ Parts rows.Brackets ∷ a kinds.OpenBrace ∷ Parts rows.Elements ∷ a kinds.CloseBrace ∷ [] else One Element ∷ a kinds.OpenBracket ∷ Part sorts.Expr ∷ a kinds.CloseBracket ∷ Parts rows.Dimensions ∷ []) (grammar.an_object) (either (Alternative rows.NewForm) (is_element (first_kind s) && (same (second s) kinds.OpenBracket && same (third s) kinds.CloseBracket)) (One Element ∷ a kinds.OpenBracket ∷ a kinds.CloseBracket ∷ Parts rows.Brackets ∷ a kinds.OpenBrace ∷ Parts rows.Elements ∷ a kinds.CloseBrace ∷ []) (One Element ∷ a kinds.OpenBracket ∷ Part sorts.Expr ∷ a kinds.CloseBracket ∷ Parts rows.Dimensions ∷ []) (grammar.listed) (grammar.sized))
 
 dimension_is : (s : List Tok) → Alternative rows.Dimensions (predict_dimension s)
 unfolding predict_dimension

@@ -17,13 +17,22 @@ use Rattle.wy_parser.specs.declared.stop.Growth.{Growth}
 use Rattle.wy_parser.specs.declared.stop.Growth.TheVariants as growths
 
 abbrev pub Fails : {A : Type 0} → Stop → Option A → Type 0
-Fails (stops.At left) read = read ≡ None
+Fails stops.NoTree read = read ≡ None
 Fails stops.Memory read = Unit {0}
 
 -- What a function returned, seen by a view, is what reading gives, unless memory ran out.
 abbrev pub Gives : {X A : Type 0} → (X → A) → Result X Stop → Option A → Type 0
 Gives see (Ok x) read = read ≡ Some (see x)
 Gives see (Err e) read = Fails e read
+
+abbrev pub LooksAt : Stop → ℕ → ℕ → Type 0
+LooksAt stops.NoTree seen n = seen ≡ n
+LooksAt stops.Memory seen n = Unit {0}
+
+-- What a function looked at, of which it tells the last, unless memory ran out.
+abbrev pub Looks : {X : Type 0} → Result X Stop → ℕ → ℕ → Type 0
+Looks (Ok x) seen n = seen ≡ n
+Looks (Err e) seen n = LooksAt e seen n
 
 abbrev pub read_of : Sub → List Symbol → Ast × List Tok
 read_of t rest = (view t.tree, symbols_seen rest)
@@ -36,7 +45,7 @@ Grown_as (growths.Stayed t) l g = (g ≡ Stay) × (view t.tree ≡ l)
 Grown_as (growths.Grew t rest) l g = g ≡ Onto (view t.tree) (symbols_seen rest.now)
 
 abbrev pub FailsGrown : Stop → Grown → Type 0
-FailsGrown (stops.At left) g = g ≡ Wrong
+FailsGrown stops.NoTree g = g ≡ Wrong
 FailsGrown stops.Memory g = Unit {0}
 
 -- What a function returned is how the tree grows, unless memory ran out.
@@ -72,9 +81,10 @@ abbrev pub Tells : Result Tree ParseError → Option Ast → Type 0
 Tells (Ok t) tree = tree ≡ Some (view t)
 Tells (Err e) tree = Refuses e tree
 
-abbrev pub PlaceIn : ParseError → ℕ → Type 0
-PlaceIn (errors.Syntax at) n = at ≤ n
-PlaceIn errors.NoMemory n = Unit {0}
+-- What is named is the last token that was looked at, of so many.
+abbrev pub NamesLast : ParseError → ℕ → ℕ → Type 0
+NamesLast (errors.Syntax at) total n = at + n ≡ total
+NamesLast errors.NoMemory total n = Unit {0}
 
 abbrev pub IsSyntax : ParseError → Type 0
 IsSyntax (errors.Syntax at) = Unit {0}

@@ -29,24 +29,34 @@ second s = first_kind (rest s)
 abbrev pub third : List Tok → Kind
 third s = first_kind (rest (rest s))
 
--- what stands in modifiers
-abbrev pub modifies : Kind → Bool
-modifies k = is_modifying k || (same k kinds.At || same k kinds.Override)
+-- the tokens behind modifiers
+unfoldable pub past_modifiers : List Tok → List Tok
+past_modifiers [] = []
+past_modifiers (o ∷ []) = if is_modifying (kind_of o) then [] else o ∷ []
+past_modifiers (o ∷ (o' ∷ s)) =
+    if is_modifying (kind_of o) then past_modifiers (o' ∷ s) else
+    (if same (kind_of o) kinds.At && same (kind_of o') kinds.Override then past_modifiers s else o ∷ (o' ∷ s))
 
-abbrev pub is_bracket : Kind → Bool
-is_bracket k = same k kinds.OpenBracket || same k kinds.CloseBracket
+-- the tokens behind pairs of brackets
+unfoldable pub past_pairs : List Tok → List Tok
+past_pairs [] = []
+past_pairs (o ∷ []) = o ∷ []
+past_pairs (o ∷ (o' ∷ s)) = if same (kind_of o) kinds.OpenBracket && same (kind_of o') kinds.CloseBracket then past_pairs s else o ∷ (o' ∷ s)
 
--- the tokens from the first one on that is not so
-unfoldable pub past : (Kind → Bool) → List Tok → List Tok
-past p [] = []
-past p (o ∷ s) = if p (kind_of o) then past p s else o ∷ s
+-- a primitive type or a name
+abbrev pub is_element : Kind → Bool
+is_element k = is_name k || same k kinds.Prim
+
+-- a name and a parameter list
+abbrev pub names_method : List Tok → Bool
+names_method s = is_name (first_kind s) && same (second s) kinds.OpenParen
 
 -- a parameter list behind a type and a name, or void
 unfoldable pub heads_method : List Tok → Bool
-heads_method s = same (first_kind s) kinds.Void || same (second (past is_bracket (rest s))) kinds.OpenParen
+heads_method s = same (first_kind s) kinds.Void || (is_element (first_kind s) && names_method (past_pairs (rest s)))
 
 unfoldable pub heads_interface : List Tok → Bool
-heads_interface s = same (first_kind (past modifies s)) kinds.Interface
+heads_interface s = same (first_kind (past_modifiers s)) kinds.Interface
 
 unfoldable pub declares : List Tok → Bool
 declares s =
@@ -214,8 +224,8 @@ predict_primary s =
 
 unfoldable pub predict_new : List Tok → List Item
 predict_new s =
-    if same (second s) kinds.OpenParen then name ∷ Part sorts.Args ∷ [] else
-    (if same (third s) kinds.CloseBracket then
+    if is_element (first_kind s) && same (second s) kinds.OpenParen then name ∷ Part sorts.Args ∷ [] else
+    (if is_element (first_kind s) && (same (second s) kinds.OpenBracket && same (third s) kinds.CloseBracket) then
     One Element ∷ a kinds.OpenBracket ∷ a kinds.CloseBracket ∷ Parts rows.Brackets ∷ a kinds.OpenBrace ∷ Parts rows.Elements ∷ a kinds.CloseBrace ∷ [] else
     One Element ∷ a kinds.OpenBracket ∷ Part sorts.Expr ∷ a kinds.CloseBracket ∷ Parts rows.Dimensions ∷ [])
 

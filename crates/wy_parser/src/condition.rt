@@ -2,6 +2,7 @@
 
 ghost use Rattle.std.specs.Prelude.{◌≡◌};
 ghost use Rattle.wy_tree.specs.Ast.{view, views};
+ghost use Rattle.wy_parser.specs.Looks.{refuses_sign as sign_refused, refuses_element as element_refused};
 ghost use Rattle.wy_tree.specs.Conditions.{leaf_kind as kind_of_leaf, first_kind as kind_of_first, is_args as args, ends_in_args as args_last, is_access as access, tail as behind_first, is_none as nothing, begins_open as open_first, is_variable as variable, is_effect as effect, is_array_creation as array_creation, is_reference as reference, is_sign as sign, is_signed as signed, lacks_else as else_lacking, is_open as still_open, ends_open as open_end, binds_else as else_bound, pairs as pairs_of, type_pairs as pairs_of_type, declarator_pairs as pairs_of_declarator, most_declarators as most_of_declarators, declared_pairs as pairs_declared, most_types as most_of_types, most_declared as most_of_declared, condition as conditions, fine as all_fine, joins as joining};
 
 use crate::look::is_name;
@@ -306,6 +307,23 @@ pub fn fine(sort: Sort, parts: &[Tree]) -> bool
     condition(sort, parts)
         && pairs(parts).min(256) + (most_types(parts).min(256) + most_declared(parts).min(256))
             <= 255
+}
+
+/// Whether no tree of this sort begins with a token of this kind: the operand of a cast to a reference begins with no sign.
+pub fn refuses_sign(sort: Sort, kind: Kind) -> bool
+    ensures { result ≡ sign_refused sort kind }
+{
+    match sort {
+        Sort::Operand => is_sign(kind),
+        _ => false,
+    }
+}
+
+/// Whether nothing that begins with a token of this kind may stand behind a tree.
+pub fn refuses_element(left: &Tree, kind: Kind) -> bool
+    ensures { result ≡ element_refused (view left.now) kind }
+{
+    is_array_creation(left) && is_kind(kind, Kind::OpenBracket)
 }
 
 /// Whether these parts may stand behind a tree.

@@ -4,7 +4,7 @@ ghost use Rattle.std.specs.Prelude.{◌≡◌, ◌++◌, OnOk, reverse};
 ghost use Rattle.wy_parser.specs.Symbols.{symbols_seen};
 ghost use Rattle.wy_parser.specs.Prediction.{predict_unary as unary_way, predict_operator as operator_way, predict_primary as primary_way, predict_new as new_way, predict_dimension as dimension_way};
 
-use crate::look::{behind, casts, first_kind, is_prefixing, is_setting};
+use crate::look::{behind, casts, first_kind, is_element, is_prefixing, is_setting};
 use crate::row::{put, token};
 use crate::symbol::Symbol;
 use std::alloc::AllocError;
@@ -151,11 +151,14 @@ pub fn new_ways(pending: &mut Vec<Item>, symbols: &[Symbol]) -> Result<(), Alloc
     ensures { OnOk result (reverse pending.new.items ≡ new_way (symbols_seen symbols.now)
         ++ reverse pending.old.items) }
 {
+    let first = first_kind(symbols);
     let second = first_kind(behind(symbols));
     let third = first_kind(behind(behind(symbols)));
-    if is_kind(second, Kind::OpenParen) {
+    if is_element(first) && is_kind(second, Kind::OpenParen) {
         put(pending, &[Item::One(Class::Name), Item::Part(Sort::Args)])
-    } else if is_kind(third, Kind::CloseBracket) {
+    } else if is_element(first)
+        && (is_kind(second, Kind::OpenBracket) && is_kind(third, Kind::CloseBracket))
+    {
         put(
             pending,
             &[

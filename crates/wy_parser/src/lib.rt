@@ -7,6 +7,7 @@ pub mod laws;
 pub mod look;
 pub mod parse;
 pub mod part;
+pub mod reach;
 pub mod read;
 pub mod row;
 pub mod rule;

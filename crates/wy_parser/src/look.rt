@@ -5,7 +5,7 @@ ghost use Rattle.wy_tree.specs.Conditions.{is_name as named};
 ghost use Rattle.wy_tree.specs.Grammar.{allows, is_own as own, is_modifying as modifying, is_setting as setting, is_prefixing as prefixing};
 ghost use Rattle.wy_parser.specs.Symbols.{symbol_seen, symbols_seen};
 ghost use Rattle.wy_parser.specs.Reading.{taken};
-ghost use Rattle.wy_parser.specs.Prediction.{first_kind, second, third, rest, past, is_bracket as bracket, modifies as modify, heads_method as method_heads, heads_interface as interface_heads, declares as declaring, begins_operand as operand_begins, casts as casting, casts_to_name as casting_to_name};
+ghost use Rattle.wy_parser.specs.Prediction.{first_kind, second, third, rest, past_modifiers as modifiers_past, past_pairs as pairs_past, is_element as element, names_method as method_named, heads_method as method_heads, heads_interface as interface_heads, declares as declaring, begins_operand as operand_begins, casts as casting, casts_to_name as casting_to_name};
 
 use crate::symbol::Symbol;
 use wy_tree::grammar::Class;
@@ -35,6 +35,13 @@ pub fn is_name(kind: Kind) -> bool
     ensures { result ≡ named kind }
 {
     is_kind(kind, Kind::Word) || is_kind(kind, Kind::Override)
+}
+
+/// Whether a type begins with this kind.
+pub fn is_element(kind: Kind) -> bool
+    ensures { result ≡ element kind }
+{
+    is_name(kind) || is_kind(kind, Kind::Prim)
 }
 
 pub fn is_own(kind: Kind) -> bool
@@ -68,7 +75,7 @@ pub fn allowed(class: Class, kind: Kind) -> bool
     match class {
         Class::Exactly(wanted) => is_kind(kind, wanted),
         Class::Name => is_name(kind),
-        Class::Element => is_name(kind) || is_kind(kind, Kind::Prim),
+        Class::Element => is_element(kind),
         Class::Modifying => is_modifying(kind),
         Class::Setting => is_setting(kind),
         Class::Prefixing => is_prefixing(kind),
@@ -91,13 +98,13 @@ pub fn take<'a>(symbols: &'a [Symbol], class: Class) -> Option<(&'a Symbol, &'a 
     }
 }
 
-#[tactic(auto, unfolding(crate::specs::Prediction::past))]
-fn past_brackets<'a>(symbols: &'a [Symbol]) -> &'a [Symbol]
-    ensures { symbols_seen result.now ≡ past bracket (symbols_seen symbols.now) }
+#[tactic(auto, unfolding(crate::specs::Prediction::past_pairs))]
+fn past_pairs<'a>(symbols: &'a [Symbol]) -> &'a [Symbol]
+    ensures { symbols_seen result.now ≡ pairs_past (symbols_seen symbols.now) }
 {
     let mut ahead = symbols;
-    while let [first, after @ ..] = ahead {
-        if !(is_kind(first.kind, Kind::OpenBracket) || is_kind(first.kind, Kind::CloseBracket)) {
+    while let [first, second, after @ ..] = ahead {
+        if !(is_kind(first.kind, Kind::OpenBracket) && is_kind(second.kind, Kind::CloseBracket)) {
             return ahead;
         }
         ahead = after;
@@ -105,21 +112,30 @@ fn past_brackets<'a>(symbols: &'a [Symbol]) -> &'a [Symbol]
     ahead
 }
 
-#[tactic(auto, unfolding(crate::specs::Prediction::past))]
+#[tactic(auto, unfolding(crate::specs::Prediction::past_modifiers))]
 fn past_modifiers<'a>(symbols: &'a [Symbol]) -> &'a [Symbol]
-    ensures { symbols_seen result.now ≡ past modify (symbols_seen symbols.now) }
+    ensures { symbols_seen result.now ≡ modifiers_past (symbols_seen symbols.now) }
 {
     let mut ahead = symbols;
-    while let [first, after @ ..] = ahead {
-        if !(is_modifying(first.kind)
-            || is_kind(first.kind, Kind::At)
-            || is_kind(first.kind, Kind::Override))
-        {
+    while let [first, second, after @ ..] = ahead {
+        if is_modifying(first.kind) {
+            ahead = behind(ahead);
+        } else if is_kind(first.kind, Kind::At) && is_kind(second.kind, Kind::Override) {
+            ahead = after;
+        } else {
             return ahead;
         }
-        ahead = after;
     }
-    ahead
+    match ahead {
+        [first] if is_modifying(first.kind) => behind(ahead),
+        _ => ahead,
+    }
+}
+
+fn names_method(symbols: &[Symbol]) -> bool
+    ensures { result ≡ method_named (symbols_seen symbols.now) }
+{
+    is_name(first_kind(symbols)) && is_kind(first_kind(behind(symbols)), Kind::OpenParen)
 }
 
 /// Whether `void` stands here, or a type and a name before a parameter list.
@@ -128,10 +144,7 @@ pub fn heads_method(symbols: &[Symbol]) -> bool
     ensures { result ≡ method_heads (symbols_seen symbols.now) }
 {
     is_kind(first_kind(symbols), Kind::Void)
-        || is_kind(
-            first_kind(behind(past_brackets(behind(symbols)))),
-            Kind::OpenParen,
-        )
+        || (is_element(first_kind(symbols)) && names_method(past_pairs(behind(symbols))))
 }
 
 /// Whether an interface begins here, if a declaration does.

@@ -3,9 +3,10 @@
 ghost use Rattle.std.specs.Prelude.{◌≡◌, ◌≤◌, ◌<◌, map, length, IfOk, IfErr};
 ghost use Rattle.wy_tree.specs.Ast.{view};
 ghost use Rattle.wy_parser.specs.Symbols.{symbols_seen, spanned_seen};
-ghost use Rattle.wy_parser.specs.Parsed.{Tells, PlaceIn, IsSyntax, whole};
+ghost use Rattle.wy_parser.specs.Parsed.{Tells, NamesLast, IsSyntax, whole};
+ghost use Rattle.wy_parser.specs.Looks.{looked_whole};
 ghost use Rattle.wy_tree.specs.Trees.{IsTreeOf, IsOnlyTreeOf};
-ghost use Rattle.wy_parser.specs.Causes.{IsCause};
+ghost use Rattle.wy_parser.specs.Causes.{IsCause, IsPlaced};
 ghost use Rattle.wy_tree.specs.Tokens.{token_limit};
 
 use crate::read::tree;
@@ -37,7 +38,11 @@ pub fn parse(alloc: Global, tokens: &[Spanned]) -> Result<Tree, ParseError>
     ensures only { IfOk result (λ t. IsOnlyTreeOf (map spanned_seen tokens.now) (view t)) }
     // Tokens are refused only where no tree of the grammar has them as its leaves.
     ensures refused { IfErr result (λ e. IsCause (map spanned_seen tokens.now) e) }
-    ensures place { IfErr result (λ e. PlaceIn e (length tokens.now)) }
+    // What is named is the number of tokens, or one through which no tree goes: no list that agrees with them through it has one.
+    ensures place { IfErr result (λ e. IsPlaced (map spanned_seen tokens.now) e) }
+    // It is the last that reading looks at.
+    ensures last { let all = map spanned_seen tokens.now in
+        IfErr result (λ e. NamesLast e (length all) (looked_whole all)) }
 {
     match symbols(alloc, tokens) {
         Ok(all) => whole_tree(alloc, &all),
@@ -64,22 +69,25 @@ fn symbols(alloc: Global, tokens: &[Spanned]) -> Result<Vec<Symbol>, AllocError>
 fn whole_tree(alloc: Global, all: &[Symbol]) -> Result<Tree, ParseError>
     requires { length all.now ≤ token_limit }
     ensures exact { Tells result (whole (symbols_seen all.now)) }
-    ensures place { IfErr result (λ e. PlaceIn e (length all.now)) }
+    ensures last { IfErr result (λ e.
+        NamesLast e (length (symbols_seen all.now)) (looked_whole (symbols_seen all.now))) }
 {
-    match tree(alloc, Sort::Unit, all, 300, 24) {
+    let mut seen = all.len();
+    match tree(alloc, Sort::Unit, all, 300, 24, &mut seen) {
         Ok((sub, [])) => Ok(sub.tree),
-        Ok((_, rest)) => Err(refusal(all.len(), rest.len())),
-        Err(Stop::At(left)) => Err(refusal(all.len(), left)),
+        Ok((_, rest)) => Err(refusal(all.len(), seen.min(rest.len()))),
+        Err(Stop::NoTree) => Err(refusal(all.len(), seen)),
         Err(Stop::Memory) => Err(ParseError::NoMemory),
     }
 }
 
-// The refusal where this many tokens are left.
-fn refusal(total: usize, left: usize) -> ParseError
-    requires { total ≤ token_limit }
-    ensures place { PlaceIn result total }
+// The refusal where so many tokens stand at and behind the last one that was looked at.
+fn refusal(total: usize, seen: usize) -> ParseError
+    requires few { total ≤ token_limit }
+    requires within { seen ≤ total }
+    ensures last { NamesLast result total seen }
     ensures told { IsSyntax result }
 {
-    let token = total.saturating_sub(left) as u32;
+    let token = (total - seen) as u32;
     ParseError::Syntax { token }
 }

@@ -6,10 +6,10 @@ use crate::part::Sub;
 use crate::symbol::Symbol;
 use std::alloc::{AllocError, AllocFailed};
 
-/// Why no tree came of the tokens; the number is how many were left.
+/// Why no tree came of the tokens.
 #[derive(Debug, Drop)]
 pub enum Stop {
-    At(usize),
+    NoTree,
     Memory,
 }
 

@@ -1,10 +1,10 @@
 use Rattle.std.proofs.Common.{◌≡◌, length}
 use Rattle.wy_parser.specs.Symbols.{symbols_seen}
-use Rattle.wy_parser.specs.Prediction.{past, modifies}
+use Rattle.wy_parser.specs.Prediction.{past_modifiers}
 use Rattle.wy_parser.proofs.look.past_modifiers.Given as goal
 
 abbrev pub invariant-loop-ahead : goal.invariant-loop-ahead
-invariant-loop-ahead l = past modifies (symbols_seen l.ahead) ≡ past modifies (symbols_seen l.initial.ahead)
+invariant-loop-ahead l = past_modifiers (symbols_seen l.ahead) ≡ past_modifiers (symbols_seen l.initial.ahead)
 
 abbrev pub decreases-loop-ahead : goal.decreases-loop-ahead
 decreases-loop-ahead l = length l.ahead

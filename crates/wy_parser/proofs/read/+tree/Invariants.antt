@@ -2,7 +2,8 @@ use Rattle.std.proofs.Common.{◌≤◌, ◌+◌, ◌-◌, ◌*◌, suc, max, le
 use Rattle.wy_tree.specs.Ast.{view, views}
 use Rattle.wy_parser.specs.Symbols.{symbols_seen}
 use Rattle.wy_parser.specs.Reading.{reader, grow, growing, parts}
-use Rattle.wy_parser.proofs.Runs.{IsReading}
+use Rattle.wy_parser.specs.Looks.{looked, looked_parts, looked_grow, looked_growing}
+use Rattle.wy_parser.proofs.Runs.{IsReading, IsLooking}
 use Rattle.wy_parser.proofs.Loops.{IsOnWay}
 use Rattle.wy_parser.proofs.read.+tree.Given as goal
 
@@ -31,6 +32,8 @@ invariant-parts-loop-left l =
     × (length l.rest ≤ length l.initial.rest)
     × IsReading (parts (reader l.first_depth l.first_rank) (reader l.below 24) l.initial.left (reverse l.initial.pending.items) (symbols_seen l.initial.rest))
     (views l.found.items.items) (reader l.depth l.rank) (reader l.below 24) l.left (reverse l.pending.items) (symbols_seen l.rest)
+    × IsLooking (looked_parts (reader l.first_depth l.first_rank) (reader l.below 24) (looked l.first_depth l.first_rank) (looked l.below 24) l.initial.left (reverse l.initial.pending.items) (symbols_seen l.initial.rest) l.initial.seen)
+    (reader l.depth l.rank) (reader l.below 24) (looked l.depth l.rank) (looked l.below 24) l.left (reverse l.pending.items) (symbols_seen l.rest) l.seen
 
 abbrev pub decreases-parts-loop-left : goal.decreases-parts-loop-left
 decreases-parts-loop-left l = l.left
@@ -38,9 +41,10 @@ decreases-parts-loop-left l = l.left
 abbrev pub invariant-grown-loop-tree : goal.invariant-grown-loop-tree
 invariant-grown-loop-tree l =
     (length l.rest ≤ length l.initial.rest)
-    × IsOnWay (grow (reader l.below 24) l.below l.sort) l.below
+    × IsOnWay (grow (reader l.below 24) l.below l.sort) (looked_grow (reader l.below 24) (looked l.below 24) l.sort) l.below
     (growing (grow (reader l.below 24) l.below l.sort) (suc (suc l.below)) (view l.initial.left.tree) (symbols_seen l.initial.rest))
-    (view l.left.tree) (symbols_seen l.rest) l.left.depth
+    (looked_growing (grow (reader l.below 24) l.below l.sort) (looked_grow (reader l.below 24) (looked l.below 24) l.sort) (suc (suc l.below)) (view l.initial.left.tree) (symbols_seen l.initial.rest) l.initial.seen)
+    (view l.left.tree) (symbols_seen l.rest) l.seen l.left.depth
 
 abbrev pub decreases-grown-loop-tree : goal.decreases-grown-loop-tree
 decreases-grown-loop-tree l = l.below + 2 - l.left.depth

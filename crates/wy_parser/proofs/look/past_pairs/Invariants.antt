@@ -1,10 +1,10 @@
 use Rattle.std.proofs.Common.{◌≡◌, length}
 use Rattle.wy_parser.specs.Symbols.{symbols_seen}
-use Rattle.wy_parser.specs.Prediction.{past, is_bracket}
-use Rattle.wy_parser.proofs.look.past_brackets.Given as goal
+use Rattle.wy_parser.specs.Prediction.{past_pairs}
+use Rattle.wy_parser.proofs.look.past_pairs.Given as goal
 
 abbrev pub invariant-loop-ahead : goal.invariant-loop-ahead
-invariant-loop-ahead l = past is_bracket (symbols_seen l.ahead) ≡ past is_bracket (symbols_seen l.initial.ahead)
+invariant-loop-ahead l = past_pairs (symbols_seen l.ahead) ≡ past_pairs (symbols_seen l.initial.ahead)
 
 abbrev pub decreases-loop-ahead : goal.decreases-loop-ahead
 decreases-loop-ahead l = length l.ahead
