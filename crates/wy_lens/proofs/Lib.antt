@@ -1,0 +1,5 @@
+mod Asked
+mod Delivered
+mod Said
+mod Sources
+mod Told

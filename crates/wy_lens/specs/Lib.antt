@@ -1,0 +1,9 @@
+pub mod Statuses
+pub mod Table
+pub mod Words
+pub mod Views
+pub mod Refusals
+pub mod Texts
+pub mod Due
+pub mod Answers
+pub mod Deliveries

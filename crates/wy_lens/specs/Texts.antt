@@ -1,0 +1,23 @@
+-- The texts that are written.
+use Rattle.std.specs.Prelude.{ℕ, List, ◌++◌, codes}
+use Rattle.wy_explain.specs.Explained.{line_of}
+
+unfoldable pub usage_text : List ℕ
+usage_text = line_of (codes "usage: whylens explain SRC")
+
+unfoldable pub help_text : List ℕ
+help_text =
+    line_of (codes "usage: whylens explain SRC") ++ (line_of (codes "  explain SRC  says whether whyline runs the program in the file SRC, and if not, where it stops and why")
+    ++ line_of (codes "  --version    names the program"))
+
+unfoldable pub version_text : List ℕ
+version_text = line_of (codes "whylens 1")
+
+unfoldable pub absent_line : List ℕ → List ℕ
+absent_line name = line_of (codes "absent: " ++ name)
+
+unfoldable pub too_long_line : List ℕ → List ℕ
+too_long_line name = line_of (codes "too long: " ++ name)
+
+unfoldable pub fault_line : List ℕ
+fault_line = line_of (codes "fault: shelf")

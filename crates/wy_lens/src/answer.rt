@@ -1,0 +1,105 @@
+//! What the words and the files give, before any byte of it is written.
+ghost use Rattle.std.specs.Prelude.{◌≡◌, ◌≤◌, IfOk, length, map, string_bytes};
+ghost use Rattle.wy_kernel.specs.Limits.{source_limit};
+ghost use Rattle.wy_explain.specs.Explained.{program_line};
+ghost use Rattle.wy_lens.specs.Answers.{HasCause, IsAnswer, IsFileAnswer, IsSourceAnswer};
+ghost use Rattle.wy_lens.specs.Refusals.{IsExplained};
+ghost use Rattle.wy_program.specs.Sources.{IsRefusedFor};
+
+use crate::fixed::{absent, fault, help, too_long, usage, version};
+use crate::refusal::explained;
+use crate::status::Status;
+use crate::words::{Request, asked_by};
+use std::alloc::{AllocError, Global};
+use wy_constant::SourceRefusal;
+use wy_explain::program_line;
+use wy_kernel::limit::SOURCE_LIMIT;
+use wy_outside::shelf::{Shelf, ShelfError};
+use wy_program::{SourceError, program_of_source};
+
+/// A status and the text that is written with it.
+#[derive(Drop)]
+pub struct Answer {
+    pub status: Status,
+    pub text: Vec<u8>,
+}
+
+/// What is written of a program.
+fn accepted(alloc: Global, name: &str) -> Result<Answer, AllocError>
+    ensures { IfOk result (λ answer. (answer.status ≡ Status.Done)
+        × (answer.text.items ≡ program_line name.now)) }
+{
+    let text = program_line(alloc, name)?;
+    Ok(Answer {
+        status: Status::Done,
+        text,
+    })
+}
+
+/// What is written of a source that is none.
+fn refused(
+    alloc: Global,
+    name: &str,
+    source: &[u8],
+    refusal: SourceRefusal,
+) -> Result<Answer, AllocError>
+    requires small { length source.now ≤ source_limit }
+    requires refused { IsRefusedFor source.now refusal }
+    ensures { IfOk result (λ answer. (answer.status ≡ Status.Refused)
+        × IsExplained name.now source.now refusal answer.text.items) }
+{
+    let text = explained(alloc, name, source, refusal)?;
+    Ok(Answer {
+        status: Status::Refused,
+        text,
+    })
+}
+
+/// What is due for a source.
+fn answer_to_source(alloc: Global, name: &str, source: &[u8]) -> Result<Answer, AllocError>
+    requires { length source.now ≤ source_limit }
+    ensures { IfOk result (IsSourceAnswer name.now source.now) }
+{
+    match program_of_source(alloc, source) {
+        Ok(_) => accepted(alloc, name),
+        Err(SourceError::Refused(refusal)) => refused(alloc, name, source, refusal),
+        Err(SourceError::NoMemory) => Err(AllocError),
+    }
+}
+
+/// What is due for the file of a name.
+fn answer_to_file<S: Shelf>(alloc: Global, shelf: &mut S, name: &str) -> Result<Answer, AllocError>
+    ensures due { IfOk result (λ answer. IsFileAnswer name.now (S.held shelf.old)
+        (S.faults shelf.old) (S.faults shelf.new) answer) }
+    ensures causes { IfOk result (λ answer. HasCause (S.misses shelf.old) (S.misses shelf.new)
+        (S.fulls shelf.old) (S.fulls shelf.new) answer) }
+    ensures files_stay { S.held shelf.new ≡ S.held shelf.old }
+{
+    match shelf.read(alloc, name, SOURCE_LIMIT + 1) {
+        Ok(source) if source.len() > SOURCE_LIMIT as usize => too_long(alloc, name),
+        Ok(source) => answer_to_source(alloc, name, source.as_slice()),
+        Err(ShelfError::Absent) => absent(alloc, name),
+        Err(ShelfError::Failed) => fault(alloc),
+        Err(ShelfError::NoMemory) => Err(AllocError),
+    }
+}
+
+/// What the words and the files give. The shelf is read at most once.
+pub fn answer_to<S: Shelf>(
+    alloc: Global,
+    words: &[String],
+    shelf: &mut S,
+) -> Result<Answer, AllocError>
+    ensures due { IfOk result (λ answer. IsAnswer (map string_bytes words.now) (S.held shelf.old)
+        (S.faults shelf.old) (S.faults shelf.new) answer) }
+    ensures causes { IfOk result (λ answer. HasCause (S.misses shelf.old) (S.misses shelf.new)
+        (S.fulls shelf.old) (S.fulls shelf.new) answer) }
+    ensures files_stay { S.held shelf.new ≡ S.held shelf.old }
+{
+    match asked_by(alloc, words)? {
+        Some(Request::Explain { source }) => answer_to_file(alloc, shelf, source),
+        Some(Request::Help) => help(alloc),
+        Some(Request::Version) => version(alloc),
+        None => usage(alloc),
+    }
+}
