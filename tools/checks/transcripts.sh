@@ -1,5 +1,5 @@
 #!/usr/bin/env bash
-# Runs each command that README.md and docs/tour.md show, in their order, in a folder that has the examples, and compares
+# Runs each command that README.md, docs/tour.md and docs/bugs.md show, in their order, in a folder that has the examples, and compares
 # what it writes with the lines below it. A line that begins with "$ ./whyline " is a command; what it writes ends where the
 # next line begins with "$ " or the block ends. Below explore stands a session as a terminal shows it, and terminal.py plays it.
 # WHYLINE names another program than that of tools/program.
@@ -40,4 +40,5 @@ follow() { # PAGE
 
 follow README.md
 follow docs/tour.md
+follow docs/bugs.md
 finish transcripts
