@@ -6,7 +6,7 @@ import re
 
 ROOT = pathlib.Path(__file__).resolve().parent.parent
 CRATES = ROOT / "crates"
-CRATE = r"(?:wy|law|test)_\w+|whyline"
+CRATE = r"(?:wy|law|test)_\w+|whyline|whylens"
 SETTINGS = r"(?:pub |abbrev |unfoldable |data |record )*"
 ITEM = r"^pub (?:fn|struct|enum|trait|type|mod|const)"
 

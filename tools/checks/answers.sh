@@ -6,7 +6,6 @@
 #   print  what a main prints
 #   body   the statements of a method
 #   world  the statements of a method beside the classes below; the answer is the rule alone
-#   lines  a source with a token on each line; the answer is how many there are, and Syntax names one of them with its line
 # WHYLINE names another program than that of tools/program.
 set -u
 source "$(dirname "$0")/counting.bash"
@@ -33,17 +32,6 @@ check_rule() { # NAME STATUS RULE
   report "$1" "$same"
 }
 
-check_lines() { # NAME STATUS COUNT: the token is one of so many or the end, and its line is that of a token
-  local same=1 line token
-  answer "$2" || same=0
-  read -r line token < <(sed -n 's/^program: Syntax at line \([0-9]*\) token \([0-9]*\)$/\1 \2/p' out) || same=0
-  if [ "$same" = 1 ]; then
-    [ "$token" -le "$3" ] || same=0
-    [ "$line" = $(((token < $3 ? token : $3 - 1) + 1)) ] || same=0
-  fi
-  report "$1" "$same"
-}
-
 times() { # COUNT TEXT
   local i
   for ((i = 0; i < $1; i++)); do printf '%s' "$2"; done
@@ -57,7 +45,7 @@ abstract class C extends B implements J { }'
 
 while IFS=$'\t' read -r kind status answer source || [ -n "$kind" ]; do
   case $kind in
-    text | lines) printf '%b' "$source" ;;
+    text) printf '%b' "$source" ;;
     main) printf 'class Main { public static void main(String[] args) { %b } }' "$source" ;;
     print) printf 'class Main { public static void main(String[] args) { System.out.println(%b); } }' "$source" ;;
     body) printf 'class A { void f() { %b } }' "$source" ;;
@@ -65,7 +53,6 @@ while IFS=$'\t' read -r kind status answer source || [ -n "$kind" ]; do
     *) continue ;;
   esac >Main.java
   case $kind in
-    lines) check_lines "$source" "$status" "$answer" ;;
     world) check_rule "$source" "$status" "$answer" ;;
     *) check_text "$source" "$status" "$answer" ;;
   esac

@@ -1,57 +1,27 @@
 -- Every expression, every statement and every call takes what it needs of the steps that are left.
 use Rattle.std.proofs.Common.{ℕ, zero, suc, Bool, true, false, ◌≤◌, List, [], ◌∷◌, Option, Some, le_refl, arith}
 use Rattle.std.specs.Prelude.{None as Absent}
-use Rattle.wy_kernel.specs.Form.{Expression, Const, Str, Read, Set, Upd, Un, Bin, Conv, Cast, InstanceOf, Cond, New, NewArray, Call, Cat, Lib, Place, Local, Static, Field, Elem, Part, absent, the, Row, none, more, Statement, Stmt, Act, Block, Eval, Declare, If, While, Do, For, Labelled, Jump, Return, Throw, Try, Print, Other, nothing, this, Statements, done, first, Catches, uncaught, catch}
+use Rattle.wy_kernel.specs.Form.{Expression, Part, Statement, Stmt, Act, Block, Eval, Declare, If, While, Do, For, Labelled, Jump, Return, Throw, Try, Print, Other, nothing, this, Statements, done, first, Catches, uncaught, catch}
 use Rattle.wy_kernel.specs.Program.{Program, Body, Method, body, init_body}
 use Rattle.wy_steps.specs.Sets.{Sets}
 use Rattle.wy_steps.specs.State.{Carried, State, Run, Reason, Jumped, Returned, Threw, ◌>>◌, return, catching, choose}
-use Rattle.wy_steps.specs.Steps.{tick}
 use Rattle.wy_meaning.specs.World.{World}
 use Rattle.wy_meaning.specs.Call.{bind_all, end_body, at_return, run_body, frame_of_call, call_method, at_failure, initialize_above, initialization}
-use Rattle.wy_meaning.specs.Expression.{eval, locate, eval_part, eval_row}
-use Rattle.wy_meaning.specs.Statement.{statement, tested, evaluated, declaration, if_form, turns, while_form, do_form, for_test, for_form, jump, return_form, throw_form, Clause, caught, handle, at_throw, finally, try_form, print_form, other_or, exec, exec_act, exec_other, exec_all, exec_catches}
+use Rattle.wy_meaning.specs.Expression.{eval, eval_part}
+use Rattle.wy_meaning.specs.Statement.{statement, tested, if_form, turns, while_form, do_form, for_test, for_form, jump, return_form, Clause, caught, handle, at_throw, finally, try_form, other_or, exec, exec_act, exec_other, exec_all, exec_catches}
 use Rattle.wy_meaning.specs.Run.{call_body, init_block, world, main_run, strings}
-use Rattle.law_budget.proofs.BudgetRules.{Within, Paid, Taking, bind, after, taking_after, taking_tick, with_steps, within_bind, within_after, paid_catching, paid_choose, paid_return, paid_leave, paid_depth_limit, paid_fell_off, paid_init_failed, paid_tick, paid_note_write, paid_note_new, paid_note, paid_scoped, paid_reaching, paid_covered, paid_in_frame, paid_activating}
-use Rattle.law_budget.proofs.Forms.{steps, looked, WorldPaid, paid_type_of, AllPaid, PlacePaid, paid_initialize, paid_read_place, paid_set_place, paid_cat, paid_print_value, paid_print_nothing, paid_make_array, paid_create, paid_new_array, paid_library_form, PartPaid, paid_part_or, paid_update, paid_unary, paid_binary, paid_convert, paid_cast, paid_instance_of, paid_conditional, paid_call}
+use Rattle.law_budget.proofs.BudgetRules.{Within, Paid, Taking, bind, after, taking_after, taking_tick, with_steps, within_bind, within_after, paid_catching, paid_choose, paid_return, paid_leave, paid_depth_limit, paid_fell_off, paid_init_failed, paid_tick, paid_note_write, paid_note_new, paid_note, paid_scoped, paid_reaching, paid_covered, paid_in_frame, paid_activating, paid_unassigned, paid_frame, paid_event_at, paid_is_begun, paid_read, paid_declare, paid_take_elements, paid_take_units, paid_room_for_output, paid_write_out, paid_next_byte}
+use Rattle.law_induction.proofs.Composed.{WorldHas, PartHas, on_type_of, on_initialize, on_make_array, on_part_or, on_eval, on_part, on_evaluated, on_declaration, on_throw_form, on_print_form}
+use Rattle.law_budget.proofs.Forms.{IsPaid, paid_by_steps}
 
-module _ (A : Sets) (w : World A) (pw : WorldPaid A w) where
-  ticked : (m : Run A (Carried A)) → Paid A m → Paid A (tick >> m)
-  ticked m h = after A (paid_tick A) h
+ruleset steps = (bind, after, paid_catching, paid_choose, paid_return, paid_leave, paid_unassigned, paid_tick, paid_frame, paid_event_at, paid_is_begun, paid_read, paid_declare, paid_take_elements, paid_take_units, paid_room_for_output, paid_write_out, paid_next_byte, paid_note, paid_note_write, paid_note_new, paid_scoped, paid_reaching, paid_in_frame, paid_activating, paid_covered)
 
-  mutual
-    unfolding eval locate eval_part eval_row
+module _ (A : Sets) (w : World A) (pw : WorldHas A (IsPaid A) w) where
+  paid_eval : (e : Expression) → Paid A (eval w e)
+  paid_eval e = on_eval A (IsPaid A) (paid_by_steps A) w pw e
 
-    pub paid_eval : (e : Expression) → Paid A (eval w e)
-    paid_eval (Const v) = ticked _ (paid_return A _)
-    paid_eval (Str n) = ticked _ (paid_return A _)
-    paid_eval (Read place) = ticked _ (paid_read_place A w pw _ (paid_locate place))
-    paid_eval (Set place value site) = ticked _ (paid_set_place A w pw _ _ site (paid_locate place) (paid_eval value))
-    paid_eval (Upd place o value value_ty ty wide gives_old site) = ticked _ (paid_update A w pw _ o _ ty wide gives_old site (paid_locate place) (paid_part_or A w pw _ _ (paid_part value)))
-    paid_eval (Un o operand) = ticked _ (paid_unary A w pw o _ (paid_eval operand))
-    paid_eval (Bin o left right site) = ticked _ (paid_binary A w pw o _ _ site (paid_eval left) (paid_eval right))
-    paid_eval (Conv to operand) = ticked _ (paid_convert A w pw to _ (paid_eval operand))
-    paid_eval (Cast ty operand site) = ticked _ (paid_cast A w pw ty _ site (paid_eval operand))
-    paid_eval (InstanceOf ty operand) = ticked _ (paid_instance_of A w pw ty _ (paid_eval operand))
-    paid_eval (Cond f test if_true if_false site) = ticked _ (paid_conditional A w pw _ _ _ site (paid_eval test) (paid_part if_true) (paid_part if_false))
-    paid_eval (New c constructor args site) = ticked _ (paid_create A w pw c constructor _ site (paid_row args))
-    paid_eval (NewArray ty dims elements sites site) = ticked _ (paid_new_array A w pw ty _ _ sites site (paid_row dims) (paid_row elements))
-    paid_eval (Call f m receiver ty args site) = ticked _ (paid_call A w pw f m _ _ site (paid_part receiver) (paid_row args))
-    paid_eval (Cat left right left_ty right_ty site) = ticked _ (paid_cat A w pw _ _ site (paid_eval left) (paid_eval right))
-    paid_eval (Lib o args site) = ticked _ (paid_library_form A w pw o _ site (paid_row args))
-
-    paid_locate : (x : Place) → PlacePaid A w pw (locate w x)
-    paid_locate (Local i) = tt
-    paid_locate (Static f site) = tt
-    paid_locate (Field object f site) = paid_eval object
-    paid_locate (Elem array index site) = (paid_eval array, paid_eval index)
-
-    paid_part : (x : Part) → PartPaid A w pw (eval_part w x)
-    paid_part absent = tt
-    paid_part (the e) = paid_eval e
-
-    paid_row : (x : Row) → AllPaid A (eval_row w x)
-    paid_row none = tt
-    paid_row (more e rest) = (paid_eval e, paid_row rest)
+  paid_part : (x : Part) → PartHas A (IsPaid A) (eval_part w x)
+  paid_part x = on_part A (IsPaid A) (paid_by_steps A) w pw x
 
   -- ---- statements
 
@@ -62,14 +32,6 @@ module _ (A : Sets) (w : World A) (pw : WorldPaid A w) where
   paid_tested : (site reach : ℕ) (test : Run A (Carried A)) → Paid A test → Paid A (tested site reach test)
   unfolding tested
   paid_tested site reach test h = search steps depth 14
-
-  paid_evaluated : (m : Run A (Carried A)) → Paid A m → Paid A (evaluated m)
-  unfolding evaluated
-  paid_evaluated m h = search steps depth 12
-
-  paid_declaration : (i : ℕ) → Paid A {X = Unit {0}} (declaration i)
-  unfolding declaration
-  paid_declaration i = search steps depth 12
 
   paid_if : (test : Run A Bool) (a b : Run A Unit) → Paid A test → Paid A a → Paid A b → Paid A (if_form test a b)
   unfolding if_form
@@ -94,7 +56,7 @@ module _ (A : Sets) (w : World A) (pw : WorldPaid A w) where
   unfolding do_form
   paid_do m test hm ht = with_steps A _ (λ s. within_after A _ _ s hm (λ t fewer. turns_within (suc s.left) test m ht hm t (omega (arith, fewer))))
 
-  paid_for_test : (site reach : ℕ) (o : Option (Run A (Carried A))) → PartPaid A w pw o → Paid A (for_test site reach o)
+  paid_for_test : (site reach : ℕ) (o : Option (Run A (Carried A))) → PartHas A (IsPaid A) o → Paid A (for_test site reach o)
   unfolding for_test
   paid_for_test site reach Absent h = paid_return A true
   paid_for_test site reach (Some m) h = paid_tested site reach m h
@@ -110,10 +72,6 @@ module _ (A : Sets) (w : World A) (pw : WorldPaid A w) where
   paid_return_form : (site : ℕ) (m : Run A (Carried A)) → Paid A m → Paid A (return_form site m)
   unfolding return_form
   paid_return_form site m h = search steps depth 12
-
-  paid_throw_form : (site : ℕ) (m : Run A (Carried A)) → Paid A m → Paid A (throw_form w site m)
-  unfolding throw_form
-  paid_throw_form site m h = search (steps, looked) depth 12
 
   abbrev ClausesPaid : List (Clause A) → Type 0
   ClausesPaid [] = Unit {0}
@@ -132,7 +90,7 @@ module _ (A : Sets) (w : World A) (pw : WorldPaid A w) where
   unfolding at_throw
   paid_at_throw clauses (Jumped target e) h = paid_leave A _
   paid_at_throw clauses (Returned e v) h = paid_leave A _
-  paid_at_throw clauses (Threw e v) h = bind A (paid_type_of A v.value) (λ ty. paid_handle w.program clauses _ e v h)
+  paid_at_throw clauses (Threw e v) h = bind A (on_type_of A (IsPaid A) (paid_by_steps A) v.value) (λ ty. paid_handle w.program clauses _ e v h)
 
   paid_catches : (m : Run A Unit) (clauses : List (Clause A)) → Paid A m → ClausesPaid clauses → Paid A (catching m (at_throw w clauses))
   paid_catches m clauses hm hc = paid_catching A hm (λ why. paid_at_throw clauses why hc)
@@ -150,11 +108,6 @@ module _ (A : Sets) (w : World A) (pw : WorldPaid A w) where
   paid_try m clauses Absent hm hc hl = paid_catches m clauses hm hc
   paid_try m clauses (Some last) hm hc hl = paid_finally _ last (paid_catches m clauses hm hc) hl
 
-  paid_print_form : (o : Option (Run A (Carried A))) (ends_line : Bool) (site : ℕ) → PartPaid A w pw o → Paid A (print_form w o ends_line site)
-  unfolding print_form
-  paid_print_form Absent ends_line site h = paid_print_nothing A w pw ends_line site
-  paid_print_form (Some m) ends_line site h = paid_print_value A w pw m ends_line site h
-
   paid_other_or : (o : Option (Run A Unit)) → OptionPaid o → Paid A (other_or o)
   unfolding other_or
   paid_other_or Absent h = paid_return A tt
@@ -168,18 +121,18 @@ module _ (A : Sets) (w : World A) (pw : WorldPaid A w) where
 
     paid_act : (site reach : ℕ) (x : Act) → Paid A (exec_act w site reach x)
     paid_act site reach (Block parts) = paid_exec_all parts
-    paid_act site reach (Eval value) = paid_evaluated _ (paid_eval value)
-    paid_act site reach (Declare i) = paid_declaration i
+    paid_act site reach (Eval value) = on_evaluated A (IsPaid A) (paid_by_steps A) w pw _ (paid_eval value)
+    paid_act site reach (Declare i) = on_declaration A (IsPaid A) (paid_by_steps A) w pw i
     paid_act site reach (If test a b) = paid_if _ _ _ (paid_tested site reach _ (paid_eval test)) (taking_exec a).paid (paid_other_or _ (paid_other b))
     paid_act site reach (While test m) = paid_while _ _ (paid_tested site reach _ (paid_eval test)) (taking_exec m)
     paid_act site reach (Do m test) = paid_do _ _ (taking_exec m) (paid_tested site reach _ (paid_eval test))
     paid_act site reach (For inits test updates m) = paid_for _ _ _ _ (paid_exec_all inits) (paid_for_test site reach _ (paid_part test)) (paid_exec_all updates) (taking_exec m)
     paid_act site reach (Labelled m) = (taking_exec m).paid
     paid_act site reach (Jump target) = paid_jump site target
-    paid_act site reach (Return value) = paid_return_form site _ (paid_part_or A w pw _ _ (paid_part value))
-    paid_act site reach (Throw value) = paid_throw_form site _ (paid_eval value)
+    paid_act site reach (Return value) = paid_return_form site _ (on_part_or A (IsPaid A) (paid_by_steps A) w pw _ _ (paid_part value))
+    paid_act site reach (Throw value) = on_throw_form A (IsPaid A) (paid_by_steps A) w pw site _ (paid_eval value)
     paid_act site reach (Try m clauses last) = paid_try _ _ _ (taking_exec m).paid (paid_clauses clauses) (paid_other last)
-    paid_act site reach (Print operand ty ends_line at) = paid_print_form _ ends_line at (paid_part operand)
+    paid_act site reach (Print operand ty ends_line at) = on_print_form A (IsPaid A) (paid_by_steps A) w pw _ ends_line at (paid_part operand)
 
     paid_other : (x : Other) → OptionPaid (exec_other w x)
     paid_other nothing = tt
@@ -233,7 +186,7 @@ module _ (A : Sets) (w : World A) (pw : WorldPaid A w) where
   paid_initialize_above : (site : ℕ) (above : Option ℕ) → Paid A (initialize_above w site above)
   unfolding initialize_above
   paid_initialize_above site Absent = paid_return A tt
-  paid_initialize_above site (Some c) = paid_initialize A w pw site c
+  paid_initialize_above site (Some c) = on_initialize A (IsPaid A) (paid_by_steps A) w pw site c
 
   pub paid_initialization : (site c : ℕ) (block : Run A Unit) → Paid A block → Paid A (initialization w site c block)
   unfolding initialization
@@ -253,10 +206,10 @@ module _ (A : Sets) (w : World A) (pw : WorldPaid A w) where
 
   pub paid_main_run : Paid A (main_run w)
   unfolding main_run
-  paid_main_run = after A (paid_initialize A w pw _ _) (bind A (paid_make_array A w pw _ strings 0 _) (λ args. pw.call _ _ Absent _))
+  paid_main_run = after A (on_initialize A (IsPaid A) (paid_by_steps A) w pw _ _) (bind A (on_make_array A (IsPaid A) (paid_by_steps A) w pw _ strings 0 _) (λ args. pw.call _ _ Absent _))
 
 module _ (A : Sets) (p : Program) where
-  pub world_paid : (depth : ℕ) → WorldPaid A (world p depth)
+  pub world_paid : (depth : ℕ) → WorldHas A (IsPaid A) (world p depth)
   unfolding world
   world_paid zero = record {
     call = λ site m r args. paid_depth_limit A;

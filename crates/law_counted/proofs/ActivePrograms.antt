@@ -1,20 +1,20 @@
 -- What every expression, every statement and every call does to the active entries.
 use Rattle.std.proofs.Common.{◌≡◌, ℕ, zero, suc, Bool, true, false, List, [], ◌∷◌, ◌++◌, ◌⊎◌, inl, inr, ⊎_elim, Option, Some, refl}
 use Rattle.std.specs.Prelude.{None as Absent}
-use Rattle.wy_kernel.specs.Form.{Expression, Const, Str, Read, Set, Upd, Un, Bin, Conv, Cast, InstanceOf, Cond, New, NewArray, Call, Cat, Lib, Place, Local, Static, Field, Elem, Part, absent, the, Row, none, more, Statement, Stmt, Act, Block, Eval, Declare, If, While, Do, For, Labelled, Jump, Return, Throw, Try, Print, Other, nothing, this, Statements, done, first, Catches, uncaught, catch}
+use Rattle.wy_kernel.specs.Form.{Expression, Part, Statement, Stmt, Act, Block, Eval, Declare, If, While, Do, For, Labelled, Jump, Return, Throw, Try, Print, Other, nothing, this, Statements, done, first, Catches, uncaught, catch}
 use Rattle.wy_kernel.specs.Program.{Program, Body, Method, body, init_body}
 use Rattle.wy_steps.specs.Sets.{Sets}
 use Rattle.wy_steps.specs.State.{Carried, Reach, Around, Through, Run, StepLimit, DepthLimit, FellOff, InitFailed, Reason, Jumped, Returned, Threw, ◌>>◌, catching}
-use Rattle.wy_steps.specs.Steps.{tick}
 use Rattle.wy_meaning.specs.World.{World}
 use Rattle.wy_meaning.specs.Call.{bind_all, end_body, at_return, run_body, frame_of_call, call_method, at_failure, initialize_above, initialization}
-use Rattle.wy_meaning.specs.Expression.{eval, locate, eval_part, eval_row}
-use Rattle.wy_meaning.specs.Statement.{number_of, tested, evaluated, declaration, if_form, turns, while_form, do_form, for_test, for_form, jump, return_form, throw_form, Clause, caught, handle, at_throw, finally, try_form, print_form, other_or, exec, exec_act, exec_other, exec_all, exec_catches}
+use Rattle.wy_meaning.specs.Expression.{eval, eval_part}
+use Rattle.wy_meaning.specs.Statement.{number_of, tested, if_form, turns, while_form, do_form, for_test, for_form, jump, return_form, Clause, caught, handle, at_throw, finally, try_form, other_or, exec, exec_act, exec_other, exec_all, exec_catches}
 use Rattle.wy_meaning.specs.Run.{call_body, init_block, world, main_run, strings}
 use Rattle.wy_kernel.specs.Statements.{statements, statements_within, statements_of_other, statements_of_all, statements_of_catches}
 use Rattle.law_counted.specs.Entries.{OneOf, IsNumberOf, IsReachOf, IsThroughOneOf}
-use Rattle.law_counted.proofs.ActiveRules.{Levels, Keeps, lift, bind, after, bind_kept, after_kept, kept_catching, kept_choose, widen, level_return, level_leave, level_stop, level_tick, level_steps_left, level_note, level_note_write, records_note, records_note_write, records_note_new, kept_activating, with_frame, bind_at, level_body, keeps_statement}
-use Rattle.law_counted.proofs.ActiveForms.{steps, looked, WorldLevels, level_type_of, AllLevel, PlaceLevels, level_initialize, level_read_place, level_set_place, level_cat, level_print_value, level_print_nothing, level_make_array, level_create, level_new_array, level_library_form, PartLevels, level_part_or, level_update, level_unary, level_binary, level_convert, level_cast, level_instance_of, level_conditional, level_call}
+use Rattle.law_counted.proofs.ActiveRules.{Levels, Keeps, lift, bind, after, bind_kept, after_kept, kept_catching, kept_choose, widen, level_return, level_leave, level_stop, level_tick, level_steps_left, level_note, level_note_write, records_note, records_note_write, records_note_new, kept_activating, with_frame, bind_at, level_body, keeps_statement, level_choose, level_unassigned, level_frame, level_event_at, level_is_begun, level_read, level_declare, level_take_elements, level_take_units, level_room_for_output, level_write_out, level_next_byte, level_note_new}
+use Rattle.law_induction.proofs.Composed.{WorldHas, PartHas, on_type_of, on_initialize, on_make_array, on_part_or, on_eval, on_part, on_evaluated, on_declaration, on_throw_form, on_print_form}
+use Rattle.law_counted.proofs.ActiveForms.{IsLevel, level_by_steps}
 
 of_left : (xs ys : List Statement) (Q : Statement → Type 0) → OneOf xs Q → OneOf (xs ++ ys) Q
 of_left [] ys Q h = elim h [ ]
@@ -45,44 +45,14 @@ through_statement number site askable reach act f (Through g n) h = (h.0, ⊎_el
 own_number : (x : Statement) → IsReachOf (statements x) (number_of x)
 own_number (Stmt number site askable reach act) = inl (inr refl)
 
-module _ (A : Sets) (w : World A) (pw : WorldLevels A w) where
-  ticked : (m : Run A (Carried A)) → Levels A m → Levels A (tick >> m)
-  ticked m h = after A (level_tick A) h
+ruleset steps = (bind, after, level_choose, level_return, level_unassigned, level_tick, level_frame, level_event_at, level_is_begun, level_read, level_declare, level_take_elements, level_take_units, level_room_for_output, level_write_out, level_next_byte, level_note, level_note_write, level_note_new)
 
-  mutual
-    unfolding eval locate eval_part eval_row
+module _ (A : Sets) (w : World A) (pw : WorldHas A (IsLevel A) w) where
+  pub level_eval : (e : Expression) → Levels A (eval w e)
+  level_eval e = on_eval A (IsLevel A) (level_by_steps A) w pw e
 
-    pub level_eval : (e : Expression) → Levels A (eval w e)
-    level_eval (Const v) = ticked _ (level_return A _)
-    level_eval (Str n) = ticked _ (level_return A _)
-    level_eval (Read place) = ticked _ (level_read_place A w pw _ (level_locate place))
-    level_eval (Set place value site) = ticked _ (level_set_place A w pw _ _ site (level_locate place) (level_eval value))
-    level_eval (Upd place o value value_ty ty wide gives_old site) = ticked _ (level_update A w pw _ o _ ty wide gives_old site (level_locate place) (level_part_or A w pw _ _ (level_part value)))
-    level_eval (Un o operand) = ticked _ (level_unary A w pw o _ (level_eval operand))
-    level_eval (Bin o left right site) = ticked _ (level_binary A w pw o _ _ site (level_eval left) (level_eval right))
-    level_eval (Conv to operand) = ticked _ (level_convert A w pw to _ (level_eval operand))
-    level_eval (Cast ty operand site) = ticked _ (level_cast A w pw ty _ site (level_eval operand))
-    level_eval (InstanceOf ty operand) = ticked _ (level_instance_of A w pw ty _ (level_eval operand))
-    level_eval (Cond f test if_true if_false site) = ticked _ (level_conditional A w pw _ _ _ site (level_eval test) (level_part if_true) (level_part if_false))
-    level_eval (New c constructor args site) = ticked _ (level_create A w pw c constructor _ site (level_row args))
-    level_eval (NewArray ty dims elements sites site) = ticked _ (level_new_array A w pw ty _ _ sites site (level_row dims) (level_row elements))
-    level_eval (Call f m receiver ty args site) = ticked _ (level_call A w pw f m _ _ site (level_part receiver) (level_row args))
-    level_eval (Cat left right left_ty right_ty site) = ticked _ (level_cat A w pw _ _ site (level_eval left) (level_eval right))
-    level_eval (Lib o args site) = ticked _ (level_library_form A w pw o _ site (level_row args))
-
-    level_locate : (x : Place) → PlaceLevels A w pw (locate w x)
-    level_locate (Local i) = tt
-    level_locate (Static f site) = tt
-    level_locate (Field object f site) = level_eval object
-    level_locate (Elem array index site) = (level_eval array, level_eval index)
-
-    pub level_part : (x : Part) → PartLevels A w pw (eval_part w x)
-    level_part absent = tt
-    level_part (the e) = level_eval e
-
-    level_row : (x : Row) → AllLevel A (eval_row w x)
-    level_row none = tt
-    level_row (more e rest) = (level_eval e, level_row rest)
+  pub level_part : (x : Part) → PartHas A (IsLevel A) (eval_part w x)
+  level_part x = on_part A (IsLevel A) (level_by_steps A) w pw x
 
   -- ---- statements
 
@@ -112,7 +82,7 @@ module _ (A : Sets) (w : World A) (pw : WorldLevels A w) where
     unfolding do_form
     keeps_do m test hm ht = bind_kept A (lift A (level_steps_left A)) (λ n. after_kept A hm (keeps_turns (suc n) test m ht hm))
 
-    keeps_for_test : (site reach : ℕ) (o : Option (Run A (Carried A))) → ((f : Option ℕ) → P f (Through f reach)) → PartLevels A w pw o → Keeps A N P (for_test site reach o)
+    keeps_for_test : (site reach : ℕ) (o : Option (Run A (Carried A))) → ((f : Option ℕ) → P f (Through f reach)) → PartHas A (IsLevel A) o → Keeps A N P (for_test site reach o)
     unfolding for_test
     keeps_for_test site reach Absent allowed h = lift A (level_return A true)
     keeps_for_test site reach (Some m) allowed h = keeps_tested site reach m allowed h
@@ -140,7 +110,7 @@ module _ (A : Sets) (w : World A) (pw : WorldLevels A w) where
     unfolding at_throw
     keeps_at_throw clauses (Jumped target e) h = lift A (level_leave A _)
     keeps_at_throw clauses (Returned e v) h = lift A (level_leave A _)
-    keeps_at_throw clauses (Threw e v) h = bind_kept A (lift A (level_type_of A v.value)) (λ ty. keeps_handle w.program clauses _ e v h)
+    keeps_at_throw clauses (Threw e v) h = bind_kept A (lift A (on_type_of A (IsLevel A) (level_by_steps A) v.value)) (λ ty. keeps_handle w.program clauses _ e v h)
 
     keeps_catches : (m : Run A Unit) (clauses : List (Clause A)) → Keeps A N P m → ClausesHold clauses → Keeps A N P (catching m (at_throw w clauses))
     keeps_catches m clauses hm hc = kept_catching A hm (λ why. keeps_at_throw clauses why hc)
@@ -163,14 +133,6 @@ module _ (A : Sets) (w : World A) (pw : WorldLevels A w) where
     keeps_other_or Absent h = lift A (level_return A tt)
     keeps_other_or (Some m) h = h
 
-  level_evaluated : (m : Run A (Carried A)) → Levels A m → Levels A (evaluated m)
-  unfolding evaluated
-  level_evaluated m h = search steps depth 12
-
-  level_declaration : (i : ℕ) → Levels A {X = Unit {0}} (declaration i)
-  unfolding declaration
-  level_declaration i = search steps depth 12
-
   level_jump : (site target : ℕ) → Levels A {X = Unit {0}} (jump site target)
   unfolding jump
   level_jump site target = bind A (level_note A _ _) (λ e. level_leave A _)
@@ -178,15 +140,6 @@ module _ (A : Sets) (w : World A) (pw : WorldLevels A w) where
   level_return_form : (site : ℕ) (m : Run A (Carried A)) → Levels A m → Levels A (return_form site m)
   unfolding return_form
   level_return_form site m h = bind A h (λ v. bind A (level_note A _ v) (λ e. level_leave A _))
-
-  level_throw_form : (site : ℕ) (m : Run A (Carried A)) → Levels A m → Levels A (throw_form w site m)
-  unfolding throw_form
-  level_throw_form site m h = search (steps, looked) depth 12
-
-  level_print_form : (o : Option (Run A (Carried A))) (ends_line : Bool) (site : ℕ) → PartLevels A w pw o → Levels A (print_form w o ends_line site)
-  unfolding print_form
-  level_print_form Absent ends_line site h = level_print_nothing A w pw ends_line site
-  level_print_form (Some m) ends_line site h = level_print_value A w pw m ends_line site h
 
   widen_option : (M N : ℕ → Type 0) (P Q : Option ℕ → Reach → Type 0) (o : Option (Run A Unit)) → ((n : ℕ) → M n → N n) → ((f : Option ℕ) (r : Reach) → P f r → Q f r) → OptionHolds M P o → OptionHolds N Q o
   widen_option M N P Q Absent into far h = tt
@@ -222,8 +175,8 @@ module _ (A : Sets) (w : World A) (pw : WorldLevels A w) where
 
     pub keeps_act : (site reach : ℕ) (x : Act) → HoldsIn reach (statements_within x) (exec_act w site reach x)
     keeps_act site reach (Block parts) = within reach (statements_of_all parts) (statements_of_all parts) _ (λ Q h. h) (keeps_exec_all parts)
-    keeps_act site reach (Eval value) = lift A (level_evaluated _ (level_eval value))
-    keeps_act site reach (Declare i) = lift A (level_declaration i)
+    keeps_act site reach (Eval value) = lift A (on_evaluated A (IsLevel A) (level_by_steps A) w pw _ (level_eval value))
+    keeps_act site reach (Declare i) = lift A (on_declaration A (IsLevel A) (level_by_steps A) w pw i)
     keeps_act site reach (If test a b) =
         let xs = statements_within (If test a b) in
         keeps_if (IsNumberOf xs) (InAct reach xs) _ _ _
@@ -250,8 +203,8 @@ module _ (A : Sets) (w : World A) (pw : WorldLevels A w) where
         (within reach (statements m) xs _ (λ Q h. of_right (statements_of_all inits) rest Q (of_right (statements_of_all updates) (statements m) Q h)) (keeps_exec m))
     keeps_act site reach (Labelled m) = within reach (statements m) (statements m) _ (λ Q h. h) (keeps_exec m)
     keeps_act site reach (Jump target) = lift A (level_jump site target)
-    keeps_act site reach (Return value) = lift A (level_return_form site _ (level_part_or A w pw _ _ (level_part value)))
-    keeps_act site reach (Throw value) = lift A (level_throw_form site _ (level_eval value))
+    keeps_act site reach (Return value) = lift A (level_return_form site _ (on_part_or A (IsLevel A) (level_by_steps A) w pw _ _ (level_part value)))
+    keeps_act site reach (Throw value) = lift A (on_throw_form A (IsLevel A) (level_by_steps A) w pw site _ (level_eval value))
     keeps_act site reach (Try m clauses last) =
         let xs = statements_within (Try m clauses last) in
         let cs = statements_of_catches clauses in
@@ -262,7 +215,7 @@ module _ (A : Sets) (w : World A) (pw : WorldLevels A w) where
         (within reach (statements m) xs _ (of_left (statements m) (cs ++ ls)) (keeps_exec m))
         (widen_clauses (IsNumberOf cs) (IsNumberOf xs) (IsThroughOneOf cs) (InAct reach xs) _ (λ n. of_clauses _) (through_act reach cs xs of_clauses) (keeps_clauses clauses))
         (widen_option (IsNumberOf ls) (IsNumberOf xs) (IsThroughOneOf ls) (InAct reach xs) _ (λ n. of_last _) (through_act reach ls xs of_last) (keeps_other last))
-    keeps_act site reach (Print operand ty ends_line at) = lift A (level_print_form _ ends_line at (level_part operand))
+    keeps_act site reach (Print operand ty ends_line at) = lift A (on_print_form A (IsLevel A) (level_by_steps A) w pw _ ends_line at (level_part operand))
 
     keeps_other : (x : Other) → OptionHolds (IsNumberOf (statements_of_other x)) (IsThroughOneOf (statements_of_other x)) (exec_other w x)
     keeps_other nothing = tt
@@ -331,7 +284,7 @@ module _ (A : Sets) (w : World A) (pw : WorldLevels A w) where
   level_initialize_above : (site : ℕ) (above : Option ℕ) → Levels A (initialize_above w site above)
   unfolding initialize_above
   level_initialize_above site Absent = level_return A tt
-  level_initialize_above site (Some c) = level_initialize A w pw site c
+  level_initialize_above site (Some c) = on_initialize A (IsLevel A) (level_by_steps A) w pw site c
 
   level_initialization : (site c : ℕ) (block : Run A Unit) → Keeps A All Any block → Levels A (initialization w site c block)
   unfolding initialization
@@ -354,10 +307,10 @@ module _ (A : Sets) (w : World A) (pw : WorldLevels A w) where
 
   pub level_main_run : Levels A (main_run w)
   unfolding main_run
-  level_main_run = after A (level_initialize A w pw _ _) (bind A (level_make_array A w pw _ strings 0 _) (λ args. pw.call _ _ Absent _))
+  level_main_run = after A (on_initialize A (IsLevel A) (level_by_steps A) w pw _ _) (bind A (on_make_array A (IsLevel A) (level_by_steps A) w pw _ strings 0 _) (λ args. pw.call _ _ Absent _))
 
 module _ (A : Sets) (p : Program) where
-  pub world_levels : (depth : ℕ) → WorldLevels A (world p depth)
+  pub world_levels : (depth : ℕ) → WorldHas A (IsLevel A) (world p depth)
   unfolding world
   world_levels zero = record {
     call = λ site m r args. level_stop A DepthLimit;

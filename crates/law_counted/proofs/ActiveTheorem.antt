@@ -1,5 +1,5 @@
 -- What the records and the states of every run show of its active entries.
-use Rattle.std.proofs.Common.{◌≡◌, ℕ, zero, suc, ◌+◌, Bool, true, false, ◌≤◌, List, [], ◌∷◌, ◌++◌, length, inl, inr, Option, Some, refl, sym, ap, ◌∙◌, subst, le_refl, arith, eq-eqb, ne_eqb}
+use Rattle.std.proofs.Common.{◌≡◌, ℕ, zero, suc, Bool, true, false, ◌≤◌, List, [], ◌∷◌, ◌++◌, length, inl, inr, Option, Some, refl, sym, ap, ◌∙◌, subst, le_refl, arith, eq-eqb, ne_eqb}
 use Rattle.std.specs.Prelude.{None as Absent}
 use Rattle.std.specs.Prelude.{nat_eq, if◌then◌else◌, slice_get}
 use Rattle.std.proofs.lemmas.Bool.Decides.{eqb_tells}
@@ -21,7 +21,8 @@ use Rattle.wy_meaning.specs.Statement.{statement, tested, caught, exec, exec_act
 use Rattle.wy_meaning.specs.Run.{world, start, outcome, end, history, events}
 use Rattle.law_counted.specs.Entries.{IsControlOf, ControlIsOfTheBody, NothingIsActiveAtTheEnd, IsAmong, StatementsKeepEntries, EntriesEndWithTheirReach, AreInOrder, IsControlledBy, ArmsAreControlledByTheirTest, ExpressionsAddNoEntry, IsGreatest, TheParentIsTheGreatest, BecameActive, TestsBecomeActive, CatchesBecomeActive}
 use Rattle.law_counted.proofs.ActiveRules.{Controls, AllControlled, core, Fine, Level, Levels, later_one, controls_up, level_same, level_kept, level_order, level_choose, under_same, all_below, IfNext, records_note, records_note_write, spared_among}
-use Rattle.law_counted.proofs.ActiveForms.{level_arm}
+use Rattle.law_induction.proofs.Composed.{on_arm}
+use Rattle.law_counted.proofs.ActiveForms.{IsLevel, level_by_steps}
 use Rattle.law_counted.proofs.ActivePrograms.{level_eval, level_part, keeps_exec, level_main_run, world_levels}
 
 -- ---- records in the order of time
@@ -197,7 +198,7 @@ module _ (A : Sets) where
       let pw = world_levels A p depth in
       let h : Level A (core A s) (core A t) = subst (λ (o : Outcome A (Carried A)). Level A (core A s) (core A (end o))) is ((level_eval A w pw test).by s) in
       let k : Made A → Run A (Carried A) = λ e. choose (is_true v.value) (arm e v.value (eval_part w a)) (arm e v.value (eval_part w b)) in
-      let levels : (e : Made A) → Levels A (k e) = λ e. level_choose A (is_true v.value) (level_arm A w pw e v.value _ (level_part A w pw a)) (level_arm A w pw e v.value _ (level_part A w pw b)) in
+      let levels : (e : Made A) → Levels A (k e) = λ e. level_choose A (is_true v.value) (on_arm A (IsLevel A) (level_by_steps A) w pw e v.value _ (level_part A w pw a)) (on_arm A (IsLevel A) (level_by_steps A) w pw e v.value _ (level_part A w pw b)) in
       let f : Carried A → Run A (Carried A) = λ v. activating Around (note (plain kind.Test site v.value) v) >>= (λ e. choose (is_true v.value) (arm e v.value (eval_part w a)) (arm e v.value (eval_part w b))) in
       let rest = arm_controlled t (note (plain kind.Test site v.value) v t) k ((records_note A _ v).level.by t) ((records_note A _ v).next t) (level_order A (core A s) (core A t) h.active h.later order) levels in
       subst (IsControlledBy (length t.noted) (suc (length t.noted))) (sym (noted_again s.active (go_on (eval w test s) f) ∙ ap (λ o. (end (go_on o f)).noted) is)) rest

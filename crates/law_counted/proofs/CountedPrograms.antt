@@ -1,72 +1,34 @@
 -- What every expression, every statement and every call counts.
 use Rattle.std.proofs.Common.{ℕ, zero, suc, Bool, true, false, ◌<◌, List, [], ◌∷◌, Option, Some}
 use Rattle.std.specs.Prelude.{None as Absent}
-use Rattle.wy_kernel.specs.Form.{Expression, Const, Str, Read, Set, Upd, Un, Bin, Conv, Cast, InstanceOf, Cond, New, NewArray, Call, Cat, Lib, Place, Local, Static, Field, Elem, Part, absent, the, Row, none, more, Statement, Stmt, Act, Block, Eval, Declare, If, While, Do, For, Labelled, Jump, Return, Throw, Try, Print, Other, nothing, this, Statements, done, first, Catches, uncaught, catch}
+use Rattle.wy_kernel.specs.Form.{Expression, Part, Statement, Stmt, Act, Block, Eval, Declare, If, While, Do, For, Labelled, Jump, Return, Throw, Try, Print, Other, nothing, this, Statements, done, first, Catches, uncaught, catch}
 use Rattle.wy_kernel.specs.Program.{Program, Body, Method, body, init_body}
 use Rattle.wy_steps.specs.Sets.{Sets}
-use Rattle.wy_steps.specs.State.{Carried, Run, StepLimit, DepthLimit, FellOff, InitFailed, Reason, Jumped, Returned, Threw, ◌>>◌, catching}
+use Rattle.wy_steps.specs.State.{Carried, Run, StepLimit, DepthLimit, FellOff, InitFailed, Reason, Jumped, Returned, Threw, catching}
 use Rattle.wy_kernel.specs.Limits.{event_limit}
-use Rattle.wy_steps.specs.Steps.{tick}
 use Rattle.wy_meaning.specs.World.{World}
 use Rattle.wy_meaning.specs.Call.{bind_all, end_body, at_return, run_body, frame_of_call, call_method, at_failure, initialize_above, initialization}
-use Rattle.wy_meaning.specs.Expression.{eval, locate, eval_part, eval_row}
-use Rattle.wy_meaning.specs.Statement.{tested, evaluated, declaration, if_form, turns, while_form, do_form, for_test, for_form, jump, return_form, throw_form, Clause, caught, handle, at_throw, finally, try_form, print_form, other_or, exec, exec_act, exec_other, exec_all, exec_catches}
+use Rattle.wy_meaning.specs.Expression.{eval, eval_part}
+use Rattle.wy_meaning.specs.Statement.{tested, if_form, turns, while_form, do_form, for_test, for_form, jump, return_form, Clause, caught, handle, at_throw, finally, try_form, other_or, exec, exec_act, exec_other, exec_all, exec_catches}
 use Rattle.wy_meaning.specs.Run.{call_body, init_block, world, main_run, strings}
-use Rattle.law_counted.proofs.CountedRules.{IsRecorded, Counts, bind, after, bind_note, counts_catching, counts_choose, counts_return, counts_leave, counts_stop, counts_steps_left, counts_tick, counts_note_write, counts_note_new, counts_note, counts_scoped, counts_in_frame, counts_activating, counts_statement}
-use Rattle.law_counted.proofs.CountedForms.{steps, looked, WorldCounts, counts_type_of, AllCount, PlaceCounts, counts_initialize, counts_read_place, counts_set_place, counts_cat, counts_print_value, counts_print_nothing, counts_make_array, counts_create, counts_new_array, counts_library_form, PartCounts, counts_part_or, counts_update, counts_unary, counts_binary, counts_convert, counts_cast, counts_instance_of, counts_conditional, counts_call}
+use Rattle.law_counted.proofs.CountedRules.{IsRecorded, Counts, bind, after, bind_note, counts_catching, counts_choose, counts_return, counts_leave, counts_stop, counts_steps_left, counts_tick, counts_note_write, counts_note_new, counts_note, counts_scoped, counts_in_frame, counts_activating, counts_statement, counts_unassigned, counts_frame, counts_event_at, counts_is_begun, counts_read, counts_declare, counts_take_elements, counts_take_units, counts_room_for_output, counts_write_out, counts_next_byte}
+use Rattle.law_induction.proofs.Composed.{WorldHas, PartHas, on_type_of, on_initialize, on_make_array, on_part_or, on_eval, on_part, on_evaluated, on_declaration, on_throw_form, on_print_form}
+use Rattle.law_counted.proofs.CountedForms.{DoesCount, counts_by_steps}
 
-module _ (A : Sets) (w : World A) (pw : WorldCounts A w) where
-  ticked : (m : Run A (Carried A)) → Counts A m → Counts A (tick >> m)
-  ticked m h = after A (counts_tick A) h
+ruleset steps = (bind, after, counts_choose, counts_return, counts_unassigned, counts_tick, counts_frame, counts_event_at, counts_is_begun, counts_read, counts_declare, counts_take_elements, counts_take_units, counts_room_for_output, counts_write_out, counts_next_byte, counts_note, counts_note_write, counts_note_new, counts_scoped, counts_in_frame, counts_activating)
 
-  mutual
-    unfolding eval locate eval_part eval_row
+module _ (A : Sets) (w : World A) (pw : WorldHas A (DoesCount A) w) where
+  pub counts_eval : (e : Expression) → Counts A (eval w e)
+  counts_eval e = on_eval A (DoesCount A) (counts_by_steps A) w pw e
 
-    pub counts_eval : (e : Expression) → Counts A (eval w e)
-    counts_eval (Const v) = ticked _ (counts_return A _)
-    counts_eval (Str n) = ticked _ (counts_return A _)
-    counts_eval (Read place) = ticked _ (counts_read_place A w pw _ (counts_locate place))
-    counts_eval (Set place value site) = ticked _ (counts_set_place A w pw _ _ site (counts_locate place) (counts_eval value))
-    counts_eval (Upd place o value value_ty ty wide gives_old site) = ticked _ (counts_update A w pw _ o _ ty wide gives_old site (counts_locate place) (counts_part_or A w pw _ _ (counts_part value)))
-    counts_eval (Un o operand) = ticked _ (counts_unary A w pw o _ (counts_eval operand))
-    counts_eval (Bin o left right site) = ticked _ (counts_binary A w pw o _ _ site (counts_eval left) (counts_eval right))
-    counts_eval (Conv to operand) = ticked _ (counts_convert A w pw to _ (counts_eval operand))
-    counts_eval (Cast ty operand site) = ticked _ (counts_cast A w pw ty _ site (counts_eval operand))
-    counts_eval (InstanceOf ty operand) = ticked _ (counts_instance_of A w pw ty _ (counts_eval operand))
-    counts_eval (Cond f test if_true if_false site) = ticked _ (counts_conditional A w pw _ _ _ site (counts_eval test) (counts_part if_true) (counts_part if_false))
-    counts_eval (New c constructor args site) = ticked _ (counts_create A w pw c constructor _ site (counts_row args))
-    counts_eval (NewArray ty dims elements sites site) = ticked _ (counts_new_array A w pw ty _ _ sites site (counts_row dims) (counts_row elements))
-    counts_eval (Call f m receiver ty args site) = ticked _ (counts_call A w pw f m _ _ site (counts_part receiver) (counts_row args))
-    counts_eval (Cat left right left_ty right_ty site) = ticked _ (counts_cat A w pw _ _ site (counts_eval left) (counts_eval right))
-    counts_eval (Lib o args site) = ticked _ (counts_library_form A w pw o _ site (counts_row args))
-
-    counts_locate : (x : Place) → PlaceCounts A w pw (locate w x)
-    counts_locate (Local i) = tt
-    counts_locate (Static f site) = tt
-    counts_locate (Field object f site) = counts_eval object
-    counts_locate (Elem array index site) = (counts_eval array, counts_eval index)
-
-    counts_part : (x : Part) → PartCounts A w pw (eval_part w x)
-    counts_part absent = tt
-    counts_part (the e) = counts_eval e
-
-    counts_row : (x : Row) → AllCount A (eval_row w x)
-    counts_row none = tt
-    counts_row (more e rest) = (counts_eval e, counts_row rest)
+  counts_part : (x : Part) → PartHas A (DoesCount A) (eval_part w x)
+  counts_part x = on_part A (DoesCount A) (counts_by_steps A) w pw x
 
   -- ---- statements
 
   counts_tested : (site reach : ℕ) (test : Run A (Carried A)) → Counts A test → Counts A (tested site reach test)
   unfolding tested
   counts_tested site reach test h = search steps depth 14
-
-  counts_evaluated : (m : Run A (Carried A)) → Counts A m → Counts A (evaluated m)
-  unfolding evaluated
-  counts_evaluated m h = search steps depth 12
-
-  counts_declaration : (i : ℕ) → Counts A {X = Unit {0}} (declaration i)
-  unfolding declaration
-  counts_declaration i = search steps depth 12
 
   counts_if : (test : Run A Bool) (a b : Run A Unit) → Counts A test → Counts A a → Counts A b → Counts A (if_form test a b)
   unfolding if_form
@@ -85,7 +47,7 @@ module _ (A : Sets) (w : World A) (pw : WorldCounts A w) where
   unfolding do_form
   counts_do m test hm ht = bind A (counts_steps_left A) (λ n. after A hm (counts_turns (suc n) test m ht hm))
 
-  counts_for_test : (site reach : ℕ) (o : Option (Run A (Carried A))) → PartCounts A w pw o → Counts A (for_test site reach o)
+  counts_for_test : (site reach : ℕ) (o : Option (Run A (Carried A))) → PartHas A (DoesCount A) o → Counts A (for_test site reach o)
   unfolding for_test
   counts_for_test site reach Absent h = counts_return A true
   counts_for_test site reach (Some m) h = counts_tested site reach m h
@@ -101,10 +63,6 @@ module _ (A : Sets) (w : World A) (pw : WorldCounts A w) where
   counts_return_form : (site : ℕ) (m : Run A (Carried A)) → Counts A m → Counts A (return_form site m)
   unfolding return_form
   counts_return_form site m h = bind A h (λ v. bind_note A _ v (λ e lt. counts_leave A _ lt))
-
-  counts_throw_form : (site : ℕ) (m : Run A (Carried A)) → Counts A m → Counts A (throw_form w site m)
-  unfolding throw_form
-  counts_throw_form site m h = search (steps, looked) depth 12
 
   abbrev ClausesCount : List (Clause A) → Type 0
   ClausesCount [] = Unit {0}
@@ -123,7 +81,7 @@ module _ (A : Sets) (w : World A) (pw : WorldCounts A w) where
   unfolding at_throw
   counts_at_throw clauses (Jumped target e) lt h = counts_leave A _ lt
   counts_at_throw clauses (Returned e v) lt h = counts_leave A _ lt
-  counts_at_throw clauses (Threw e v) lt h = bind A (counts_type_of A v.value) (λ ty. counts_handle w.program clauses _ e v lt h)
+  counts_at_throw clauses (Threw e v) lt h = bind A (on_type_of A (DoesCount A) (counts_by_steps A) v.value) (λ ty. counts_handle w.program clauses _ e v lt h)
 
   counts_catches : (m : Run A Unit) (clauses : List (Clause A)) → Counts A m → ClausesCount clauses → Counts A (catching m (at_throw w clauses))
   counts_catches m clauses hm hc = counts_catching A hm (λ why lt. counts_at_throw clauses why lt hc)
@@ -141,11 +99,6 @@ module _ (A : Sets) (w : World A) (pw : WorldCounts A w) where
   counts_try m clauses Absent hm hc hl = counts_catches m clauses hm hc
   counts_try m clauses (Some last) hm hc hl = counts_finally _ last (counts_catches m clauses hm hc) hl
 
-  counts_print_form : (o : Option (Run A (Carried A))) (ends_line : Bool) (site : ℕ) → PartCounts A w pw o → Counts A (print_form w o ends_line site)
-  unfolding print_form
-  counts_print_form Absent ends_line site h = counts_print_nothing A w pw ends_line site
-  counts_print_form (Some m) ends_line site h = counts_print_value A w pw m ends_line site h
-
   counts_other_or : (o : Option (Run A Unit)) → OptionCounts o → Counts A (other_or o)
   unfolding other_or
   counts_other_or Absent h = counts_return A tt
@@ -159,18 +112,18 @@ module _ (A : Sets) (w : World A) (pw : WorldCounts A w) where
 
     pub counts_act : (site reach : ℕ) (x : Act) → Counts A (exec_act w site reach x)
     counts_act site reach (Block parts) = counts_exec_all parts
-    counts_act site reach (Eval value) = counts_evaluated _ (counts_eval value)
-    counts_act site reach (Declare i) = counts_declaration i
+    counts_act site reach (Eval value) = on_evaluated A (DoesCount A) (counts_by_steps A) w pw _ (counts_eval value)
+    counts_act site reach (Declare i) = on_declaration A (DoesCount A) (counts_by_steps A) w pw i
     counts_act site reach (If test a b) = counts_if _ _ _ (counts_tested site reach _ (counts_eval test)) (counts_exec a) (counts_other_or _ (counts_other b))
     counts_act site reach (While test m) = counts_while _ _ (counts_tested site reach _ (counts_eval test)) (counts_exec m)
     counts_act site reach (Do m test) = counts_do _ _ (counts_exec m) (counts_tested site reach _ (counts_eval test))
     counts_act site reach (For inits test updates m) = counts_for _ _ _ _ (counts_exec_all inits) (counts_for_test site reach _ (counts_part test)) (counts_exec_all updates) (counts_exec m)
     counts_act site reach (Labelled m) = counts_exec m
     counts_act site reach (Jump target) = counts_jump site target
-    counts_act site reach (Return value) = counts_return_form site _ (counts_part_or A w pw _ _ (counts_part value))
-    counts_act site reach (Throw value) = counts_throw_form site _ (counts_eval value)
+    counts_act site reach (Return value) = counts_return_form site _ (on_part_or A (DoesCount A) (counts_by_steps A) w pw _ _ (counts_part value))
+    counts_act site reach (Throw value) = on_throw_form A (DoesCount A) (counts_by_steps A) w pw site _ (counts_eval value)
     counts_act site reach (Try m clauses last) = counts_try _ _ _ (counts_exec m) (counts_clauses clauses) (counts_other last)
-    counts_act site reach (Print operand ty ends_line at) = counts_print_form _ ends_line at (counts_part operand)
+    counts_act site reach (Print operand ty ends_line at) = on_print_form A (DoesCount A) (counts_by_steps A) w pw _ ends_line at (counts_part operand)
 
     counts_other : (x : Other) → OptionCounts (exec_other w x)
     counts_other nothing = tt
@@ -224,7 +177,7 @@ module _ (A : Sets) (w : World A) (pw : WorldCounts A w) where
   counts_initialize_above : (site : ℕ) (above : Option ℕ) → Counts A (initialize_above w site above)
   unfolding initialize_above
   counts_initialize_above site Absent = counts_return A tt
-  counts_initialize_above site (Some c) = counts_initialize A w pw site c
+  counts_initialize_above site (Some c) = on_initialize A (DoesCount A) (counts_by_steps A) w pw site c
 
   pub counts_initialization : (site c : ℕ) (block : Run A Unit) → Counts A block → Counts A (initialization w site c block)
   unfolding initialization
@@ -244,10 +197,10 @@ module _ (A : Sets) (w : World A) (pw : WorldCounts A w) where
 
   pub counts_main_run : Counts A (main_run w)
   unfolding main_run
-  counts_main_run = after A (counts_initialize A w pw _ _) (bind A (counts_make_array A w pw _ strings 0 _) (λ args. pw.call _ _ Absent _))
+  counts_main_run = after A (on_initialize A (DoesCount A) (counts_by_steps A) w pw _ _) (bind A (on_make_array A (DoesCount A) (counts_by_steps A) w pw _ strings 0 _) (λ args. pw.call _ _ Absent _))
 
 module _ (A : Sets) (p : Program) where
-  pub world_counts : (depth : ℕ) → WorldCounts A (world p depth)
+  pub world_counts : (depth : ℕ) → WorldHas A (DoesCount A) (world p depth)
   unfolding world
   world_counts zero = record {
     call = λ site m r args. counts_stop A DepthLimit tt;

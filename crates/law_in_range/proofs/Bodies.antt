@@ -36,9 +36,9 @@ use Rattle.law_typed_states.proofs.Places.{Methods, world_of}
 use Rattle.law_typed_states.proofs.Statements.{GivesBack}
 use Rattle.law_typed_states.proofs.Bodies as typed_body
 use Rattle.law_typed_states.proofs.Bodies.{part_there, body_there, seam}
-use Rattle.wy_typing.specs.Sites.{BodySited}
+use Rattle.wy_typing.specs.Sites.{StatementSited, BodySited}
 use Rattle.law_in_range.specs.InRange.{Text, IsSite, StatementLined, Lined, JumpsTo, FitsText}
-use Rattle.law_in_range.proofs.Lining.{parted, in_body}
+use Rattle.wy_typing.proofs.Listed.{parted, zipped, in_body}
 use Rattle.law_in_range.proofs.Facts.{C, Moment, fine, all_fine, drafted, constant_fine}
 use Rattle.law_in_range.proofs.Values.{some_value, locals_known}
 use Rattle.law_in_range.proofs.Bare as bare
@@ -123,7 +123,7 @@ module _ (G : Ground) (W : Text) (J : ℕ → Type 0) (text : FitsText W (p G)) 
     block_runs : {P : Known G} → Full G W J (In (OfCall m)) P (exec w x.block) (λ u. nothing)
     block_runs {P = P} =
         let back : GivesBack G M (OfCall m) (result_of md.form md.result) = typed_body.gives_back G M m x is_body md found fits in
-        widens G W (λ target. ⊥) J (λ t h. absurd h) (((keeps_range G W text.final M L (OfCall m) (result_of md.form md.result) back x.block).by (λ target. ⊥) sited.block lined stays (typed_body.block_typed G M m x is_body md found fits)).by P)
+        widens G W (λ target. ⊥) J (λ t h. absurd h) (((keeps_range G W text.final M L (OfCall m) (result_of md.form md.result) back x.block).by (λ target. ⊥) (zipped (StatementSited Ok) (StatementLined W.ends_line) (statements x.block) sited.block lined) stays (typed_body.block_typed G M m x is_body md found fits)).by P)
 
     body_runs : {P : Known G} (c : Bool) → Full G W J (Ends (OfCall m)) P (run_body (exec w x.block) c x.end) F
     unfolding run_body ◌>>◌
@@ -163,7 +163,7 @@ module _ (G : Ground) (W : Text) (J : ℕ → Type 0) (text : FitsText W (p G)) 
   init_block_runs {P = P} c (Some x) e =
       let there = body_there G M (p G).init_bodies c x e in
       let fits : IsBody (p G) [] Absent x = G.fits.initializers c x there in
-      widens G W (λ target. ⊥) J (λ t h. absurd h) (((keeps_range G W text.final M L (OfInit c) Absent (typed_body.no_result G M c) x.block).by (λ target. ⊥) (text.sites.initializers c x there).block (in_body (StatementLined W.ends_line) (p G).init_bodies c x there lines.1) (text.jumps.1 c x there) (subst (λ y. IsTyped (record { program = p G; locals = types_of y; result = Absent }) x.block) (sym e) fits.block)).by P)
+      widens G W (λ target. ⊥) J (λ t h. absurd h) (((keeps_range G W text.final M L (OfInit c) Absent (typed_body.no_result G M c) x.block).by (λ target. ⊥) (zipped (StatementSited Ok) (StatementLined W.ends_line) (statements x.block) (text.sites.initializers c x there).block (in_body (StatementLined W.ends_line) (p G).init_bodies c x there lines.1)) (text.jumps.1 c x there) (subst (λ y. IsTyped (record { program = p G; locals = types_of y; result = Absent }) x.block) (sym e) fits.block)).by P)
 
   above_below : (c d : ℕ) → c < length (p G).classes → (class (p G) c).above ≡ Some d → d < length (p G).classes
   unfolding class direct_supertypes

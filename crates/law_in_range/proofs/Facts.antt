@@ -16,7 +16,7 @@ use Rattle.wy_steps.specs.Steps.{Draft, event_in, constant, with_value, joined, 
 use Rattle.law_induction.specs.Law.{both, Entails}
 use Rattle.law_typed_states.proofs.Moments.{Later, later_one, one_of_longer}
 use Rattle.law_typed_states.proofs.Rules.{Ground, A, p, Known}
-use Rattle.law_in_range.specs.InRange.{Text, Events, IsObject, IsArray, SlotInRange, IsThrown, ValueInRange, FixedInRange, IsPlace, UseInRange, UsesInRange, IsSite, WhatInRange, InRange, IsByteOf, IsNoPrint, written_by}
+use Rattle.law_in_range.specs.InRange.{Text, Events, IsObject, IsArray, SlotInRange, IsThrown, ValueInRange, FixedInRange, IsPlace, UseInRange, UsesInRange, IsSite, EntityInRange, InRange, IsByteOf, IsNoPrint, written_by}
 
 -- ---- with more events
 
@@ -134,7 +134,7 @@ module _ (G : Ground) (W : Text) where
   -- an event of the draft is in range, but for its uses
   pub record Drafted (n : Moment) (d : Draft) : Type 0 where
     pub site : IsSite W.tokens d.site
-    pub entity : WhatInRange (p G) d.kind d.entity
+    pub entity : EntityInRange (p G) d.kind d.entity
     pub slot : SlotInRange (p G) (event_in n) d.slot
     pub value : ValueInRange (event_in n) d.kind d.entity d.value
     pub fixed : FixedInRange (p G) d.value

@@ -1,4 +1,3 @@
-pub mod Lining
 mod Facts
 mod Bare
 mod Rules

@@ -1,11 +1,12 @@
 -- Each statement of a body keeps what is in range.
 use Rattle.std.proofs.Common.{◌≡◌, ℕ, Bool, true, false, [], List, ◌++◌, Option, Some, refl, sym, ap, subst}
 use Rattle.std.specs.Prelude.{slice_get}
+use Rattle.std.specs.List.{AllByRecursion}
 use Rattle.std.proofs.lemmas.Option.{slice_get_within}
 use Rattle.wy_kernel.specs.declared.types.Ty.{Ty}
 use Rattle.wy_kernel.specs.Form.{Expression, Part, absent, the, Statement, Stmt, Act, Block, Eval, Declare, If, While, Do, For, Labelled, Jump, Return, Throw, Try, Print, Other, nothing as no_statement, this, Statements, done, first, Catches, uncaught, catch}
 use Rattle.wy_kernel.specs.Program.{is_subclass, class_of_type}
-use Rattle.wy_kernel.specs.Statements.{statements, statements_of_other, statements_of_all, statements_of_catches}
+use Rattle.wy_kernel.specs.Statements.{statements, statements_within, statements_of_other, statements_of_all, statements_of_catches}
 use Rattle.wy_kernel.specs.Subtyping.{class_type, object_type}
 use Rattle.wy_kernel.specs.Builtin.{throwable_class}
 use Rattle.wy_value.specs.declared.value.Value.{Value}
@@ -36,9 +37,9 @@ use Rattle.law_typed_states.proofs.Forms.{chosen_gives, object_is_object}
 use Rattle.law_typed_states.proofs.Statements as typed_statement
 use Rattle.law_typed_states.proofs.Statements.{GivesBack, leaves_typed, place}
 use Rattle.law_typed_states.proofs.Expressions as expression
-use Rattle.wy_typing.specs.Sites.{Sited, PartSited, StatementSited, ActSited, OtherSited, AllSited, CatchesSited}
-use Rattle.law_in_range.specs.InRange.{Text, IsSite, HasLocal, IsPrinted, StringIsFinal, StatementLined, Lined, JumpsTo, ActJumpsTo, OtherJumpsTo, AllJumpTo, CatchesJumpTo}
-use Rattle.law_in_range.proofs.Lining as lining
+use Rattle.wy_typing.specs.Sites.{Sited, PartSited, StatementSited, ActSited, CatchesSited}
+use Rattle.wy_typing.proofs.Listed.{parted}
+use Rattle.law_in_range.specs.InRange.{Text, IsSite, HasLocal, IsPrinted, StringIsFinal, PrintLined, StatementLined, JumpsTo, ActJumpsTo, OtherJumpsTo, AllJumpTo, CatchesJumpTo}
 use Rattle.law_in_range.proofs.Facts.{C, Moment, always, fine, thrown, fair, drafted, constant_fine}
 use Rattle.law_in_range.proofs.Values.{throwable}
 use Rattle.law_in_range.proofs.Strings.{text_printed}
@@ -65,9 +66,12 @@ module _ (G : Ground) (W : Text) (final : StringIsFinal (p G)) (M : Methods G) (
   abbrev F : K → Known G
   F c = fine G W c
 
-  -- of those in front, and of those behind
-  parted : (xs ys : List Statement) → Lined W.ends_line (xs ++ ys) → Lined W.ends_line xs × Lined W.ends_line ys
-  parted xs ys l = lining.parted (StatementLined W.ends_line) xs ys l
+  -- a statement's own sites are in range, and its print ends a line where one ends
+  abbrev Own : Statement → Type 0
+  Own x = StatementSited Ok x × StatementLined W.ends_line x
+
+  abbrev Each : List Statement → Type 0
+  Each all = AllByRecursion Own all
 
   -- a run of statements, of which a jump may go to these
   pub record RunsTo (J : ℕ → Type 0) (m : Run (A G) Unit) : Type 1 where
@@ -81,7 +85,7 @@ module _ (G : Ground) (W : Text) (final : StringIsFinal (p G)) (M : Methods G) (
 
   -- the statement, where its sites are in range and its forms fit their types
   pub record Keeps (x : Statement) : Type 1 where
-    pub by : (J : ℕ → Type 0) → StatementSited Ok x → Lined W.ends_line (statements x) → JumpsTo J x → IsTyped here x → RunsTo J (exec w x)
+    pub by : (J : ℕ → Type 0) → Each (statements x) → JumpsTo J x → IsTyped here x → RunsTo J (exec w x)
 
   module _ (J : ℕ → Type 0) where
     abbrev O : {X : Type 0} → Known G → Run (A G) X → (X → Known G) → Type 0
@@ -97,12 +101,12 @@ module _ (G : Ground) (W : Text) (final : StringIsFinal (p G)) (M : Methods G) (
     all_typed done h P = typed_rule.gives G tt trivially
     all_typed (first s rest) h P = typed_rule.after G (typed_exec s h.0 P) (all_typed rest h.1 P)
 
-    all_run : (x : Statements) → OfStatements Keeps x → AllSited Ok x → Lined W.ends_line (statements_of_all x) → AllJumpTo J x → AllTyped here x → Runs (exec_all w x)
+    all_run : (x : Statements) → OfStatements Keeps x → Each (statements_of_all x) → AllJumpTo J x → AllTyped here x → Runs (exec_all w x)
     unfolding exec_all
-    all_run done d s l j t = record { by = λ P. plainly G W J (bare.gives G W J tt trivially) }
-    all_run (first x rest) d s l j t =
-        let k = parted (statements x) (statements_of_all rest) l in
-        record { by = λ P. after G W J (typed_exec x t.0 P) ((d.0.by J s.0 k.0 j.0 t.0).by P) (all_run rest d.1 s.1 k.1 j.1 t.1).by }
+    all_run done d l j t = record { by = λ P. plainly G W J (bare.gives G W J tt trivially) }
+    all_run (first x rest) d l j t =
+        let k = parted Own (statements x) (statements_of_all rest) l in
+        record { by = λ P. after G W J (typed_exec x t.0 P) ((d.0.by J k.0 j.0 t.0).by P) (all_run rest d.1 k.1 j.1 t.1).by }
 
     -- ---- tests
 
@@ -131,25 +135,25 @@ module _ (G : Ground) (W : Text) (final : StringIsFinal (p G)) (M : Methods G) (
           };
     }
 
-    takes : {P : Known G} (c k site : ℕ) (block : Statement) (number : ℕ) (v : K) → Keeps block → Ok site → StatementSited Ok block → Lined W.ends_line (statements block) → JumpsTo J block → IsTyped here block → slice_get (local_types (p G) i) k ≡ Some (class_type c) → Entails P (of_type G (class_type c) v.value) → Entails P (F v) → Entails P (thrown G W v.value) → O P (caught (record { class = c; local = k; site = site; number = number; block = exec w block }) v) (λ u. nothing)
+    takes : {P : Known G} (c k site : ℕ) (block : Statement) (number : ℕ) (v : K) → Keeps block → Ok site → Each (statements block) → JumpsTo J block → IsTyped here block → slice_get (local_types (p G) i) k ≡ Some (class_type c) → Entails P (of_type G (class_type c) v.value) → Entails P (F v) → Entails P (thrown G W v.value) → O P (caught (record { class = c; local = k; site = site; number = number; block = exec w block }) v) (λ u. nothing)
     unfolding caught current stores is both code_of
-    takes {P = P} c k site block number v d s sb l j t e q fv tv = bare_first G W J (frames G) (bare.frames G W J) (λ f. bind G W J
+    takes {P = P} c k site block number v d s l j t e q fv tv = bare_first G W J (frames G) (bare.frames G W J) (λ f. bind G W J
         (catches_local G (Through f number) site (code_of f) k v.value v (record { by = λ n y. let r = y.1 in typed_statement.binds G M i result back n (code_of f) k v.value (class_type c) e (subst (λ z. HasFrame n z i) (sym (ap code_of r.1)) r.2) (q.by n y.0.0) }))
         (plainly G W J (bare.enters G W J (note_write (into kind.Catch site (slot.Local (code_of f) k) v.value) v) (Through f number) (into kind.Catch site (slot.Local (code_of f) k) v.value) v (bare.write_adds G W J (into kind.Catch site (slot.Local (code_of f) k) v.value) v) (catch_draft site k (class_type c) f v s e (newest _ _) (before _ _ (before _ _ fv)) (before _ _ (before _ _ tv))) (before _ _ (before _ _ fv))))
-        (λ x. (d.by J sb l j t).by _))
+        (λ x. (d.by J l j t).by _))
 
     threw_fair : {P : Known G} (e : ℕ) (v : K) → Entails P (F v) → Entails P (thrown G W v.value) → Entails P (fair G W J (Threw e v))
     unfolding fair both
     threw_fair e v f t = record { by = λ n q. (f.by n q, t.by n q) }
 
-    handles : {P : Known G} (x : Catches) (found : Ty) (e : ℕ) (v : K) → OfCatches Keeps x → CatchesSited Ok x → Lined W.ends_line (statements_of_catches x) → CatchesJumpTo J x → CatchesTyped here x → Entails P (of_type G (class_type throwable_class) v.value) → Entails P (found_as G v.value found) → Entails P (F v) → Entails P (thrown G W v.value) → O P (handle (p G) (exec_catches w x) (class_of_type found) e v) (λ u. nothing)
+    handles : {P : Known G} (x : Catches) (found : Ty) (e : ℕ) (v : K) → OfCatches Keeps x → CatchesSited Ok x → Each (statements_of_catches x) → CatchesJumpTo J x → CatchesTyped here x → Entails P (of_type G (class_type throwable_class) v.value) → Entails P (found_as G v.value found) → Entails P (F v) → Entails P (thrown G W v.value) → O P (handle (p G) (exec_catches w x) (class_of_type found) e v) (λ u. nothing)
     unfolding handle exec_catches is found_as
     handles uncaught found e v d s l j t q f fv tv = plainly G W J (bare.leaves G W J (Threw e v) (threw_fair e v fv tv))
     handles (catch c k site block rest) found e v d s l j t q f fv tv =
-        let y = parted (statements block) (statements_of_catches rest) l in
+        let y = parted Own (statements block) (statements_of_catches rest) l in
         either G W J (is_subclass (p G) (class_of_type found) c)
-        (λ b. takes c k site block _ v d.0 s.0 s.1 y.0 j.0 t.1 t.0.bound (record { by = λ n y. caught_is G n v.value found c (q.by n y) (f.by n y) b }) fv tv)
-        (λ b. handles rest found e v d.1 s.2 y.1 j.1 t.2 q f fv tv)
+        (λ b. takes c k site block _ v d.0 s.0 y.0 j.0 t.1 t.0.bound (record { by = λ n y. caught_is G n v.value found c (q.by n y) (f.by n y) b }) fv tv)
+        (λ b. handles rest found e v d.1 s.1 y.1 j.1 t.2 q f fv tv)
 
     typed_thrown : {P : Known G} (e : ℕ) (v : K) → Entails P (reason (A G) (p G) (In i) (Threw e v)) → Entails P (of_type G (class_type throwable_class) v.value)
     unfolding reason
@@ -163,7 +167,7 @@ module _ (G : Ground) (W : Text) (final : StringIsFinal (p G)) (M : Methods G) (
     unfolding fair both
     fair_thrown e v q = record { by = λ n h. (q.by n h).1 }
 
-    at_throws : {P : Known G} (x : Catches) (why : Reason (A G)) → OfCatches Keeps x → CatchesSited Ok x → Lined W.ends_line (statements_of_catches x) → CatchesJumpTo J x → CatchesTyped here x → Entails P (reason (A G) (p G) (In i) why) → Entails P (fair G W J why) → O P (at_throw w (exec_catches w x) why) (λ u. nothing)
+    at_throws : {P : Known G} (x : Catches) (why : Reason (A G)) → OfCatches Keeps x → CatchesSited Ok x → Each (statements_of_catches x) → CatchesJumpTo J x → CatchesTyped here x → Entails P (reason (A G) (p G) (In i) why) → Entails P (fair G W J why) → O P (at_throw w (exec_catches w x) why) (λ u. nothing)
     unfolding at_throw
     at_throws x (Jumped target e) d s l j t q f = plainly G W J (bare.leaves G W J _ f)
     at_throws x (Returned e v) d s l j t q f = plainly G W J (bare.leaves G W J _ f)
@@ -179,8 +183,8 @@ module _ (G : Ground) (W : Text) (final : StringIsFinal (p G)) (M : Methods G) (
       guarded_typed : Typed (catching (exec w main) (at_throw w (exec_catches w x)))
       guarded_typed P = (typed_statement.tries G M i result back (exec w main) (exec_catches w x) (leaves_typed G M i result back main tm) (clauses_leave x tc)).by P
 
-    guarded : (main : Statement) (x : Catches) → Keeps main → OfCatches Keeps x → StatementSited Ok main → CatchesSited Ok x → Lined W.ends_line (statements main) → Lined W.ends_line (statements_of_catches x) → JumpsTo J main → CatchesJumpTo J x → IsTyped here main → CatchesTyped here x → Runs (catching (exec w main) (at_throw w (exec_catches w x)))
-    guarded main x d dc s sc l lc j jc t tc = record { by = λ P. catches G W J (typed_exec main t P) ((d.by J s l j t).by P) (λ why. at_throws x why dc sc lc jc tc (before _ _ (newest _ _)) (newest _ _)) }
+    guarded : (main : Statement) (x : Catches) → Keeps main → OfCatches Keeps x → CatchesSited Ok x → Each (statements main) → Each (statements_of_catches x) → JumpsTo J main → CatchesJumpTo J x → IsTyped here main → CatchesTyped here x → Runs (catching (exec w main) (at_throw w (exec_catches w x)))
+    guarded main x d dc sc l lc j jc t tc = record { by = λ P. catches G W J (typed_exec main t P) ((d.by J l j t).by P) (λ why. at_throws x why dc sc lc jc tc (before _ _ (newest _ _)) (newest _ _)) }
 
     then_leave : {P : Known G} (last : Run (A G) Unit) (why : Reason (A G)) → Runs last → Entails P (fair G W J why) → O {X = Unit {0}} P (last >> leave why) (λ u. nothing)
     unfolding ◌>>◌
@@ -194,10 +198,10 @@ module _ (G : Ground) (W : Text) (final : StringIsFinal (p G)) (M : Methods G) (
           (λ P. rl.by P);
     }
 
-    tries : (main : Statement) (x : Catches) (last : Other) → Keeps main → OfCatches Keeps x → OfOther Keeps last → StatementSited Ok main → CatchesSited Ok x → OtherSited Ok last → Lined W.ends_line (statements main) → Lined W.ends_line (statements_of_catches x) → Lined W.ends_line (statements_of_other last) → JumpsTo J main → CatchesJumpTo J x → OtherJumpsTo J last → IsTyped here main → CatchesTyped here x → OtherTyped here last → Runs (try_form w (exec w main) (exec_catches w x) (exec_other w last))
+    tries : (main : Statement) (x : Catches) (last : Other) → Keeps main → OfCatches Keeps x → OfOther Keeps last → CatchesSited Ok x → Each (statements main) → Each (statements_of_catches x) → Each (statements_of_other last) → JumpsTo J main → CatchesJumpTo J x → OtherJumpsTo J last → IsTyped here main → CatchesTyped here x → OtherTyped here last → Runs (try_form w (exec w main) (exec_catches w x) (exec_other w last))
     unfolding try_form exec_other
-    tries main x no_statement d dc dl s sc sl l lc ll j jc jl t tc tl = guarded main x d dc s sc l lc j jc t tc
-    tries main x (this y) d dc dl s sc sl l lc ll j jc jl t tc tl = lasts _ (exec w y) (guarded_typed main x t tc) (guarded main x d dc s sc l lc j jc t tc) (typed_exec y tl) (dl.by J sl ll jl tl)
+    tries main x no_statement d dc dl sc l lc ll j jc jl t tc tl = guarded main x d dc sc l lc j jc t tc
+    tries main x (this y) d dc dl sc l lc ll j jc jl t tc tl = lasts _ (exec w y) (guarded_typed main x t tc) (guarded main x d dc sc l lc j jc t tc) (typed_exec y tl) (dl.by J ll jl tl)
 
     -- ---- prints
 
@@ -263,10 +267,10 @@ module _ (G : Ground) (W : Text) (final : StringIsFinal (p G)) (M : Methods G) (
 
     -- ---- each statement
 
-    others : (x : Other) → OfOther Keeps x → OtherSited Ok x → Lined W.ends_line (statements_of_other x) → OtherJumpsTo J x → OtherTyped here x → Runs (other_or (exec_other w x))
+    others : (x : Other) → OfOther Keeps x → Each (statements_of_other x) → OtherJumpsTo J x → OtherTyped here x → Runs (other_or (exec_other w x))
     unfolding other_or exec_other
-    others no_statement d s l j t = record { by = λ P. plainly G W J (bare.gives G W J tt trivially) }
-    others (this x) d s l j t = d.by J s l j t
+    others no_statement d l j t = record { by = λ P. plainly G W J (bare.gives G W J tt trivially) }
+    others (this x) d l j t = d.by J l j t
 
     returns_value : {P : Known G} (site : ℕ) (v : K) → Ok site → Entails P (F v) → Bare G W J (In i) {X = Unit {0}} P (note (plain kind.Return site v.value) v >>= (λ e. leave (Returned e.number (carried_of e v.value)))) (λ u. nothing)
     unfolding plain drafted fine fair carried_of both
@@ -295,35 +299,35 @@ module _ (G : Ground) (W : Text) (final : StringIsFinal (p G)) (M : Methods G) (
     for_typed site reach absent t P = typed_rule.gives G true trivially
     for_typed site reach (the e) t P = test_typed site reach e t P
 
-    acts : (number site : ℕ) (askable : Bool) (reach : ℕ) (x : Act) → ActParts (λ e. Unit {1}) Keeps x → Ok site → ActSited Ok x → Lined W.ends_line (statements (Stmt number site askable reach x)) → ActJumpsTo J x → Acts here x → Runs (exec_act w site reach x)
+    acts : (site reach : ℕ) (x : Act) → ActParts (λ e. Unit {1}) Keeps x → Ok site → ActSited Ok x → PrintLined W.ends_line x → Each (statements_within x) → ActJumpsTo J x → Acts here x → Runs (exec_act w site reach x)
     unfolding exec_act evaluated if_form for_form
-    acts number site askable reach (Block parts) d o s l j t = all_run parts d s l.1 j t
-    acts number site askable reach (Eval value) d o s l j t = record { by = λ P. then_bare G W J (((keeps G W J M L i value).by s t.0 t.1).by P) (λ v. bare.gives G W J tt trivially) }
-    acts number site askable reach (Declare k) d o s l j t = record { by = λ P. plainly G W J (plain_text.declares_local G W J M k) }
-    acts number site askable reach (If test x y) d o s l j t =
-        let k = parted (statements x) (statements_of_other y) l.1 in
-        record { by = λ P. bind G W J (test_typed site reach test t.0 P) (tests site reach test o s.0 t.0 P) (λ c. either G W J c (λ q. (d.1.by J s.1 k.0 j.0 t.1).by _) (λ q. (others y d.2 s.2 k.1 j.1 t.2).by _)) }
-    acts number site askable reach (While test body) d o s l j t = record { by = λ P. whiles G W J _ _ (test_typed site reach test t.0) (tests site reach test o s.0 t.0) (typed_exec body t.1) (d.1.by J s.1 l.1 j t.1).by }
-    acts number site askable reach (Do body test) d o s l j t = record { by = λ P. dos G W J _ _ (test_typed site reach test t.1) (tests site reach test o s.1 t.1) (typed_exec body t.0) (d.0.by J s.0 l.1 j t.0).by }
-    acts number site askable reach (For inits test updates body) d o s l j t =
-        let k = parted (statements_of_all inits) (statements_of_all updates ++ statements body) l.1 in
-        let m = parted (statements_of_all updates) (statements body) k.1 in
+    acts site reach (Block parts) d o s ends l j t = all_run parts d l j t
+    acts site reach (Eval value) d o s ends l j t = record { by = λ P. then_bare G W J (((keeps G W J M L i value).by s t.0 t.1).by P) (λ v. bare.gives G W J tt trivially) }
+    acts site reach (Declare k) d o s ends l j t = record { by = λ P. plainly G W J (plain_text.declares_local G W J M k) }
+    acts site reach (If test x y) d o s ends l j t =
+        let k = parted Own (statements x) (statements_of_other y) l in
+        record { by = λ P. bind G W J (test_typed site reach test t.0 P) (tests site reach test o s t.0 P) (λ c. either G W J c (λ q. (d.1.by J k.0 j.0 t.1).by _) (λ q. (others y d.2 k.1 j.1 t.2).by _)) }
+    acts site reach (While test body) d o s ends l j t = record { by = λ P. whiles G W J _ _ (test_typed site reach test t.0) (tests site reach test o s t.0) (typed_exec body t.1) (d.1.by J l j t.1).by }
+    acts site reach (Do body test) d o s ends l j t = record { by = λ P. dos G W J _ _ (test_typed site reach test t.1) (tests site reach test o s t.1) (typed_exec body t.0) (d.0.by J l j t.0).by }
+    acts site reach (For inits test updates body) d o s ends l j t =
+        let k = parted Own (statements_of_all inits) (statements_of_all updates ++ statements body) l in
+        let m = parted Own (statements_of_all updates) (statements body) k.1 in
         record {
-          by = λ P. after G W J (all_typed inits t.0 P) ((all_run inits d.0 s.0 k.0 j.0 t.0).by P) (λ P. whiles G W J _ _ (for_typed site reach test t.1) (for_tests site reach test o s.1 t.1) (λ P. typed_rule.after G (typed_exec body t.3 P) (all_typed updates t.2 P)) (λ P. after G W J (typed_exec body t.3 P) ((d.3.by J s.3 m.1 j.2 t.3).by P) (all_run updates d.2 s.2 m.0 j.1 t.2).by));
+          by = λ P. after G W J (all_typed inits t.0 P) ((all_run inits d.0 k.0 j.0 t.0).by P) (λ P. whiles G W J _ _ (for_typed site reach test t.1) (for_tests site reach test o s t.1) (λ P. typed_rule.after G (typed_exec body t.3 P) (all_typed updates t.2 P)) (λ P. after G W J (typed_exec body t.3 P) ((d.3.by J m.1 j.2 t.3).by P) (all_run updates d.2 m.0 j.1 t.2).by));
         }
-    acts number site askable reach (Labelled body) d o s l j t = d.by J s l.1 j t
-    acts number site askable reach (Jump target) d o s l j t = record { by = λ P. plainly G W J (plain_text.jumps G W J M site target o j) }
-    acts number site askable reach (Return value) d o s l j t = returns site value o s t
-    acts number site askable reach (Throw value) d o s l j (fitting {a = a} k f) = throws site value o s a k (λ P. (expression.given G M i value (class_type throwable_class) (expression.typed G M i value) (fitting k f)).by P)
-    acts number site askable reach (Try main x last) d o s l j t =
-        let k = parted (statements main) (statements_of_catches x ++ statements_of_other last) l.1 in
-        let m = parted (statements_of_catches x) (statements_of_other last) k.1 in
-        tries main x last d.0 d.1 d.2 s.0 s.1 s.2 k.0 m.0 m.1 j.0 j.1 j.2 t.0 t.1 t.2
-    acts number site askable reach (Print operand ty ends_line at) d o s l j t = prints operand ty ends_line at s.0 l.0 s.1 t
+    acts site reach (Labelled body) d o s ends l j t = d.by J l j t
+    acts site reach (Jump target) d o s ends l j t = record { by = λ P. plainly G W J (plain_text.jumps G W J M site target o j) }
+    acts site reach (Return value) d o s ends l j t = returns site value o s t
+    acts site reach (Throw value) d o s ends l j (fitting {a = a} k f) = throws site value o s a k (λ P. (expression.given G M i value (class_type throwable_class) (expression.typed G M i value) (fitting k f)).by P)
+    acts site reach (Try main x last) d o s ends l j t =
+        let k = parted Own (statements main) (statements_of_catches x ++ statements_of_other last) l in
+        let m = parted Own (statements_of_catches x) (statements_of_other last) k.1 in
+        tries main x last d.0 d.1 d.2 s k.0 m.0 m.1 j.0 j.1 j.2 t.0 t.1 t.2
+    acts site reach (Print operand ty ends_line at) d o s ends l j t = prints operand ty ends_line at s.0 ends s.1 t
 
   act : (number site : ℕ) (askable : Bool) (reach : ℕ) (x : Act) → ActParts (λ e. Unit {1}) Keeps x → Keeps (Stmt number site askable reach x)
   unfolding exec
-  act number site askable reach x d = record { by = λ J s l j t. record { by = λ P. numbered G W J number (acts (OrTo J number) number site askable reach x d s.0 s.1 l j t.2).by } }
+  act number site askable reach x d = record { by = λ J l j t. record { by = λ P. numbered G W J number (acts (OrTo J number) site reach x d l.0.0.0 l.0.0.1 l.0.1 l.1 j t.2).by } }
 
   -- so does every statement
   pub keeps_range : (x : Statement) → Keeps x

@@ -16,7 +16,7 @@ use Rattle.wy_typing.specs.Types.{text_type}
 use Rattle.law_typed_states.specs.Typed.{Is, MayStand, made_type}
 use Rattle.law_typed_states.proofs.Library.{code_is}
 use Rattle.law_typed_states.proofs.Rules.{Ground, p}
-use Rattle.law_in_range.specs.InRange.{Text, IsTypeOfObjects, WhatInRange, IsPrinted, InRange, StringIsFinal}
+use Rattle.law_in_range.specs.InRange.{Text, IsTypeOfObjects, EntityInRange, IsPrinted, InRange, StringIsFinal}
 use Rattle.law_in_range.proofs.Facts.{Moment, AllInRange, found_in_range}
 
 abbrev IsText : Ty → Type 0
@@ -74,13 +74,13 @@ module _ (G : Ground) (W : Text) (final : StringIsFinal (p G)) where
   no_string Void h e = cc e
   no_string OfNull h e = cc e
 
-  made_no_string : (k : Option ℕ) → WhatInRange (p G) kind.New k → type_of_code (code_of k) ≡ text_type → ⊥
+  made_no_string : (k : Option ℕ) → EntityInRange (p G) kind.New k → type_of_code (code_of k) ≡ text_type → ⊥
   unfolding code_of
   made_no_string Absent h e = h
   made_no_string (Some code) h e = no_string h.0 h.1 (sym (known_type h.0 h.1) ∙ ap type_of_code h.2 ∙ e)
 
   new_no_string : (n : Moment G W) (r : Recorded) → r.kind ≡ kind.New → InRange W.tokens (p G) (event_in n) r → made_type r ≡ text_type → ⊥
-  new_no_string n r k h e = made_no_string r.entity (subst (λ z. WhatInRange (p G) z r.entity) k h.entity) e
+  new_no_string n r k h e = made_no_string r.entity (subst (λ z. EntityInRange (p G) z r.entity) k h.entity) e
 
   -- what is of type String is printed
   pub text_printed : (n : Moment G W) → AllInRange G W n → (v : Value) → Is (p G) n text_type v → IsPrinted v

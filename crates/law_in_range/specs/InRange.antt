@@ -66,15 +66,15 @@ abbrev pub IsCode : Program → ℕ → Type 0
 IsCode p code = (ty : Ty) × IsTypeOfObjects p ty × (type_code ty ≡ code)
 
 -- an Init has a class, a New a type and a Call a method of the program; no other event has any
-abbrev pub WhatInRange : Program → Kind → Option ℕ → Type 0
-WhatInRange p kind.Init (Some c) = c < length p.classes
-WhatInRange p kind.Init Absent = ⊥
-WhatInRange p kind.New (Some code) = IsCode p code
-WhatInRange p kind.New Absent = ⊥
-WhatInRange p kind.Call (Some m) = m < length p.methods
-WhatInRange p kind.Call Absent = ⊥
-WhatInRange p _ Absent = Unit {0}
-WhatInRange p _ (Some n) = ⊥
+abbrev pub EntityInRange : Program → Kind → Option ℕ → Type 0
+EntityInRange p kind.Init (Some c) = c < length p.classes
+EntityInRange p kind.Init Absent = ⊥
+EntityInRange p kind.New (Some code) = IsCode p code
+EntityInRange p kind.New Absent = ⊥
+EntityInRange p kind.Call (Some m) = m < length p.methods
+EntityInRange p kind.Call Absent = ⊥
+EntityInRange p _ Absent = Unit {0}
+EntityInRange p _ (Some n) = ⊥
 
 -- no class extends String (JLS 8.1.1.2)
 abbrev pub StringIsFinal : Program → Type 0
@@ -280,7 +280,7 @@ pub record FitsText (text : Text) (p : Program) : Type 0 where
 -- of a program of so many tokens
 pub record InRange (tokens : ℕ) (p : Program) (at : Events) (e : Recorded) : Type 0 where
   pub site : IsSite tokens e.site
-  pub entity : WhatInRange p e.kind e.entity
+  pub entity : EntityInRange p e.kind e.entity
   pub slot : SlotInRange p at e.slot
   pub value : ValueInRange at e.kind e.entity e.value
   pub fixed : FixedInRange p e.value

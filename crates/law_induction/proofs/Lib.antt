@@ -7,3 +7,4 @@ pub mod Forms
 pub mod Wholes
 pub mod Programs
 pub mod Theorem
+pub mod Composed

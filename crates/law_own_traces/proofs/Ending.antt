@@ -10,7 +10,7 @@ use Rattle.wy_kernel.specs.Statements.{statements, statements_of_body, statement
 use Rattle.wy_payload.specs.Bodies.{newline_in, newlines_of}
 use Rattle.law_structure.proofs.EachBody.{BodyHas, BodiesHave}
 use Rattle.law_in_range.specs.InRange.{PrintLined, StatementLined, Lined, LinesEnd}
-use Rattle.law_in_range.proofs.Lining.{joined}
+use Rattle.wy_typing.proofs.Listed.{joined}
 
 -- which sites end a line
 abbrev Lines : Type 0

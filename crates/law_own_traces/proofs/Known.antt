@@ -17,7 +17,7 @@ use Rattle.wy_payload.specs.declared.known.Role.{Role}
 use Rattle.wy_payload.specs.declared.known.Role.TheVariants as role
 use Rattle.wy_payload.specs.Ranges.{known_as}
 use Rattle.wy_payload.specs.Rules.{unless, fits, refers_to, reference_rule, brackets_unit}
-use Rattle.law_shaped.specs.Shaped.{Shaped, Below, OptionBelow, WhatOf, IsFrame, IsControl, IsNew, IsText, IsTest, IsThrow, IsLeaving}
+use Rattle.law_shaped.specs.Shaped.{Shaped, Below, OptionBelow, EntityOf, IsFrame, IsControl, IsNew, IsText, IsTest, IsThrow, IsLeaving}
 use Rattle.law_reading.specs.Readable.{or_none, known_in, Refers}
 use Rattle.law_in_range.specs.InRange.{arrays_from, IsObject, IsArray}
 
@@ -107,12 +107,12 @@ module _ (rs : List Recorded) (shaped : (n : ℕ) (e : Recorded) → slice_get r
   option_refers r K up Absent h = tt
   option_refers r K up (Some k) h = below_refers r K up k h
 
-  code_there : (k : Kind) (entity : Option ℕ) → k ≡ kind.New → WhatOf k entity → (code : ℕ) × (entity ≡ Some code)
-  code_there k entity e h = by_what entity (subst (λ z. WhatOf z entity) e h)
+  code_there : (k : Kind) (entity : Option ℕ) → k ≡ kind.New → EntityOf k entity → (code : ℕ) × (entity ≡ Some code)
+  code_there k entity e h = by_entity entity (subst (λ z. EntityOf z entity) e h)
     where
-      by_what : (o : Option ℕ) → WhatOf kind.New o → (code : ℕ) × (o ≡ Some code)
-      by_what (Some code) h = (code, refl)
-      by_what Absent h = absurd h
+      by_entity : (o : Option ℕ) → EntityOf kind.New o → (code : ℕ) × (o ≡ Some code)
+      by_entity (Some code) h = (code, refl)
+      by_entity Absent h = absurd h
 
   code_is : (entity : Option ℕ) (code : ℕ) → entity ≡ Some code → code_of entity ≡ code
   unfolding code_of
@@ -121,13 +121,13 @@ module _ (rs : List Recorded) (shaped : (n : ℕ) (e : Recorded) → slice_get r
   pub object_refers : (k : ℕ) → IsObject (slice_get front) k → Refers role.Object (earlier front) k
   object_refers k h =
       let s = shaped k h.event (taken_there rs n k h.event h.there) in
-      let c = code_there h.event.kind h.event.entity h.is_new s.what_of_kind in
+      let c = code_there h.event.kind h.event.entity h.is_new s.entity_of_kind in
       refers_object front k h.event c.0 h.there h.is_new c.1 (subst (λ z. z < arrays_from) (code_is h.event.entity c.0 c.1) h.no_array)
 
   pub array_refers : (k : ℕ) → IsArray (slice_get front) k → Refers role.Array (earlier front) k
   array_refers k h =
       let s = shaped k h.event (taken_there rs n k h.event h.there) in
-      let c = code_there h.event.kind h.event.entity h.is_new s.what_of_kind in
+      let c = code_there h.event.kind h.event.entity h.is_new s.entity_of_kind in
       refers_array front k h.event c.0 h.there h.is_new c.1 (subst (λ z. arrays_from ≤ z) (code_is h.event.entity c.0 c.1) h.array)
 
   pub known_length : n ≤ length rs → length (earlier front) ≡ n

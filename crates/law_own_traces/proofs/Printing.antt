@@ -21,7 +21,7 @@ use Rattle.wy_elab_body.specs.Jumps.{Around, inside, in_loop, under_label, break
 use Rattle.wy_elab_body.specs.Statements.{Setting, number, plain, testing, targets_in, other_targets_in, site_of, body_of_loop, number_of_body, constant_if, given_first, declarator, declarations, effect, effects, for_init, jumping, returning, row_of, joined, tested, looping, is_label, in_first_block, must_be_throwable, Clause, clause, is_declaration, declared, several, statement, other_statement, block, statements, last_block, clauses}
 use Rattle.law_structure.proofs.Yields.{Yields, given, refused_at, refused_found, anything, and_then, behind, then_found, within_block, of_each, of_expressed, of_choice}
 use Rattle.law_in_range.specs.InRange.{PrintLined, StatementLined, Lined}
-use Rattle.law_in_range.proofs.Lining as lining
+use Rattle.wy_typing.proofs.Listed as listed
 use Rattle.law_own_traces.proofs.Calls.{Words, Called}
 use Rattle.law_own_traces.proofs.Said.{EffectsCalled, InitCalled, CallsIn, BlockCalls, AllCalls, OtherCalls, LastCalls, CatchCalls}
 
@@ -53,7 +53,7 @@ abbrev pub ListLines : Words → List kernel.Statement → Type 0
 ListLines W xs = All (Lines W) xs
 
 both : (W : Words) (xs ys : List kernel.Statement) → AllLined W xs → AllLined W ys → AllLined W (xs ++ ys)
-both W xs ys h i = lining.joined (StatementLined (line_by W)) xs ys h i
+both W xs ys h i = listed.joined (StatementLined (line_by W)) xs ys h i
 
 -- ---- expressions that are statements
 

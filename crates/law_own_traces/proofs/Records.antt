@@ -24,7 +24,7 @@ use Rattle.law_reading.specs.Readable.{known_in, known_before, MayStand, AllMayS
 use Rattle.law_in_range.specs.InRange.{InRange, units_seen, written_as, written_by, written}
 use Rattle.law_own_traces.specs.Own.{text_of}
 use Rattle.law_own_traces.proofs.Known.{known_there, there_taken, option_refers}
-use Rattle.law_own_traces.proofs.Slots.{site_passes, what_passes, slot_allowed, slot_there, uses_stand}
+use Rattle.law_own_traces.proofs.Slots.{site_passes, entity_passes, slot_allowed, slot_there, uses_stand}
 use Rattle.law_own_traces.proofs.Values.{value_stands}
 
 module _ (P : memory.Program) (few : 16 + length (program_of P).classes ≤ 2 ^ 24) (rs : List Recorded) (shaped : (n : ℕ) (e : Recorded) → slice_get rs n ≡ Some e → Shaped rs n e)
@@ -40,9 +40,9 @@ module _ (P : memory.Program) (few : 16 + length (program_of P).classes ≤ 2 ^ 
         site = site_passes P e.site h.site;
         frame = option_refers rs shaped n role.Frame IsFrame (λ k h. h) e.frame s.frame;
         control = option_refers rs shaped n role.Control IsControl (λ k h. h) e.control s.control;
-        entity = what_passes P few e.kind e.entity h.entity;
+        entity = entity_passes P few e.kind e.entity h.entity;
         slot = record { form = slot_allowed e.kind e.slot s.slot_of_kind; there = slot_there P rs shaped n (within n e there) e.slot h.slot s.slot };
-        value = value_stands P rs shaped n e.kind e.entity e.value s.what_of_kind h.value h.fixed s.value;
+        value = value_stands P rs shaped n e.kind e.entity e.value s.entity_of_kind h.value h.fixed s.value;
         uses = uses_stand P rs shaped n (within n e there) e.uses h.uses s.uses;
       }
 

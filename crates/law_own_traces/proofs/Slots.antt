@@ -38,12 +38,12 @@ use Rattle.wy_payload.specs.declared.ranges.Ranges.{Ranges}
 use Rattle.wy_payload.specs.declared.slot.SlotForm.TheVariants as form
 use Rattle.wy_payload.specs.Bodies.{locals_of}
 use Rattle.wy_payload.specs.Ranges.{ranges_of, known_as}
-use Rattle.wy_payload.specs.Rules.{in_range, site_rule, what_rule, is_code, is_static, field_rule, locals_in, brackets_unit}
+use Rattle.wy_payload.specs.Rules.{in_range, site_rule, entity_rule, is_code, is_static, field_rule, locals_in, brackets_unit}
 use Rattle.wy_payload.specs.Places.{slot_form, allows_slot}
 use Rattle.law_shaped.specs.Shaped as shaped_place
 use Rattle.law_shaped.specs.Shaped.{Shaped, Below, IsLocal, IsNowhere, SlotFits, SlotOf, UseFits, UsesFit, IsFrame, IsTest}
 use Rattle.law_reading.specs.Readable.{or_none, known_in, tag_of_slot, SlotIsThere, UseMayStand}
-use Rattle.law_in_range.specs.InRange.{IsSite, IsTypeOfObjects, IsCode, WhatInRange, HasLocal, SlotInRange, IsPlace, UseInRange, UsesInRange}
+use Rattle.law_in_range.specs.InRange.{IsSite, IsTypeOfObjects, IsCode, EntityInRange, HasLocal, SlotInRange, IsPlace, UseInRange, UsesInRange}
 use Rattle.law_own_traces.proofs.Known.{earlier, front, known_there, below_refers, object_refers, array_refers, known_length}
 
 true_passes : (b : Bool) → b ≡ true → in_range b ≡ Absent
@@ -112,34 +112,34 @@ module _ (P : memory.Program) where
     code_passes : (code : ℕ) → IsCode (program_of P) code → in_range (is_code (ranges_of P) code) ≡ Absent
     code_passes code h = true_passes _ (ap (is_code (ranges_of P)) (sym h.2) ∙ code_of_type h.0 h.1)
 
-    pub what_passes : (k : Kind) (entity : Option ℕ) → WhatInRange (program_of P) k entity → what_rule (ranges_of P) k (or_none entity) ≡ Absent
-    unfolding what_rule ranges_of
-    what_passes kind.Init (Some c) h = class_passes c h
-    what_passes kind.Init Absent h = absurd h
-    what_passes kind.New (Some code) h = code_passes code h
-    what_passes kind.New Absent h = absurd h
-    what_passes kind.Call (Some m) h = method_passes m h
-    what_passes kind.Call Absent h = absurd h
-    what_passes kind.Bind Absent h = refl
-    what_passes kind.Set Absent h = refl
-    what_passes kind.Test Absent h = refl
-    what_passes kind.Text Absent h = refl
-    what_passes kind.Read Absent h = refl
-    what_passes kind.Print Absent h = refl
-    what_passes kind.Return Absent h = refl
-    what_passes kind.Jump Absent h = refl
-    what_passes kind.Throw Absent h = refl
-    what_passes kind.Catch Absent h = refl
-    what_passes kind.Bind (Some n) h = absurd h
-    what_passes kind.Set (Some n) h = absurd h
-    what_passes kind.Test (Some n) h = absurd h
-    what_passes kind.Text (Some n) h = absurd h
-    what_passes kind.Read (Some n) h = absurd h
-    what_passes kind.Print (Some n) h = absurd h
-    what_passes kind.Return (Some n) h = absurd h
-    what_passes kind.Jump (Some n) h = absurd h
-    what_passes kind.Throw (Some n) h = absurd h
-    what_passes kind.Catch (Some n) h = absurd h
+    pub entity_passes : (k : Kind) (entity : Option ℕ) → EntityInRange (program_of P) k entity → entity_rule (ranges_of P) k (or_none entity) ≡ Absent
+    unfolding entity_rule ranges_of
+    entity_passes kind.Init (Some c) h = class_passes c h
+    entity_passes kind.Init Absent h = absurd h
+    entity_passes kind.New (Some code) h = code_passes code h
+    entity_passes kind.New Absent h = absurd h
+    entity_passes kind.Call (Some m) h = method_passes m h
+    entity_passes kind.Call Absent h = absurd h
+    entity_passes kind.Bind Absent h = refl
+    entity_passes kind.Set Absent h = refl
+    entity_passes kind.Test Absent h = refl
+    entity_passes kind.Text Absent h = refl
+    entity_passes kind.Read Absent h = refl
+    entity_passes kind.Print Absent h = refl
+    entity_passes kind.Return Absent h = refl
+    entity_passes kind.Jump Absent h = refl
+    entity_passes kind.Throw Absent h = refl
+    entity_passes kind.Catch Absent h = refl
+    entity_passes kind.Bind (Some n) h = absurd h
+    entity_passes kind.Set (Some n) h = absurd h
+    entity_passes kind.Test (Some n) h = absurd h
+    entity_passes kind.Text (Some n) h = absurd h
+    entity_passes kind.Read (Some n) h = absurd h
+    entity_passes kind.Print (Some n) h = absurd h
+    entity_passes kind.Return (Some n) h = absurd h
+    entity_passes kind.Jump (Some n) h = absurd h
+    entity_passes kind.Throw (Some n) h = absurd h
+    entity_passes kind.Catch (Some n) h = absurd h
 
   -- ---- fields
 

@@ -19,7 +19,7 @@ use Rattle.wy_payload.specs.declared.value.ValueForm.TheVariants as form
 use Rattle.wy_payload.specs.Ranges.{ranges_of}
 use Rattle.wy_payload.specs.Rules.{in_range, brackets_unit}
 use Rattle.wy_payload.specs.Values.{value_form, allows_value, int_rule, object_role}
-use Rattle.law_shaped.specs.Shaped.{Shaped, ValueFits, WhatOf, IsNew, IsText}
+use Rattle.law_shaped.specs.Shaped.{Shaped, ValueFits, EntityOf, IsNew, IsText}
 use Rattle.law_reading.specs.Readable.{or_none, Refers, tag_of_value, ValueIsThere, ValueMayStand}
 use Rattle.law_in_range.specs.InRange.{arrays_from, IsNone, IsSome, IsTruth, IsByte, IsPrinted, IsThrown, IsLength, ValueInRange, FixedInRange}
 use Rattle.law_own_traces.proofs.Known.{earlier, front, below_refers, object_refers}
@@ -146,12 +146,12 @@ module _ (P : memory.Program) (rs : List Recorded) (shaped : (n : ℕ) (e : Reco
   new_value code v (inl h) = subst (λ w. Stands w v) (sym (small_form code h.0)) (no_value v h.1)
   new_value code v (inr h) = subst (λ w. Stands w v) (sym (large_form code h.0)) (subst (λ x. Stands form.Length x) (sym h.1.1) (length_value h.1.0))
 
-  new_code : (entity : Option ℕ) (v : Value) → WhatOf kind.New entity → IsLength (code_of entity) v → Stands (value_form kind.New (or_none entity)) v
+  new_code : (entity : Option ℕ) (v : Value) → EntityOf kind.New entity → IsLength (code_of entity) v → Stands (value_form kind.New (or_none entity)) v
   unfolding code_of
   new_code (Some code) v w h = new_value code v h
   new_code Absent v w h = absurd w
 
-  pub value_stands : (k : Kind) (entity : Option ℕ) (v : Value) → WhatOf k entity → ValueInRange (slice_get (front rs shaped n)) k entity v → FixedInRange (program_of P) v → ValueFits rs n v → Stands (value_form k (or_none entity)) v
+  pub value_stands : (k : Kind) (entity : Option ℕ) (v : Value) → EntityOf k entity → ValueInRange (slice_get (front rs shaped n)) k entity v → FixedInRange (program_of P) v → ValueFits rs n v → Stands (value_form k (or_none entity)) v
   value_stands kind.Init entity v w h f s = no_value v h
   value_stands kind.New entity v w h f s = new_code entity v w h
   value_stands kind.Call entity v w h f s = no_value v h

@@ -1,17 +1,14 @@
 -- What holds of each site in a part holds wherever it is asked less of a site.
-use Rattle.std.proofs.Common.{ℕ, List, [], ◌∷◌}
-use Rattle.std.specs.List.{AllByRecursion}
+use Rattle.std.proofs.Common.{ℕ}
 use Rattle.std.proofs.lemmas.List.Elements.{All-weaker}
-use Rattle.wy_kernel.specs.Form.{Expression, Const, Str, Read, Set, Upd, Un, Bin, Conv, Cast, InstanceOf, Cond, New, NewArray, Call, Cat, Lib, Place, Local, Static, Field, Elem, Part, absent, the, Row, none, more, Statement, Stmt, Act, Block, Eval, Declare, If, While, Do, For, Labelled, Jump, Return, Throw, Try, Print, Other, nothing, this, Statements, done, first, Catches, uncaught, catch}
+use Rattle.wy_kernel.specs.Form.{Expression, Const, Str, Read, Set, Upd, Un, Bin, Conv, Cast, InstanceOf, Cond, New, NewArray, Call, Cat, Lib, Place, Local, Static, Field, Elem, Part, absent, the, Row, none, more, Statement, Stmt, Act, Eval, If, While, Do, For, Return, Throw, Try, Print, Catches, uncaught, catch}
 use Rattle.wy_kernel.specs.Program.{Body}
 use Rattle.wy_kernel.specs.Program as part
-use Rattle.wy_typing.specs.Sites.{Sited, PlaceSited, PartSited, RowSited, StatementSited, ActSited, OtherSited, AllSited, CatchesSited, BodySited}
+use Rattle.wy_kernel.specs.Statements.{statements}
+use Rattle.wy_typing.specs.Sites.{Sited, PlaceSited, PartSited, RowSited, StatementSited, ActSited, CatchesSited, BodySited}
+use Rattle.wy_typing.proofs.Listed.{weaker}
 
 module _ (P Q : ℕ → Type 0) (so : (n : ℕ) → P n → Q n) where
-  each_so : (ns : List ℕ) → AllByRecursion P ns → AllByRecursion Q ns
-  each_so [] h = tt
-  each_so (n ∷ ns) h = (so n h.0, each_so ns h.1)
-
   mutual
     expression_so : (e : Expression) → Sited P e → Sited Q e
     expression_so (Const value) h = tt
@@ -26,7 +23,7 @@ module _ (P Q : ℕ → Type 0) (so : (n : ℕ) → P n → Q n) where
     expression_so (InstanceOf ty operand) h = expression_so operand h
     expression_so (Cond form test if_true if_false site) h = (so site h.0, expression_so test h.1, part_so if_true h.2, part_so if_false h.3)
     expression_so (New class constructor args site) h = (so site h.0, row_so args h.1)
-    expression_so (NewArray ty dims elements element_sites site) h = (so site h.0, row_so dims h.1, row_so elements h.2, each_so element_sites h.3)
+    expression_so (NewArray ty dims elements element_sites site) h = (so site h.0, row_so dims h.1, row_so elements h.2, weaker P Q so element_sites h.3)
     expression_so (Call form method receiver ty args site) h = (so site h.0, part_so receiver h.1, row_so args h.2)
     expression_so (Cat left right left_ty right_ty site) h = (so site h.0, expression_so left h.1, expression_so right h.2)
     expression_so (Lib op args site) h = (so site h.0, row_so args h.1)
@@ -45,40 +42,28 @@ module _ (P Q : ℕ → Type 0) (so : (n : ℕ) → P n → Q n) where
     row_so none h = tt
     row_so (more e rest) h = (expression_so e h.0, row_so rest h.1)
 
-  mutual
-    statement_so : (s : Statement) → StatementSited P s → StatementSited Q s
-    statement_so (Stmt number site askable reach act) h = (so site h.0, act_so act h.1)
+  catches_so : (cs : Catches) → CatchesSited P cs → CatchesSited Q cs
+  catches_so uncaught h = tt
+  catches_so (catch class local site block rest) h = (so site h.0, catches_so rest h.1)
 
-    act_so : (a : Act) → ActSited P a → ActSited Q a
-    act_so (Block parts) h = all_so parts h
-    act_so (Eval value) h = expression_so value h
-    act_so (Declare local) h = tt
-    act_so (If test x y) h = (expression_so test h.0, statement_so x h.1, other_so y h.2)
-    act_so (While test body) h = (expression_so test h.0, statement_so body h.1)
-    act_so (Do body test) h = (statement_so body h.0, expression_so test h.1)
-    act_so (For inits test updates body) h = (all_so inits h.0, part_so test h.1, all_so updates h.2, statement_so body h.3)
-    act_so (Labelled body) h = statement_so body h
-    act_so (Jump target) h = tt
-    act_so (Return value) h = part_so value h
-    act_so (Throw value) h = expression_so value h
-    act_so (Try main catches last) h = (statement_so main h.0, catches_so catches h.1, other_so last h.2)
-    act_so (Print operand ty ends_line site) h = (so site h.0, part_so operand h.1)
+  act_so : (a : Act) → ActSited P a → ActSited Q a
+  act_so (Eval value) h = expression_so value h
+  act_so (If test x y) h = expression_so test h
+  act_so (While test body) h = expression_so test h
+  act_so (Do body test) h = expression_so test h
+  act_so (For inits test updates body) h = part_so test h
+  act_so (Return value) h = part_so value h
+  act_so (Throw value) h = expression_so value h
+  act_so (Try main catches last) h = catches_so catches h
+  act_so (Print operand ty ends_line site) h = (so site h.0, part_so operand h.1)
+  act_so _ h = h
 
-    other_so : (o : Other) → OtherSited P o → OtherSited Q o
-    other_so nothing h = tt
-    other_so (this s) h = statement_so s h
-
-    all_so : (ss : Statements) → AllSited P ss → AllSited Q ss
-    all_so done h = tt
-    all_so (first s rest) h = (statement_so s h.0, all_so rest h.1)
-
-    catches_so : (cs : Catches) → CatchesSited P cs → CatchesSited Q cs
-    catches_so uncaught h = tt
-    catches_so (catch class local site block rest) h = (so site h.0, statement_so block h.1, catches_so rest h.2)
+  statement_so : (s : Statement) → StatementSited P s → StatementSited Q s
+  statement_so (Stmt number site askable reach act) h = (so site h.0, act_so act h.1)
 
   pub body_so : (b : Body) → BodySited P b → BodySited Q b
   body_so b h = record {
-    block = statement_so b.block h.block;
+    block = weaker (StatementSited P) (StatementSited Q) statement_so (statements b.block) h.block;
     locals = All-weaker (λ (l : part.Local). P l.site) (λ (l : part.Local). Q l.site) (λ l i. so l.site i) b.locals h.locals;
     end = so b.end h.end;
   }

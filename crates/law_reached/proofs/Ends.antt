@@ -13,7 +13,7 @@ use Rattle.wy_event.specs.declared.record.Cover.{Cover}
 use Rattle.wy_event.specs.declared.record.Kind.{Kind}
 use Rattle.wy_event.specs.declared.record.Kind.TheVariants as kind
 use Rattle.wy_event.specs.Record.{Recorded}
-use Rattle.wy_event.specs.Sources.{is_what}
+use Rattle.wy_event.specs.Sources.{is_entity}
 use Rattle.wy_index.specs.declared.found.Hit.{Hit}
 use Rattle.wy_index.specs.Found.{gathered, one_if, is_call, is_init, is_call_of, is_init_of, is_hit, body_of, caller_in, hit_at, hits_in}
 use Rattle.wy_steps.specs.Sets.{Sets}
@@ -126,14 +126,14 @@ a_catch : (k : Kind) → is_catch k ≡ true → k ≡ kind.Catch
 a_catch kind.Catch e = refl
 a_catch _ e = absurd (cc e)
 
-what_is : (o : Option ℕ) (m : ℕ) → is_what o m ≡ true → o ≡ Some m
-unfolding is_what
-what_is (Some n) m e = ap Some (eqb-true n m e)
-what_is Absent m e = absurd (cc e)
+entity_is : (o : Option ℕ) (m : ℕ) → is_entity o m ≡ true → o ≡ Some m
+unfolding is_entity
+entity_is (Some n) m e = ap Some (eqb-true n m e)
+entity_is Absent m e = absurd (cc e)
 
-is_its_what : (o : Option ℕ) (m : ℕ) → o ≡ Some m → is_what o m ≡ true
-unfolding is_what
-is_its_what o m e = ap (λ z. is_what z m) e ∙ eq-eqb m m refl
+is_its_entity : (o : Option ℕ) (m : ℕ) → o ≡ Some m → is_entity o m ≡ true
+unfolding is_entity
+is_its_entity o m e = ap (λ z. is_entity z m) e ∙ eq-eqb m m refl
 
 value_is : (n : ℕ) (v : Value) → is_value n v ≡ true → (b : Bool) × (v ≡ val.Bool b) × (n ≡ arm_number b)
 value_is n (val.Bool true) e = (true, refl, eqb-true n 1 e)
@@ -270,12 +270,12 @@ module _ {A : Sets} where
     was_executed point.Start h = tt
     was_executed (point.Entry m) h =
         let x = any_at (is_call_of m) rs h in
-        let y = and_both (is_call x.1.kind) (is_what x.1.entity m) x.3 in
-        happened (x.0, x.1, x.2, (a_call x.1.kind y.0, what_is x.1.entity m y.1))
+        let y = and_both (is_call x.1.kind) (is_entity x.1.entity m) x.3 in
+        happened (x.0, x.1, x.2, (a_call x.1.kind y.0, entity_is x.1.entity m y.1))
     was_executed (point.Init c) h =
         let x = any_at (is_init_of c) rs h in
-        let y = and_both (is_init x.1.kind) (is_what x.1.entity c) x.3 in
-        happened (x.0, x.1, x.2, (an_init x.1.kind y.0, what_is x.1.entity c y.1))
+        let y = and_both (is_init x.1.kind) (is_entity x.1.entity c) x.3 in
+        happened (x.0, x.1, x.2, (an_init x.1.kind y.0, entity_is x.1.entity c y.1))
     was_executed (point.Statement n) h = began n (slice_get cs n) refl h
     was_executed (point.Arm site v) h = happened (arm_shown rs site v h)
     was_executed (point.Catch site) h = happened (catch_shown rs site h)
@@ -291,15 +291,15 @@ module _ {A : Sets} where
     pub is_executed : (q : Point) → Executed p t q → executed rs cs q ≡ true
     unfolding executed
     is_executed point.Start h = refl
-    is_executed (point.Entry m) h = any_of (is_call_of m) rs h.number h.event (at h.number h.event h.there) (both_and (is_call h.event.kind) (is_what h.event.entity m) (ap is_call h.is.0) (is_its_what h.event.entity m h.is.1))
-    is_executed (point.Init c) h = any_of (is_init_of c) rs h.number h.event (at h.number h.event h.there) (both_and (is_init h.event.kind) (is_what h.event.entity c) (ap is_init h.is.0) (is_its_what h.event.entity c h.is.1))
+    is_executed (point.Entry m) h = any_of (is_call_of m) rs h.number h.event (at h.number h.event h.there) (both_and (is_call h.event.kind) (is_entity h.event.entity m) (ap is_call h.is.0) (is_its_entity h.event.entity m h.is.1))
+    is_executed (point.Init c) h = any_of (is_init_of c) rs h.number h.event (at h.number h.event h.there) (both_and (is_init h.event.kind) (is_entity h.event.entity c) (ap is_init h.is.0) (is_its_entity h.event.entity c h.is.1))
     is_executed (point.Statement n) h = begun_there n h
     is_executed (point.Arm site v) h = shown_arm rs site v h.number h.event (at h.number h.event h.there) h.is
     is_executed (point.Catch site) h = shown_catch rs site h.number h.event (at h.number h.event h.there) h.is
 
     begins_there : (q : Point) (e : Recorded) → Begins q e → begins_at q e ≡ true
-    begins_there (point.Entry m) e h = both_and (is_call e.kind) (is_what e.entity m) (ap is_call h.0) (is_its_what e.entity m h.1)
-    begins_there (point.Init c) e h = both_and (is_init e.kind) (is_what e.entity c) (ap is_init h.0) (is_its_what e.entity c h.1)
+    begins_there (point.Entry m) e h = both_and (is_call e.kind) (is_entity e.entity m) (ap is_call h.0) (is_its_entity e.entity m h.1)
+    begins_there (point.Init c) e h = both_and (is_init e.kind) (is_entity e.entity c) (ap is_init h.0) (is_its_entity e.entity c h.1)
     begins_there point.Start e h = absurd h
     begins_there (point.Statement n) e h = absurd h
     begins_there (point.Arm site v) e h = absurd h

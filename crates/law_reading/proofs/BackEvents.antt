@@ -1,5 +1,5 @@
 -- A whole event is read back, so far as its bytes tell it.
-use Rattle.std.proofs.Common.{◌≡◌, ℕ, ◌+◌, ◌<◌, ◌^◌, Bool, true, false, cond, eqb, List, [], ◌∷◌, ◌++◌, length, Option, Some, Ok, Err, refl, sym, subst, append-nil, arith, length-append, All}
+use Rattle.std.proofs.Common.{◌≡◌, ℕ, ◌<◌, ◌^◌, Bool, true, false, cond, eqb, List, [], ◌∷◌, ◌++◌, length, Option, Some, Ok, Err, refl, sym, subst, append-nil, arith, All}
 use Rattle.std.specs.Prelude.{None as Absent}
 use Rattle.std.specs.Prelude.{IfOk, nat_lt, slice_get}
 use Rattle.std.proofs.lemmas.Bool.{eqb-true}
@@ -10,7 +10,7 @@ use Rattle.wy_event.specs.Record.{Recorded, recorded}
 use Rattle.wy_kernel.specs.View.{NONE, present}
 use Rattle.wy_fitting.specs.Fits.{IsUnit, IsPresent, ValueFits, Fits, told_value, told_units, told}
 use Rattle.wy_spelling.specs.Spelling.{number, optional, kind_number, slot_bytes, content_bytes, uses_bytes, origin_bytes, event_payload}
-use Rattle.wy_spelling.proofs.Lengths.{units_are_few, uses_are_few}
+use Rattle.wy_spelling.proofs.Lengths.{units_are_few}
 use Rattle.wy_payload.specs.declared.fault.DamageRule.TheVariants as rule
 use Rattle.wy_payload.specs.declared.ranges.Ranges.{Ranges}
 use Rattle.wy_payload.specs.declared.known.Known.{Known}
@@ -19,17 +19,18 @@ use Rattle.wy_payload.specs.declared.known.Role.TheVariants as role
 use Rattle.wy_payload.specs.declared.event.Origin.{Origin}
 use Rattle.wy_payload.specs.declared.event.Content.{Content}
 use Rattle.wy_payload.specs.declared.event.Written.{Written}
-use Rattle.wy_payload.specs.Rules.{in_range, optional_rule, site_rule, what_rule}
+use Rattle.wy_payload.specs.Rules.{in_range, optional_rule, site_rule, entity_rule}
 use Rattle.wy_payload.specs.Reading.{Read, optional_at, all_of}
 use Rattle.wy_payload.specs.Places.{slot_at, slot_form}
 use Rattle.wy_payload.specs.Values.{value_form, output_behind, units_at, value_at}
 use Rattle.wy_kernel.specs.Limits.{event_limit}
-use Rattle.wy_payload.specs.Events.{kinds, kind_at, site_at, what_at, origin_at, content_at, uses_at, event_at}
+use Rattle.wy_payload.specs.Events.{kinds, kind_at, site_at, entity_at, origin_at, content_at, uses_at, event_at}
 use Rattle.law_reading.proofs.SpelledSteps.{after}
 use Rattle.law_reading.proofs.Back.{Gives, then_back, passed_back, checked_back, tag_back}
 use Rattle.law_reading.proofs.BackParts.{slot_back}
 use Rattle.law_reading.proofs.BackValues.{value_back, units_back, uses_back}
 use Rattle.wy_payload.proofs.Tags.{kind_known}
+use Rattle.law_reading.proofs.EventLengths.{parts_short}
 
 -- ---- origins
 
@@ -63,9 +64,9 @@ site_back : (r : Ranges) (n : ℕ) (rest : List ℕ) → n < 2 ^ 32 → Gives n 
 unfolding site_at
 site_back r n rest small = checked_back (site_rule r) n rest small
 
-what_back : (r : Ranges) (k : Kind) (n : ℕ) (rest : List ℕ) → n < 2 ^ 32 → Gives n rest (what_at r k (number n ++ rest))
-unfolding what_at
-what_back r k n rest small = checked_back (what_rule r k) n rest small
+entity_back : (r : Ranges) (k : Kind) (n : ℕ) (rest : List ℕ) → n < 2 ^ 32 → Gives n rest (entity_at r k (number n ++ rest))
+unfolding entity_at
+entity_back r k n rest small = checked_back (entity_rule r k) n rest small
 
 optional_back : (r : Role) (earlier : List Known) (n : ℕ) (rest : List ℕ) → n < 2 ^ 32 → Gives n rest (optional_at r earlier (number n ++ rest))
 unfolding optional_at
@@ -90,7 +91,7 @@ origin_back r earlier e rest fit =
     (then_back (site_at r a) _ (e.site, b) _ (site_back r e.site b fit.site)
     (then_back (optional_at role.Frame earlier b) _ (raw e.frame, c) _ (optional_back role.Frame earlier (raw e.frame) c (raw_small e.frame fit.frame))
     (then_back (optional_at role.Control earlier c) _ (raw e.control, d) _ (optional_back role.Control earlier (raw e.control) d (raw_small e.control fit.control))
-    (then_back (what_at r e.kind d) _ (raw e.entity, rest) _ (what_back r e.kind (raw e.entity) rest (raw_small e.entity fit.entity)) refl)))))
+    (then_back (entity_at r e.kind d) _ (raw e.entity, rest) _ (entity_back r e.kind (raw e.entity) rest (raw_small e.entity fit.entity)) refl)))))
 
 -- ---- contents
 
@@ -104,19 +105,6 @@ content_back r earlier kind.Text entity v units rest value fit short = then_back
 content_back r earlier k entity v units rest value fit short = then_back (value_at r earlier (value_form k entity) (content_bytes k v units ++ rest)) _ (v, rest) _ (value_back r earlier (value_form k entity) v rest value) refl
 
 -- ---- events
-
-record Short (e : Recorded) : Type 0 where
-  content : length (content_bytes e.kind e.value e.units) < 2 ^ 32
-  uses : length e.uses < 2 ^ 32
-
-parts_short : (e : Recorded) → length (event_payload e) < 2 ^ 32 → Short e
-unfolding event_payload
-parts_short e short =
-    let uses = uses_bytes e.uses in
-    let content = content_bytes e.kind e.value e.units in
-    let slot = slot_bytes e.slot in
-    let within : length content + length uses < 2 ^ 32 = omega (arith, short, length-append (origin_bytes e) (slot ++ (content ++ uses)), length-append slot (content ++ uses), length-append content uses) in
-    record { content = omega (arith, within); uses = uses_are_few e.uses (omega (arith, within)) }
 
 -- the record that was read
 abbrev Tells : Recorded → Written × List ℕ → Type 0

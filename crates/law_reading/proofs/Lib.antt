@@ -18,6 +18,7 @@ mod Prefixes
 mod Back
 mod BackParts
 mod BackValues
+mod EventLengths
 mod BackEvents
 mod BackTraces
 mod BackEnds

@@ -3,13 +3,12 @@ use Rattle.std.proofs.Common.{◌≡◌, ◌⊎◌, ℕ, zero, suc, ◌+◌, ◌
 use Rattle.std.specs.Prelude.{None as Absent}
 use Rattle.std.specs.Prelude.{MatchResult, slice_index}
 use Rattle.std.specs.Int.{w32, from_be_bytes}
-use Rattle.std.proofs.lemmas.Bool.{eqb-true, eqb-false, eq-eqb, ne_eqb, ltb-true, ltb-false, lt-ltb, le-ltb}
-use Rattle.std.proofs.lemmas.List.{take-take, drop-take, length-take, length-drop, take-append-drop}
+use Rattle.std.proofs.lemmas.Bool.{eqb-true, eq-eqb, ne_eqb, ltb-true, ltb-false, lt-ltb, le-ltb}
+use Rattle.std.proofs.lemmas.List.{take-take, drop-take, length-take, length-drop}
 use Rattle.wy_kernel.specs.declared.program.Program.{Program}
 use Rattle.wy_event.specs.declared.record.Head.{Head}
 use Rattle.wy_event.specs.declared.record.Trace.{Trace}
 use Rattle.wy_spelling.specs.Spelling.{magic, opening}
-use Rattle.wy_payload.specs.declared.fault.DamageRule.{DamageRule}
 use Rattle.wy_payload.specs.declared.fault.DamageRule.TheVariants as rule
 use Rattle.wy_payload.specs.declared.ranges.Ranges.{Ranges}
 use Rattle.wy_payload.specs.Reading.{all_of}
@@ -23,7 +22,7 @@ use Rattle.wy_frames.specs.Frames.{Frame, opening_length, said_length, frame_of_
 use Rattle.wy_frames.specs.Heads.{agreeing, magic_length, read_head_as, head_in, head_of}
 use Rattle.wy_frames.specs.Ends.{IsUnsealed}
 use Rattle.wy_frames.specs.Progress.{Progress, start, Violates, Unsealed, Next, open_next, covered_next, ended_next, next_at, next_of}
-use Rattle.wy_frames.specs.Scan.{Turn, Waits, Goes, turn_next, is_passed, without_frame, turn_frame, turn, Leaves, nothing, frame}
+use Rattle.wy_frames.specs.Scan.{Waits, Goes, turn_next, is_passed, without_frame, turn_frame, turn, Leaves, nothing, frame}
 use Rattle.wy_frames.specs.Traces.{IsCut, IsReadBehind, IsReadAs}
 use Rattle.wy_frames.proofs.Scans.{inner_is, some_is, turn_with, turn_without}
 use Rattle.law_reading.specs.Spelled.{AreBytes}

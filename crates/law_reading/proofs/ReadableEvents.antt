@@ -1,5 +1,5 @@
 -- A whole event is read.
-use Rattle.std.proofs.Common.{◌≡◌, ℕ, ◌+◌, ◌<◌, ◌≤◌, ◌^◌, Bool, true, false, cond, eqb, List, [], ◌∷◌, ◌++◌, length, Option, Some, Ok, refl, ap, ◌∙◌, append-nil, arith, length-append, All}
+use Rattle.std.proofs.Common.{◌≡◌, ℕ, ◌+◌, ◌<◌, ◌≤◌, ◌^◌, Bool, true, false, cond, eqb, List, [], ◌∷◌, ◌++◌, length, Option, Some, Ok, refl, ap, ◌∙◌, append-nil, arith, All}
 use Rattle.std.specs.Prelude.{None as Absent}
 use Rattle.std.specs.Prelude.{nat_lt, nat_le, slice_get}
 use Rattle.std.proofs.lemmas.Bool.{eqb-true, lt-ltb, le-leb}
@@ -11,25 +11,26 @@ use Rattle.wy_event.specs.declared.record.Kind.TheVariants as kind
 use Rattle.wy_event.specs.Record.{Recorded, recorded}
 use Rattle.wy_fitting.specs.Fits.{IsUnit, IsPresent, ValueFits, Fits, told_value, told_units, told}
 use Rattle.wy_spelling.specs.Spelling.{number, kind_number, slot_bytes, content_bytes, uses_bytes, origin_bytes, event_payload}
-use Rattle.wy_spelling.proofs.Lengths.{units_are_few, uses_are_few}
+use Rattle.wy_spelling.proofs.Lengths.{units_are_few}
 use Rattle.wy_payload.specs.declared.ranges.Ranges.{Ranges}
 use Rattle.wy_payload.specs.declared.known.Known.{Known}
 use Rattle.wy_payload.specs.declared.known.Role.TheVariants as role
 use Rattle.wy_payload.specs.declared.event.Origin.{Origin}
 use Rattle.wy_payload.specs.declared.event.Content.{Content}
 use Rattle.wy_payload.specs.declared.event.Written.{Written}
-use Rattle.wy_payload.specs.Rules.{in_range, site_rule, what_rule}
+use Rattle.wy_payload.specs.Rules.{in_range, site_rule, entity_rule}
 use Rattle.wy_payload.specs.Ranges.{known_as, known_of}
 use Rattle.wy_payload.specs.Reading.{passed, optional_at, all_of}
 use Rattle.wy_payload.specs.Places.{slot_at, slot_form}
 use Rattle.wy_payload.specs.Values.{value_form, output_of, output_behind, units_at, value_at}
 use Rattle.wy_kernel.specs.Limits.{event_limit, output_limit}
-use Rattle.wy_payload.specs.Events.{kinds, kind_at, site_at, what_at, origin_at, content_at, uses_at, event_at}
+use Rattle.wy_payload.specs.Events.{kinds, kind_at, site_at, entity_at, origin_at, content_at, uses_at, event_at}
 use Rattle.law_reading.specs.Readable.{or_none, known_in, ValueMayStand, MayStand}
 use Rattle.law_reading.proofs.ReadableSteps.{Reads, then_is, passes, ranged, checked_is, tag_is}
 use Rattle.law_reading.proofs.Parts.{or_none_spelled, or_none_small, optional_is, slot_is}
 use Rattle.law_reading.proofs.ReadableValues.{value_is, units_are, uses_are}
 use Rattle.wy_payload.proofs.Tags.{kind_known}
+use Rattle.law_reading.proofs.EventLengths.{parts_short}
 
 -- ---- origins
 
@@ -41,9 +42,9 @@ site_is : (r : Ranges) (n : ℕ) (rest : List ℕ) → n < 2 ^ 32 → site_rule 
 unfolding site_at
 site_is r n rest small keeps = checked_is (site_rule r) n rest small keeps
 
-what_is : (r : Ranges) (k : Kind) (n : ℕ) (rest : List ℕ) → n < 2 ^ 32 → what_rule r k n ≡ Absent → Reads (what_at r k (number n ++ rest)) n rest
-unfolding what_at
-what_is r k n rest small keeps = checked_is (what_rule r k) n rest small keeps
+entity_is : (r : Ranges) (k : Kind) (n : ℕ) (rest : List ℕ) → n < 2 ^ 32 → entity_rule r k n ≡ Absent → Reads (entity_at r k (number n ++ rest)) n rest
+unfolding entity_at
+entity_is r k n rest small keeps = checked_is (entity_rule r k) n rest small keeps
 
 abbrev origin_of : Recorded → Origin
 origin_of e = record { kind = e.kind; site = e.site; frame = or_none e.frame; control = or_none e.control; entity = or_none e.entity }
@@ -64,7 +65,7 @@ origin_is r earlier e rest fit may room =
     (then_is (site_at r a) _ (e.site, b) _ (site_is r e.site b fit.site may.site)
     (then_is (optional_at role.Frame earlier b) _ (or_none e.frame, c) _ (optional_is role.Frame earlier e.frame c fit.frame may.frame)
     (then_is (optional_at role.Control earlier c) _ (or_none e.control, d) _ (optional_is role.Control earlier e.control d fit.control may.control)
-    (then_is (what_at r e.kind d) _ (or_none e.entity, rest) _ (what_is r e.kind (or_none e.entity) rest (or_none_small e.entity fit.entity) may.entity) refl))))
+    (then_is (entity_at r e.kind d) _ (or_none e.entity, rest) _ (entity_is r e.kind (or_none e.entity) rest (or_none_small e.entity fit.entity) may.entity) refl))))
 
 -- ---- contents
 
@@ -92,19 +93,6 @@ output_is r earlier output k site v within =
     ∙ passes (in_range (nat_le total output_limit)) total (ranged (nat_le total output_limit) (le-leb total output_limit within))
 
 -- ---- events
-
-record Short (e : Recorded) : Type 0 where
-  content : length (content_bytes e.kind e.value e.units) < 2 ^ 32
-  uses : length e.uses < 2 ^ 32
-
-parts_short : (e : Recorded) → length (event_payload e) < 2 ^ 32 → Short e
-unfolding event_payload
-parts_short e short =
-    let uses = uses_bytes e.uses in
-    let content = content_bytes e.kind e.value e.units in
-    let slot = slot_bytes e.slot in
-    let within : length content + length uses < 2 ^ 32 = omega (arith, short, length-append (origin_bytes e) (slot ++ (content ++ uses)), length-append slot (content ++ uses), length-append content uses) in
-    record { content = omega (arith, within); uses = uses_are_few e.uses (omega (arith, within)) }
 
 -- a record as it stands in memory once it is read
 abbrev pub event_of : Recorded → Event

@@ -19,7 +19,7 @@ use Rattle.wy_payload.specs.Reading.{known_tag, number_at, optional_at}
 use Rattle.wy_payload.specs.Places.{slot_at, slot_form}
 use Rattle.wy_payload.specs.Values.{output_behind, units_at, value_at, value_form}
 use Rattle.wy_kernel.specs.Limits.{event_limit}
-use Rattle.wy_payload.specs.Events.{kinds, kind_at, site_at, what_at, origin_at, content_at, uses_at, event_at}
+use Rattle.wy_payload.specs.Events.{kinds, kind_at, site_at, entity_at, origin_at, content_at, uses_at, event_at}
 use Rattle.wy_payload.proofs.Readers.{then_has}
 use Rattle.law_reading.proofs.ReferringNumbers.{Has, after, passed_has, in_range_is, optional_has}
 use Rattle.law_reading.proofs.Fields.{slot_has, value_has, uses_have}
@@ -41,7 +41,7 @@ origin_has r earlier bytes =
     after (site_at r k.1) _ _ (λ site.
     then_has (optional_at role.Frame earlier site.1) _ _ _ (optional_has role.Frame earlier site.1) (λ frame enters.
     then_has (optional_at role.Control earlier frame.1) _ _ _ (optional_has role.Control earlier frame.1) (λ control steers.
-    after (what_at r k.0 control.1) _ _ (λ entity. record { room = room; frame = enters; control = steers })))))
+    after (entity_at r k.0 control.1) _ _ (λ entity. record { room = room; frame = enters; control = steers })))))
 
 content_has : (r : Ranges) (earlier : List Known) (k : Kind) (entity : ℕ) (bytes : List ℕ) → Has (λ (c : Content). ValueBelow (length earlier) c.value) (content_at r earlier k entity bytes)
 unfolding content_at

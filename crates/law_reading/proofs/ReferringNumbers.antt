@@ -12,7 +12,6 @@ use Rattle.wy_payload.specs.declared.known.Known.{Known}
 use Rattle.wy_payload.specs.declared.known.Role.{Role}
 use Rattle.wy_payload.specs.Rules.{Broken, in_range, refers_to, reference_rule, optional_rule}
 use Rattle.wy_payload.specs.Reading.{◌>>=◌, Read, passed, number_at, reference_at, optional_at, below_at, at_most_at}
-use Rattle.wy_payload.proofs.Readers.{then_has}
 
 -- what is read, where it is read, has P
 abbrev pub Has : {A : Type 0} → (A → Type 0) → Read A → Type 0

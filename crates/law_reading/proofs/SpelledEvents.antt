@@ -16,12 +16,12 @@ use Rattle.wy_payload.specs.declared.known.Role.TheVariants as role
 use Rattle.wy_payload.specs.declared.event.Origin.{Origin}
 use Rattle.wy_payload.specs.declared.event.Content.{Content}
 use Rattle.wy_payload.specs.declared.event.Written.{Written}
-use Rattle.wy_payload.specs.Rules.{Broken, in_range, optional_rule, site_rule, what_rule}
+use Rattle.wy_payload.specs.Rules.{Broken, in_range, optional_rule, site_rule, entity_rule}
 use Rattle.wy_payload.specs.Reading.{◌>>=◌, passed, number_at, optional_at, all_of}
 use Rattle.wy_payload.specs.Places.{slot_at, slot_form}
 use Rattle.wy_payload.specs.Values.{value_form, output_behind, units_at, value_at}
 use Rattle.wy_kernel.specs.Limits.{event_limit}
-use Rattle.wy_payload.specs.Events.{kinds, kind_at, site_at, what_at, origin_at, content_at, uses_at, event_at}
+use Rattle.wy_payload.specs.Events.{kinds, kind_at, site_at, entity_at, origin_at, content_at, uses_at, event_at}
 use Rattle.law_reading.specs.Spelled.{AreBytes}
 use Rattle.law_reading.proofs.SpelledNumbers.{Spelled, one_after}
 use Rattle.law_reading.proofs.Tails.{whole}
@@ -47,9 +47,9 @@ site_has : (r : Ranges) (bytes : List ℕ) → AreBytes bytes → Spells bytes n
 unfolding site_at
 site_has r bytes are = checked_has (site_rule r) bytes are
 
-what_has : (r : Ranges) (k : Kind) (bytes : List ℕ) → AreBytes bytes → Spells bytes number (what_at r k bytes)
-unfolding what_at
-what_has r k bytes are = checked_has (what_rule r k) bytes are
+entity_has : (r : Ranges) (k : Kind) (bytes : List ℕ) → AreBytes bytes → Spells bytes number (entity_at r k bytes)
+unfolding entity_at
+entity_has r k bytes are = checked_has (entity_rule r k) bytes are
 
 optional_has : (r : Role) (earlier : List Known) (bytes : List ℕ) → AreBytes bytes → Spells bytes number (optional_at r earlier bytes)
 unfolding optional_at
@@ -66,7 +66,7 @@ origin_has r earlier bytes are =
     then_has (site_at r k.1) _ _ _ (site_has r k.1 s.rest_bytes) (λ site t.
     then_has (optional_at role.Frame earlier site.1) _ _ _ (optional_has role.Frame earlier site.1 t.rest_bytes) (λ frame u.
     then_has (optional_at role.Control earlier frame.1) _ _ _ (optional_has role.Control earlier frame.1 u.rest_bytes) (λ control v.
-    then_has (what_at r k.0 control.1) _ _ _ (what_has r k.0 control.1 v.rest_bytes) (λ entity w.
+    then_has (entity_at r k.0 control.1) _ _ _ (entity_has r k.0 control.1 v.rest_bytes) (λ entity w.
     let two = one_after frame.1 (number control.0) control.1 (number entity.0) entity.1 v w in
     let three = one_after site.1 (number frame.0) frame.1 (number control.0 ++ number entity.0) entity.1 u two in
     let four = one_after k.1 (number site.0) site.1 (number frame.0 ++ (number control.0 ++ number entity.0)) entity.1 t three in

@@ -26,7 +26,7 @@ use Rattle.wy_payload.specs.declared.value.ValueForm.{ValueForm}
 use Rattle.wy_payload.specs.declared.value.ValueTag.{ValueTag}
 use Rattle.wy_payload.specs.declared.value.ValueTag.TheVariants as value_tag
 use Rattle.wy_payload.specs.Ranges.{known_as, ranges_of}
-use Rattle.wy_payload.specs.Rules.{reference_rule, site_rule, what_rule, locals_in, field_rule}
+use Rattle.wy_payload.specs.Rules.{reference_rule, site_rule, entity_rule, locals_in, field_rule}
 use Rattle.wy_payload.specs.Places.{slot_form, allows_slot}
 use Rattle.wy_payload.specs.Values.{value_form, allows_value, int_rule, object_role, output_of}
 use Rattle.wy_kernel.specs.Limits.{steps_limit, input_limit, source_limit, event_limit, output_limit, index_limit}
@@ -112,7 +112,7 @@ pub record MayStand (r : Ranges) (earlier : List Known) (e : Recorded) : Type 0 
   pub site : site_rule r e.site ≡ Absent
   pub frame : IfSome e.frame (Refers role.Frame earlier)
   pub control : IfSome e.control (Refers role.Control earlier)
-  pub entity : what_rule r e.kind (or_none e.entity) ≡ Absent
+  pub entity : entity_rule r e.kind (or_none e.entity) ≡ Absent
   pub slot : SlotMayStand r earlier (slot_form e.kind) e.slot
   pub value : ValueMayStand r earlier (value_form e.kind (or_none e.entity)) e.value
   pub uses : All (UseMayStand r earlier) e.uses

@@ -1,10 +1,9 @@
 -- What is read is spelled so.
 use Rattle.std.specs.Prelude.{◌≡◌, ℕ, ◌<◌, ◌≤◌, ◌^◌, ◌++◌, length, List, map, take, Ok, Err, slice_index}
-use Rattle.std.specs.List.{concat}
 use Rattle.wy_kernel.specs.declared.program.Program.{Program}
 use Rattle.wy_event.specs.declared.record.Head.{Head}
 use Rattle.wy_event.specs.declared.record.Trace.{Trace}
-use Rattle.wy_spelling.specs.Spelling.{coverage_payload, event_frame, event_payload, opening, run_bytes, slot_bytes, tail_frames, tail_payload, trace_bytes}
+use Rattle.wy_spelling.specs.Spelling.{coverage_payload, event_payload, opening, run_bytes, slot_bytes, tail_frames, tail_payload, trace_bytes}
 use Rattle.wy_fitting.specs.Fits.{AllFit, AllTold, EndFits, told}
 use Rattle.wy_event.specs.declared.record.Coverage.{Coverage}
 use Rattle.wy_event.specs.declared.record.Tail.{Tail}

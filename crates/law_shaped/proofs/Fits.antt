@@ -22,7 +22,7 @@ use Rattle.wy_steps.specs.Sets.{Sets}
 use Rattle.wy_steps.specs.State.{Carried, Held, Store, Noted, Active, Covered, State, Stop, InitFailed}
 use Rattle.wy_kernel.specs.Limits.{output_limit, event_limit, use_limit}
 use Rattle.wy_steps.specs.Steps.{Draft, parent, next_event, with_event, held_by, slot_with, with_stored, default_primitive, default_value, default_in, owner_in, if_empty, with_created, code_of, no_value, held_of, outlasting, ends_with, never_left, first_moment, begun, ended, left_by, covering, cover_with, stop_cause}
-use Rattle.law_shaped.specs.Shaped.{IsFrame, IsControl, IsValued, IsLeaving, IsNew, IsText, IsTest, IsThrow, Below, OptionBelow, ValueFits, SlotFits, UseFits, UsesFit, WhatOf, SlotOf, ValueOf, UnitsOf, UsesOf, Shaped, FirstFits, CauseFits, CoverFits}
+use Rattle.law_shaped.specs.Shaped.{IsFrame, IsControl, IsValued, IsLeaving, IsNew, IsText, IsTest, IsThrow, Below, OptionBelow, ValueFits, SlotFits, UseFits, UsesFit, EntityOf, SlotOf, ValueOf, UnitsOf, UsesOf, Shaped, FirstFits, CauseFits, CoverFits}
 
 -- from the one to the other no statement ended more often than it began
 pub record Balanced (c d : ℕ → Covered) : Type 0 where
@@ -220,7 +220,7 @@ module _ (A : Sets) (records : List Recorded) where
 
   -- what a draft has for its kind
   pub record DraftShaped (d : Draft) (us : List Use) : Type 0 where
-    pub entity : WhatOf d.kind d.entity
+    pub entity : EntityOf d.kind d.entity
     pub slot : SlotOf d.kind d.slot
     pub value : ValueOf d.kind d.value
     pub units : UnitsOf d.kind d.units
@@ -234,7 +234,7 @@ module _ (A : Sets) (records : List Recorded) where
     slot = slot_fits;
     value = value_fits;
     uses = fits.uses;
-    what_of_kind = shaped.entity;
+    entity_of_kind = shaped.entity;
     slot_of_kind = shaped.slot;
     value_of_kind = shaped.value;
     units_of_kind = shaped.units;

@@ -105,15 +105,15 @@ UsesFit records n (u ∷ us) = UseFits records n u × UsesFit records n us
 -- ---- what a record of a kind has
 
 -- an Init has its class, a New its type and a Call its method
-abbrev pub WhatOf : Kind → Option ℕ → Type 0
-WhatOf kind.Init (Some c) = Unit {0}
-WhatOf kind.Init Absent = ⊥
-WhatOf kind.New (Some ty) = Unit {0}
-WhatOf kind.New Absent = ⊥
-WhatOf kind.Call (Some m) = Unit {0}
-WhatOf kind.Call Absent = ⊥
-WhatOf _ Absent = Unit {0}
-WhatOf _ (Some n) = ⊥
+abbrev pub EntityOf : Kind → Option ℕ → Type 0
+EntityOf kind.Init (Some c) = Unit {0}
+EntityOf kind.Init Absent = ⊥
+EntityOf kind.New (Some ty) = Unit {0}
+EntityOf kind.New Absent = ⊥
+EntityOf kind.Call (Some m) = Unit {0}
+EntityOf kind.Call Absent = ⊥
+EntityOf _ Absent = Unit {0}
+EntityOf _ (Some n) = ⊥
 
 abbrev pub IsPlace : Slot → Type 0
 IsPlace slot.None = ⊥
@@ -180,7 +180,7 @@ pub record Shaped (records : List Recorded) (n : ℕ) (e : Recorded) : Type 0 wh
   pub slot : SlotFits records n e.slot
   pub value : ValueFits records n e.value
   pub uses : UsesFit records n e.uses
-  pub what_of_kind : WhatOf e.kind e.entity
+  pub entity_of_kind : EntityOf e.kind e.entity
   pub slot_of_kind : SlotOf e.kind e.slot
   pub value_of_kind : ValueOf e.kind e.value
   pub units_of_kind : UnitsOf e.kind e.units

@@ -15,12 +15,12 @@ use Rattle.wy_elab_body.specs.Parts.{NoValue, ValueOf, constructor_called, const
 use Rattle.wy_elab_body.specs.Jumps.{alone, inside}
 use Rattle.wy_elab_body.specs.Statements.{Setting, number, plain, block, statements, joined, row_of}
 use Rattle.wy_elab_body.specs.Bodies.{implied, declared_type, parameter, parameters, outcome_of, brace_of, method_block, superclass_of, implied_super_call, implied_fields_call, own_call, no_call, written_super_call, fields_call, first_calls, constructor_block, implied_constructor_block, around_initializer, own_place, field_number, assigned_first, field_initial, field_initials, initializer_block}
-use Rattle.wy_typing.specs.Sites.{Sited, PlaceSited, StatementSited, AllSited}
+use Rattle.wy_typing.specs.Sites.{Sited, PlaceSited}
 use Rattle.law_sites.proofs.Tokens.{FirstTokens, DeclaratorTokens, BlockTokens, AllTokens, HeaderTokens, OwnTokens}
 use Rattle.law_sites.proofs.Expressions.{initialized_sited}
 use Rattle.law_sites.proofs.Keeping.{Keeps, given, and_then, behind, of_choice, of_expressed, of_any, of_declaring, of_each}
 use Rattle.law_sites.proofs.SitedParts.{constructor_called_sited, constructor_call_sited}
-use Rattle.law_sites.proofs.SitedStatements.{ListSited, row_sited, joined_sited, alone_sited, block_sited, statements_sited}
+use Rattle.law_sites.proofs.SitedStatements.{WholeSited, ListSited, PartsSited, row_sited, joined_sited, alone_sited, block_sited, statements_sited}
 
 -- ---- methods
 
@@ -40,11 +40,11 @@ outcome_kept : (P : ℕ → Type 0) (w : Setting) (result : Option WrittenType) 
 outcome_kept P w None = given (λ o. Unit {0}) NoValue tt
 outcome_kept P w (Some ty) = behind (declared_type w ty 0) (λ t. give (ValueOf t)) (λ o. Unit {0}) (type_kept P w ty 0) (λ t. given (λ o. Unit {0}) (ValueOf t) tt)
 
-pub method_sited : (P : ℕ → Type 0) (w : Setting) (h : Header) (result : Option WrittenType) (b : Braced) → HeaderTokens P h → BlockTokens P b → Keeps P (method_block w h result b) (StatementSited P)
+pub method_sited : (P : ℕ → Type 0) (w : Setting) (h : Header) (result : Option WrittenType) (b : Braced) → HeaderTokens P h → BlockTokens P b → Keeps P (method_block w h result b) (WholeSited P)
 unfolding method_block
 method_sited P w h result b i x =
-    behind (outcome_of w result) _ (StatementSited P) (outcome_kept P w result) (λ outcome.
-    behind (parameters w h.params) _ (StatementSited P) (parameters_kept P w h.params i.1) (λ params. block_sited P w (alone (number w (brace_of b)) outcome) b x))
+    behind (outcome_of w result) _ (WholeSited P) (outcome_kept P w result) (λ outcome.
+    behind (parameters w h.params) _ (WholeSited P) (parameters_kept P w h.params i.1) (λ params. block_sited P w (alone (number w (brace_of b)) outcome) b x))
 
 -- ---- constructors
 
@@ -54,7 +54,7 @@ super_sited P w c site h =
     of_choice (calls_superclass w.table c) _ (give []) (ListSited P)
     (and_then (expressed (constructor_called w.judgement w.table (superclass_of w c) [] site)) (λ e. give (implied w site SuperCall (kernel.Eval e) ∷ [])) (Sited P) (ListSited P)
     (of_expressed (constructor_called w.judgement w.table (superclass_of w c) [] site) (Sited P) (constructor_called_sited P w.judgement w.table (superclass_of w c) [] site h tt))
-    (λ e i. given (ListSited P) (implied w site SuperCall (kernel.Eval e) ∷ []) ((h, i), tt)))
+    (λ e i. given (ListSited P) (implied w site SuperCall (kernel.Eval e) ∷ []) (((h, i), tt), tt)))
     (given (ListSited P) [] tt)
 
 fields_form_sited : (P : ℕ → Type 0) (k : Option ℕ) (c site : ℕ) → P site → Sited P (fields_call k c site)
@@ -67,14 +67,14 @@ chosen P false xs h = tt
 
 fields_call_sited : (P : ℕ → Type 0) (w : Setting) (c : ℕ) (k : ClassSyntax) (site : ℕ) → P site → ListSited P (implied_fields_call w c k site)
 unfolding implied_fields_call
-fields_call_sited P w c k site h = chosen P (has_fields_unit k) _ ((h, fields_form_sited P _ c site h), tt)
+fields_call_sited P w c k site h = chosen P (has_fields_unit k) _ (((h, fields_form_sited P _ c site h), tt), tt)
 
 own_sited : (P : ℕ → Type 0) (w : Setting) (c d : ℕ) (call : OwnCall) → OwnTokens P (Some call) → Keeps P (own_call w c d call) (ListSited P)
 unfolding own_call
 own_sited P w c d call h =
     and_then (expressed (constructor_call w.judgement w.table d call.args call.paren)) (λ e. give (plain w call.token true (kernel.Eval e) ∷ [])) (Sited P) (ListSited P)
     (of_expressed (constructor_call w.judgement w.table d call.args call.paren) (Sited P) (constructor_call_sited P w.judgement w.table d call.args call.paren h.1 h.2))
-    (λ e i. given (ListSited P) (plain w call.token true (kernel.Eval e) ∷ []) ((h.0, i), tt))
+    (λ e i. given (ListSited P) (plain w call.token true (kernel.Eval e) ∷ []) (((h.0, i), tt), tt))
 
 no_call_sited : (P : ℕ → Type 0) (w : Setting) (call : OwnCall) → Keeps P (no_call w call) (ListSited P)
 unfolding no_call
@@ -88,7 +88,7 @@ written_super_sited P w c call h = of_choice (calls_superclass w.table c) (own_c
 with_fields : (P : ℕ → Type 0) (w : Setting) (c : ℕ) (k : ClassSyntax) (site : ℕ) (f : Makes (List kernel.Statement)) → P site → Keeps P f (ListSited P) → Keeps P (f >>= λ xs. give (xs ++ implied_fields_call w c k site)) (ListSited P)
 with_fields P w c k site f h i =
     and_then f (λ xs. give (xs ++ implied_fields_call w c k site)) (ListSited P) (ListSited P) i (λ xs x.
-    given (ListSited P) (xs ++ implied_fields_call w c k site) (All-append (StatementSited P) xs (implied_fields_call w c k site) x (fields_call_sited P w c k site h)))
+    given (ListSited P) (xs ++ implied_fields_call w c k site) (All-append (WholeSited P) xs (implied_fields_call w c k site) x (fields_call_sited P w c k site h)))
 
 calls_sited : (P : ℕ → Type 0) (w : Setting) (c : ℕ) (k : ClassSyntax) (site : ℕ) (own : Option OwnCall) → P site → OwnTokens P own → Keeps P (first_calls w c k site own) (ListSited P)
 unfolding first_calls
@@ -98,19 +98,19 @@ calls_sited P w c k site (Some call) h i =
     (with_fields P w c k site (written_super_call w c call) h (written_super_sited P w c call i)) (own_sited P w c c call i)
 
 pub constructor_sited : (P : ℕ → Type 0) (w : Setting) (c : ℕ) (k : ClassSyntax) (h : Header) (own : Option OwnCall) (brace : ℕ) (parts : Statements) → HeaderTokens P h → OwnTokens P own → P brace → AllTokens P parts →
-    Keeps P (constructor_block w c k h own brace parts) (StatementSited P)
+    Keeps P (constructor_block w c k h own brace parts) (WholeSited P)
 unfolding constructor_block
 constructor_sited P w c k h own brace parts i x y z =
-    behind (parameters w h.params) _ (StatementSited P) (parameters_kept P w h.params i.1) (λ params.
-    and_then (first_calls w c k h.name.token own) _ (ListSited P) (StatementSited P) (calls_sited P w c k h.name.token own i.0 x) (λ calls a.
-    and_then (statements w (inside (alone (number w brace) NoValue) (number w brace)) parts) _ (AllSited P) (StatementSited P) (statements_sited P w (inside (alone (number w brace) NoValue) (number w brace)) parts z) (λ xs b.
-    given (StatementSited P) (plain w brace false (kernel.Block (joined calls xs))) (y, joined_sited P calls xs a b))))
+    behind (parameters w h.params) _ (WholeSited P) (parameters_kept P w h.params i.1) (λ params.
+    and_then (first_calls w c k h.name.token own) _ (ListSited P) (WholeSited P) (calls_sited P w c k h.name.token own i.0 x) (λ calls a.
+    and_then (statements w (inside (alone (number w brace) NoValue) (number w brace)) parts) _ (PartsSited P) (WholeSited P) (statements_sited P w (inside (alone (number w brace) NoValue) (number w brace)) parts z) (λ xs b.
+    given (WholeSited P) (plain w brace false (kernel.Block (joined calls xs))) ((y, tt), joined_sited P calls xs a b))))
 
-pub implied_constructor_sited : (P : ℕ → Type 0) (w : Setting) (c : ℕ) (k : ClassSyntax) → P k.name.token → Keeps P (implied_constructor_block w c k) (StatementSited P)
+pub implied_constructor_sited : (P : ℕ → Type 0) (w : Setting) (c : ℕ) (k : ClassSyntax) → P k.name.token → Keeps P (implied_constructor_block w c k) (WholeSited P)
 unfolding implied_constructor_block
 implied_constructor_sited P w c k h =
-    and_then (first_calls w c k k.name.token None) _ (ListSited P) (StatementSited P) (calls_sited P w c k k.name.token None h tt) (λ calls i.
-    given (StatementSited P) (implied w k.name.token ConstructorBody (kernel.Block (row_of calls))) (h, row_sited P calls i))
+    and_then (first_calls w c k k.name.token None) _ (ListSited P) (WholeSited P) (calls_sited P w c k k.name.token None h tt) (λ calls i.
+    given (WholeSited P) (implied w k.name.token ConstructorBody (kernel.Block (row_of calls))) ((h, tt), row_sited P calls i))
 
 -- ---- initializers
 
@@ -121,11 +121,11 @@ own_place_sited : (P : ℕ → Type 0) (is_static : Bool) (field token : ℕ) �
 own_place_sited P true field token h = h
 own_place_sited P false field token h = (h, tt)
 
-assigned_sited : (P : ℕ → Type 0) (w : Setting) (c : ℕ) (is_static : Bool) (ty : Ty) (n : Named) (i : Initial) → P n.token → FirstTokens P (Some i) → Keeps P (assigned_first w c is_static ty n i) (StatementSited P)
+assigned_sited : (P : ℕ → Type 0) (w : Setting) (c : ℕ) (is_static : Bool) (ty : Ty) (n : Named) (i : Initial) → P n.token → FirstTokens P (Some i) → Keeps P (assigned_first w c is_static ty n i) (WholeSited P)
 assigned_sited P w c is_static ty n i h x =
-    and_then (expressed (λ s. initialized w.judgement w.table s ty i n.token)) _ (Sited P) (StatementSited P)
+    and_then (expressed (λ s. initialized w.judgement w.table s ty i n.token)) _ (Sited P) (WholeSited P)
     (of_expressed (λ s. initialized w.judgement w.table s ty i n.token) (Sited P) (λ s. initialized_sited P w.judgement w.table s ty i n.token x))
-    (λ e y. given (StatementSited P) (plain w n.token true (kernel.Eval (kernel.Set (own_place is_static (field_number w c n.name) n.token) e n.token))) (h, (h, own_place_sited P is_static (field_number w c n.name) n.token h, y)))
+    (λ e y. given (WholeSited P) (plain w n.token true (kernel.Eval (kernel.Set (own_place is_static (field_number w c n.name) n.token) e n.token))) ((h, (h, own_place_sited P is_static (field_number w c n.name) n.token h, y)), tt))
 
 field_sited : (P : ℕ → Type 0) (w : Setting) (c : ℕ) (is_static : Bool) (ty : WrittenType) (d : Declarator) (i : Option Initial) → P d.name.token → FirstTokens P i → Keeps P (field_initial w c is_static ty d i) (ListSited P)
 field_sited P w c is_static ty d None h x = given (ListSited P) [] tt
@@ -135,7 +135,7 @@ field_sited P w c is_static ty d (Some i) h x =
 
 flat_sited : (P : ℕ → Type 0) (xss : List (List kernel.Statement)) → AllByRecursion (ListSited P) xss → ListSited P (flat_map (λ xs. xs) xss)
 flat_sited P [] h = tt
-flat_sited P (xs ∷ rest) h = All-append (StatementSited P) xs (flat_map (λ ys. ys) rest) h.0 (flat_sited P rest h.1)
+flat_sited P (xs ∷ rest) h = All-append (WholeSited P) xs (flat_map (λ ys. ys) rest) h.0 (flat_sited P rest h.1)
 
 pub fields_sited : (P : ℕ → Type 0) (w : Setting) (c : ℕ) (is_static : Bool) (ty : WrittenType) (all : List Declarator) → DeclaratorTokens P all → Keeps P (field_initials w c is_static ty all) (ListSited P)
 unfolding field_initials

@@ -18,10 +18,10 @@ use Rattle.wy_elab_body.specs.Statements.{Setting}
 use Rattle.wy_elab_body.specs.Bodies.{Growing, Growth, body_of, end_of, method_block, constructor_block, implied_constructor_block, initializer_block, field_initials, implied_body}
 use Rattle.wy_elab_stmt.specs.Classes.{ClassBodies, whole, with_body, grown, in_initializer, in_fields, is_static, member, members, implied_constructor, none_yet, fields_body, finished, of_class, of_interface, class_bodies}
 use Rattle.law_structure.proofs.Yields.{Yields, given, then_found, of_choice}
-use Rattle.wy_typing.specs.Sites.{StatementSited, LocalsSited, BodySited}
+use Rattle.wy_typing.specs.Sites.{LocalsSited, BodySited}
 use Rattle.law_sites.proofs.Tokens.{BlockTokens, MemberTokens, ClassTokens}
 use Rattle.law_sites.proofs.Keeping.{Keeps, of_resumed}
-use Rattle.law_sites.proofs.SitedStatements.{ListSited, row_sited}
+use Rattle.law_sites.proofs.SitedStatements.{WholeSited, ListSited, row_sited}
 use Rattle.law_sites.proofs.SitedBodies.{method_sited, constructor_sited, implied_constructor_sited, initializer_sited, fields_sited}
 
 -- one that may be absent
@@ -43,9 +43,9 @@ begun_sited P class false site h = All-nil (λ (l : Local). P l.site)
 end_sited : (P : ℕ → Type 0) (b : Braced) → BlockTokens P b → P (end_of b)
 end_sited P (braced brace parts end) h = h.2
 
-whole_sited : (P : ℕ → Type 0) (m : Making) (end : ℕ) (f : Makes kernel.Statement) → LocalsSited P m.locals → P end → Keeps P f (StatementSited P) → Yields (whole m end f) (BodySited P)
+whole_sited : (P : ℕ → Type 0) (m : Making) (end : ℕ) (f : Makes kernel.Statement) → LocalsSited P m.locals → P end → Keeps P f (WholeSited P) → Yields (whole m end f) (BodySited P)
 whole_sited P m end f l h i =
-    then_found (resumed m f) (λ p. found.give (body_of p.0 p.1 end)) (λ p. StatementSited P p.0 × LocalsSited P p.1.locals) (BodySited P) (of_resumed m f (StatementSited P) l i) (λ p x.
+    then_found (resumed m f) (λ p. found.give (body_of p.0 p.1 end)) (λ p. WholeSited P p.0 × LocalsSited P p.1.locals) (BodySited P) (of_resumed m f (WholeSited P) l i) (λ p x.
     given (BodySited P) (body_of p.0 p.1 end) (record { block = x.0; locals = x.1; end = h }))
 
 -- ---- bodies that grow from member to member
@@ -61,7 +61,7 @@ record GrowthSited (P : ℕ → Type 0) (g : Growth) : Type 0 where
 grown_sited : (P : ℕ → Type 0) (g : Growing) (f : Makes (List kernel.Statement)) → GrowingSited P g → Keeps P f (ListSited P) → Yields (grown g f) (GrowingSited P)
 grown_sited P g f h i =
     then_found (resumed g.making f) _ (λ p. ListSited P p.0 × LocalsSited P p.1.locals) (GrowingSited P) (of_resumed g.making f (ListSited P) h.1 i) (λ p x.
-    given (GrowingSited P) (record { making = p.1; parts = g.parts ++ p.0 }) (All-append (StatementSited P) g.parts p.0 h.0 x.0, x.1))
+    given (GrowingSited P) (record { making = p.1; parts = g.parts ++ p.0 }) (All-append (WholeSited P) g.parts p.0 h.0 x.0, x.1))
 
 into_initializer : (P : ℕ → Type 0) (g : Growth) (f : Makes (List kernel.Statement)) → GrowthSited P g → Keeps P f (ListSited P) → Yields (in_initializer g f) (GrowthSited P)
 into_initializer P g f h i =
@@ -123,7 +123,7 @@ none_yet_sited : (P : ℕ → Type 0) (c : ℕ) (k : ClassSyntax) → P k.name.t
 none_yet_sited P c k h = record { initializer = (tt, begun_sited P c false k.name.token h); fields = (tt, begun_sited P c true k.name.token h); bodies = tt }
 
 implied_body_sited : (P : ℕ → Type 0) (w : Setting) (k : ClassSyntax) (role : Role) (g : Growing) → P k.name.token → GrowingSited P g → BodySited P (implied_body w k role g)
-implied_body_sited P w k role g h i = record { block = (h, row_sited P g.parts i.0); locals = i.1; end = h }
+implied_body_sited P w k role g h i = record { block = ((h, tt), row_sited P g.parts i.0); locals = i.1; end = h }
 
 fields_body_sited : (P : ℕ → Type 0) (w : Setting) (k : ClassSyntax) (g : Growing) → P k.name.token → GrowingSited P g → BodiesSited P (fields_body w k g)
 fields_body_sited P w k g h i = elim (has_fields_unit k) as (λ b. BodiesSited P (if b then Some (implied_body w k FieldsBody g) ∷ [] else [])) [

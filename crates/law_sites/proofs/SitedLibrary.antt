@@ -7,7 +7,8 @@ use Rattle.wy_kernel.specs.Program.{Body, string_class, object_class}
 use Rattle.wy_kernel.specs.Program as part
 use Rattle.wy_kernel.specs.Builtin.{method_site, throwable_class}
 use Rattle.wy_library.specs.Library.{library_local, body_of, object_to_string, object_equals, plain_throwable, throwable_with_message, get_message, throwable_to_string, plain_constructor, constructor_with_message, library_bodies}
-use Rattle.wy_typing.specs.Sites.{AllSited, LocalsSited, BodySited}
+use Rattle.wy_typing.specs.Sites.{LocalsSited, BodySited}
+use Rattle.law_sites.proofs.SitedStatements.{PartsSited}
 use Rattle.law_sites.proofs.SitedClasses.{SomeBodySited}
 
 -- the site is that of the method
@@ -22,8 +23,8 @@ data OwnBodies : ℕ → List (Option Body) → Type 0 where
   no_more : {m : ℕ} → OwnBodies m []
   own : {m : ℕ} {b : Option Body} {rest : List (Option Body)} → OwnBody m b → OwnBodies (suc m) rest → OwnBodies m (b ∷ rest)
 
-made : (m number class : ℕ) (others : List part.Local) (parts : Statements) → LocalsSited (IsAt m) others → AllSited (IsAt m) parts → OwnBody m (body_of m number class others parts)
-made m number class others parts h i = record { block = (refl, i); locals = All-cons (λ (l : part.Local). IsAt m l.site) (library_local m (codes "this") class) others refl h; end = refl }
+made : (m number class : ℕ) (others : List part.Local) (parts : Statements) → LocalsSited (IsAt m) others → PartsSited (IsAt m) parts → OwnBody m (body_of m number class others parts)
+made m number class others parts h i = record { block = ((refl, tt), i); locals = All-cons (λ (l : part.Local). IsAt m l.site) (library_local m (codes "this") class) others refl h; end = refl }
 
 none_else : (m : ℕ) → LocalsSited (IsAt m) []
 none_else m = All-nil (λ (l : part.Local). IsAt m l.site)
@@ -52,8 +53,8 @@ text_own : OwnBody 5 throwable_to_string
 text_own = made 5 9 throwable_class _ _ (one_else 5 (codes "text") string_class) (
   (refl, (refl, tt, (refl, tt, tt))),
   (
-    (refl, ((refl, tt, tt), (refl, (refl, (tt, tt))), tt)),
-    ((refl, (refl, (refl, (refl, (tt, tt)), tt), tt)), tt),
+    (refl, (refl, tt, tt)),
+    ((refl, (refl, (tt, tt))), ((refl, (refl, (refl, (refl, (tt, tt)), tt), tt)), tt)),
   ),
 )
 

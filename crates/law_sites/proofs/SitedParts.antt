@@ -3,6 +3,7 @@ use Rattle.std.proofs.Common.{ℕ, List}
 use Rattle.std.specs.Prelude.{Option, Some, None, slice_get}
 use Rattle.wy_kernel.specs.Form as kernel
 use Rattle.wy_kernel.specs.Program.{Method}
+use Rattle.wy_kernel.specs.Statements.{statements_within}
 use Rattle.wy_kernel.specs.Table.{Table}
 use Rattle.wy_syntax.specs.Syntax.{Expression, Row}
 use Rattle.wy_syntax.specs.Syntax as source
@@ -15,11 +16,15 @@ use Rattle.wy_elab_expr.specs.Members.{is_outside, brought_all, method_for}
 use Rattle.wy_elab_expr.specs.Elaboration.{Printed, print_operand, elaborated, elaborated_all}
 use Rattle.wy_elab_body.specs.Parts.{Outcome, NoValue, ValueOf, NoReturn, condition, performed, printing, evaluated, is_output_call, print_of, returned_as, returned, thrown, constructor_form, constructed_by, constructor_called, constructor_call}
 use Rattle.law_structure.proofs.Yields.{Yields, given, refused_found, anything, then_found, of_choice}
-use Rattle.wy_typing.specs.Sites.{Sited, RowSited, ActSited}
+use Rattle.wy_typing.specs.Sites.{Sited, RowSited, ActSited, AllSited}
 use Rattle.law_sites.proofs.Tokens.{Tokens, RowTokens}
 use Rattle.law_sites.proofs.Forms.{MeaningSited, MeaningsSited, brought_sited, formed_sited}
 use Rattle.law_sites.proofs.Members.{brought_all_sited}
 use Rattle.law_sites.proofs.Expressions.{PrintedSited, elaborated_sited, elaborated_all_sited, operand_sited}
+
+-- a form, and the statements within it
+abbrev pub WholeActSited : (ℕ → Type 0) → kernel.Act → Type 0
+WholeActSited P act = ActSited P act × AllSited P (statements_within act)
 
 -- ---- conditions
 
@@ -31,25 +36,25 @@ condition_sited P j t e site h s =
 
 -- ---- expressions that are statements
 
-print_sited : (P : ℕ → Type 0) (name : List ℕ) (token : ℕ) (p : Option Printed) → P token → PrintedSited P p → ActSited P (print_of name token p)
-print_sited P name token None h i = (h, tt)
-print_sited P name token (Some p) h i = (h, i)
+print_sited : (P : ℕ → Type 0) (name : List ℕ) (token : ℕ) (p : Option Printed) → P token → PrintedSited P p → WholeActSited P (print_of name token p)
+print_sited P name token None h i = ((h, tt), tt)
+print_sited P name token (Some p) h i = ((h, i), tt)
 
-printing_sited : (P : ℕ → Type 0) (j : Judgement) (t : Table) (s : Scope) (e : Expression) → Tokens P e → Yields (printing j t s e) (ActSited P)
+printing_sited : (P : ℕ → Type 0) (j : Judgement) (t : Table) (s : Scope) (e : Expression) → Tokens P e → Yields (printing j t s e) (WholeActSited P)
 unfolding printing
 printing_sited P j t s (source.InvokeOn object name args token) h =
-    then_found (elaborated_all j t s args) _ (MeaningsSited P) (ActSited P) (elaborated_all_sited P j t s args h.2) (λ ms i.
-    then_found (print_operand name ms token) _ (PrintedSited P) (ActSited P) (operand_sited P name ms token i) (λ p k. given (ActSited P) (print_of name token p) (print_sited P name token p h.0 k)))
-printing_sited P j t s _ h = refused_found (ActSited P) BadOperand 0
+    then_found (elaborated_all j t s args) _ (MeaningsSited P) (WholeActSited P) (elaborated_all_sited P j t s args h.2) (λ ms i.
+    then_found (print_operand name ms token) _ (PrintedSited P) (WholeActSited P) (operand_sited P name ms token i) (λ p k. given (WholeActSited P) (print_of name token p) (print_sited P name token p h.0 k)))
+printing_sited P j t s _ h = refused_found (WholeActSited P) BadOperand 0
 
-evaluated_sited : (P : ℕ → Type 0) (j : Judgement) (t : Table) (s : Scope) (e : Expression) → Tokens P e → Yields (evaluated j t s e) (ActSited P)
+evaluated_sited : (P : ℕ → Type 0) (j : Judgement) (t : Table) (s : Scope) (e : Expression) → Tokens P e → Yields (evaluated j t s e) (WholeActSited P)
 evaluated_sited P j t s e h =
-    then_found (elaborated j t s e) _ (MeaningSited P) (ActSited P) (elaborated_sited P j t s e h) (λ m i.
-    then_found (formed m) _ (Sited P) (ActSited P) (formed_sited P m i) (λ form k. given (ActSited P) (kernel.Eval form) k))
+    then_found (elaborated j t s e) _ (MeaningSited P) (WholeActSited P) (elaborated_sited P j t s e h) (λ m i.
+    then_found (formed m) _ (Sited P) (WholeActSited P) (formed_sited P m i) (λ form k. given (WholeActSited P) (kernel.Eval form) (k, tt)))
 
-pub performed_sited : (P : ℕ → Type 0) (j : Judgement) (t : Table) (e : Expression) → Tokens P e → (s : Scope) → Yields (performed j t e s) (ActSited P)
+pub performed_sited : (P : ℕ → Type 0) (j : Judgement) (t : Table) (e : Expression) → Tokens P e → (s : Scope) → Yields (performed j t e s) (WholeActSited P)
 unfolding performed
-performed_sited P j t e h s = of_choice (is_output_call t s e) (printing j t s e) (evaluated j t s e) (ActSited P) (printing_sited P j t s e h) (evaluated_sited P j t s e h)
+performed_sited P j t e h s = of_choice (is_output_call t s e) (printing j t s e) (evaluated j t s e) (WholeActSited P) (printing_sited P j t s e h) (evaluated_sited P j t s e h)
 
 -- ---- `return` and `throw`
 

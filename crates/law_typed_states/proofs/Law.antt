@@ -11,7 +11,7 @@ use Rattle.wy_value.specs.declared.value.Value.{Value}
 use Rattle.wy_event.specs.declared.record.Slot.{Slot}
 use Rattle.wy_event.specs.declared.record.Slot.TheVariants as slot
 use Rattle.wy_event.specs.Record.{same_slot}
-use Rattle.wy_event.specs.Sources.{creates, creates_as, is_what}
+use Rattle.wy_event.specs.Sources.{creates, creates_as, is_entity}
 use Rattle.wy_steps.specs.Sets.{Sets}
 use Rattle.wy_steps.specs.State.{Held, Noted, State, Reason, Jumped, Returned, Threw}
 use Rattle.wy_steps.specs.Steps.{Draft, Made, made, event_in, held_of, no_value, owner_in, next_event, with_event, with_stored, with_created, with_active, without, covering}
@@ -177,8 +177,8 @@ module _ (A : Sets) (p : Program) where
   new_element s a j i h = i.created a h.event (slot.Elem a j) h.there (subst (λ q. creates_as (owner_in p) q a h.event.entity (slot.Elem a j) ≡ true) (sym h.is_new) (same_number a))
 
   new_static : (s : State A) (k : ℕ) → IsTypedState p s → Begun s.noted (field p k).class → IsThere (s.store (slot.Static k))
-  unfolding creates creates_as is_what owner_in
-  new_static s k i h = i.created h.number h.event (slot.Static k) h.there (subst (λ q. creates_as (owner_in p) q h.number h.event.entity (slot.Static k) ≡ true) (sym h.is_init) (subst (λ q. is_what q (field p k).class ≡ true) (sym h.of_class) (same_number (field p k).class)))
+  unfolding creates creates_as is_entity owner_in
+  new_static s k i h = i.created h.number h.event (slot.Static k) h.there (subst (λ q. creates_as (owner_in p) q h.number h.event.entity (slot.Static k) ≡ true) (sym h.is_init) (subst (λ q. is_entity q (field p k).class ≡ true) (sym h.of_class) (same_number (field p k).class)))
 
   pub slot_known : (s : State A) (x : Slot) → IsTypedState p s → (place x).holds s.noted → ReadsAs s.noted x (held_of (s.store x)).value
   unfolding place object begun

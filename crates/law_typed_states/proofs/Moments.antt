@@ -12,7 +12,7 @@ use Rattle.wy_event.specs.declared.record.Kind.TheVariants as kind
 use Rattle.wy_event.specs.declared.record.Slot.{Slot}
 use Rattle.wy_event.specs.declared.record.Slot.TheVariants as slot
 use Rattle.wy_event.specs.Record.{Recorded, same_slot}
-use Rattle.wy_event.specs.Sources.{is_what}
+use Rattle.wy_event.specs.Sources.{is_entity}
 use Rattle.wy_steps.specs.Sets.{Sets}
 use Rattle.wy_steps.specs.State.{Noted}
 use Rattle.wy_steps.specs.Steps.{Draft, Made, event_in, is_init_of, has_init}
@@ -23,7 +23,7 @@ some_same : {X : Type 0} {x y : X} → Some x ≡ Some y → x ≡ y
 some_same e = cc e
 
 init_is : (c : ℕ) (k : Kind) (entity : Option ℕ) → is_init_of c k entity ≡ true → (k ≡ kind.Init) × (entity ≡ Some c)
-unfolding is_init_of is_what
+unfolding is_init_of is_entity
 init_is c kind.Init (Some n) e = (refl, ap Some (eqb-true n c e))
 init_is c kind.Init Absent e = absurd (cc e)
 init_is c _ entity e = absurd (cc e)

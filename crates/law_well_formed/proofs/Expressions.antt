@@ -168,55 +168,33 @@ listed_told P o (tree.more t rest) h i = (refl, i)
 value_told : (P : Names) (t : Ast) → Told P t → InitialTold P t
 value_told P t h = (plain_mark t h.0, λ n. value_whole P (is_braced t) (inside n t) n (expression n t) (plain_braced t h.0) (h.1 n))
 
+-- a production with one part is that part
+alone_told : (P : Names) (x : Sort) (whole t : Ast) → whole ≡ node (form_of x) (tree.more t tree.none) → Worded P whole → (Worded P t → Told P t) → Told P whole
+alone_told P x whole t q g is = subst (Told P) (sym q) (is (parts_worded P (form_of x) (tree.more t tree.none) (subst (Worded P) q g)).0)
+
 mutual
   unfolding expression assignment choice binary unary cast postfix primary creation sizes listed elements arguments_of arguments
 
   pub told : (P : Names) (x : Sort) (t : Ast) → is_expression x ≡ true → Is x t → Worded P t → Told P t
-  told P sorts.Expr whole i (grammar.made {ts} (grammar.part {t = l} v (grammar.chosen grammar.not_assigned grammar.done)) e q) g =
-      let h = parts_worded P (form_of sorts.Expr) ts (subst (Worded P) q g) in
-      subst (Told P) (sym q) (told P sorts.Cond l refl v h.0)
+  told P sorts.Expr whole i (grammar.made (grammar.part {t = l} v (grammar.chosen grammar.not_assigned grammar.done)) e q) g = alone_told P sorts.Expr whole l q g (told P sorts.Cond l refl v)
   told P sorts.Expr whole i (grammar.made {ts} (grammar.part {t = l} v (grammar.chosen grammar.assigned (grammar.token {o} m (grammar.part {t = r} u grammar.done)))) e q) g =
       let h = parts_worded P (form_of sorts.Expr) ts (subst (Worded P) q g) in
       subst (Told P) (sym q) (refl, λ n. assigned_whole P o (expression n l) (expression (n + width l + 1) r) (n + width l) ((told P sorts.Cond l refl v h.0).1 n) ((told P sorts.Expr r refl u h.1.1.0).1 (n + width l + 1)))
-  told P sorts.Effect whole i (grammar.made {ts} (grammar.part {t} v grammar.done) e q) g =
-      let h = parts_worded P (form_of sorts.Effect) ts (subst (Worded P) q g) in
-      subst (Told P) (sym q) (told P sorts.Expr t refl v h.0)
-  told P sorts.Cond whole i (grammar.made {ts} (grammar.part {t} v (grammar.chosen grammar.no_choice grammar.done)) e q) g =
-      let h = parts_worded P (form_of sorts.Cond) ts (subst (Worded P) q g) in
-      subst (Told P) (sym q) (told P sorts.OrElse t refl v h.0)
+  told P sorts.Effect whole i (grammar.made (grammar.part {t} v grammar.done) e q) g = alone_told P sorts.Effect whole t q g (told P sorts.Expr t refl v)
+  told P sorts.Cond whole i (grammar.made (grammar.part {t} v (grammar.chosen grammar.no_choice grammar.done)) e q) g = alone_told P sorts.Cond whole t q g (told P sorts.OrElse t refl v)
   told P sorts.Cond whole i (grammar.made {ts} (grammar.part {t = c} v (grammar.chosen grammar.choice (grammar.token {o} m (grammar.part {t = l} u (grammar.token {o = p} k (grammar.part {t = r} w grammar.done)))))) e q) g =
       let h = parts_worded P (form_of sorts.Cond) ts (subst (Worded P) q g) in
       subst (Told P) (sym q) (refl, λ n. (tt, (told P sorts.OrElse c refl v h.0).1 n, (told P sorts.Expr l refl u h.1.1.0).1 (n + width c + 1), (told P sorts.Cond r refl w h.1.1.1.1.0).1 (n + width c + 1 + width l + 1)))
-  told P sorts.OrElse whole i (grammar.made {ts} (grammar.part {t} v grammar.done) e q) g =
-      let h = parts_worded P (form_of sorts.OrElse) ts (subst (Worded P) q g) in
-      subst (Told P) (sym q) (told P sorts.AndAlso t refl v h.0)
-  told P sorts.AndAlso whole i (grammar.made {ts} (grammar.part {t} v grammar.done) e q) g =
-      let h = parts_worded P (form_of sorts.AndAlso) ts (subst (Worded P) q g) in
-      subst (Told P) (sym q) (told P sorts.Or t refl v h.0)
-  told P sorts.Or whole i (grammar.made {ts} (grammar.part {t} v grammar.done) e q) g =
-      let h = parts_worded P (form_of sorts.Or) ts (subst (Worded P) q g) in
-      subst (Told P) (sym q) (told P sorts.Xor t refl v h.0)
-  told P sorts.Xor whole i (grammar.made {ts} (grammar.part {t} v grammar.done) e q) g =
-      let h = parts_worded P (form_of sorts.Xor) ts (subst (Worded P) q g) in
-      subst (Told P) (sym q) (told P sorts.And t refl v h.0)
-  told P sorts.And whole i (grammar.made {ts} (grammar.part {t} v grammar.done) e q) g =
-      let h = parts_worded P (form_of sorts.And) ts (subst (Worded P) q g) in
-      subst (Told P) (sym q) (told P sorts.Equality t refl v h.0)
-  told P sorts.Equality whole i (grammar.made {ts} (grammar.part {t} v grammar.done) e q) g =
-      let h = parts_worded P (form_of sorts.Equality) ts (subst (Worded P) q g) in
-      subst (Told P) (sym q) (told P sorts.Relation t refl v h.0)
-  told P sorts.Relation whole i (grammar.made {ts} (grammar.part {t} v grammar.done) e q) g =
-      let h = parts_worded P (form_of sorts.Relation) ts (subst (Worded P) q g) in
-      subst (Told P) (sym q) (told P sorts.Shift t refl v h.0)
-  told P sorts.Shift whole i (grammar.made {ts} (grammar.part {t} v grammar.done) e q) g =
-      let h = parts_worded P (form_of sorts.Shift) ts (subst (Worded P) q g) in
-      subst (Told P) (sym q) (told P sorts.Sum t refl v h.0)
-  told P sorts.Sum whole i (grammar.made {ts} (grammar.part {t} v grammar.done) e q) g =
-      let h = parts_worded P (form_of sorts.Sum) ts (subst (Worded P) q g) in
-      subst (Told P) (sym q) (told P sorts.Product t refl v h.0)
-  told P sorts.Product whole i (grammar.made {ts} (grammar.part {t} v grammar.done) e q) g =
-      let h = parts_worded P (form_of sorts.Product) ts (subst (Worded P) q g) in
-      subst (Told P) (sym q) (told P sorts.Unary t refl v h.0)
+  told P sorts.OrElse whole i (grammar.made (grammar.part {t} v grammar.done) e q) g = alone_told P sorts.OrElse whole t q g (told P sorts.AndAlso t refl v)
+  told P sorts.AndAlso whole i (grammar.made (grammar.part {t} v grammar.done) e q) g = alone_told P sorts.AndAlso whole t q g (told P sorts.Or t refl v)
+  told P sorts.Or whole i (grammar.made (grammar.part {t} v grammar.done) e q) g = alone_told P sorts.Or whole t q g (told P sorts.Xor t refl v)
+  told P sorts.Xor whole i (grammar.made (grammar.part {t} v grammar.done) e q) g = alone_told P sorts.Xor whole t q g (told P sorts.And t refl v)
+  told P sorts.And whole i (grammar.made (grammar.part {t} v grammar.done) e q) g = alone_told P sorts.And whole t q g (told P sorts.Equality t refl v)
+  told P sorts.Equality whole i (grammar.made (grammar.part {t} v grammar.done) e q) g = alone_told P sorts.Equality whole t q g (told P sorts.Relation t refl v)
+  told P sorts.Relation whole i (grammar.made (grammar.part {t} v grammar.done) e q) g = alone_told P sorts.Relation whole t q g (told P sorts.Shift t refl v)
+  told P sorts.Shift whole i (grammar.made (grammar.part {t} v grammar.done) e q) g = alone_told P sorts.Shift whole t q g (told P sorts.Sum t refl v)
+  told P sorts.Sum whole i (grammar.made (grammar.part {t} v grammar.done) e q) g = alone_told P sorts.Sum whole t q g (told P sorts.Product t refl v)
+  told P sorts.Product whole i (grammar.made (grammar.part {t} v grammar.done) e q) g = alone_told P sorts.Product whole t q g (told P sorts.Unary t refl v)
   told P sorts.Unary whole i (grammar.made {ts} (grammar.chosen grammar.negated (grammar.token {o} m (grammar.chosen grammar.big (grammar.token {o = p} k grammar.done)))) e q) g =
       let h = parts_worded P (form_of sorts.Unary) ts (subst (Worded P) q g) in
       subst (Told P) (sym q) (refl, λ n. prefixed_whole P o (expression (n + 1) (Leaf p)) n (big_whole P p (n + 1) k))
@@ -226,24 +204,16 @@ mutual
   told P sorts.Unary whole i (grammar.made {ts} (grammar.chosen grammar.prefixed (grammar.token {o} m (grammar.part {t} v grammar.done))) e q) g =
       let h = parts_worded P (form_of sorts.Unary) ts (subst (Worded P) q g) in
       subst (Told P) (sym q) (refl, λ n. prefixed_whole P o (expression (n + 1) t) n ((told P sorts.Unary t refl v h.1.0).1 (n + 1)))
-  told P sorts.Unary whole i (grammar.made {ts} (grammar.chosen grammar.a_cast (grammar.part {t} v grammar.done)) e q) g =
-      let h = parts_worded P (form_of sorts.Unary) ts (subst (Worded P) q g) in
-      subst (Told P) (sym q) (told P sorts.Cast t refl v h.0)
-  told P sorts.Unary whole i (grammar.made {ts} (grammar.chosen grammar.a_postfix (grammar.part {t} v grammar.done)) e q) g =
-      let h = parts_worded P (form_of sorts.Unary) ts (subst (Worded P) q g) in
-      subst (Told P) (sym q) (told P sorts.Postfix t refl v h.0)
+  told P sorts.Unary whole i (grammar.made (grammar.chosen grammar.a_cast (grammar.part {t} v grammar.done)) e q) g = alone_told P sorts.Unary whole t q g (told P sorts.Cast t refl v)
+  told P sorts.Unary whole i (grammar.made (grammar.chosen grammar.a_postfix (grammar.part {t} v grammar.done)) e q) g = alone_told P sorts.Unary whole t q g (told P sorts.Postfix t refl v)
   told P sorts.Cast whole i (grammar.made {ts} (grammar.token m (grammar.chosen grammar.to_primitive (grammar.token k (grammar.token l (grammar.part {t} v grammar.done))))) e q) g =
       let h = parts_worded P (form_of sorts.Cast) ts (subst (Worded P) q g) in
       subst (Told P) (sym q) (refl, λ n. (tt, (told P sorts.Unary t refl v h.1.1.1.0).1 _))
   told P sorts.Cast whole i (grammar.made {ts} (grammar.token m (grammar.chosen grammar.to_reference (grammar.part u (grammar.token l (grammar.part {t} v grammar.done))))) e q) g =
       let h = parts_worded P (form_of sorts.Cast) ts (subst (Worded P) q g) in
       subst (Told P) (sym q) (refl, λ n. (tt, (told P sorts.Operand t refl v h.1.1.1.0).1 _))
-  told P sorts.Operand whole i (grammar.made {ts} (grammar.part {t} v grammar.done) e q) g =
-      let h = parts_worded P (form_of sorts.Operand) ts (subst (Worded P) q g) in
-      subst (Told P) (sym q) (told P sorts.Unary t refl v h.0)
-  told P sorts.Postfix whole i (grammar.made {ts} (grammar.part {t} v (grammar.chosen grammar.no_steps grammar.done)) e q) g =
-      let h = parts_worded P (form_of sorts.Postfix) ts (subst (Worded P) q g) in
-      subst (Told P) (sym q) (told P sorts.Primary t refl v h.0)
+  told P sorts.Operand whole i (grammar.made (grammar.part {t} v grammar.done) e q) g = alone_told P sorts.Operand whole t q g (told P sorts.Unary t refl v)
+  told P sorts.Postfix whole i (grammar.made (grammar.part {t} v (grammar.chosen grammar.no_steps grammar.done)) e q) g = alone_told P sorts.Postfix whole t q g (told P sorts.Primary t refl v)
   told P sorts.Postfix whole i (grammar.made {ts} (grammar.part {t} v (grammar.chosen grammar.steps (grammar.token {o} {ts = rest} m w))) e q) g =
       let h = parts_worded P (form_of sorts.Postfix) ts (subst (Worded P) q g) in
       subst (Told P) (sym q) (refl, λ n. steps_whole P rest w (Step false (is_up (sign_of o)) (expression n t) (n + width t)) (n + width t + 1) (tt, (told P sorts.Primary t refl v h.0).1 n))
@@ -262,9 +232,7 @@ mutual
   told P sorts.Primary whole i (grammar.made {ts} (grammar.chosen grammar.grouped (grammar.token {o} m (grammar.part {t} v (grammar.token k grammar.done)))) e q) g =
       let h = parts_worded P (form_of sorts.Primary) ts (subst (Worded P) q g) in
       subst (Told P) (sym q) (refl, λ n. chosen_first P (same (kind_of o) kinds.OpenParen) (Group (expression (n + 1) t) n) _ m (tt, (told P sorts.Expr t refl v h.1.0).1 (n + 1)))
-  told P sorts.Primary whole i (grammar.made {ts} (grammar.chosen grammar.created (grammar.part {t} v grammar.done)) e q) g =
-      let h = parts_worded P (form_of sorts.Primary) ts (subst (Worded P) q g) in
-      subst (Told P) (sym q) (told P sorts.New t refl v h.0)
+  told P sorts.Primary whole i (grammar.made (grammar.chosen grammar.created (grammar.part {t} v grammar.done)) e q) g = alone_told P sorts.Primary whole t q g (told P sorts.New t refl v)
   told P sorts.Primary whole i (grammar.made {ts} (grammar.chosen grammar.inherited (grammar.token {o} m (grammar.token k (grammar.token {o = x} l (grammar.chosen grammar.absent grammar.done))))) e q) g =
       let h = parts_worded P (form_of sorts.Primary) ts (subst (Worded P) q g) in
       subst (Told P) (sym q) (refl, λ n. chosen_second P (same (kind_of o) kinds.OpenParen) _ _ (alone (kind_of o) kinds.Super kinds.OpenParen m refl) (chosen_first P (same (kind_of o) kinds.Super) (SuperField (word_of x) (n + 1 + 1)) _ m tt))

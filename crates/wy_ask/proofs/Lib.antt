@@ -8,3 +8,4 @@ pub mod Rising
 pub mod Placing
 pub mod Storing
 pub mod Listings
+pub mod Opening

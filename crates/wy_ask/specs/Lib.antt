@@ -7,3 +7,4 @@ pub mod Statements
 pub mod Listing
 pub mod Held
 pub mod Counted
+pub mod Opened

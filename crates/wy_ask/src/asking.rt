@@ -2,13 +2,15 @@
 
 ghost use Rattle.std.specs.Prelude.{◌≡◌, ◌+◌, ◌++◌, ◌∷◌, ◌<◌, ◌≤◌, ◌^◌, ℕ, [], All, List, Some, IfOk, OnOk, length};
 ghost use Rattle.wy_event.specs.Record.{Recorded};
-ghost use Rattle.wy_index.specs.Index.{IsIndexOf, IsIndexOfView};
+ghost use Rattle.wy_index.specs.Index.{IsIndexOf};
 ghost use Rattle.wy_kernel.specs.Parts.{program_of};
 ghost use Rattle.wy_view.specs.View.{KeepsCounts, IsRecordOf, Keeps};
 ghost use Rattle.wy_ask.specs.Held.{HasStored, HoldsBelow};
 ghost use Rattle.wy_ask.specs.Listing.{IsListedBelow, field_sets, listing, never, printed};
+ghost use Rattle.wy_ask.specs.Opened.{IsOpenedOf, StaysOpened};
 
 use crate::never::{PlacedStatement, unbegun_in};
+use crate::opened::Opened;
 use crate::stored::Stores;
 use std::alloc::{AllocError, Global};
 use std::sync::ledger::Ledger;
@@ -41,25 +43,29 @@ pub enum Listed {
 /// each askable statement that never began, by their sites.
 pub fn questions<V: EventView, L: Ledger>(
     alloc: Global,
-    program: &Program,
-    view: &mut V,
-    index: &Index,
-    coverage: &[Cover],
+    opened: &mut Opened<'_, V>,
     steps: &mut Steps<L>,
 ) -> Result<Vec<Listed>, ViewError>
-    requires index { IsIndexOfView index.now (V.tells view.old) }
-    ensures listed { (rs : List Recorded) → (V.tells view.old).records ≡ Some rs
-        → IfOk result (λ listed. listed.items ≡ listing (program_of program.now)
-        program.now.lines.items rs coverage.now) }
-    ensures keeps { Keeps (V.tells view.old) (V.tells view.new) }
-    ensures answers { KeepsCounts result (V.tells view.old) (V.tells view.new) }
-    ensures steps { steps.new ≤ steps.old + (V.tells view.old).count }
+    requires { IsOpenedOf (V.tells opened.old.view) opened.old }
+    ensures listed { (rs : List Recorded) → (V.tells opened.old.view).records ≡ Some rs
+        → IfOk result (λ listed. listed.items ≡ listing (program_of opened.old.program.now)
+        opened.old.program.now.lines.items rs opened.old.coverage.now) }
+    ensures stays { StaysOpened V.tells opened.old opened.new }
+    ensures answers { KeepsCounts result (V.tells opened.old.view) (V.tells opened.new.view) }
+    ensures steps { steps.new ≤ steps.old + (V.tells opened.old.view).count }
     ensures below { IfOk result (λ listed.
-        All (IsListedBelow (V.tells view.old).count) listed.items) }
+        All (IsListedBelow (V.tells opened.old.view).count) listed.items) }
 {
-    let stores = stores_in(alloc, view, steps)?;
-    let count = view.count();
-    Ok(all_listed(alloc, program, index, &stores, count, coverage)?)
+    let stores = stores_in(alloc, &mut opened.view, steps)?;
+    let count = opened.view.count();
+    Ok(all_listed(
+        alloc,
+        opened.program,
+        &opened.index,
+        &stores,
+        count,
+        opened.coverage,
+    )?)
 }
 
 /// What is listed of the prints, of what was stored, and of the statements that never began.

@@ -1,5 +1,5 @@
-//! The words of questions about a trace, the event that each asks about, the words of statements, and what can be
-//! asked about a trace.
+//! A trace that is opened, the words of questions about it, the event that each asks about, the words of statements, and
+//! what can be asked about it.
 //! Nothing here works out an answer.
 #![tactic(auto)]
 
@@ -9,6 +9,7 @@ mod field;
 mod names;
 pub mod naming;
 pub mod never;
+pub mod opened;
 mod parts;
 pub mod question;
 pub mod resolving;
@@ -17,5 +18,6 @@ mod stored;
 pub use asking::{Listed, questions};
 pub use names::number;
 pub use naming::{NamedStatement, statement};
+pub use opened::Opened;
 pub use question::{AskError, Question, read_question};
 pub use resolving::resolve;

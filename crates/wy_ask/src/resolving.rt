@@ -8,19 +8,40 @@ ghost use Rattle.wy_index.specs.Found.{prints_in};
 ghost use Rattle.wy_index.specs.Halving.{IsHalvings};
 ghost use Rattle.wy_index.specs.Index.{IsIndexOf, owners_of};
 ghost use Rattle.wy_ask.specs.Asked.{IsOf, Resolves, element_place, event_of, field_place, holder, number_in, static_place, stored};
+ghost use Rattle.wy_ask.specs.Opened.{IsOpenedOf};
 ghost use Rattle.wy_ask.specs.Questions.{asked};
 
 use crate::field::{field_number, has_fields_of};
+use crate::opened::Opened;
 use crate::question::{AskError, Question};
 use std::sync::ledger::Ledger;
 use wy_event::record::Slot;
 use wy_index::{Index, Made};
 use wy_kernel::code::is_array;
 use wy_kernel::program::Program;
-use wy_view::Steps;
+use wy_view::{EventView, Steps};
 
-/// The event that a question asks about, in a trace of so many events of the program.
-pub fn resolve<L: Ledger>(
+/// The event that a question asks about.
+pub fn resolve<V: EventView, L: Ledger>(
+    question: &Question,
+    opened: &Opened<'_, V>,
+    steps: &mut Steps<L>,
+) -> Result<u32, AskError>
+    requires { IsOpenedOf (V.tells opened.now.view) opened.now }
+    ensures event { (rs : List Recorded) → (V.tells opened.now.view).records ≡ Some rs
+        → Resolves result (event_of (program_of opened.now.program.now) rs (asked question.now))
+        (number_in (asked question.now)) }
+    ensures below { IfOk result (λ event. event < (V.tells opened.now.view).count) }
+    ensures forward { steps.old ≤ steps.new }
+    ensures steps { (l : ℕ) → IsHalvings (length opened.now.index.postings) l
+        → steps.new ≤ steps.old + (l + 1) }
+{
+    let count = opened.view.count();
+    resolve_in(question, opened.program, &opened.index, count, steps)
+}
+
+/// The same by an index, in a trace of so many events.
+fn resolve_in<L: Ledger>(
     question: &Question,
     program: &Program,
     index: &Index,

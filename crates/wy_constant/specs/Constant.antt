@@ -1,5 +1,5 @@
 -- Constant expressions and their values (JLS 15.28).
-use Rattle.std.specs.Prelude.{ℕ, zero, suc, ℤ, pos, negsuc, Bool, true, false, not, ◌&&◌, ◌||◌, ◌==◌, List, ◌++◌, Option, Some, None, option_map, option_and_then, is_some, codes, bytes_eq, int_le, if◌then◌else◌}
+use Rattle.std.specs.Prelude.{ℕ, zero, suc, ℤ, pos, negsuc, Bool, true, false, not, ◌&&◌, ◌||◌, ◌==◌, List, ◌++◌, length, Option, Some, None, option_map, option_and_then, is_some, codes, bytes_eq, int_le, if◌then◌else◌}
 use Rattle.std.specs.Int.{w32, w64, cast_signed}
 use Rattle.wy_kernel.specs.declared.operator.Primitive.{Primitive}
 use Rattle.wy_kernel.specs.declared.operator.Primitive.TheVariants as prim
@@ -56,6 +56,12 @@ simple_in (Text units) = None
 abbrev pub text_in : ConstantValue → Option (List ℕ)
 text_in (Simple c) = None
 text_in (Text units) = Some units
+
+-- how many units a text has
+abbrev pub text_length : Option ConstantValue → ℕ
+text_length (Some (Text units)) = length units
+text_length (Some (Simple c)) = 0
+text_length None = 0
 
 -- a text, and the text of a primitive value (JLS 5.1.11)
 abbrev pub units_of : ConstantValue → List ℕ

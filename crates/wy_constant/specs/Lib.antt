@@ -1,4 +1,5 @@
 pub mod Refusal
+pub mod RefusalNames
 pub mod Scope
 pub mod Places
 pub mod Scopes

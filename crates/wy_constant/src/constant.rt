@@ -11,6 +11,7 @@ use crate::fold::{
 };
 use crate::names::{value_of_name, value_of_qualified};
 use crate::scope::Scope;
+use crate::simple::units_in;
 use std::alloc::{AllocError, Global};
 use wy_kernel::form::Const;
 use wy_kernel::operator::{BinOp, UnOp};
@@ -28,10 +29,28 @@ fn name_of(e: &Expression) -> Option<&str>
     }
 }
 
-/// The value of an expression, and None exactly where it isn't a constant one.
+/// The value of an expression, and None exactly where it isn't a constant one. A text that has more
+/// units than the constant variables of the body leave is want of memory.
+pub fn constant_of(
+    alloc: Global,
+    table: &ClassTable,
+    scope: &Scope,
+    e: &Expression,
+) -> Result<Option<Const>, AllocError>
+    ensures { IfOk result (λ c. option_map constant_value c
+        ≡ constant (table_of table.now) scope.now (expression_of e.now)) }
+{
+    let value = folded(alloc, table, scope, e)?;
+    if units_in(&value) <= scope.units_left() {
+        Ok(value)
+    } else {
+        Err(AllocError)
+    }
+}
+
 #[cycle(constant)]
 #[tactic(auto, using(crate::proofs::Arms::of_literal, crate::proofs::Arms::of_name, crate::proofs::Arms::of_group, crate::proofs::Arms::of_field, crate::proofs::Arms::of_unary, crate::proofs::Arms::of_binary, crate::proofs::Arms::of_both, crate::proofs::Arms::of_either, crate::proofs::Arms::of_cast, crate::proofs::Arms::of_choice))]
-pub fn constant_of(
+fn folded(
     alloc: Global,
     table: &ClassTable,
     scope: &Scope,
@@ -43,7 +62,7 @@ pub fn constant_of(
     match e {
         Expression::Literal { value, token: _ } => literal_value(value),
         Expression::Name { name, token: _ } => value_of_name(table, scope, name.as_str()),
-        Expression::Group { inner, token: _ } => constant_of(alloc, table, scope, inner),
+        Expression::Group { inner, token: _ } => folded(alloc, table, scope, inner),
         Expression::Field {
             object,
             name,
@@ -96,7 +115,7 @@ fn unary(
     ensures { IfOk result (λ c. option_map constant_value c ≡ option_and_then (unary_constant op)
         (constant (table_of table.now) scope.now (expression_of operand.now))) }
 {
-    let c = constant_of(alloc, table, scope, operand)?;
+    let c = folded(alloc, table, scope, operand)?;
     Ok(unary_value(op, c))
 }
 
@@ -113,8 +132,8 @@ fn binary(
         (binary_constant op) (constant (table_of table.now) scope.now (expression_of left.now))
         (constant (table_of table.now) scope.now (expression_of right.now))) }
 {
-    let a = constant_of(alloc, table, scope, left)?;
-    let b = constant_of(alloc, table, scope, right)?;
+    let a = folded(alloc, table, scope, left)?;
+    let b = folded(alloc, table, scope, right)?;
     binary_value(alloc, op, a, b)
 }
 
@@ -131,8 +150,8 @@ fn both_hold(
         (constant (table_of table.now) scope.now (expression_of left.now))) (option_and_then truth
         (constant (table_of table.now) scope.now (expression_of right.now)))) }
 {
-    let a = constant_of(alloc, table, scope, left)?;
-    let b = constant_of(alloc, table, scope, right)?;
+    let a = folded(alloc, table, scope, left)?;
+    let b = folded(alloc, table, scope, right)?;
     Ok(conjunction(&a, &b))
 }
 
@@ -149,8 +168,8 @@ fn either_holds(
         (constant (table_of table.now) scope.now (expression_of left.now))) (option_and_then truth
         (constant (table_of table.now) scope.now (expression_of right.now)))) }
 {
-    let a = constant_of(alloc, table, scope, left)?;
-    let b = constant_of(alloc, table, scope, right)?;
+    let a = folded(alloc, table, scope, left)?;
+    let b = folded(alloc, table, scope, right)?;
     Ok(disjunction(&a, &b))
 }
 
@@ -165,7 +184,7 @@ fn cast(
     ensures { IfOk result (λ c. option_map constant_value c ≡ option_and_then (cast_constant
         (type_seen ty.now)) (constant (table_of table.now) scope.now (expression_of operand.now))) }
 {
-    let c = constant_of(alloc, table, scope, operand)?;
+    let c = folded(alloc, table, scope, operand)?;
     Ok(cast_value(ty, c))
 }
 
@@ -183,8 +202,8 @@ fn choice(
         (constant (table_of table.now) scope.now (expression_of main.now))
         (constant (table_of table.now) scope.now (expression_of other.now))) }
 {
-    let t = constant_of(alloc, table, scope, test)?;
-    let a = constant_of(alloc, table, scope, main)?;
-    let b = constant_of(alloc, table, scope, other)?;
+    let t = folded(alloc, table, scope, test)?;
+    let a = folded(alloc, table, scope, main)?;
+    let b = folded(alloc, table, scope, other)?;
     Ok(choice_value(&t, a, b))
 }

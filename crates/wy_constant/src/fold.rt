@@ -1,15 +1,16 @@
 //! What operators, casts and `?:` make of constants (JLS 15.28).
 
-ghost use Rattle.std.specs.Prelude.{◌≡◌, ◌&&◌, ◌||◌, IfOk, option_map, option_and_then};
+ghost use Rattle.std.specs.Prelude.{◌≡◌, ◌++◌, ◌&&◌, ◌||◌, IfOk, option_map, option_and_then};
 ghost use Rattle.wy_kernel.specs.Table.{constant_value, Text};
 ghost use Rattle.wy_syntax.specs.View.{type_seen};
 ghost use Rattle.wy_tree.specs.Seen.{seen};
-ghost use Rattle.wy_constant.specs.Constant.{binary_constant, both, cast_constant, choice_constant, choice_type, chosen_in, chosen_text, chosen_value, combined, converted_value, fits, has_number, is_text, joint, joint_type, keyword, literal, on_texts, primitive_of, same_text, simple, simple_in, text_in, truth, unary_constant};
+ghost use Rattle.wy_constant.specs.Constant.{binary_constant, both, cast_constant, choice_constant, choice_type, chosen_in, chosen_text, chosen_value, combined, converted_value, fits, has_number, is_text, joint, joint_type, keyword, literal, on_texts, primitive_of, same_text, simple, simple_in, text_in, truth, unary_constant, units_of};
 
 use crate::arithmetic::{apply, cast, operate, promote};
 use crate::simple::{constant_in, truth_of, units, value_of};
 use std::alloc::{AllocError, Global};
 use wy_kernel::form::Const;
+use wy_kernel::limit::UNIT_LIMIT;
 use wy_kernel::operator::{BinOp, Primitive, UnOp};
 use wy_syntax::name::{WrittenBase, WrittenType};
 use wy_tree::token::Token;
@@ -66,18 +67,28 @@ fn are_same_texts(a: &Const, b: &Const) -> Option<bool>
     }
 }
 
+// The texts of two constants, one behind the other. A text that is longer than all texts of a run may
+// be together is want of memory, and isn't made.
+fn joined(alloc: Global, a: &Const, b: &Const) -> Result<Vec<u16>, AllocError>
+    ensures { IfOk result (λ v.
+        v.items ≡ units_of (constant_value a.now) ++ units_of (constant_value b.now)) }
+{
+    let mut all = units(alloc, a)?;
+    let mut more = units(alloc, b)?;
+    if all.len().saturating_add(more.len()) > UNIT_LIMIT as usize {
+        return Err(AllocError);
+    }
+    all.append(&mut more)?;
+    Ok(all)
+}
+
 #[tactic(auto, unfolding(crate::specs::Constant::on_texts))]
 fn fold_texts(alloc: Global, op: BinOp, a: &Const, b: &Const) -> Result<Option<Const>, AllocError>
     ensures { IfOk result (λ c.
         option_map constant_value c ≡ on_texts op (constant_value a.now) (constant_value b.now)) }
 {
     match op {
-        BinOp::Add => {
-            let mut all = units(alloc, a)?;
-            let mut more = units(alloc, b)?;
-            all.append(&mut more)?;
-            Ok(Some(Const::Text(all)))
-        }
+        BinOp::Add => Ok(Some(Const::Text(joined(alloc, a, b)?))),
         BinOp::Eq => match are_same_texts(a, b) {
             Some(same) => Ok(Some(Const::Bool(same))),
             None => Ok(None),

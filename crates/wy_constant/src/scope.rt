@@ -1,17 +1,20 @@
 //! The variables of a body that are in scope (JLS 6.3, 6.4). Nothing here reads a tree.
 
 ghost use Rattle.std.specs.Prelude.{◌≡◌, ◌<◌, ◌≤◌, ◌^◌, length, map, option_map, OnOk, OnErr, IfOk, Ok};
+ghost use Rattle.wy_kernel.specs.Limits.{unit_limit};
 ghost use Rattle.wy_kernel.specs.Table.{constant_value};
 ghost use Rattle.wy_constant.specs.Refusal.{Gives};
 ghost use Rattle.wy_constant.specs.Scopes.{text_of, variable_of};
 ghost use Rattle.wy_tree.specs.Tokens.{token_limit};
 
 use crate::rule::{Rule, TypeError};
+use crate::simple::units_in;
 use crate::variable::{FixedText, Variable};
 use crate::variables::Variables;
 use std::alloc::{AllocError, Global};
 use std::marker::Model;
 use wy_kernel::form::Const;
+use wy_kernel::limit::UNIT_LIMIT;
 use wy_kernel::types::Ty;
 
 /// What is in scope in a body, and the texts that forms given in it hold.
@@ -24,6 +27,8 @@ pub struct Scope {
     blocks: Vec<usize>,
     next: u32,
     texts: Vec<FixedText>,
+    /// The units of the texts of all its constant variables so far.
+    units: usize,
     ghost few_texts: { length texts.items < 2 ^ 32 },
 }
 
@@ -61,6 +66,7 @@ impl Scope {
             blocks: Vec::new(alloc),
             next: if has_this { 1 } else { 0 },
             texts: Vec::new(alloc),
+            units: 0,
         })
     }
 
@@ -128,6 +134,7 @@ impl Scope {
             });
         }
         let number = self.next;
+        let units = units_in(&constant);
         let variable = match String::from_str(self.alloc, name) {
             Ok(name) => Variable {
                 name,
@@ -141,6 +148,7 @@ impl Scope {
         match self.variables.push(self.alloc, variable) {
             Ok(()) => {
                 self.next += 1;
+                self.units = self.units.saturating_add(units);
                 Ok(number)
             }
             Err(_) => Err(TypeError::NoMemory),
@@ -152,7 +160,15 @@ impl Scope {
     pub fn give_value(&mut self, constant: Option<Const>)
         ensures { self.new ≡ with_last_value (option_map constant_value constant) self.old }
     {
+        self.units = self.units.saturating_add(units_in(&constant));
         self.variables.give_last(constant);
+    }
+
+    /// The units that texts of further constant variables may have.
+    pub fn units_left(&self) -> usize
+        ensures { result ≤ unit_limit }
+    {
+        (UNIT_LIMIT as usize).saturating_sub(self.units)
     }
 
     /// How many locals the body has so far, `this` among them.

@@ -2,7 +2,7 @@
 
 ghost use Rattle.std.specs.Prelude.{◌≡◌, IfOk, IsTrue, option_map};
 ghost use Rattle.wy_kernel.specs.Table.{constant_value};
-ghost use Rattle.wy_constant.specs.Constant.{simple, simple_in, units_of, truth};
+ghost use Rattle.wy_constant.specs.Constant.{simple, simple_in, text_length, units_of, truth};
 
 use std::alloc::{AllocError, Global};
 use wy_kernel::form::Const;
@@ -72,6 +72,16 @@ pub fn units(alloc: Global, c: &Const) -> Result<Vec<u16>, AllocError>
         Const::Int(n) => digits(alloc, Value::Int(*n)),
         Const::Long(n) => digits(alloc, Value::Long(*n)),
         Const::Text(units) => units.clone(),
+    }
+}
+
+/// How many units a constant's text has; what is no text has none.
+pub fn units_in(c: &Option<Const>) -> usize
+    ensures { result ≡ text_length (option_map constant_value c.now) }
+{
+    match c {
+        Some(Const::Text(units)) => units.len(),
+        _ => 0,
     }
 }
 

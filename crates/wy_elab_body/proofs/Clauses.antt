@@ -18,7 +18,7 @@ use Rattle.wy_elab_body.specs.Jumps.{Around, in_try, inside}
 use Rattle.wy_elab_body.specs.Statements as made
 use Rattle.wy_elab_body.specs.Statements.{Setting, Clause, in_first_block}
 use Rattle.wy_elab_body.specs.Views.{behind_clauses, in_front, clause_seen}
-use Rattle.wy_elab_body.proofs.SourceViews.{view_clause}
+use Rattle.wy_syntax.proofs.StatementViews.{view_clause}
 
 next_here : {Y : Type 0} (ys : List Y) (i : ℕ) (y : Y) → i < length ys → y ≡ get_or ys i y → drop i ys ≡ y ∷ drop (i + 1) ys
 next_here ys i y less is = drop-cons ys i y less ∙ ap (λ z. z ∷ drop (suc i) ys) (sym is) ∙ ap (λ k. y ∷ drop k ys) (sym (add-one i))

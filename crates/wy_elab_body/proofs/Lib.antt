@@ -1,4 +1,3 @@
-pub mod SourceViews
 pub mod Taken
 pub mod PlaceArms
 pub mod Numbering

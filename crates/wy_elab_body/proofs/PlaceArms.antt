@@ -18,11 +18,11 @@ use Rattle.wy_syntax.specs.declared.statement.Catch.{Catch}
 use Rattle.wy_syntax.specs.declared.statement.Block.{Block}
 use Rattle.wy_syntax.specs.declared.statement.Statement.TheVariants as form
 use Rattle.wy_syntax.specs.Syntax as plain
-use Rattle.wy_syntax.specs.View.{declarators_of, effect_of, for_init_of, statement_of, block_of, clause_of, statements_of, clauses_of}
+use Rattle.wy_syntax.specs.View.{other_body_of, declarators_of, effect_of, for_init_of, statement_of, block_of, clause_of, statements_of, clauses_of}
 use Rattle.wy_elab_body.specs.declared.place.Place.{Place}
 use Rattle.wy_elab_body.specs.Places.{written, places, block_places, all_places, other_places, last_places, catch_places, declarator_places, effect_places, init_places}
-use Rattle.wy_elab_body.specs.Views.{other, last_seen}
-use Rattle.wy_elab_body.proofs.SourceViews.{view_block, view_empty, view_declare, view_effect, view_if, view_while, view_do, view_for, view_labelled, view_break, view_continue, view_return, view_throw, view_try, view_wrong, view_braces, view_clause}
+use Rattle.wy_elab_body.specs.Views.{last_seen}
+use Rattle.wy_syntax.proofs.StatementViews.{view_block, view_empty, view_declare, view_effect, view_if, view_while, view_do, view_for, view_labelled, view_break, view_continue, view_return, view_throw, view_try, view_wrong, view_braced, view_clause}
 
 pub of_block : (block : Block) → places (statement_of (form.Block block)) ≡ block_places (block_of block)
 unfolding places
@@ -40,7 +40,7 @@ pub of_effect : (effect : Effect) → places (statement_of (form.Effect effect))
 unfolding places
 of_effect effect = ap places (view_effect effect)
 
-pub of_if : (test : Expression) (main : Box Statement Global) (last : Option (Box Statement Global)) (token : ℕ) → places (statement_of (form.If test main last token)) ≡ written token ∷ (places (statement_of main.value) ++ other_places (other last))
+pub of_if : (test : Expression) (main : Box Statement Global) (last : Option (Box Statement Global)) (token : ℕ) → places (statement_of (form.If test main last token)) ≡ written token ∷ (places (statement_of main.value) ++ other_places (other_body_of last))
 unfolding places
 of_if test main last token = ap places (view_if test main last token)
 
@@ -86,13 +86,13 @@ of_wrong = ap places view_wrong
 
 pub of_braces : (b : Block) → block_places (block_of b) ≡ written b.brace ∷ all_places (statements_of (map statement_of b.parts.items))
 unfolding places
-of_braces b = ap block_places (view_braces b)
+of_braces b = ap block_places (view_braced b)
 
-pub of_no_other : other_places (other Absent) ≡ []
+pub of_no_other : other_places (other_body_of Absent) ≡ []
 unfolding places
 of_no_other = refl
 
-pub of_other : (s : Box Statement Global) → other_places (other (Some s)) ≡ places (statement_of s.value)
+pub of_other : (s : Box Statement Global) → other_places (other_body_of (Some s)) ≡ places (statement_of s.value)
 unfolding places
 of_other s = refl
 

@@ -12,9 +12,9 @@ use Rattle.wy_syntax.specs.declared.statement.Catch.{Catch}
 use Rattle.wy_syntax.specs.declared.statement.Block.{Block}
 use Rattle.wy_syntax.specs.declared.statement.Statement.TheVariants as form
 use Rattle.wy_syntax.specs.Syntax as plain
-use Rattle.wy_syntax.specs.View.{statement_of, block_of, clause_of, statements_of, clauses_of}
-use Rattle.wy_elab_body.specs.Views.{other, last_seen}
-use Rattle.wy_elab_body.proofs.SourceViews.{view_braces, view_clause, view_block, view_if, view_while, view_do, view_for, view_labelled, view_try}
+use Rattle.wy_syntax.specs.View.{other_body_of, statement_of, block_of, clause_of, statements_of, clauses_of}
+use Rattle.wy_elab_body.specs.Views.{last_seen}
+use Rattle.wy_syntax.proofs.StatementViews.{view_braced, view_clause, view_block, view_if, view_while, view_do, view_for, view_labelled, view_try}
 
 unfoldable mutual
   pub size : plain.Statement → ℕ
@@ -57,7 +57,7 @@ pub of_block : (block : Block) → size (statement_of (form.Block block)) ≡ su
 unfolding size
 of_block block = ap size (view_block block)
 
-pub of_if : (test : Expression) (main : Box Statement Global) (last : Option (Box Statement Global)) (token : ℕ) → size (statement_of (form.If test main last token)) ≡ suc (size (statement_of main.value) + size_other (other last))
+pub of_if : (test : Expression) (main : Box Statement Global) (last : Option (Box Statement Global)) (token : ℕ) → size (statement_of (form.If test main last token)) ≡ suc (size (statement_of main.value) + size_other (other_body_of last))
 unfolding size
 of_if test main last token = ap size (view_if test main last token)
 
@@ -83,9 +83,9 @@ of_try main catches last token = ap size (view_try main catches last token)
 
 pub of_braces : (b : Block) → size_braced (block_of b) ≡ suc (size_all (statements_of (map statement_of b.parts.items)))
 unfolding size
-of_braces b = ap size_braced (view_braces b)
+of_braces b = ap size_braced (view_braced b)
 
-pub of_other : (s : Box Statement Global) → size_other (other (Some s)) ≡ suc (size (statement_of s.value))
+pub of_other : (s : Box Statement Global) → size_other (other_body_of (Some s)) ≡ suc (size (statement_of s.value))
 unfolding size
 of_other s = refl
 

@@ -1,12 +1,10 @@
 -- What the code of this crate gives, as the definitions see it.
-use Rattle.std.specs.Prelude.{◌≡◌, ℕ, List, [], ◌∷◌, map, Option, Some, option_map, Result, Ok, Err, string_bytes}
-use Rattle.std.specs.Prelude.{None as Absent}
+use Rattle.std.specs.Prelude.{◌≡◌, ℕ, List, [], ◌∷◌, map, Option, option_map, Result, Ok, Err, string_bytes}
 use Rattle.std.specs.declared.alloc.Global.{Global}
 use Rattle.std.specs.declared.boxed.Box.{Box}
-use Rattle.wy_syntax.specs.declared.statement.Statement.{Statement}
 use Rattle.wy_syntax.specs.declared.statement.Block.{Block}
 use Rattle.wy_syntax.specs.Syntax as source
-use Rattle.wy_syntax.specs.View.{statement_of, block_of}
+use Rattle.wy_syntax.specs.View.{block_of, last_of}
 use Rattle.std.specs.declared.vec.Vec.{Vec}
 use Rattle.wy_kernel.specs.declared.form.Expr.{Expr}
 use Rattle.wy_kernel.specs.declared.form.Stmt.{Stmt}
@@ -72,13 +70,8 @@ inner_test test = test_of (option_map (λ e. e.value) test)
 
 -- ---- parts of source statements that may be absent
 
-abbrev pub other : Option (Box Statement Global) → source.Other
-other Absent = source.absent
-other (Some s) = source.present (statement_of s.value)
-
 abbrev pub last_seen : Option Block → source.Last
-last_seen Absent = source.nowhere
-last_seen (Some b) = source.finally (block_of b)
+last_seen b = last_of (option_map block_of b)
 
 -- ---- what bodies are made by
 

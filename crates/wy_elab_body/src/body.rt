@@ -113,7 +113,7 @@ fn outcome_of(
 }
 
 /// The block of a method.
-#[tactic(auto, unfolding(crate::specs::Bodies::method_block), using(crate::proofs::SourceViews::view_braces))]
+#[tactic(auto, unfolding(crate::specs::Bodies::method_block), using(wy_syntax::proofs::StatementViews::view_braced))]
 pub fn method_block(
     setting: &Setting,
     making: &mut Making,

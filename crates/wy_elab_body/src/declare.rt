@@ -178,7 +178,7 @@ pub fn for_init(
 }
 
 /// The statements that a declaration in a block is.
-#[tactic(auto, unfolding(crate::specs::Statements::declared), using(crate::proofs::SourceViews::view_declare))]
+#[tactic(auto, unfolding(crate::specs::Statements::declared), using(wy_syntax::proofs::StatementViews::view_declare))]
 pub fn declared(
     setting: &Setting,
     making: &mut Making,

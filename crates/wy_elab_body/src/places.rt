@@ -2,8 +2,8 @@
 
 ghost use Rattle.std.specs.Prelude.{◌≡◌, [], ◌∷◌, ◌++◌, OnOk, map};
 ghost use Rattle.wy_elab_body.specs.Places.{all_places, at, block_places, catch_places, declarator_places, effect_places, init_places, last_places, other_places, places};
-ghost use Rattle.wy_elab_body.specs.Views.{last_seen, other};
-ghost use Rattle.wy_syntax.specs.View.{block_of, clause_of, clauses_of, declarator_of, effect_of, for_init_of, statement_of, statements_of};
+ghost use Rattle.wy_elab_body.specs.Views.{last_seen};
+ghost use Rattle.wy_syntax.specs.View.{block_of, clause_of, clauses_of, declarator_of, effect_of, for_init_of, other_body_of, statement_of, statements_of};
 
 use crate::place::{Place, Role};
 use std::alloc::AllocError;
@@ -135,7 +135,7 @@ pub fn put_statement(all: &mut Vec<Place>, s: &Statement) -> Result<(), AllocErr
 #[cycle(places)]
 #[tactic(auto, using(crate::proofs::PlaceArms::of_no_other, crate::proofs::PlaceArms::behind_nothing, crate::proofs::PlaceArms::of_other))]
 fn put_other(all: &mut Vec<Place>, s: &Option<Box<Statement>>) -> Result<(), AllocError>
-    ensures { OnOk result (all.new.items ≡ all.old.items ++ other_places (other s.now)) }
+    ensures { OnOk result (all.new.items ≡ all.old.items ++ other_places (other_body_of s.now)) }
 {
     match s {
         Some(s) => put_statement(all, s),

@@ -9,7 +9,7 @@ use crate::setting::Setting;
 use wy_syntax::statement::Statement;
 
 /// The site of a statement.
-#[tactic(auto, unfolding(crate::specs::Statements::site_of), using(crate::proofs::SourceViews::view_block, crate::proofs::SourceViews::view_braces, crate::proofs::SourceViews::view_empty, crate::proofs::SourceViews::view_declare, crate::proofs::SourceViews::view_effect, crate::proofs::SourceViews::view_if, crate::proofs::SourceViews::view_while, crate::proofs::SourceViews::view_do, crate::proofs::SourceViews::view_for, crate::proofs::SourceViews::view_labelled, crate::proofs::SourceViews::view_break, crate::proofs::SourceViews::view_continue, crate::proofs::SourceViews::view_return, crate::proofs::SourceViews::view_throw, crate::proofs::SourceViews::view_try, crate::proofs::SourceViews::view_wrong))]
+#[tactic(auto, unfolding(crate::specs::Statements::site_of), using(wy_syntax::proofs::StatementViews::view_block, wy_syntax::proofs::StatementViews::view_braced, wy_syntax::proofs::StatementViews::view_empty, wy_syntax::proofs::StatementViews::view_declare, wy_syntax::proofs::StatementViews::view_effect, wy_syntax::proofs::StatementViews::view_if, wy_syntax::proofs::StatementViews::view_while, wy_syntax::proofs::StatementViews::view_do, wy_syntax::proofs::StatementViews::view_for, wy_syntax::proofs::StatementViews::view_labelled, wy_syntax::proofs::StatementViews::view_break, wy_syntax::proofs::StatementViews::view_continue, wy_syntax::proofs::StatementViews::view_return, wy_syntax::proofs::StatementViews::view_throw, wy_syntax::proofs::StatementViews::view_try, wy_syntax::proofs::StatementViews::view_wrong))]
 pub fn site_of(s: &Statement) -> u32
     ensures { result ≡ site_of (statement_of s.now) }
 {
@@ -61,7 +61,7 @@ pub fn site_of(s: &Statement) -> u32
 }
 
 /// The body of a statement that is a loop.
-#[tactic(auto, unfolding(crate::specs::Statements::body_of_loop), using(crate::proofs::SourceViews::view_block, crate::proofs::SourceViews::view_empty, crate::proofs::SourceViews::view_declare, crate::proofs::SourceViews::view_effect, crate::proofs::SourceViews::view_if, crate::proofs::SourceViews::view_while, crate::proofs::SourceViews::view_do, crate::proofs::SourceViews::view_for, crate::proofs::SourceViews::view_labelled, crate::proofs::SourceViews::view_break, crate::proofs::SourceViews::view_continue, crate::proofs::SourceViews::view_return, crate::proofs::SourceViews::view_throw, crate::proofs::SourceViews::view_try, crate::proofs::SourceViews::view_wrong))]
+#[tactic(auto, unfolding(crate::specs::Statements::body_of_loop), using(wy_syntax::proofs::StatementViews::view_block, wy_syntax::proofs::StatementViews::view_empty, wy_syntax::proofs::StatementViews::view_declare, wy_syntax::proofs::StatementViews::view_effect, wy_syntax::proofs::StatementViews::view_if, wy_syntax::proofs::StatementViews::view_while, wy_syntax::proofs::StatementViews::view_do, wy_syntax::proofs::StatementViews::view_for, wy_syntax::proofs::StatementViews::view_labelled, wy_syntax::proofs::StatementViews::view_break, wy_syntax::proofs::StatementViews::view_continue, wy_syntax::proofs::StatementViews::view_return, wy_syntax::proofs::StatementViews::view_throw, wy_syntax::proofs::StatementViews::view_try, wy_syntax::proofs::StatementViews::view_wrong))]
 pub fn body_of_loop(s: &Statement) -> Option<&Statement>
     ensures { option_map (λ b. statement_of b.now) result ≡ body_of_loop (statement_of s.now) }
 {
@@ -113,7 +113,7 @@ pub fn body_of_loop(s: &Statement) -> Option<&Statement>
 }
 
 /// Whether a statement is a declaration.
-#[tactic(auto, unfolding(crate::specs::Statements::is_declaration), using(crate::proofs::SourceViews::view_block, crate::proofs::SourceViews::view_empty, crate::proofs::SourceViews::view_declare, crate::proofs::SourceViews::view_effect, crate::proofs::SourceViews::view_if, crate::proofs::SourceViews::view_while, crate::proofs::SourceViews::view_do, crate::proofs::SourceViews::view_for, crate::proofs::SourceViews::view_labelled, crate::proofs::SourceViews::view_break, crate::proofs::SourceViews::view_continue, crate::proofs::SourceViews::view_return, crate::proofs::SourceViews::view_throw, crate::proofs::SourceViews::view_try, crate::proofs::SourceViews::view_wrong))]
+#[tactic(auto, unfolding(crate::specs::Statements::is_declaration), using(wy_syntax::proofs::StatementViews::view_block, wy_syntax::proofs::StatementViews::view_empty, wy_syntax::proofs::StatementViews::view_declare, wy_syntax::proofs::StatementViews::view_effect, wy_syntax::proofs::StatementViews::view_if, wy_syntax::proofs::StatementViews::view_while, wy_syntax::proofs::StatementViews::view_do, wy_syntax::proofs::StatementViews::view_for, wy_syntax::proofs::StatementViews::view_labelled, wy_syntax::proofs::StatementViews::view_break, wy_syntax::proofs::StatementViews::view_continue, wy_syntax::proofs::StatementViews::view_return, wy_syntax::proofs::StatementViews::view_throw, wy_syntax::proofs::StatementViews::view_try, wy_syntax::proofs::StatementViews::view_wrong))]
 pub fn is_declaration(s: &Statement) -> bool
     ensures { result ≡ is_declaration (statement_of s.now) }
 {

@@ -3,11 +3,10 @@
 ghost use Rattle.std.specs.Prelude.{◌≡◌, IfOk, map, option_map};
 ghost use Rattle.wy_elab_body.specs.Statements.{Setting as PlainSetting, block, clause as plain_clause, clauses, in_first_block, last_block, other_statement, several, statement as plain_statement, statements, tested};
 ghost use Rattle.wy_elab_body.specs.Views.{IsSetting, MakesTo, around_of, clause_seen, clauses_seen, inner_test, last_seen, making_of, row_seen, statements_seen};
-ghost use Rattle.wy_elab_body.specs.Views.{other as other_seen};
 ghost use Rattle.wy_kernel.specs.Subtyping.{class_type};
 ghost use Rattle.wy_kernel.specs.View.{other, statement, test_of};
 ghost use Rattle.wy_syntax.specs.Syntax as source;
-ghost use Rattle.wy_syntax.specs.View.{block_of, clause_of, clauses_of, effect_of, expression_of, for_init_of, named_of, statement_of, statements_of};
+ghost use Rattle.wy_syntax.specs.View.{block_of, clause_of, clauses_of, effect_of, expression_of, for_init_of, named_of, other_body_of, statement_of, statements_of};
 
 use crate::around::Around;
 use crate::declare::{declared, effect, effects, for_init};
@@ -28,7 +27,7 @@ use wy_syntax::statement::{Block, Catch, Effect, ForInit, Statement};
 
 /// A statement that is no declaration.
 #[cycle(statement)]
-#[tactic(auto, unfolding(crate::specs::Statements::statement), using(crate::proofs::SourceViews::view_block, crate::proofs::SourceViews::view_empty, crate::proofs::SourceViews::view_declare, crate::proofs::SourceViews::view_effect, crate::proofs::SourceViews::view_if, crate::proofs::SourceViews::view_while, crate::proofs::SourceViews::view_do, crate::proofs::SourceViews::view_for, crate::proofs::SourceViews::view_labelled, crate::proofs::SourceViews::view_break, crate::proofs::SourceViews::view_continue, crate::proofs::SourceViews::view_return, crate::proofs::SourceViews::view_throw, crate::proofs::SourceViews::view_try, crate::proofs::SourceViews::view_wrong, crate::proofs::Sizes::of_block, crate::proofs::Sizes::of_if, crate::proofs::Sizes::of_while, crate::proofs::Sizes::of_do, crate::proofs::Sizes::of_for, crate::proofs::Sizes::of_labelled, crate::proofs::Sizes::of_try))]
+#[tactic(auto, unfolding(crate::specs::Statements::statement), using(wy_syntax::proofs::StatementViews::view_block, wy_syntax::proofs::StatementViews::view_empty, wy_syntax::proofs::StatementViews::view_declare, wy_syntax::proofs::StatementViews::view_effect, wy_syntax::proofs::StatementViews::view_if, wy_syntax::proofs::StatementViews::view_while, wy_syntax::proofs::StatementViews::view_do, wy_syntax::proofs::StatementViews::view_for, wy_syntax::proofs::StatementViews::view_labelled, wy_syntax::proofs::StatementViews::view_break, wy_syntax::proofs::StatementViews::view_continue, wy_syntax::proofs::StatementViews::view_return, wy_syntax::proofs::StatementViews::view_throw, wy_syntax::proofs::StatementViews::view_try, wy_syntax::proofs::StatementViews::view_wrong, crate::proofs::Sizes::of_block, crate::proofs::Sizes::of_if, crate::proofs::Sizes::of_while, crate::proofs::Sizes::of_do, crate::proofs::Sizes::of_for, crate::proofs::Sizes::of_labelled, crate::proofs::Sizes::of_try))]
 pub fn statement(
     setting: &Setting,
     around: &Around,
@@ -133,7 +132,7 @@ fn if_statement(
     ensures { (w : PlainSetting)
         → IsSetting setting.now w → MakesTo statement result (making_of making.new texts.new)
         (plain_statement w (around_of around.now) (source.If (expression_of test.now)
-        (statement_of main.now) (other_seen other.now) token) (making_of making.old texts.old)) }
+        (statement_of main.now) (other_body_of other.now) token) (making_of making.old texts.old)) }
 {
     let inner = around.inside(setting.number(token))?;
     let c = condition(setting, making, texts, test, token)?;
@@ -204,7 +203,7 @@ fn other_statement(
 ) -> Result<Option<Box<Stmt>>, TypeError>
     ensures { (w : PlainSetting) → IsSetting setting.now w
         → MakesTo other result (making_of making.new texts.new) (other_statement w
-        (around_of around.now) (other_seen s.now) (making_of making.old texts.old)) }
+        (around_of around.now) (other_body_of s.now) (making_of making.old texts.old)) }
 {
     match s {
         Some(s) => {
@@ -217,7 +216,7 @@ fn other_statement(
 
 /// A block.
 #[cycle(statement)]
-#[tactic(auto, unfolding(crate::specs::Statements::statement, crate::specs::Making::in_block), using(crate::proofs::SourceViews::view_braces, crate::proofs::Sizes::of_braces))]
+#[tactic(auto, unfolding(crate::specs::Statements::statement, crate::specs::Making::in_block), using(wy_syntax::proofs::StatementViews::view_braced, crate::proofs::Sizes::of_braces))]
 pub fn block(
     setting: &Setting,
     around: &Around,

@@ -48,7 +48,7 @@ fn has_this(header: &Header) -> bool
     !is_static(header.modifiers.as_slice())
 }
 
-#[tactic(auto, using(wy_elab_body::proofs::SourceViews::view_braces))]
+#[tactic(auto, using(wy_syntax::proofs::StatementViews::view_braced))]
 fn end_of(b: &Block) -> u32
     ensures { result ≡ end_of (block_of b.now) }
 {

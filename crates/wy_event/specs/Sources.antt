@@ -27,15 +27,15 @@ is_write _ = false
 unfoldable pub writes : Slot → Recorded → Bool
 writes x e = is_write e.kind && same_slot x e.slot
 
-unfoldable pub is_what : Option ℕ → ℕ → Bool
-is_what (Some n) m = nat_eq n m
-is_what Absent m = false
+unfoldable pub is_entity : Option ℕ → ℕ → Bool
+is_entity (Some n) m = nat_eq n m
+is_entity Absent m = false
 
 -- a New creates the fields and the elements of its object, an Init the static fields of its class
 unfoldable pub creates_as : Owners → Kind → ℕ → Option ℕ → Slot → Bool
 creates_as owner New n entity (Field object f) = nat_eq object n
 creates_as owner New n entity (Elem array i) = nat_eq array n
-creates_as owner Init n entity (Static f) = is_what entity (owner f)
+creates_as owner Init n entity (Static f) = is_entity entity (owner f)
 creates_as owner _ n entity x = false
 
 -- as event n

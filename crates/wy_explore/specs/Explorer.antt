@@ -1,14 +1,13 @@
 -- An explorer in memory, as a session; and the answers that it holds.
-use Rattle.std.specs.Prelude.{◌≡◌, ◌<◌, ◌^◌, ℕ, Bool, true, false, List, [], ◌∷◌, length, map, reverse, All, Option, Some, IfSome, option_map}
+use Rattle.std.specs.Prelude.{◌≡◌, ◌<◌, ℕ, Bool, true, false, List, [], ◌∷◌, map, reverse, All, Option, Some, IfSome, option_map}
+use Rattle.wy_kernel.specs.declared.program.Program as memory
 use Rattle.wy_kernel.specs.Program.{Program}
 use Rattle.wy_kernel.specs.Parts.{program_of}
+use Rattle.wy_event.specs.declared.record.Cover.{Cover}
 use Rattle.wy_event.specs.Record.{Recorded}
 use Rattle.wy_event.specs.Sources.{data_closure}
-use Rattle.wy_view.specs.View.{Told}
-use Rattle.wy_index.specs.Index.{IsIndexOfView, owners_of}
 use Rattle.wy_why.specs.Answer.{Rises, up_to}
 use Rattle.wy_ask.specs.Asked.{owners}
-use Rattle.wy_static.specs.LookUps.{AreLinksOf}
 use Rattle.wy_whynot.specs.Evidence.{evidence_in}
 use Rattle.wy_explore.specs.Session.{Position, RepliesTo, Session, answer_to, looking_at}
 use Rattle.wy_explore.specs.Session as session
@@ -19,7 +18,6 @@ use Rattle.wy_explore.specs.declared.explorer.Change.TheVariants.{Looked, Asked}
 use Rattle.wy_explore.specs.declared.explorer.Explorer.{Explorer}
 use Rattle.wy_explore.specs.declared.reply.Reply.{Reply}
 use Rattle.wy_explore.specs.declared.reply.Reply.TheVariants as reply
-use Rattle.wy_explore.specs.declared.world.World.{World}
 
 abbrev pub event_asked : Option Answered → Option ℕ
 event_asked question = option_map (λ a. a.event) question
@@ -81,15 +79,6 @@ pub record IsAnswered (p : Program) (rs : List Recorded) (a : Answered) : Type 0
 abbrev pub AllAnswered : Program → List Recorded → Explorer → Type 0
 AllAnswered p rs x = Holds (IsAnswered p rs) (λ n. Unit {0}) x
 
--- ---- what an explorer looks at
-
--- the parts are those of one program and of the trace that a view tells
-pub record IsWorldOf (told : Told) (w : World) : Type 0 where
-  pub few_fields : length w.program.now.fields.items < 2 ^ 32
-  pub index : IsIndexOfView w.index.now told
-  pub owners : (f : ℕ) → owners_of w.index.now f ≡ owners (program_of w.program.now) f
-  pub links : AreLinksOf w.links.now (program_of w.program.now)
-
 -- the events that a reply names are there
 abbrev pub IsReplyWithin : ℕ → Reply → Type 0
 IsReplyWithin count (reply.At event) = IfSome event (λ n. n < count)
@@ -126,7 +115,7 @@ Undoes false x y = ((session_of x).past ≡ []) × (y ≡ x)
 -- ---- what is replied
 
 -- the reply to a command whose words are still to be read
-abbrev pub Fulfils : World → List Recorded → Worded → Explorer → Explorer → Reply → Type 0
-Fulfils w rs c x y r =
-    RepliesTo (program_of w.program.now) w.program.now.lines.items rs w.coverage.now
+abbrev pub Fulfils : memory.Program → List Cover → List Recorded → Worded → Explorer → Explorer → Reply → Type 0
+Fulfils m covers rs c x y r =
+    RepliesTo (program_of m) m.lines.items rs covers
     (session_of x) (IsMeant c) (session_of y) (reply_of r)

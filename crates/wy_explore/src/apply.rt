@@ -1,46 +1,43 @@
 //! One line of a session: what it says is done and answered.
 
-ghost use Rattle.std.specs.Prelude.{◌≡◌, ◌<◌, ◌≤◌, ◌^◌, ℕ, List, Some, IfOk, IfSome, OnErr, length};
+ghost use Rattle.std.specs.Prelude.{◌≡◌, ◌<◌, ◌≤◌, ℕ, List, Some, IfOk, IfSome, OnErr, length};
+ghost use Rattle.wy_event.specs.declared.record.Cover.{Cover};
 ghost use Rattle.wy_event.specs.Record.{Recorded};
-ghost use Rattle.wy_index.specs.Index.{IsIndexOf};
+ghost use Rattle.wy_kernel.specs.declared.program.Program as memory;
 ghost use Rattle.wy_kernel.specs.Parts.{program_of};
 ghost use Rattle.wy_kernel.specs.Program.{Program};
 ghost use Rattle.wy_static.specs.LookUps.{AreLinksOf};
-ghost use Rattle.wy_view.specs.View.{KeepsCounts, Keeps};
-ghost use Rattle.wy_ask.specs.Asked.{IsOf};
+ghost use Rattle.wy_view.specs.View.{KeepsCounts};
+ghost use Rattle.wy_ask.specs.Opened.{IsOpenedOf, StaysOpened};
 ghost use Rattle.wy_explore.specs.Commands as said;
 ghost use Rattle.wy_explore.specs.Commands.{AsksAbout};
 ghost use Rattle.wy_explore.specs.declared.explorer.Explorer.{Explorer};
-ghost use Rattle.wy_explore.specs.declared.world.World.{World};
-ghost use Rattle.wy_explore.specs.Explorer.{AllAnswered, AllWithin, Fulfils, IsReplyWithin, IsWorldOf, Rising, reply_of, session_of};
+ghost use Rattle.wy_explore.specs.Explorer.{AllAnswered, AllWithin, Fulfils, IsReplyWithin, Rising, reply_of, session_of};
 ghost use Rattle.wy_explore.specs.Session.{Replies};
 
 use crate::command::{Command, command_of};
 use crate::explorer::{Answered, Explorer};
 use crate::reply::Reply;
-use crate::world::World;
 use std::alloc::{AllocError, Global};
 use std::sync::ledger::Ledger;
-use wy_ask::{AskError, number, read_question, resolve, statement};
+use wy_ask::{AskError, Opened, number, read_question, resolve, statement};
+use wy_static::Links;
 use wy_view::{EventView, Steps, ViewError};
 use wy_why::{sources, why};
 use wy_whynot::{WhynotError, whynot};
 
 /// The event that the words of a question ask about, if there is one.
-fn event_of<L: Ledger>(
+fn event_of<V: EventView, L: Ledger>(
     alloc: Global,
     word: &str,
-    world: World<'_>,
-    count: u32,
+    opened: &Opened<'_, V>,
     steps: &mut Steps<L>,
 ) -> Result<Option<u32>, AllocError>
-    requires few_fields { length world.program.now.fields.items < 2 ^ 32 }
-    ensures event { (rs : List Recorded)
-        → IsOf (program_of world.entry.program.now) world.entry.index.now count rs
-        → IfOk result (AsksAbout (program_of world.entry.program.now) rs word.now) }
-    ensures below { (rs : List Recorded)
-        → IsOf (program_of world.entry.program.now) world.entry.index.now count rs
-        → IfOk result (λ found. IfSome found (λ event. event < count)) }
+    requires { IsOpenedOf (V.tells opened.now.view) opened.now }
+    ensures event { (rs : List Recorded) → (V.tells opened.now.view).records ≡ Some rs
+        → IfOk result (AsksAbout (program_of opened.now.program.now) rs word.now) }
+    ensures below { IfOk result (λ found.
+        IfSome found (λ event. event < (V.tells opened.now.view).count)) }
     ensures forward { steps.old ≤ steps.new }
 {
     let question = match read_question(alloc, word) {
@@ -48,7 +45,7 @@ fn event_of<L: Ledger>(
         Err(AskError::NoMemory) => return Err(AllocError),
         Err(_) => return Ok(None),
     };
-    match resolve(&question, world.program, world.index, count, steps) {
+    match resolve(&question, opened, steps) {
         Ok(event) => Ok(Some(event)),
         Err(AskError::NoMemory) => Err(AllocError),
         Err(_) => Ok(None),
@@ -56,20 +53,26 @@ fn event_of<L: Ledger>(
 }
 
 /// What kept the statement of a word from running.
-fn reply_to_whynot(alloc: Global, word: &str, world: World<'_>) -> Result<Reply, AllocError>
-    ensures reply { (rs : List Recorded)
-        → AreLinksOf world.entry.links.now (program_of world.entry.program.now)
-        → IsIndexOf world.entry.index.now rs
-        → (x : Explorer) → IfOk result (Fulfils world.entry rs (said.WhyNot word.now) x x) }
+fn reply_to_whynot<V: EventView>(
+    alloc: Global,
+    word: &str,
+    opened: &Opened<'_, V>,
+    links: &Links,
+) -> Result<Reply, AllocError>
+    requires opened { IsOpenedOf (V.tells opened.now.view) opened.now }
+    requires links { AreLinksOf links.now (program_of opened.now.program.now) }
+    ensures reply { (rs : List Recorded) → (V.tells opened.now.view).records ≡ Some rs
+        → (x : Explorer) → IfOk result (Fulfils opened.now.program.now opened.now.coverage.now rs
+        (said.WhyNot word.now) x x) }
     ensures within { (count : ℕ) → IfOk result (IsReplyWithin count) }
 {
-    let number = match statement(alloc, world.program, word) {
+    let number = match statement(alloc, opened.program, word) {
         Ok(named) => named.number,
         Err(AskError::BadQuestion) => return Ok(Reply::NoSuch),
         Err(AskError::NoSuch(_)) => return Ok(Reply::NoSuch),
         Err(AskError::NoMemory) => return Err(AllocError),
     };
-    match whynot(alloc, world.links, world.coverage, world.index, number) {
+    match whynot(alloc, links, opened.coverage, &opened.index, number) {
         Ok(items) => Ok(Reply::Items(items)),
         Err(WhynotError::Ran { .. }) => Ok(Reply::NoSuch),
         Err(WhynotError::NoMemory) => Err(AllocError),
@@ -82,35 +85,36 @@ impl Explorer {
         &mut self,
         alloc: Global,
         line: &[u8],
-        world: World<'_>,
-        view: &mut V,
+        opened: &mut Opened<'_, V>,
+        links: &Links,
         steps: &mut Steps<L>,
     ) -> Result<Reply, ViewError>
-        requires world { IsWorldOf (V.tells view.old) world }
-        requires within { AllWithin (V.tells view.old).count self.old }
-        ensures reply { (rs : List Recorded) → (V.tells view.old).records ≡ Some rs
-            → AllAnswered (program_of world.entry.program.now) rs self.old
-            → IfOk result (λ r. Replies (program_of world.entry.program.now)
-            world.entry.program.now.lines.items rs world.entry.coverage.now
+        requires opened { IsOpenedOf (V.tells opened.old.view) opened.old }
+        requires links { AreLinksOf links.now (program_of opened.old.program.now) }
+        requires within { AllWithin (V.tells opened.old.view).count self.old }
+        ensures reply { (rs : List Recorded) → (V.tells opened.old.view).records ≡ Some rs
+            → AllAnswered (program_of opened.old.program.now) rs self.old
+            → IfOk result (λ r. Replies (program_of opened.old.program.now)
+            opened.old.program.now.lines.items rs opened.old.coverage.now
             (session_of self.old) line.now (session_of self.new) (reply_of r)) }
-        ensures answered { (rs : List Recorded) → (V.tells view.old).records ≡ Some rs
-            → AllAnswered (program_of world.entry.program.now) rs self.old
-            → AllAnswered (program_of world.entry.program.now) rs self.new }
-        ensures within { AllWithin (V.tells view.old).count self.new }
-        ensures reply_within { IfOk result (IsReplyWithin (V.tells view.old).count) }
+        ensures answered { (rs : List Recorded) → (V.tells opened.old.view).records ≡ Some rs
+            → AllAnswered (program_of opened.old.program.now) rs self.old
+            → AllAnswered (program_of opened.old.program.now) rs self.new }
+        ensures within { AllWithin (V.tells opened.old.view).count self.new }
+        ensures reply_within { IfOk result (IsReplyWithin (V.tells opened.old.view).count) }
         ensures unchanged { OnErr result (self.new ≡ self.old) }
-        ensures keeps { Keeps (V.tells view.old) (V.tells view.new) }
-        ensures answers { KeepsCounts result (V.tells view.old) (V.tells view.new) }
+        ensures stays { StaysOpened V.tells opened.old opened.new }
+        ensures answers { KeepsCounts result (V.tells opened.old.view) (V.tells opened.new.view) }
         ensures forward { steps.old ≤ steps.new }
     {
         match command_of(line) {
-            Some(Command::Ask(word)) => self.ask(alloc, word, world, view, steps),
+            Some(Command::Ask(word)) => self.ask(alloc, word, opened, steps),
             Some(Command::Listing) => Ok(self.listing()),
             Some(Command::Up) => Ok(self.go_up()),
             Some(Command::Down) => Ok(self.go_down()),
-            Some(Command::Go(word)) => Ok(self.go_to(word, view.count())),
-            Some(Command::Sources) => self.sources(alloc, world, view, steps),
-            Some(Command::WhyNot(word)) => Ok(reply_to_whynot(alloc, word, world)?),
+            Some(Command::Go(word)) => Ok(self.go_to(word, opened.view.count())),
+            Some(Command::Sources) => self.sources(alloc, opened, steps),
+            Some(Command::WhyNot(word)) => Ok(reply_to_whynot(alloc, word, opened, links)?),
             Some(Command::Undo) => Ok(self.go_back()),
             Some(Command::Quit) => Ok(Reply::End),
             None => Ok(Reply::NoSuch),
@@ -122,35 +126,35 @@ impl Explorer {
         &mut self,
         alloc: Global,
         word: &str,
-        world: World<'_>,
-        view: &mut V,
+        opened: &mut Opened<'_, V>,
         steps: &mut Steps<L>,
     ) -> Result<Reply, ViewError>
-        requires world { IsWorldOf (V.tells view.old) world }
-        requires within { AllWithin (V.tells view.old).count self.old }
-        ensures reply { (rs : List Recorded) → (V.tells view.old).records ≡ Some rs
-            → IfOk result (Fulfils world.entry rs (said.Ask word.now) self.old self.new) }
-        ensures answered { (rs : List Recorded) → (V.tells view.old).records ≡ Some rs
-            → AllAnswered (program_of world.entry.program.now) rs self.old
-            → AllAnswered (program_of world.entry.program.now) rs self.new }
-        ensures within { AllWithin (V.tells view.old).count self.new }
-        ensures reply_within { IfOk result (IsReplyWithin (V.tells view.old).count) }
+        requires opened { IsOpenedOf (V.tells opened.old.view) opened.old }
+        requires within { AllWithin (V.tells opened.old.view).count self.old }
+        ensures reply { (rs : List Recorded) → (V.tells opened.old.view).records ≡ Some rs
+            → IfOk result (Fulfils opened.old.program.now opened.old.coverage.now rs
+            (said.Ask word.now) self.old self.new) }
+        ensures answered { (rs : List Recorded) → (V.tells opened.old.view).records ≡ Some rs
+            → AllAnswered (program_of opened.old.program.now) rs self.old
+            → AllAnswered (program_of opened.old.program.now) rs self.new }
+        ensures within { AllWithin (V.tells opened.old.view).count self.new }
+        ensures reply_within { IfOk result (IsReplyWithin (V.tells opened.old.view).count) }
         ensures unchanged { OnErr result (self.new ≡ self.old) }
-        ensures keeps { Keeps (V.tells view.old) (V.tells view.new) }
-        ensures answers { KeepsCounts result (V.tells view.old) (V.tells view.new) }
+        ensures stays { StaysOpened V.tells opened.old opened.new }
+        ensures answers { KeepsCounts result (V.tells opened.old.view) (V.tells opened.new.view) }
         ensures forward { steps.old ≤ steps.new }
     {
-        let Some(event) = event_of(alloc, word, world, view.count(), steps)? else {
+        let Some(event) = event_of(alloc, word, opened, steps)? else {
             return Ok(Reply::NoSuch);
         };
-        let answer = why(alloc, view, world.index, event, steps)?;
+        let answer = why(alloc, &mut opened.view, &opened.index, event, steps)?;
         self.ask_about(Answered { event, answer });
         Ok(Reply::At(Some(event)))
     }
 
     fn listing(&self) -> Reply
-        ensures reply { (w : World) (rs : List Recorded)
-            → Fulfils w rs said.Listing self.now self.now result }
+        ensures reply { (m : memory.Program) (covers : List Cover) (rs : List Recorded)
+            → Fulfils m covers rs said.Listing self.now self.now result }
         ensures within { (count : ℕ) → AllWithin count self.now → IsReplyWithin count result }
     {
         match &self.question {
@@ -161,9 +165,9 @@ impl Explorer {
 
     fn go_up(&mut self) -> Reply
         requires { IfSome self.old.question Rising }
-        ensures reply { (w : World) (rs : List Recorded)
-            → AllAnswered (program_of w.program.now) rs self.old
-            → Fulfils w rs said.Up self.old self.new result }
+        ensures reply { (m : memory.Program) (covers : List Cover) (rs : List Recorded)
+            → AllAnswered (program_of m) rs self.old
+            → Fulfils m covers rs said.Up self.old self.new result }
         ensures answered { (p : Program) (rs : List Recorded) → AllAnswered p rs self.old
             → AllAnswered p rs self.new }
         ensures within { (count : ℕ) → AllWithin count self.old → AllWithin count self.new }
@@ -179,9 +183,9 @@ impl Explorer {
 
     fn go_down(&mut self) -> Reply
         requires { IfSome self.old.question Rising }
-        ensures reply { (w : World) (rs : List Recorded)
-            → AllAnswered (program_of w.program.now) rs self.old
-            → Fulfils w rs said.Down self.old self.new result }
+        ensures reply { (m : memory.Program) (covers : List Cover) (rs : List Recorded)
+            → AllAnswered (program_of m) rs self.old
+            → Fulfils m covers rs said.Down self.old self.new result }
         ensures answered { (p : Program) (rs : List Recorded) → AllAnswered p rs self.old
             → AllAnswered p rs self.new }
         ensures within { (count : ℕ) → AllWithin count self.old → AllWithin count self.new }
@@ -196,8 +200,8 @@ impl Explorer {
     }
 
     fn go_to(&mut self, word: &str, count: u32) -> Reply
-        ensures reply { (w : World) (rs : List Recorded) → length rs ≡ count
-            → Fulfils w rs (said.Go word.now) self.old self.new result }
+        ensures reply { (m : memory.Program) (covers : List Cover) (rs : List Recorded)
+            → length rs ≡ count → Fulfils m covers rs (said.Go word.now) self.old self.new result }
         ensures answered { (p : Program) (rs : List Recorded) → AllAnswered p rs self.old
             → AllAnswered p rs self.new }
         ensures within { AllWithin count self.old → AllWithin count self.new }
@@ -217,29 +221,29 @@ impl Explorer {
     fn sources<V: EventView, L: Ledger>(
         &self,
         alloc: Global,
-        world: World<'_>,
-        view: &mut V,
+        opened: &mut Opened<'_, V>,
         steps: &mut Steps<L>,
     ) -> Result<Reply, ViewError>
-        requires world { IsWorldOf (V.tells view.old) world }
-        requires within { AllWithin (V.tells view.old).count self.now }
-        ensures reply { (rs : List Recorded) → (V.tells view.old).records ≡ Some rs
-            → IfOk result (Fulfils world.entry rs said.Sources self.now self.now) }
-        ensures within { IfOk result (IsReplyWithin (V.tells view.old).count) }
-        ensures keeps { Keeps (V.tells view.old) (V.tells view.new) }
-        ensures answers { KeepsCounts result (V.tells view.old) (V.tells view.new) }
+        requires opened { IsOpenedOf (V.tells opened.old.view) opened.old }
+        requires within { AllWithin (V.tells opened.old.view).count self.now }
+        ensures reply { (rs : List Recorded) → (V.tells opened.old.view).records ≡ Some rs
+            → IfOk result (Fulfils opened.old.program.now opened.old.coverage.now rs said.Sources
+            self.now self.now) }
+        ensures within { IfOk result (IsReplyWithin (V.tells opened.old.view).count) }
+        ensures stays { StaysOpened V.tells opened.old opened.new }
+        ensures answers { KeepsCounts result (V.tells opened.old.view) (V.tells opened.new.view) }
         ensures forward { steps.old ≤ steps.new }
     {
         let Some(event) = self.cursor else {
             return Ok(Reply::NoSuch);
         };
-        let found = sources(alloc, view, world.index, event, steps)?;
+        let found = sources(alloc, &mut opened.view, &opened.index, event, steps)?;
         Ok(Reply::From(found))
     }
 
     fn go_back(&mut self) -> Reply
-        ensures reply { (w : World) (rs : List Recorded)
-            → Fulfils w rs said.Undo self.old self.new result }
+        ensures reply { (m : memory.Program) (covers : List Cover) (rs : List Recorded)
+            → Fulfils m covers rs said.Undo self.old self.new result }
         ensures answered { (p : Program) (rs : List Recorded) → AllAnswered p rs self.old
             → AllAnswered p rs self.new }
         ensures within { (count : ℕ) → AllWithin count self.old → AllWithin count self.new }

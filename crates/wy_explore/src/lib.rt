@@ -8,8 +8,6 @@ pub mod explorer;
 pub mod laws;
 pub mod reply;
 mod search;
-pub mod world;
 
 pub use explorer::{Answered, Change, Explorer};
 pub use reply::Reply;
-pub use world::World;

@@ -12,10 +12,7 @@ use crate::whole::whole_head;
 use std::alloc::Global;
 use wy_event::record::Head;
 use wy_payload::fault::{DamageRule, Fault};
-
-const MAGIC: [u8; 8] = *b"WHYTRAC1";
-
-const MAGIC_LENGTH: u32 = 8;
+use wy_spelling::{MAGIC, MAGIC_LENGTH};
 
 // How many bytes at the front agree; as deep as there are.
 #[tactic(auto, unfolding(crate::specs::Heads::agreeing))]

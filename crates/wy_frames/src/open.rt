@@ -12,8 +12,7 @@ use crate::stage::Stage;
 use sha2::{Digest, Sha256};
 use std::alloc::Global;
 use wy_event::record::Head;
-
-const MAGIC: [u8; 8] = *b"WHYTRAC1";
+use wy_spelling::MAGIC;
 
 /// The bytes of the magic and of a frame's letter and length.
 const OPENING: usize = 13;

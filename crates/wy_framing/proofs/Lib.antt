@@ -1,4 +1,5 @@
 pub mod Fronts
+pub mod Replaced
 pub mod Room
 pub mod Traces
 pub mod Written

@@ -7,9 +7,9 @@ ghost use Rattle.wy_outside.specs.Counts.{RoseAt};
 ghost use Rattle.wy_outside.specs.Sink.{is_failed};
 ghost use Rattle.wy_framing.specs.Blocks.{Flows};
 
+use crate::open::{open_for_trace, reach_disk};
 use crate::sink::TraceSink;
 use std::alloc::{AllocError, Global};
-use std::fs;
 use std::fs::OpenFile;
 use std::io::Write;
 use std::rt::Files;
@@ -20,9 +20,10 @@ use wy_outside::sink::SinkError;
 /// How many bytes are kept back before they are written.
 const BLOCK: usize = 65536;
 
-/// A file, by its path, made or cut to nothing when it is opened, and written in blocks. What is
-/// closed was handed to the system and from there to the disk. A file that failed takes nothing
-/// more until it is opened again.
+/// A file, by its path, made or emptied when it is opened, and written in blocks. A regular file that
+/// holds something else than a trace fails there, and stays as it is. What is closed was handed to
+/// the system and, where the file has a place on a disk, from there to the disk. A file that failed
+/// takes nothing more until it is opened again.
 #[derive(Drop)]
 pub struct FileTraceSink<R: Files + Drop> {
     rt: R,
@@ -99,9 +100,9 @@ fn counted(faults: u64, answer: &Result<(), SinkError>) -> u64
     }
 }
 
-/// Writes what was kept back, and waits until the disk has the file.
+/// Writes what was kept back, and waits until the disk has the file, where it is one of a disk.
 fn close_file<W: Write + OpenFile>(file: &mut W, block: &mut Vec<u8>) -> Result<(), SinkError> {
-    if write_block(file, block) && file.flush().is_ok() && file.sync_all().is_ok() {
+    if write_block(file, block) && file.flush().is_ok() && reach_disk(file) {
         Ok(())
     } else {
         Err(SinkError::Failed)
@@ -115,7 +116,7 @@ impl<R: Files + Drop> FileTraceSink<R> {
         self.block.clear();
         self.file = None;
         self.block = Vec::with_capacity(self.alloc, BLOCK).map_err(|_| SinkError::NoMemory)?;
-        self.file = Some(fs::create(&self.rt, path).map_err(|_| SinkError::Failed)?);
+        self.file = Some(open_for_trace(&self.rt, self.alloc, path)?);
         Ok(())
     }
 }

@@ -5,6 +5,7 @@
 
 mod file;
 mod memory;
+mod open;
 mod piece;
 mod recorder;
 mod serve;
@@ -12,5 +13,6 @@ mod sink;
 
 pub use file::{FileTraceSink, put_through, write_block};
 pub use memory::MemoryTraceSink;
+pub use open::{make_room, may_be_replaced};
 pub use recorder::FrameRecorder;
 pub use sink::TraceSink;

@@ -9,7 +9,7 @@ use Rattle.wy_event.specs.declared.record.Slot.{Slot}
 use Rattle.wy_event.specs.declared.record.Slot.TheVariants as slot
 use Rattle.wy_event.specs.Record.{Recorded}
 use Rattle.wy_kernel.specs.View.{NONE, present}
-use Rattle.wy_event.specs.Sources.{Owners, is_what, creates_as, creates, is_so, or_else, creation}
+use Rattle.wy_event.specs.Sources.{Owners, is_entity, creates_as, creates, is_so, or_else, creation}
 use Rattle.wy_index.proofs.Numbers.{absent_number, present_number}
 use Rattle.wy_index.specs.Found.{first_from, is_init, is_init_of, is_new, made_new, maker_of, earlier}
 
@@ -79,7 +79,7 @@ module _ (test : Recorded → Bool) where
 
 -- ---- what made a slot
 
-creates_static : (owner : Owners) (k : Kind) (n f : ℕ) (entity : Option ℕ) → creates_as owner k n entity (slot.Static f) ≡ (is_init k && is_what entity (owner f))
+creates_static : (owner : Owners) (k : Kind) (n f : ℕ) (entity : Option ℕ) → creates_as owner k n entity (slot.Static f) ≡ (is_init k && is_entity entity (owner f))
 unfolding creates_as
 creates_static owner kind.Init n f entity = refl
 creates_static owner _ n f entity = refl

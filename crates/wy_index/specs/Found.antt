@@ -7,7 +7,7 @@ use Rattle.wy_event.specs.declared.record.Kind.{Kind}
 use Rattle.wy_event.specs.declared.record.Kind.TheVariants as kind
 use Rattle.wy_event.specs.Record.{Recorded}
 use Rattle.wy_kernel.specs.View.{NONE}
-use Rattle.wy_event.specs.Sources.{Owners, is_write, is_what}
+use Rattle.wy_event.specs.Sources.{Owners, is_write, is_entity}
 use Rattle.wy_event.specs.declared.record.Slot.{Slot}
 use Rattle.wy_event.specs.declared.record.Slot.TheVariants.{Static, Field, Elem}
 use Rattle.wy_index.specs.declared.posting.Posting.{Posting}
@@ -78,10 +78,10 @@ is_init kind.Init = true
 is_init _ = false
 
 abbrev pub is_call_of : ℕ → Recorded → Bool
-is_call_of method r = is_call r.kind && is_what r.entity method
+is_call_of method r = is_call r.kind && is_entity r.entity method
 
 abbrev pub is_init_of : ℕ → Recorded → Bool
-is_init_of class r = is_init r.kind && is_what r.entity class
+is_init_of class r = is_init r.kind && is_entity r.entity class
 
 -- the first record that passes, from number n on
 abbrev pub first_from : (Recorded → Bool) → ℕ → List Recorded → Option ℕ

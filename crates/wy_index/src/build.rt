@@ -5,7 +5,7 @@ ghost use Rattle.std.specs.Ordering.{nat_cmp};
 ghost use Rattle.std.specs.BTreeMap.{get};
 ghost use Rattle.wy_event.specs.Record.{Recorded, recorded};
 ghost use Rattle.wy_kernel.specs.View.{present};
-ghost use Rattle.wy_event.specs.Sources.{is_what, or_else};
+ghost use Rattle.wy_event.specs.Sources.{is_entity, or_else};
 ghost use Rattle.wy_index.specs.Found.{posting_of, print_of, is_call_of, is_init_of, body_at, hit_from, one_if};
 ghost use Rattle.wy_index.specs.Kept.{kept_under};
 ghost use Rattle.wy_view.specs.References.{RefersBelow};
@@ -44,7 +44,7 @@ fn note_print(prints: &mut Vec<u32>, n: u32, event: &Event) -> Result<(), AllocE
 /// Keeps the first event under a number, where there is one.
 fn note_first(firsts: &mut BTreeMap<u32, u32>, key: u32, n: u32) -> Result<(), AllocError>
     ensures { OnOk result ((q : ℕ) → get nat_cmp firsts.new q
-        ≡ or_else (get nat_cmp firsts.old q) (if is_what (present key) q then Some n else None)) }
+        ≡ or_else (get nat_cmp firsts.old q) (if is_entity (present key) q then Some n else None)) }
 {
     if key != NONE && !firsts.contains_key(&key) {
         firsts.insert(key, n)?;

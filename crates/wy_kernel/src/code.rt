@@ -1,6 +1,6 @@
 //! Types as numbers: the code of a type, the type of a code, and what follows from a type (JLS 4.10.3, 10.1).
 
-ghost use Rattle.std.specs.Prelude.{◌≡◌, ◌<◌, IfSome};
+ghost use Rattle.std.specs.Prelude.{◌≡◌, ◌<◌, ◌≤◌, ◌^◌, IfSome, None};
 ghost use Rattle.wy_kernel.specs.Program.{base_code, base_of, class_of_type, element_type, is_array, primitive_code, primitive_name, type_code, type_of_code};
 
 use crate::builtin::OBJECT;
@@ -72,7 +72,8 @@ pub fn type_code(ty: Ty) -> u64
 
 /// The code of a type, where 32 bits hold it.
 pub fn short_code(ty: Ty) -> Option<u32>
-    ensures { IfSome result (λ code. code ≡ type_code ty) }
+    ensures code { IfSome result (λ code. code ≡ type_code ty) }
+    ensures none { result ≡ None → 2 ^ 32 ≤ type_code ty }
 {
     match u32::try_from(type_code(ty)) {
         Ok(code) => Some(code),

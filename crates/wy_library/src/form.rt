@@ -21,7 +21,7 @@ pub fn class_type(class: u32) -> Ty
     }
 }
 
-#[tactic(auto, using(crate::proofs::FormViews::view_local))]
+#[tactic(auto, using(wy_kernel::proofs::ExpressionViews::view_local))]
 pub fn local(index: u32) -> Place
     ensures { place_seen result ≡ kernel.Local index }
 {
@@ -35,7 +35,7 @@ pub fn boxed(alloc: Global, form: Expr) -> Result<Box<Expr>, AllocError>
     Ok(Box::new(alloc, form)?)
 }
 
-#[tactic(auto, using(crate::proofs::FormViews::view_field))]
+#[tactic(auto, using(wy_kernel::proofs::ExpressionViews::view_field))]
 pub fn field(object: Box<Expr>, field: u32, site: u32) -> Place
     ensures { place_seen result ≡ kernel.Field (expression object.value) field site }
 {
@@ -46,7 +46,7 @@ pub fn field(object: Box<Expr>, field: u32, site: u32) -> Place
     }
 }
 
-#[tactic(auto, using(crate::proofs::FormViews::view_read))]
+#[tactic(auto, using(wy_kernel::proofs::ExpressionViews::view_read))]
 pub fn read(place: Place) -> Expr
     ensures { expression result ≡ kernel.Read (place_seen place) }
 {
@@ -67,21 +67,21 @@ pub fn other() -> Expr
     read(local(1))
 }
 
-#[tactic(auto, using(crate::proofs::FormViews::view_const))]
+#[tactic(auto, using(wy_kernel::proofs::ExpressionViews::view_const))]
 pub fn null() -> Expr
     ensures { expression result ≡ kernel.Const kernel.Null }
 {
     Expr::Const { value: Const::Null }
 }
 
-#[tactic(auto, using(crate::proofs::FormViews::view_str))]
+#[tactic(auto, using(wy_kernel::proofs::ExpressionViews::view_str))]
 pub fn text(text: u32) -> Expr
     ensures { expression result ≡ kernel.Str text }
 {
     Expr::Str { text }
 }
 
-#[tactic(auto, using(crate::proofs::FormViews::view_set))]
+#[tactic(auto, using(wy_kernel::proofs::ExpressionViews::view_set))]
 pub fn set(place: Place, value: Box<Expr>, site: u32) -> Expr
     ensures { expression result ≡ kernel.Set (place_seen place) (expression value.value) site }
 {
@@ -89,7 +89,7 @@ pub fn set(place: Place, value: Box<Expr>, site: u32) -> Expr
 }
 
 /// `==`
-#[tactic(auto, using(crate::proofs::FormViews::view_bin))]
+#[tactic(auto, using(wy_kernel::proofs::ExpressionViews::view_bin))]
 pub fn equal(left: Box<Expr>, right: Box<Expr>, site: u32) -> Expr
     ensures { expression result ≡ kernel.Bin BinOp.Eq (expression left.value)
         (expression right.value) site }
@@ -103,7 +103,7 @@ pub fn equal(left: Box<Expr>, right: Box<Expr>, site: u32) -> Expr
 }
 
 /// `+` of two texts.
-#[tactic(auto, using(crate::proofs::FormViews::view_cat))]
+#[tactic(auto, using(wy_kernel::proofs::ExpressionViews::view_cat))]
 pub fn join(left: Box<Expr>, right: Box<Expr>, site: u32) -> Expr
     ensures { expression result ≡ kernel.Cat (expression left.value)
         (expression right.value) library.text_type library.text_type site }
@@ -118,7 +118,7 @@ pub fn join(left: Box<Expr>, right: Box<Expr>, site: u32) -> Expr
 }
 
 /// An operation of the library on `this`.
-#[tactic(auto, using(crate::proofs::FormViews::view_lib))]
+#[tactic(auto, using(wy_kernel::proofs::ExpressionViews::view_lib))]
 pub fn on_this(alloc: Global, op: LibOp, site: u32) -> Result<Expr, AllocError>
     ensures { IfOk result (λ e. expression e ≡ kernel.Lib op (library.one library.this_form) site) }
 {

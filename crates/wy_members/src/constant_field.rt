@@ -1,17 +1,19 @@
 //! The values of the fields that are constant variables (JLS 4.12.4, 15.28): fields are gone through in the order of the text until nothing
 //! new follows. Locals are not looked at here.
 
-ghost use Rattle.std.specs.Prelude.{◌≡◌, ◌<◌, IfOk, MatchBool, OnOk, OnSome, Some, length, option_map, slice_get, slice_set};
+ghost use Rattle.std.specs.Prelude.{◌≡◌, ◌+◌, ◌<◌, IfOk, MatchBool, OnOk, OnSome, Some, length, option_map, slice_get, slice_set};
 ghost use Rattle.wy_table.specs.ClassTable.{table_of};
 ghost use Rattle.wy_kernel.specs.Table.{constant_value};
 ghost use Rattle.wy_syntax.specs.View.{expression_of};
+ghost use Rattle.wy_constant.specs.Constant.{text_length};
 ghost use Rattle.wy_members.specs.Constants.{initial_value_of, told, with_constants};
 ghost use Rattle.wy_members.specs.Sweep.{GoesOn, IsFinished, news, unknown};
 ghost use Rattle.wy_members.specs.Initializers.{initializers_seen};
 
 use std::alloc::{AllocError, Global};
-use wy_constant::{Scope, constant_of, constant_variable};
+use wy_constant::{Scope, constant_of, constant_variable, units_in};
 use wy_kernel::form::Const;
+use wy_kernel::limit::UNIT_LIMIT;
 use wy_syntax::expression::Expression;
 use wy_table::table::ClassTable;
 
@@ -51,12 +53,27 @@ fn told(
     }
 }
 
-// The same, of a field that the table has no value of.
+// Takes the units of a constant's text from those that are left. Where too few are left, memory counts
+// as run out.
+fn take_units(left: &mut usize, value: &Option<Const>) -> Result<(), AllocError>
+    ensures { OnOk result
+        (left.old ≡ left.new + text_length (option_map constant_value value.now)) }
+{
+    let units = units_in(value);
+    if units > *left {
+        return Err(AllocError);
+    }
+    *left -= units;
+    Ok(())
+}
+
+// The same, of a field that the table has no value of. Its text takes its units from those that are left.
 fn news(
     alloc: Global,
     table: &ClassTable,
     all: &[Option<&Expression>],
     field: u32,
+    left: &mut usize,
 ) -> Result<Option<Const>, AllocError>
     requires { field < length (table_of table.now).fields }
     ensures { IfOk result (λ c.
@@ -65,7 +82,9 @@ fn news(
     if table.field_constant(field).is_some() {
         return Ok(None);
     }
-    told(alloc, table, all, field)
+    let value = told(alloc, table, all, field)?;
+    take_units(left, &value)?;
+    Ok(value)
 }
 
 fn learn(table: &mut ClassTable, field: u32, value: Const)
@@ -82,6 +101,7 @@ fn sweep(
     alloc: Global,
     table: &mut ClassTable,
     all: &[Option<&Expression>],
+    left: &mut usize,
 ) -> Result<bool, AllocError>
     ensures goes_on { OnOk result
         (GoesOn (initializers_seen all.now) (table_of table.old) (table_of table.new)) }
@@ -91,7 +111,7 @@ fn sweep(
 {
     let mut found = false;
     for field in 0..table.fields() {
-        if let Some(value) = news(alloc, table, all, field)? {
+        if let Some(value) = news(alloc, table, all, field, left)? {
             learn(table, field, value);
             found = true;
         }
@@ -99,7 +119,8 @@ fn sweep(
     Ok(found)
 }
 
-/// Gives the table the value of each field that is a constant variable, by the initializers of its fields.
+/// Gives the table the value of each field that is a constant variable, by the initializers of its fields. Their texts
+/// have at most as many units in all as those of a run; past that, memory counts as run out.
 pub fn find_constants(
     alloc: Global,
     table: &mut ClassTable,
@@ -109,8 +130,9 @@ pub fn find_constants(
         (GoesOn (initializers_seen all.now) (table_of table.old) (table_of table.new)) }
     ensures finished { OnOk result (IsFinished (table_of table.new) (initializers_seen all.now)) }
 {
+    let mut left = UNIT_LIMIT as usize;
     loop {
-        if !sweep(alloc, table, all)? {
+        if !sweep(alloc, table, all, &mut left)? {
             return Ok(());
         }
     }

@@ -17,7 +17,7 @@ use Rattle.wy_payload.specs.declared.event.UseTag.TheVariants as tags
 use Rattle.wy_payload.specs.declared.event.Origin.{Origin}
 use Rattle.wy_payload.specs.declared.event.Content.{Content}
 use Rattle.wy_payload.specs.declared.event.Written.{Written}
-use Rattle.wy_payload.specs.Rules.{in_range, site_rule, what_rule}
+use Rattle.wy_payload.specs.Rules.{in_range, site_rule, entity_rule}
 use Rattle.wy_payload.specs.Reading.{◌>>=◌, Read, passed, known_tag, number_at, below_at, at_most_at, optional_at, reference_at, rows_from}
 use Rattle.wy_payload.specs.Places.{slot_at, slot_form}
 use Rattle.wy_payload.specs.Values.{output_behind, units_at, value_at, value_form}
@@ -72,10 +72,10 @@ site_at r bytes = do
   n ← number_at w32 bytes
   passed (site_rule r n.0) n
 
-unfoldable pub what_at : Ranges → Kind → List ℕ → Read ℕ
-what_at r k bytes = do
+unfoldable pub entity_at : Ranges → Kind → List ℕ → Read ℕ
+entity_at r k bytes = do
   n ← number_at w32 bytes
-  passed (what_rule r k n.0) n
+  passed (entity_rule r k n.0) n
 
 unfoldable pub origin_at : Ranges → List Known → List ℕ → Read Origin
 origin_at r earlier bytes = do
@@ -83,7 +83,7 @@ origin_at r earlier bytes = do
   site ← site_at r k.1
   frame ← optional_at role.Frame earlier site.1
   control ← optional_at role.Control earlier frame.1
-  entity ← what_at r k.0 control.1
+  entity ← entity_at r k.0 control.1
   Ok (record { kind = k.0; site = site.0; frame = frame.0; control = control.0; entity = entity.0 }, entity.1)
 
 -- the units of a Text, and the value of every other event

@@ -107,11 +107,11 @@ site_rule r n = in_range (nat_lt n r.tokens || (nat_le library_sites n && nat_lt
 unfoldable pub is_code : Ranges → ℕ → Bool
 is_code r n = let base = n % brackets_unit in (nat_lt base 6 && nat_le brackets_unit n) || (nat_le 16 base && nat_lt (base - 16) r.classes)
 
-unfoldable pub what_rule : Ranges → Kind → ℕ → Broken
-what_rule r kind.Init n = in_range (nat_lt n r.classes)
-what_rule r kind.New n = in_range (is_code r n)
-what_rule r kind.Call n = in_range (nat_lt n r.methods)
-what_rule r _ n = in_range (n == NONE)
+unfoldable pub entity_rule : Ranges → Kind → ℕ → Broken
+entity_rule r kind.Init n = in_range (nat_lt n r.classes)
+entity_rule r kind.New n = in_range (is_code r n)
+entity_rule r kind.Call n = in_range (nat_lt n r.methods)
+entity_rule r _ n = in_range (n == NONE)
 
 -- how many locals the body of a frame has
 unfoldable pub locals_in : Ranges → Option Known → ℕ

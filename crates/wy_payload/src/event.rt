@@ -2,7 +2,7 @@
 
 ghost use Rattle.std.specs.Prelude.{◌≡◌, ◌+◌, ◌≤◌, ◌<◌, ◌^◌, length, slice_get, IfOk};
 ghost use Rattle.wy_payload.specs.Reading.{Gives, rows_from};
-ghost use Rattle.wy_payload.specs.Events.{content_at, event_at, kind_at, kinds, origin_at, place_at, site_at, use_at, use_of, use_tag, uses_at, what_at};
+ghost use Rattle.wy_payload.specs.Events.{content_at, event_at, kind_at, kinds, origin_at, place_at, site_at, use_at, use_of, use_tag, uses_at, entity_at};
 ghost use Rattle.wy_kernel.specs.Limits.{output_limit};
 
 use crate::fault::{DamageRule, Fault};
@@ -181,12 +181,12 @@ fn site<'a>(ranges: &Ranges, bytes: &'a [u8]) -> Result<(u32, &'a [u8]), Fault>
     checked_number(rules::of_site(ranges, n), n, rest)
 }
 
-#[tactic(auto, unfolding(crate::specs::Events::what_at))]
+#[tactic(auto, unfolding(crate::specs::Events::entity_at))]
 fn entity<'a>(ranges: &Ranges, kind: Kind, bytes: &'a [u8]) -> Result<(u32, &'a [u8]), Fault>
-    ensures { Gives (λ x. (x.0, x.1.now)) result (what_at ranges.now kind bytes.now) }
+    ensures { Gives (λ x. (x.0, x.1.now)) result (entity_at ranges.now kind bytes.now) }
 {
     let (n, rest) = u32_at(bytes)?;
-    checked_number(rules::of_what(ranges, kind, n), n, rest)
+    checked_number(rules::of_entity(ranges, kind, n), n, rest)
 }
 
 #[tactic(auto, unfolding(crate::specs::Events::origin_at))]

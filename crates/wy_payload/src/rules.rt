@@ -1,7 +1,7 @@
 //! The rule that a number breaks, where it breaks one.
 
 ghost use Rattle.std.specs.Prelude.{◌≡◌, slice_index};
-ghost use Rattle.wy_payload.specs.Rules.{field_rule, in_range, is_code, local_rule, locals_in, optional_rule, reference_rule, site_rule, what_rule};
+ghost use Rattle.wy_payload.specs.Rules.{field_rule, in_range, is_code, local_rule, locals_in, optional_rule, reference_rule, site_rule, entity_rule};
 
 use crate::fault::DamageRule;
 use crate::known::{Known, Role, is_fit};
@@ -63,9 +63,9 @@ fn is_type_code(ranges: &Ranges, n: u32) -> bool
 }
 
 /// Of what an event is about: a class, a type, a method, or nothing.
-#[tactic(auto, unfolding(crate::specs::Rules::what_rule))]
-pub fn of_what(ranges: &Ranges, kind: Kind, n: u32) -> Option<DamageRule>
-    ensures { result ≡ what_rule ranges.now kind n }
+#[tactic(auto, unfolding(crate::specs::Rules::entity_rule))]
+pub fn of_entity(ranges: &Ranges, kind: Kind, n: u32) -> Option<DamageRule>
+    ensures { result ≡ entity_rule ranges.now kind n }
 {
     match kind {
         Kind::Init => range_rule((n as usize) < ranges.classes),

@@ -2,3 +2,4 @@ pub mod Programs
 pub mod Texts
 pub mod Bodies
 pub mod Mains
+pub mod Sources

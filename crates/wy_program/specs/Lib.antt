@@ -1,2 +1,4 @@
 pub mod Laws
 pub mod Texts
+pub mod Programs
+pub mod Sources

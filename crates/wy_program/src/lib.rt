@@ -2,7 +2,9 @@
 #![tactic(auto)]
 
 mod laws;
+pub mod source;
 mod typed;
 
 pub use laws::texts_are_programs;
+pub use source::{SourceError, program_of_source};
 pub use typed::{TypedProgram, typed_program};

@@ -1,28 +1,21 @@
 -- The last print of a run, and how many events it comes from.
-use Rattle.std.proofs.Common.{◌≡◌, ◌∙◌, ◌<◌, ◌-◌, ℕ, List, [], length, Option, Some, sym, ap, subst, refl}
+use Rattle.std.proofs.Common.{◌≡◌, ◌∙◌, ◌<◌, ◌-◌, ℕ, List, [], length, Option, Some, sym, ap, refl}
 use Rattle.std.proofs.Math.Path.{fun_ext}
 use Rattle.std.specs.Prelude.{None as Absent}
-use Rattle.std.specs.Prelude.{IfSome, slice_get}
+use Rattle.std.specs.Prelude.{slice_get}
 use Rattle.wy_kernel.specs.Program.{Program}
 use Rattle.wy_event.specs.Record.{Recorded}
 use Rattle.wy_event.specs.Sources.{closure, data_closure}
 use Rattle.wy_steps.specs.Sets.{nothing}
 use Rattle.wy_meaning.specs.Run as meaning
-use Rattle.wy_view.specs.View.{Told}
-use Rattle.wy_index.specs.declared.index.Index.{Index}
 use Rattle.wy_index.specs.Found.{prints_in}
-use Rattle.wy_index.specs.Index.{IsIndexOf, IsIndexOfView, owners_of}
+use Rattle.wy_index.specs.Index.{owners_of}
 use Rattle.wy_why.specs.Answer.{up_to}
 use Rattle.wy_ask.specs.Asked.{owners}
 use Rattle.wy_ask.proofs.Stores.{print_below}
 use Rattle.wy_reply.specs.declared.sizes.size.Sizes.{Sizes}
 use Rattle.wy_reply.specs.RunSizes.{answer_size, data_size, last_of, size_of, sizes_of}
-
--- an index of a view is of the records that the view tells
-pub index_of : (index : Index) (told : Told) (rs : List Recorded) → told.records ≡ Some rs → IsIndexOfView index told → IsIndexOf index rs
-index_of index told rs is v =
-    let same : rs ≡ v.records = subst (λ o. IfSome o (λ t. t ≡ v.records)) is v.as_told in
-    subst (IsIndexOf index) (sym same) v.is_index
+use Rattle.wy_index.specs.declared.index.Index.{Index}
 
 is_absent : {X : Type 0} (o : Option X) → ((x : X) → o ≡ Some x → ⊥) → o ≡ Absent
 is_absent Absent other = refl

@@ -24,7 +24,7 @@ use Rattle.wy_reply.specs.declared.answer.Answer.{Answer}
 use Rattle.wy_reply.specs.declared.status.Status.TheVariants.{Done}
 use Rattle.wy_reply.specs.Statuses.{code_of}
 use Rattle.wy_reply.specs.Recordings.{IsTraceOf, trace_spelling}
-use Rattle.wy_reply.specs.Tellings.{Wanted, Output, Explore, Questions, Why, WhyNot, Audit, RefusesTrace, Tells, covers_of}
+use Rattle.wy_reply.specs.Tellings.{Wanted, Output, Explore, Questions, Why, WhyNot, Audit, Tells, covers_of}
 use Rattle.wy_reply.specs.ByRun.{AnswersByRun, HasSource, TellsRun}
 use Rattle.wy_reply.proofs.Carrying.{Runs, all_told, told_carried}
 use Rattle.wy_reply.proofs.Blocking.{covers_read, told_blocked}
@@ -98,8 +98,3 @@ pub under_source : Laws → (p : memory.Program) (bytes : List ℕ) (x : Trace) 
     IfOk r (λ answer. answer.status ≡ Done → HasSource bytes)
 under_source laws p bytes x (Ok answer) are short reads = λ done. has_source laws p bytes x are short reads
 under_source laws p bytes x (Err e) are short reads = tt
-
--- a trace that is refused isn't done
-pub refused_isnt_done : (X : Answer → Type 0) (e : TraceError) (r : Result Answer AllocError) → IfOk r (λ answer. RefusesTrace e answer) → IfOk r (λ answer. answer.status ≡ Done → X answer)
-refused_isnt_done X e (Ok answer) h = λ done. absurd (let s = sym h.0 ∙ done in cc)
-refused_isnt_done X e (Err x) h = tt

@@ -6,3 +6,4 @@ mod ByRun
 mod SizesLine
 pub mod Referring
 pub mod Answering
+pub mod Opening

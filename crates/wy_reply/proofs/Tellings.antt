@@ -7,8 +7,7 @@ use Rattle.wy_event.specs.Record.{recorded}
 use Rattle.wy_event.specs.declared.record.Trace.{Trace}
 use Rattle.wy_meaning.specs.Kept.{kept_tail}
 use Rattle.wy_frames.specs.declared.error.TraceError.{TraceError}
-use Rattle.wy_frames.specs.declared.error.TraceError.TheVariants.{Cut, Damaged, BadSeal}
-use Rattle.wy_frames.specs.Traces.{IsReadAs, ReadsAs}
+use Rattle.wy_frames.specs.Traces.{IsReadAs}
 use Rattle.wy_machine.specs.Audits.{AuditIs}
 use Rattle.wy_machine.specs.declared.auditing.Verdict.{Verdict}
 use Rattle.wy_telling.specs.Why.{WhyIs, Refused}
@@ -20,7 +19,7 @@ use Rattle.wy_telling.specs.Whynot.{WhynotIs, Denied, TellsWhynot}
 use Rattle.wy_telling.specs.Whynot as denied_as
 use Rattle.wy_telling.specs.declared.whynot.Unanswered.{Unanswered}
 use Rattle.wy_telling.specs.declared.whynot.Unanswered.TheVariants as unanswered
-use Rattle.wy_reply.specs.Tellings.{IsTraceLine, RefusesTrace, Wanted, Why, WhyNot, Audit, Tells, DeniesAs, DueUnder, covers_of, why_status, why_answer, audit_status, audit_line, why, whynot, audit, cut, damaged, bad_seal, refused, told}
+use Rattle.wy_reply.specs.Tellings.{IsTraceLine, RefusesTrace, Wanted, Why, WhyNot, Audit, Tells, DeniesAs, DueUnder, covers_of, why_status, why_answer, audit_status, audit_line, why, whynot, audit, told}
 
 -- the status and the text of a refusal, where it was made
 abbrev pub Refuses : Status → List ℕ → Result Answer AllocError → Type 0
@@ -61,13 +60,3 @@ pub told_under : (p : Program) (bytes : List ℕ) (w : Wanted) (t : Trace) (r : 
     IfOk r (λ answer. DueUnder p bytes w (code_of answer.status) answer.text.items)
 told_under p bytes w t (Ok answer) reads tells = told t (code_of answer.status) answer.text.items reads tells
 told_under p bytes w t (Err x) reads tells = tt
-
-refused_as : (p : Program) (bytes : List ℕ) (w : Wanted) (e : TraceError) (line : List ℕ) → ReadsAs (Err e) p bytes → IsTraceLine e line → DueUnder p bytes w 5 line
-refused_as p bytes w _ _ reads (cut byte) = refused (Cut byte) _ reads (cut byte)
-refused_as p bytes w _ _ reads (damaged byte rule) = refused (Damaged byte rule) _ reads (damaged byte rule)
-refused_as p bytes w _ _ reads bad_seal = refused BadSeal _ reads bad_seal
-
-pub refused_under : (p : Program) (bytes : List ℕ) (w : Wanted) (e : TraceError) (r : Result Answer AllocError) → ReadsAs (Err e) p bytes → IfOk r (λ answer. RefusesTrace e answer) →
-    IfOk r (λ answer. DueUnder p bytes w (code_of answer.status) answer.text.items)
-refused_under p bytes w e (Ok answer) reads h = rw (h.0) (refused_as p bytes w e answer.text.items reads h.1)
-refused_under p bytes w e (Err x) reads h = tt

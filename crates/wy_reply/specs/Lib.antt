@@ -1,5 +1,6 @@
 pub mod Statuses
 pub mod Lines
+pub mod Sources
 pub mod Refusals
 pub mod Report
 pub mod Tellings
@@ -9,3 +10,4 @@ pub mod Blocked
 pub mod ByRun
 pub mod RunSizes
 pub mod Generated
+pub mod Opening

@@ -25,6 +25,8 @@ use Rattle.wy_session.specs.Talk.{Talks}
 use Rattle.wy_reply.specs.Lines.{cut_line, damaged_line, bad_seal_line, not_read_line, no_such_line, ran_line, equal_line, differs_line, tail_differs_line}
 use Rattle.wy_reply.specs.declared.answer.Answer.{Answer}
 use Rattle.wy_reply.specs.declared.status.Status.TheVariants as status
+use Rattle.wy_reply.specs.declared.telling.Inquiry.{Inquiry}
+use Rattle.wy_reply.specs.declared.telling.Inquiry.TheVariants as inquiry
 use Rattle.wy_reply.specs.declared.telling.Wanted.{Wanted as Asked}
 use Rattle.wy_reply.specs.declared.telling.Wanted.TheVariants as asked
 
@@ -106,11 +108,14 @@ pub data DueUnder (p : Program) (bytes : List ℕ) (w : Wanted) : ℕ → List �
 
 -- ---- what is wanted, in memory
 
+abbrev pub inquiry_of : Inquiry → Wanted
+inquiry_of (inquiry.Why question) = Why question.now
+inquiry_of inquiry.Questions = Questions
+inquiry_of (inquiry.WhyNot statement) = WhyNot statement.now
+
 abbrev pub wanted_of : Asked → Wanted
 wanted_of asked.Output = Output
-wanted_of (asked.Why question) = Why question.now
-wanted_of asked.Questions = Questions
-wanted_of (asked.WhyNot statement) = WhyNot statement.now
+wanted_of (asked.Inquiry i) = inquiry_of i
 wanted_of asked.Audit = Audit
 
 -- ---- a word that has no answer, in memory

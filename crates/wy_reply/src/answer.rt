@@ -13,7 +13,7 @@ pub struct Answer {
 }
 
 impl Answer {
-    ghost use Rattle.wy_reply.specs.Refusals.{refusal_text};
+    ghost use Rattle.wy_reply.specs.Refusals.{refusal_status, refusal_text};
 
     /// The answer of a command that did what it says.
     pub fn done(text: Vec<u8>) -> Answer
@@ -26,15 +26,14 @@ impl Answer {
         }
     }
 
-    pub fn refused(
-        alloc: Global,
-        status: Status,
-        refusal: Refusal<'_>,
-    ) -> Result<Answer, AllocError>
-        ensures { IfOk result (λ answer.
-            (answer.status ≡ status) × (answer.text.items ≡ refusal_text refusal.entry)) }
+    pub fn refused(alloc: Global, refusal: Refusal<'_>) -> Result<Answer, AllocError>
+        ensures { IfOk result (λ answer. (answer.status ≡ refusal_status refusal.entry)
+            × (answer.text.items ≡ refusal_text refusal.entry)) }
     {
         let text = refusal_line(alloc, refusal)?;
-        Ok(Answer { status, text })
+        Ok(Answer {
+            status: refusal.status(),
+            text,
+        })
     }
 }

@@ -7,6 +7,7 @@ pub mod lines;
 pub mod recording;
 pub mod running;
 mod sizes;
+mod source;
 pub mod status;
 pub mod telling;
 
@@ -16,4 +17,4 @@ pub use lines::Refusal;
 pub use recording::answer_to_recording;
 pub use running::answer_to_program;
 pub use status::Status;
-pub use telling::{Wanted, answer_to_trace, answer_to_trace_error};
+pub use telling::{Inquiry, Wanted, answer_to_trace, answer_to_trace_error};

@@ -1,10 +1,13 @@
 //! The lines of refusals.
 ghost use Rattle.std.specs.Prelude.{◌≡◌, ◌++◌, IfOk};
 ghost use Rattle.std.specs.Fmt.{decimal};
-ghost use Rattle.wy_reply.specs.Lines.{line_of, at_byte, at_token, damage_name, damaged_as, ran_line, recorded_line};
-ghost use Rattle.wy_reply.specs.Refusals.{refusal_text};
+ghost use Rattle.wy_reply.specs.Lines.{line_of, damage_name, damaged_as, ran_line, recorded_line};
+ghost use Rattle.wy_reply.specs.Refusals.{refusal_status, refusal_text};
 
+use crate::source::source_refusal_line;
+use crate::status::Status;
 use std::alloc::{AllocError, Global};
+use wy_constant::SourceRefusal;
 use wy_payload::fault::DamageRule;
 
 /// Why a command did not do what it says.
@@ -14,17 +17,8 @@ pub enum Refusal<'a> {
     Absent {
         name: &'a str,
     },
-    /// What the source breaks at a byte.
-    ProgramByte {
-        rule: &'a str,
-        byte: u32,
-    },
-    /// What the source breaks at a token.
-    ProgramToken {
-        rule: &'a str,
-        line: u32,
-        token: u32,
-    },
+    /// Why the source is no program.
+    Program(SourceRefusal),
     /// The trace ends before its seal, at so many bytes.
     Cut {
         byte: u32,
@@ -35,17 +29,8 @@ pub enum Refusal<'a> {
         rule: DamageRule,
     },
     BadSeal,
-    /// What the source of a trace breaks at a byte.
-    TraceByte {
-        rule: &'a str,
-        byte: u32,
-    },
-    /// What the source of a trace breaks at a token.
-    TraceToken {
-        rule: &'a str,
-        line: u32,
-        token: u32,
-    },
+    /// Why the source of the trace is no program.
+    TraceProgram(SourceRefusal),
     /// The word asks no question.
     NotRead,
     /// What is asked about isn't there.
@@ -71,6 +56,27 @@ pub enum Refusal<'a> {
     AuditTail,
 }
 
+impl Refusal<'_> {
+    /// What a call ends with that is refused so.
+    pub fn status(self) -> Status
+        ensures { result ≡ refusal_status self.entry }
+    {
+        match self {
+            Refusal::Usage => Status::Usage,
+            Refusal::Absent { .. } => Status::Absent,
+            Refusal::Program(_) => Status::Program,
+            Refusal::Cut { .. }
+            | Refusal::Damaged { .. }
+            | Refusal::BadSeal
+            | Refusal::TraceProgram(_) => Status::Trace,
+            Refusal::NotRead | Refusal::NoSuch { .. } | Refusal::Ran { .. } => Status::Question,
+            Refusal::FaultShelf | Refusal::FaultRecorder => Status::Fault,
+            Refusal::LongFile { .. } => Status::TooLong,
+            Refusal::AuditEvent { .. } | Refusal::AuditTail => Status::Audit,
+        }
+    }
+}
+
 /// The line of a refusal.
 pub fn refusal_line(alloc: Global, refusal: Refusal<'_>) -> Result<Vec<u8>, AllocError>
     ensures { IfOk result (λ line. line.items ≡ refusal_text refusal.entry) }
@@ -82,13 +88,11 @@ pub fn refusal_line(alloc: Global, refusal: Refusal<'_>) -> Result<Vec<u8>, Allo
             "",
         ),
         Refusal::Absent { name } => line(alloc, "absent: ", name),
-        Refusal::ProgramByte { rule, byte } => at_byte(alloc, "", rule, byte),
-        Refusal::ProgramToken { rule, line, token } => at_token(alloc, "", rule, line, token),
+        Refusal::Program(refusal) => source_refusal_line(alloc, "", refusal),
         Refusal::Cut { byte } => numbered(alloc, "trace: Cut at byte ", byte),
         Refusal::Damaged { byte, rule } => damaged(alloc, byte, damage_name(rule)),
         Refusal::BadSeal => line(alloc, "trace: BadSeal", ""),
-        Refusal::TraceByte { rule, byte } => at_byte(alloc, "trace: ", rule, byte),
-        Refusal::TraceToken { rule, line, token } => at_token(alloc, "trace: ", rule, line, token),
+        Refusal::TraceProgram(refusal) => source_refusal_line(alloc, "trace: ", refusal),
         Refusal::NotRead => line(alloc, "question: not read", ""),
         Refusal::NoSuch { number } => numbered(alloc, "question: no such ", number),
         Refusal::Ran {
@@ -124,26 +128,6 @@ fn damaged(alloc: Global, byte: u32, rule: &str) -> Result<Vec<u8>, AllocError>
     ensures { IfOk result (λ line. line.items ≡ damaged_as byte rule.now) }
 {
     let line = format!(in alloc; "trace: Damaged at byte {byte}, {rule}\n")?;
-    Ok(line.into_bytes())
-}
-
-fn at_byte(alloc: Global, of: &str, rule: &str, byte: u32) -> Result<Vec<u8>, AllocError>
-    ensures { IfOk result (λ line. line.items ≡ of.now ++ at_byte rule.now byte) }
-{
-    let line = format!(in alloc; "{of}program: {rule} at byte {byte}\n")?;
-    Ok(line.into_bytes())
-}
-
-fn at_token(
-    alloc: Global,
-    of: &str,
-    rule: &str,
-    line: u32,
-    token: u32,
-) -> Result<Vec<u8>, AllocError>
-    ensures { IfOk result (λ text. text.items ≡ of.now ++ at_token rule.now line token) }
-{
-    let line = format!(in alloc; "{of}program: {rule} at line {line} token {token}\n")?;
     Ok(line.into_bytes())
 }
 

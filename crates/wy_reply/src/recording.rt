@@ -9,7 +9,6 @@ ghost use Rattle.wy_reply.specs.Report.{recorded_of_end};
 use crate::answer::Answer;
 use crate::lines::{Refusal, recorded_line};
 use crate::running::report;
-use crate::status::Status;
 use std::alloc::{AllocError, Global};
 use wy_event::record::Head;
 use wy_fitting::end_fits;
@@ -57,9 +56,7 @@ pub fn answer_to_recording<R: Recorder>(
             let text = recorded_report(alloc, program, ended)?;
             Ok(Answer::done(text))
         }
-        Err(RecordError::SinkFault { .. }) => {
-            Answer::refused(alloc, Status::Fault, Refusal::FaultRecorder)
-        }
+        Err(RecordError::SinkFault { .. }) => Answer::refused(alloc, Refusal::FaultRecorder),
         Err(_) => Err(AllocError),
     }
 }

@@ -1,44 +1,51 @@
 //! What is answered from a trace.
-ghost use Rattle.std.specs.Prelude.{◌≡◌, ◌<◌, ◌≤◌, ◌^◌, IfOk, false, length, map};
-ghost use Rattle.wy_frames.specs.Traces.{IsReadAs};
-ghost use Rattle.wy_kernel.specs.Limits.{trace_limit};
+ghost use Rattle.std.specs.Prelude.{◌≡◌, ◌<◌, ◌^◌, ℕ, List, None, IfOk, false, length};
+ghost use Rattle.wy_ask.specs.Opened.{IsOpenedOf};
+ghost use Rattle.wy_event.specs.declared.record.Trace.{Trace};
 ghost use Rattle.wy_reply.specs.declared.status.Status.TheVariants.{Done};
 ghost use Rattle.wy_reply.specs.ByRun.{HasSource, TellsRun};
 ghost use Rattle.wy_reply.specs.Statuses.{code_of, is_of_files};
-ghost use Rattle.wy_reply.specs.Tellings.{DeniesAs, DueUnder, RefusesTrace, Tells, wanted_of};
+ghost use Rattle.wy_reply.specs.Opening.{IsDecoded, IsOpenedTrace, IsViewable};
+ghost use Rattle.wy_reply.specs.Tellings.{DeniesAs, DueUnder, RefusesTrace, Tells, inquiry_of, wanted_of};
 ghost use Rattle.wy_reply.specs.Tellings as wanted;
-ghost use Rattle.wy_view.specs.References.{AllRefersBelow};
+ghost use Rattle.wy_view.specs.Whole.{whole};
 
 use crate::answer::Answer;
 use crate::lines::{Refusal, line};
-use crate::status::Status;
 use law_carried::{backward_is_forward, carrying_changes_nothing};
 use law_reading::{
-    decoded_events_refer_below, few_events_are_decoded, recorded_ends_are_read_back,
-    recorded_heads_are_read_back, recorded_traces_are_read_back,
+    recorded_ends_are_read_back, recorded_heads_are_read_back, recorded_traces_are_read_back,
 };
 use law_shaped::references_point_below;
 use std::alloc::{AllocError, Global};
-use wy_ask::AskError;
+use wy_ask::{AskError, Opened};
 use wy_event::record::Trace;
 use wy_event::sequence::Sequence;
 use wy_fitting::end_fits;
-use wy_frames::{TraceError, decode};
+use wy_frames::TraceError;
 use wy_kernel::program::Program;
 use wy_machine::{Verdict, audit};
 use wy_telling::{Unanswered, output_text, questions_text, why_text, whynot_text};
+use wy_view::MemoryView;
 
-/// What a trace is to tell.
+/// What is looked up by where things stand in the records of a trace.
 #[derive(Clone, Copy)]
-pub enum Wanted<'a> {
-    /// What its run wrote.
-    Output,
+pub enum Inquiry<'a> {
     /// What the event comes from that a question asks about.
     Why { question: &'a str },
     /// What can be asked of it.
     Questions,
     /// Why the statement never began that a word names.
     WhyNot { statement: &'a str },
+}
+
+/// What a trace is to tell.
+#[derive(Clone, Copy)]
+pub enum Wanted<'a> {
+    /// What its run wrote.
+    Output,
+    /// What is looked up in it.
+    Inquiry(Inquiry<'a>),
     /// Whether it is the trace of the run of its head.
     Audit,
 }
@@ -48,11 +55,11 @@ pub fn answer_to_trace_error(alloc: Global, error: TraceError) -> Result<Answer,
     ensures { IfOk result (λ answer. RefusesTrace error answer) }
 {
     match error {
-        TraceError::Cut { byte } => Answer::refused(alloc, Status::Trace, Refusal::Cut { byte }),
+        TraceError::Cut { byte } => Answer::refused(alloc, Refusal::Cut { byte }),
         TraceError::Damaged { byte, rule } => {
-            Answer::refused(alloc, Status::Trace, Refusal::Damaged { byte, rule })
+            Answer::refused(alloc, Refusal::Damaged { byte, rule })
         }
-        TraceError::BadSeal => Answer::refused(alloc, Status::Trace, Refusal::BadSeal),
+        TraceError::BadSeal => Answer::refused(alloc, Refusal::BadSeal),
         TraceError::NoMemory => Err(AllocError),
     }
 }
@@ -68,56 +75,48 @@ fn answer_to_output(alloc: Global, program: &Program, trace: &Trace) -> Result<A
 
 fn answer_to_question(
     alloc: Global,
-    program: &Program,
-    trace: Trace,
+    opened: &mut Opened<'_, MemoryView>,
     question: &str,
 ) -> Result<Answer, AllocError>
-    requires few { length trace.events < 2 ^ 32 }
-    requires refer_below { AllRefersBelow trace.events }
-    requires few_fields { length program.now.fields.items < 2 ^ 32 }
-    ensures due { IfOk result (λ answer. Tells program.now trace (wanted.Why question.now)
+    requires { IsOpenedOf (whole opened.old.view.events.items None) opened.old }
+    ensures due { (t : Trace) → IsOpenedTrace t opened.old
+        → IfOk result (λ answer. Tells opened.old.program.now t (wanted.Why question.now)
         (code_of answer.status) answer.text.items) }
     ensures settled { IfOk result (λ answer. is_of_files answer.status ≡ false) }
 {
-    let Trace { events, .. } = trace;
-    match why_text(alloc, program, events.into_vec(), question) {
+    match why_text(alloc, opened, question) {
         Ok(text) => Ok(Answer::done(text)),
-        Err(AskError::BadQuestion) => { Answer::refused(alloc, Status::Question, Refusal::NotRead) }
-        Err(AskError::NoSuch(number)) => {
-            Answer::refused(alloc, Status::Question, Refusal::NoSuch { number })
-        }
+        Err(AskError::BadQuestion) => Answer::refused(alloc, Refusal::NotRead),
+        Err(AskError::NoSuch(number)) => Answer::refused(alloc, Refusal::NoSuch { number }),
         Err(AskError::NoMemory) => Err(AllocError),
     }
 }
 
-fn answer_to_questions(alloc: Global, program: &Program, trace: Trace) -> Result<Answer, AllocError>
-    requires few { length trace.events < 2 ^ 32 }
-    requires refer_below { AllRefersBelow trace.events }
-    ensures due { IfOk result (λ answer. Tells program.now trace wanted.Questions
+fn answer_to_questions(
+    alloc: Global,
+    opened: &mut Opened<'_, MemoryView>,
+) -> Result<Answer, AllocError>
+    requires { IsOpenedOf (whole opened.old.view.events.items None) opened.old }
+    ensures due { (t : Trace) → IsOpenedTrace t opened.old
+        → IfOk result (λ answer. Tells opened.old.program.now t wanted.Questions
         (code_of answer.status) answer.text.items) }
     ensures settled { IfOk result (λ answer. is_of_files answer.status ≡ false) }
 {
-    let Trace { events, tail, .. } = trace;
-    let covers = tail.coverage.statements.as_slice();
-    let text = questions_text(alloc, program, events.into_vec(), covers)?;
-    Ok(Answer::done(text))
+    Ok(Answer::done(questions_text(alloc, opened)?))
 }
 
 fn answer_to_statement(
     alloc: Global,
-    program: &Program,
-    trace: Trace,
+    opened: &Opened<'_, MemoryView>,
     statement: &str,
 ) -> Result<Answer, AllocError>
-    requires few { length trace.events < 2 ^ 32 }
-    requires refer_below { AllRefersBelow trace.events }
-    ensures due { IfOk result (λ answer. Tells program.now trace (wanted.WhyNot statement.now)
+    requires { IsOpenedOf (whole opened.now.view.events.items None) opened.now }
+    ensures due { (t : Trace) → IsOpenedTrace t opened.now
+        → IfOk result (λ answer. Tells opened.now.program.now t (wanted.WhyNot statement.now)
         (code_of answer.status) answer.text.items) }
     ensures settled { IfOk result (λ answer. is_of_files answer.status ≡ false) }
 {
-    let Trace { events, tail, .. } = trace;
-    let covers = tail.coverage.statements.as_slice();
-    match whynot_text(alloc, program, events.into_vec(), covers, statement) {
+    match whynot_text(alloc, opened, statement) {
         Ok(text) => Ok(Answer::done(text)),
         Err(error) => answer_to_unanswered(alloc, error),
     }
@@ -128,10 +127,8 @@ fn answer_to_unanswered(alloc: Global, error: Unanswered) -> Result<Answer, Allo
     ensures { IfOk result (DeniesAs error) }
 {
     match error {
-        Unanswered::NotRead => Answer::refused(alloc, Status::Question, Refusal::NotRead),
-        Unanswered::NoSuch(number) => {
-            Answer::refused(alloc, Status::Question, Refusal::NoSuch { number })
-        }
+        Unanswered::NotRead => Answer::refused(alloc, Refusal::NotRead),
+        Unanswered::NoSuch(number) => Answer::refused(alloc, Refusal::NoSuch { number }),
         Unanswered::Ran {
             line,
             place,
@@ -144,7 +141,7 @@ fn answer_to_unanswered(alloc: Global, error: Unanswered) -> Result<Answer, Allo
                 count,
                 first,
             };
-            Answer::refused(alloc, Status::Question, ran)
+            Answer::refused(alloc, ran)
         }
         Unanswered::NoMemory => Err(AllocError),
     }
@@ -157,10 +154,36 @@ fn answer_to_audit(alloc: Global, program: &Program, trace: Trace) -> Result<Ans
 {
     match audit(alloc, program, trace)? {
         Verdict::Equal => Ok(Answer::done(line(alloc, "audit: equal", "")?)),
-        Verdict::Event { event } => {
-            Answer::refused(alloc, Status::Audit, Refusal::AuditEvent { event })
-        }
-        Verdict::Tail => Answer::refused(alloc, Status::Audit, Refusal::AuditTail),
+        Verdict::Event { event } => Answer::refused(alloc, Refusal::AuditEvent { event }),
+        Verdict::Tail => Answer::refused(alloc, Refusal::AuditTail),
+    }
+}
+
+/// What is answered from a trace that is opened for it.
+fn answer_opened(
+    alloc: Global,
+    program: &Program,
+    trace: Trace,
+    inquiry: Inquiry<'_>,
+) -> Result<Answer, AllocError>
+    requires viewable { IsViewable trace }
+    requires few_fields { length program.now.fields.items < 2 ^ 32 }
+    ensures due { IfOk result (λ answer. Tells program.now trace (inquiry_of inquiry.entry)
+        (code_of answer.status) answer.text.items) }
+    ensures settled { IfOk result (λ answer. is_of_files answer.status ≡ false) }
+{
+    let Trace { events, tail, .. } = trace;
+    let covers = tail.coverage.statements.as_slice();
+    let view = MemoryView {
+        events: events.into_vec(),
+    };
+    let Ok(mut opened) = Opened::open(alloc, program, covers, view) else {
+        return Err(AllocError);
+    };
+    match inquiry {
+        Inquiry::Why { question } => answer_to_question(alloc, &mut opened, question),
+        Inquiry::Questions => answer_to_questions(alloc, &mut opened),
+        Inquiry::WhyNot { statement } => answer_to_statement(alloc, &opened, statement),
     }
 }
 
@@ -171,8 +194,7 @@ fn tell(
     trace: Trace,
     wanted: Wanted<'_>,
 ) -> Result<Answer, AllocError>
-    requires few { length trace.events < 2 ^ 32 }
-    requires refer_below { AllRefersBelow trace.events }
+    requires viewable { IsViewable trace }
     requires few_fields { length program.now.fields.items < 2 ^ 32 }
     ensures due { IfOk result (λ answer. Tells program.now trace (wanted_of wanted.entry)
         (code_of answer.status) answer.text.items) }
@@ -180,42 +202,36 @@ fn tell(
 {
     match wanted {
         Wanted::Output => answer_to_output(alloc, program, &trace),
-        Wanted::Why { question } => answer_to_question(alloc, program, trace, question),
-        Wanted::Questions => answer_to_questions(alloc, program, trace),
-        Wanted::WhyNot { statement } => answer_to_statement(alloc, program, trace, statement),
         Wanted::Audit => answer_to_audit(alloc, program, trace),
+        Wanted::Inquiry(inquiry) => answer_opened(alloc, program, trace, inquiry),
     }
 }
 
-/// The answer to the bytes of a trace, under the program of its head.
+/// The answer from a trace that was decoded, under the program of its head.
 pub fn answer_to_trace(
     alloc: Global,
     program: &Program,
-    bytes: &[u8],
+    trace: Trace,
     wanted: Wanted<'_>,
 ) -> Result<Answer, AllocError>
-    requires limit { length bytes.now ≤ trace_limit }
+    requires viewable { IsViewable trace }
     requires few_fields { length program.now.fields.items < 2 ^ 32 }
-    ensures due { IfOk result (λ answer. DueUnder program.now bytes.now (wanted_of wanted.entry)
+    ensures due { (bytes : List ℕ) → IsDecoded program.now bytes trace
+        → IfOk result (λ answer. DueUnder program.now bytes (wanted_of wanted.entry)
         (code_of answer.status) answer.text.items) }
     ensures settled { IfOk result (λ answer. is_of_files answer.status ≡ false) }
-    ensures by_run { IfOk result (λ answer. answer.status ≡ Done
-        → TellsRun program.now bytes.now (wanted_of wanted.entry) answer.text.items) }
-    ensures source { IfOk result (λ answer. answer.status ≡ Done → HasSource bytes.now) }
+    ensures by_run { (bytes : List ℕ) → IsDecoded program.now bytes trace
+        → IfOk result (λ answer. answer.status ≡ Done
+        → TellsRun program.now bytes (wanted_of wanted.entry) answer.text.items) }
+    ensures source { (bytes : List ℕ) → IsDecoded program.now bytes trace
+        → IfOk result (λ answer. answer.status ≡ Done → HasSource bytes) }
 {
-    decoded_events_refer_below();
-    few_events_are_decoded();
     recorded_traces_are_read_back();
     recorded_heads_are_read_back();
     recorded_ends_are_read_back();
     references_point_below();
     carrying_changes_nothing();
     backward_is_forward();
-    match decode(alloc, bytes, program) {
-        Ok(trace) => {
-            end_fits(&trace.tail);
-            tell(alloc, program, trace, wanted)
-        }
-        Err(error) => answer_to_trace_error(alloc, error),
-    }
+    end_fits(&trace.tail);
+    tell(alloc, program, trace, wanted)
 }

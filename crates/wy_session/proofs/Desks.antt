@@ -1,69 +1,66 @@
 -- A desk once a line was answered.
-use Rattle.std.proofs.Common.{◌≡◌, ◌≢◌, ◌∙◌, sym, ap, refl, subst, ℕ, List, Option, Some, None}
-use Rattle.std.specs.Prelude.{IfSome}
+use Rattle.std.proofs.Common.{◌≡◌, ◌≢◌, ◌∙◌, sym, ap, refl, subst, ℕ, List, Some, None}
 use Rattle.wy_event.specs.declared.record.Cover.{Cover}
 use Rattle.std.specs.Prelude.{map}
-use Rattle.wy_event.specs.declared.record.Event.{Event}
 use Rattle.wy_event.specs.Record.{Recorded, recorded}
-use Rattle.wy_view.specs.Whole.{whole}
+use Rattle.wy_view.specs.declared.memory.MemoryView.{MemoryView}
+use Rattle.wy_static.specs.LookUps.{AreLinksOf}
+use Rattle.wy_static.specs.declared.answer.Links.{Links}
+use Rattle.wy_ask.specs.declared.opened.Opened.{Opened}
+use Rattle.wy_ask.specs.Opened.{IsOpenedOf, StaysOpened}
+use Rattle.wy_ask.proofs.Opening.{still_opened}
 use Rattle.wy_kernel.specs.Program.{Program}
 use Rattle.wy_kernel.specs.Parts.{program_of}
-use Rattle.wy_view.specs.View.{Keeps, Told}
-use Rattle.wy_index.specs.declared.index.Index.{Index}
-use Rattle.wy_index.specs.Index.{IsIndexOfView}
 use Rattle.wy_explore.specs.Session.{Command, Does, Replies, RepliesTo, Session, ask, listing, up, down, go, sources, whynot, undo, nothing, quit, served, no_such}
 use Rattle.wy_explore.specs.Session as session
 use Rattle.wy_explore.specs.declared.explorer.Explorer.{Explorer}
 use Rattle.wy_explore.specs.declared.reply.Reply.{Reply}
 use Rattle.wy_explore.specs.declared.reply.Reply.TheVariants as reply
-use Rattle.wy_explore.specs.declared.world.World.{World}
-use Rattle.wy_explore.specs.Explorer.{AllAnswered, AllWithin, IsWorldOf, reply_of, session_of}
-use Rattle.wy_session.specs.Desk.{IsAsked, IsDesk, IsSceneOf, scene_of}
+use Rattle.wy_explore.specs.Explorer.{AllAnswered, AllWithin, reply_of, session_of}
+use Rattle.wy_session.specs.Desk.{IsAsked, IsDesk, IsSceneOf, scene_in, tells}
 use Rattle.wy_session.specs.Scene.{Said, Scene, over, replied, reply_text}
 
 -- ---- a view that was read
 
-index_kept : (index : Index) (old new : Told) → Keeps old new → IsIndexOfView index old → IsIndexOfView index new
-index_kept index old new keeps is = record {
-  records = is.records;
-  is_index = is.is_index;
-  all = is.all ∙ sym keeps.count;
-  as_told = subst (λ (o : Option (List Recorded)). IfSome o (λ rs. rs ≡ is.records)) (sym keeps.records) is.as_told;
+scene_kept : (x : Scene) (old new : Opened MemoryView) → StaysOpened tells old new → IsSceneOf (tells old.view) old x → IsSceneOf (tells new.view) new x
+scene_kept x old new stays is = record {
+  program = rw (stays.program) is.program;
+  lines = rw (stays.program) is.lines;
+  records = stays.keeps.records ∙ is.records;
+  covers = rw (stays.coverage) is.covers;
 }
 
-pub world_kept : (w : World) (old new : Told) → Keeps old new → IsWorldOf old w → IsWorldOf new w
-world_kept w old new keeps is = record { few_fields = is.few_fields; index = index_kept w.index.now old new keeps is.index; owners = is.owners; links = is.links }
-
-pub scene_kept : (w : World) (x : Scene) (old new : Told) → Keeps old new → IsSceneOf old w x → IsSceneOf new w x
-scene_kept w x old new keeps is = record { program = is.program; lines = is.lines; records = keeps.records ∙ is.records; covers = is.covers }
-
 -- the desk stands where the explorer does
-pub desk_on : (w : World) (x : Scene) (s : Session) (e next : Explorer) (old new : Told) → IsDesk old w e x s → Keeps old new → AllWithin old.count next → AllAnswered (program_of w.program.now) x.records next → IsDesk new w next x (session_of next)
-desk_on w x s e next old new desk keeps within answered = record {
-  scene = scene_kept w x old new keeps desk.scene;
+pub desk_on : (links : Links) (x : Scene) (s : Session) (e next : Explorer) (old new : Opened MemoryView) → IsDesk old links e x s → StaysOpened tells old new → AllWithin (tells old.view).count next
+    → AllAnswered (program_of old.program.now) x.records next → IsDesk new links next x (session_of next)
+desk_on links x s e next old new desk stays within answered = record {
+  scene = scene_kept x old new stays desk.scene;
   session = refl;
-  is_world = world_kept w old new keeps desk.is_world;
-  within = subst (λ (n : ℕ). AllWithin n next) (sym keeps.count) within;
+  is_opened = still_opened tells old new stays desk.is_opened;
+  are_links = rw (stays.program) desk.are_links;
+  within = subst (λ (n : ℕ). AllWithin n next) (sym stays.keeps.count) within;
   answered = subst (λ (p : Program). AllAnswered p x.records next) (sym desk.scene.program) answered;
 }
 
-pub answered_here : (w : World) (x : Scene) (s : Session) (e : Explorer) (told : Told) → IsDesk told w e x s → AllAnswered (program_of w.program.now) x.records e
-answered_here w x s e told desk = subst (λ (p : Program). AllAnswered p x.records e) desk.scene.program desk.answered
+pub answered_here : (o : Opened MemoryView) (links : Links) (x : Scene) (s : Session) (e : Explorer) → IsDesk o links e x s → AllAnswered (program_of o.program.now) x.records e
+answered_here o links x s e desk = subst (λ (p : Program). AllAnswered p x.records e) desk.scene.program desk.answered
 
 -- ---- what was said
 
-abbrev RepliesAt : World → Scene → Explorer → List ℕ → Session → session.Reply → Type 0
-RepliesAt w x e line t r = Replies (program_of w.program.now) w.program.now.lines.items x.records w.coverage.now (session_of e) line t r
+abbrev RepliesAt : Opened MemoryView → Scene → Explorer → List ℕ → Session → session.Reply → Type 0
+RepliesAt o x e line t r = Replies (program_of o.program.now) o.program.now.lines.items x.records o.coverage.now (session_of e) line t r
 
-said_of : (w : World) (x : Scene) (s : Session) (e : Explorer) (told : Told) (line : List ℕ) (t : Session) (r : session.Reply) → IsDesk told w e x s → RepliesAt w x e line t r → Replies x.program x.lines x.records x.covers s line t r
-said_of w x s e told line t r desk is =
+said_of : (o : Opened MemoryView) (links : Links) (x : Scene) (s : Session) (e : Explorer) (line : List ℕ) (t : Session) (r : session.Reply) → IsDesk o links e x s → RepliesAt o x e line t r
+    → Replies x.program x.lines x.records x.covers s line t r
+said_of o links x s e line t r desk is =
     subst (λ (z : Session). Replies x.program x.lines x.records x.covers z line t r) (sym desk.session)
     (subst (λ (c : List Cover). Replies x.program x.lines x.records c (session_of e) line t r) (sym desk.scene.covers)
-    (subst (λ (l : List ℕ). Replies x.program l x.records w.coverage.now (session_of e) line t r) (sym desk.scene.lines)
-    (subst (λ (p : Program). Replies p w.program.now.lines.items x.records w.coverage.now (session_of e) line t r) (sym desk.scene.program) is)))
+    (subst (λ (l : List ℕ). Replies x.program l x.records o.coverage.now (session_of e) line t r) (sym desk.scene.lines)
+    (subst (λ (p : Program). Replies p o.program.now.lines.items x.records o.coverage.now (session_of e) line t r) (sym desk.scene.program) is)))
 
-pub said_over : (w : World) (x : Scene) (s : Session) (e next : Explorer) (told : Told) (line : List ℕ) (r : Reply) → IsDesk told w e x s → RepliesAt w x e line (session_of next) (reply_of r) → r ≡ reply.End → Said x s line (session_of next) None
-said_over w x s e next told line r desk is ends = over (session_of next) (said_of w x s e told line (session_of next) session.End desk (subst (λ (z : Reply). RepliesAt w x e line (session_of next) (reply_of z)) ends is))
+pub said_over : (o : Opened MemoryView) (links : Links) (x : Scene) (s : Session) (e next : Explorer) (line : List ℕ) (r : Reply) → IsDesk o links e x s → RepliesAt o x e line (session_of next) (reply_of r)
+    → r ≡ reply.End → Said x s line (session_of next) None
+said_over o links x s e next line r desk is ends = over (session_of next) (said_of o links x s e line (session_of next) session.End desk (subst (λ (z : Reply). RepliesAt o x e line (session_of next) (reply_of z)) ends is))
 
 not_end : (r : Reply) → (r ≡ reply.End → ⊥) → reply_of r ≢ session.End
 not_end (reply.At event) other is = cc
@@ -74,10 +71,10 @@ not_end reply.NoSuch other is = cc
 not_end reply.NothingToUndo other is = cc
 not_end reply.End other is = other refl
 
-pub said_replied : (w : World) (x : Scene) (s : Session) (e next : Explorer) (told : Told) (line text : List ℕ) (r : Reply) → IsDesk told w e x s → RepliesAt w x e line (session_of next) (reply_of r) → (r ≡ reply.End → ⊥) → text ≡ reply_text x (reply_of r) →
-    Said x s line (session_of next) (Some text)
-said_replied w x s e next told line text r desk is some written =
-    subst (λ (z : List ℕ). Said x s line (session_of next) (Some z)) (sym written) (replied (session_of next) (reply_of r) (said_of w x s e told line (session_of next) (reply_of r) desk is) (not_end r some))
+pub said_replied : (o : Opened MemoryView) (links : Links) (x : Scene) (s : Session) (e next : Explorer) (line text : List ℕ) (r : Reply) → IsDesk o links e x s → RepliesAt o x e line (session_of next) (reply_of r)
+    → (r ≡ reply.End → ⊥) → text ≡ reply_text x (reply_of r) → Said x s line (session_of next) (Some text)
+said_replied o links x s e next line text r desk is some written =
+    subst (λ (z : List ℕ). Said x s line (session_of next) (Some z)) (sym written) (replied (session_of next) (reply_of r) (said_of o links x s e line (session_of next) (reply_of r) desk is) (not_end r some))
 
 -- ---- an answer is that of the last question
 
@@ -97,23 +94,24 @@ asked_in : (p : Program) (lines : List ℕ) (rs : List Recorded) (covers : List 
 asked_in p lines rs covers s line _ _ n (served t r serves) same = asked_by p lines rs covers s serves.command t r n serves.does same
 asked_in p lines rs covers s line _ _ n (no_such none) same = absurd cc
 
-pub is_asked : (w : World) (x : Scene) (e next : Explorer) (line : List ℕ) (r : Reply) → RepliesAt w x e line (session_of next) (reply_of r) → IsAsked next r
-is_asked w x e next line (reply.At event) is = tt
-is_asked w x e next line (reply.Answer event) is = asked_in (program_of w.program.now) w.program.now.lines.items x.records w.coverage.now (session_of e) line (session_of next) (session.Answer event) event is refl
-is_asked w x e next line (reply.From found) is = tt
-is_asked w x e next line (reply.Items items) is = tt
-is_asked w x e next line reply.NoSuch is = tt
-is_asked w x e next line reply.NothingToUndo is = tt
-is_asked w x e next line reply.End is = tt
+pub is_asked : (o : Opened MemoryView) (x : Scene) (e next : Explorer) (line : List ℕ) (r : Reply) → RepliesAt o x e line (session_of next) (reply_of r) → IsAsked next r
+is_asked o x e next line (reply.At event) is = tt
+is_asked o x e next line (reply.Answer event) is = asked_in (program_of o.program.now) o.program.now.lines.items x.records o.coverage.now (session_of e) line (session_of next) (session.Answer event) event is refl
+is_asked o x e next line (reply.From found) is = tt
+is_asked o x e next line (reply.Items items) is = tt
+is_asked o x e next line reply.NoSuch is = tt
+is_asked o x e next line reply.NothingToUndo is = tt
+is_asked o x e next line reply.End is = tt
 
 -- ---- a desk that is opened
 
-pub opened_desk : (w : World) (events held : List Event) (covers : List Cover) (e : Explorer) → IsWorldOf (whole held None) w → (whole held None).records ≡ Some (map recorded events) → covers ≡ w.coverage.now → session_of e ≡ session.begun →
-    AllWithin (whole held None).count e → AllAnswered (program_of w.program.now) (map recorded events) e → IsDesk (whole held None) w e (scene_of w.program.now events covers) session.begun
-opened_desk w events held covers e world records same is within answered = record {
-  scene = record { program = refl; lines = refl; records = records; covers = same };
+pub opened_desk : (o : Opened MemoryView) (links : Links) (e : Explorer) → IsOpenedOf (tells o.view) o → AreLinksOf links (program_of o.program.now) → session_of e ≡ session.begun
+    → AllWithin (tells o.view).count e → AllAnswered (program_of o.program.now) (map recorded o.view.events.items) e → IsDesk o links e (scene_in o) session.begun
+opened_desk o links e opened are is within answered = record {
+  scene = record { program = refl; lines = refl; records = refl; covers = refl };
   session = sym is;
-  is_world = world;
+  is_opened = opened;
+  are_links = are;
   within = within;
   answered = answered;
 }

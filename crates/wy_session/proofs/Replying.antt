@@ -19,8 +19,9 @@ use Rattle.wy_view.specs.View.{Told}
 use Rattle.wy_explore.specs.declared.explorer.Explorer.{Explorer}
 use Rattle.wy_explore.specs.declared.reply.Reply.{Reply}
 use Rattle.wy_explore.specs.declared.reply.Reply.TheVariants.{Answer}
-use Rattle.wy_explore.specs.declared.world.World.{World}
-use Rattle.wy_explore.specs.Explorer.{AllAnswered, IsAnswered, IsWorldOf, event_asked, reply_of}
+use Rattle.wy_ask.specs.declared.opened.Opened.{Opened}
+use Rattle.wy_ask.specs.Opened.{IsOpenedOf}
+use Rattle.wy_explore.specs.Explorer.{AllAnswered, IsAnswered, event_asked, reply_of}
 use Rattle.wy_session.specs.Desk.{IsAsked, IsSceneOf}
 use Rattle.wy_session.specs.Scene.{Scene, reply_text}
 
@@ -40,18 +41,18 @@ of_question : (P : Answered → Type 0) (question : Option Answered) (a : Answer
 of_question P question a is holds = subst (λ (q : Option Answered). IfSome q P) is holds
 
 -- the answer to the question that was asked last, as a reply
-pub answer_replied : (x : Scene) (told : Told) (w : World) (e : Explorer) (reply : Reply) (event : ℕ) (a : Answered) (r : Result (Vec ℕ Global) ViewError) → IsWorldOf told w → IsSceneOf told w x → AllAnswered x.program x.records e → e.question ≡ Some a
+pub answer_replied : {V : Type 0} (x : Scene) (told : Told) (o : Opened V) (e : Explorer) (reply : Reply) (event : ℕ) (a : Answered) (r : Result (Vec ℕ Global) ViewError) → IsOpenedOf told o → IsSceneOf told o x → AllAnswered x.program x.records e → e.question ≡ Some a
     → reply ≡ Answer event → IsAsked e reply
-    → ((by_data : Numbers) → a.answer.flow.items ≡ filter by_data a.answer.all.items → IfOk r (λ text. text.items ≡ marked_lines (program_of w.program.now) w.program.now.lines.items x.records by_data a.answer.all.items))
+    → ((by_data : Numbers) → a.answer.flow.items ≡ filter by_data a.answer.all.items → IfOk r (λ text. text.items ≡ marked_lines (program_of o.program.now) o.program.now.lines.items x.records by_data a.answer.all.items))
     → IfOk r (λ text. text.items ≡ reply_text x (reply_of reply))
 unfolding reply_text
-answer_replied x told w e reply event a r world scene all question is asked gives =
+answer_replied x told o e reply event a r opened scene all question is asked gives =
     let of : IsAsked e (Answer event) = subst (IsAsked e) is asked in
     let same : a.event ≡ event = one_event a event (sym (ap event_asked question) ∙ of) in
     let answered : IsAnswered x.program x.records a = of_question (IsAnswered x.program x.records) e.question a question all.now in
-    let here : IsAnswered (program_of w.program.now) x.records a = subst (λ (p : Program). IsAnswered p x.records a) scene.program answered in
-    let told_so = answer_told (program_of w.program.now) w.program.now.lines.items x.records a w.index.now r world.owners here gives in
+    let here : IsAnswered (program_of o.program.now) x.records a = subst (λ (p : Program). IsAnswered p x.records a) scene.program answered in
+    let told_so = answer_told (program_of o.program.now) o.program.now.lines.items x.records a o.index r opened.owners here gives in
     subst (λ (z : Reply). IfOk r (λ text. text.items ≡ reply_text x (reply_of z))) (sym is)
     (subst (λ (n : ℕ). IfOk r (λ text. text.items ≡ why_text x.program x.lines x.records n)) same
     (subst (λ (p : Program). IfOk r (λ text. text.items ≡ why_text p x.lines x.records a.event)) (sym scene.program)
-    (subst (λ (l : List ℕ). IfOk r (λ text. text.items ≡ why_text (program_of w.program.now) l x.records a.event)) (sym scene.lines) told_so)))
+    (subst (λ (l : List ℕ). IfOk r (λ text. text.items ≡ why_text (program_of o.program.now) l x.records a.event)) (sym scene.lines) told_so)))

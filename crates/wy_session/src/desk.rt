@@ -1,11 +1,12 @@
 //! A session over a trace that is held whole.
-ghost use Rattle.std.specs.Prelude.{◌≡◌, ◌++◌, ◌<◌, ◌^◌, false, List, Some, All, IfOk, OnOk, length, map};
+ghost use Rattle.std.specs.Prelude.{◌≡◌, ◌++◌, ◌<◌, false, List, None, Some, All, IfOk, OnOk, map};
 ghost use Rattle.wy_event.specs.Record.{Recorded};
-ghost use Rattle.wy_view.specs.References.{AllRefersBelow};
 ghost use Rattle.wy_view.specs.View.{KeepsCounts, Keeps};
+ghost use Rattle.wy_view.specs.Whole.{whole};
 ghost use Rattle.wy_kernel.specs.Parts.{program_of};
-ghost use Rattle.wy_explore.specs.Explorer.{AllAnswered, AllWithin, IsReplyWithin, IsWorldOf, reply_of};
-ghost use Rattle.wy_session.specs.Desk.{IsAsked, IsSceneOf, scene_of};
+ghost use Rattle.wy_ask.specs.Opened.{IsOpenedOf, StaysOpened};
+ghost use Rattle.wy_explore.specs.Explorer.{AllAnswered, AllWithin, IsReplyWithin, reply_of};
+ghost use Rattle.wy_session.specs.Desk.{IsAsked, IsSceneOf, scene_in};
 ghost use Rattle.wy_telling.specs.Items.{items_text};
 ghost use Rattle.wy_whynot.specs.Evidence.{evidence_in};
 ghost use Rattle.wy_text.specs.EventLines.{event_line};
@@ -18,12 +19,12 @@ use crate::session::talk;
 use std::alloc::{AllocError, Global};
 use std::marker::Brand;
 use std::sync::ledger::{Blank, Ledger};
-use wy_event::record::{Cover, Event};
-use wy_explore::{Explorer, Reply, World};
-use wy_index::Index;
+use wy_ask::Opened;
+use wy_explore::{Explorer, Reply};
 use wy_kernel::program::Program;
 use wy_outside::sink::Sink;
 use wy_outside::source::Source;
+use wy_static::Links;
 use wy_static::links::links;
 use wy_telling::{answer_lines, put_items};
 use wy_text::{put_event_line, put_source_line};
@@ -110,22 +111,21 @@ fn item_lines(alloc: Global, program: &Program, items: &[Item]) -> Result<Vec<u8
 #[tactic(auto, unfolding(crate::specs::Scene::reply_text, crate::specs::Scene::none_line))]
 fn reply_lines<V: EventView, L: Ledger>(
     alloc: Global,
-    world: World<'_>,
-    view: &mut V,
+    opened: &mut Opened<'_, V>,
     explorer: &Explorer,
     reply: &Reply,
     steps: &mut Steps<L>,
 ) -> Result<Vec<u8>, ViewError>
-    requires world { IsWorldOf (V.tells view.old) world }
-    requires reply { IsReplyWithin (V.tells view.old).count reply.now }
-    requires explorer { AllWithin (V.tells view.old).count explorer.now }
-    ensures text { (x : Scene) → IsSceneOf (V.tells view.old) world.entry x
+    requires opened { IsOpenedOf (V.tells opened.old.view) opened.old }
+    requires reply { IsReplyWithin (V.tells opened.old.view).count reply.now }
+    requires explorer { AllWithin (V.tells opened.old.view).count explorer.now }
+    ensures text { (x : Scene) → IsSceneOf (V.tells opened.old.view) opened.old x
         → AllAnswered x.program x.records explorer.now → IsAsked explorer.now reply.now
         → IfOk result (λ text. text.items ≡ reply_text x (reply_of reply.now)) }
-    ensures keeps { Keeps (V.tells view.old) (V.tells view.new) }
-    ensures answers { KeepsCounts result (V.tells view.old) (V.tells view.new) }
+    ensures stays { StaysOpened V.tells opened.old opened.new }
+    ensures answers { KeepsCounts result (V.tells opened.old.view) (V.tells opened.new.view) }
 {
-    let program = world.program;
+    let Opened { program, view, .. } = opened;
     match reply {
         Reply::At(Some(event)) => event_line(alloc, program, view, *event, steps),
         Reply::At(None) => Ok(Vec::from_slice(alloc, "none\n".as_bytes())?),
@@ -144,102 +144,81 @@ fn reply_lines<V: EventView, L: Ledger>(
 /// An explorer with the trace that it looks at.
 #[derive(Drop)]
 struct Desk<'a, L: Ledger> {
-    world: World<'a>,
-    view: MemoryView,
+    opened: Opened<'a, MemoryView>,
+    links: Links,
     steps: Steps<L>,
     explorer: Explorer,
 }
 
 impl<'a, L: Ledger> Respond for Desk<'a, L> {
-    ghost use Rattle.std.specs.Prelude.{None};
-    ghost use Rattle.wy_view.specs.Whole.{whole};
     ghost use Rattle.wy_session.specs.Desk.{IsDesk};
 
-    ghost stands = { λ d x s. IsDesk (whole d.view.events.items None) d.world d.explorer x s };
+    ghost stands = { λ d x s. IsDesk d.opened d.links d.explorer x s };
 
     /// Events in memory refuse for want of memory alone.
     fn reply(&mut self, alloc: Global, line: &[u8]) -> Result<Option<Vec<u8>>, AllocError> {
         let Desk {
-            world,
-            view,
+            opened,
+            links,
             steps,
             explorer,
         } = self;
-        let Ok(reply) = explorer.apply(alloc, line, *world, view, steps) else {
+        let Ok(reply) = explorer.apply(alloc, line, opened, links, steps) else {
             return Err(AllocError);
         };
         if let Reply::End = reply {
             return Ok(None);
         }
-        match reply_lines(alloc, *world, view, explorer, &reply, steps) {
+        match reply_lines(alloc, opened, explorer, &reply, steps) {
             Ok(text) => Ok(Some(text)),
             Err(_) => Err(AllocError),
         }
     }
 }
 
-/// Answers the lines of an input over a trace of a program, each before more is read.
+/// Answers the lines of an input over a trace, each before more is read.
 pub fn explore<K: Source, O: Sink>(
     alloc: Global,
-    program: &Program,
-    events: Vec<Event>,
-    covers: &[Cover],
+    opened: Opened<'_, MemoryView>,
     keys: &mut K,
     out: &mut O,
 ) -> Ending
-    requires fields { length program.now.fields.items < 2 ^ 32 }
-    requires few { length events.items < 2 ^ 32 }
-    requires refer_below { AllRefersBelow events.items }
-    ensures closed { Closed (scene_of program.now events.items covers.now) (K.left keys.old)
+    requires { IsOpenedOf (whole opened.view.events.items None) opened }
+    ensures closed { Closed (scene_in opened.entry) (K.left keys.old)
         (failures (K.faults keys.old) (K.faults keys.new) (O.faults out.old) (O.faults out.new))
         (O.written out.old) (O.written out.new) result }
     ensures taken { TakesManyFor result (K.taken keys.old) (K.taken keys.new) }
 {
-    explore_with::<K, O, Brand>(alloc, program, events, covers, keys, out, Blank::new(1))
+    explore_with::<K, O, Brand>(alloc, opened, keys, out, Blank::new(1))
 }
 
 /// The same, with a ledger for the steps, which nobody reads.
 fn explore_with<K: Source, O: Sink, L: Ledger>(
     alloc: Global,
-    program: &Program,
-    events: Vec<Event>,
-    covers: &[Cover],
+    opened: Opened<'_, MemoryView>,
     keys: &mut K,
     out: &mut O,
     blank: Blank,
 ) -> Ending
-    requires fields { length program.now.fields.items < 2 ^ 32 }
-    requires few { length events.items < 2 ^ 32 }
-    requires refer_below { AllRefersBelow events.items }
+    requires opened { IsOpenedOf (whole opened.view.events.items None) opened }
     requires name { blank.name ≡ L.name }
     requires parts { blank.parts ≡ L.parts }
     requires some { 0 < blank.parts }
-    ensures closed { Closed (scene_of program.now events.items covers.now) (K.left keys.old)
+    ensures closed { Closed (scene_in opened.entry) (K.left keys.old)
         (failures (K.faults keys.old) (K.faults keys.new) (O.faults out.old) (O.faults out.new))
         (O.written out.old) (O.written out.new) result }
     ensures taken { TakesManyFor result (K.taken keys.old) (K.taken keys.new) }
 {
-    let mut steps = Steps::<L>::new(blank);
-    let mut view = MemoryView { events };
-    let Ok(index) = Index::build(alloc, &mut view, program, &mut steps) else {
-        return Ending::NoMemory;
-    };
-    let Ok(links) = links(alloc, program) else {
+    let Ok(links) = links(alloc, opened.program) else {
         return Ending::NoMemory;
     };
     let Ok(explorer) = Explorer::open(alloc) else {
         return Ending::NoMemory;
     };
-    let world = World {
-        program,
-        links: &links,
-        coverage: covers,
-        index: &index,
-    };
     let mut desk = Desk {
-        world,
-        view,
-        steps,
+        opened,
+        links,
+        steps: Steps::<L>::new(blank),
         explorer,
     };
     talk(alloc, keys, &mut desk, out)

@@ -12,7 +12,11 @@ use crate::write::{
 use std::alloc::{AllocError, Global};
 use wy_event::record::{Coverage, Event, Head, Kind, Tail};
 
-const MAGIC: [u8; 8] = *b"WHYTRAC1";
+/// The first bytes of a trace.
+pub const MAGIC: [u8; 8] = *b"WHYTRAC1";
+
+/// How many they are.
+pub const MAGIC_LENGTH: u32 = 8;
 
 /// The bytes of a letter and a length before what a frame holds.
 const OPENING_LENGTH: usize = 5;

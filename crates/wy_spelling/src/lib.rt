@@ -4,4 +4,4 @@
 mod encode;
 mod write;
 
-pub use encode::{encode_event, encode_head, encode_seal, encode_tail};
+pub use encode::{MAGIC, MAGIC_LENGTH, encode_event, encode_head, encode_seal, encode_tail};

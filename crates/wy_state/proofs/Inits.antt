@@ -10,7 +10,7 @@ use Rattle.wy_event.specs.declared.record.Slot.TheVariants.{Local, Static, Field
 use Rattle.wy_event.specs.declared.record.Slot.TheVariants as slot
 use Rattle.wy_event.specs.declared.record.Kind.TheVariants as kinds
 use Rattle.wy_event.specs.declared.record.Use.{Use}
-use Rattle.wy_event.specs.Sources.{creates, creates_as, is_what}
+use Rattle.wy_event.specs.Sources.{creates, creates_as, is_entity}
 use Rattle.wy_steps.specs.Sets.{nothing}
 use Rattle.wy_steps.specs.State.{Noted, State, Store, Held, return}
 use Rattle.wy_kernel.specs.Limits.{event_limit, use_limit}
@@ -65,7 +65,7 @@ module _ (p : Program) (m : Shape) (s : State nothing) (a : Agrees p m s) (site 
       cases Absent is = rw (is, un) refl
 
   of_static : (f : ℕ) → creates (owner_in p) (length s.noted) (Static f) the_init.event ≡ nat_eq c (owner_in p f)
-  unfolding creates creates_as is_what next_event about
+  unfolding creates creates_as is_entity next_event about
   of_static f = refl
 
   of_local : (f i : ℕ) → creates (owner_in p) (length s.noted) (Local f i) the_init.event ≡ false
@@ -133,7 +133,7 @@ module _ (p : Program) (m : Shape) (s : State nothing) (a : Agrees p m s) (site 
       }
 
   begun_now : (k : ℕ) → has_init k (the_init ∷ s.noted) ≡ is_made h k
-  unfolding has_init is_init_of is_what next_event about
+  unfolding has_init is_init_of is_entity next_event about
   begun_now k = elim (eqb_tells k c) as (λ _. has_init k (the_init ∷ s.noted) ≡ is_made h k) [
     | inl same ↦ rw same.1 (rw (eq-eqb c c refl) (sym w.made))
     | inr other ↦ no_init the_init s.noted k (not_same c k (λ same. other.1 (sym same))) ∙ a.begun k ∙ sym (w.classes k other.1)

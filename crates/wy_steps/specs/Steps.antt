@@ -16,7 +16,7 @@ use Rattle.wy_event.specs.declared.record.Slot.{Slot}
 use Rattle.wy_event.specs.declared.record.Slot.TheVariants.{Static, Field, Elem}
 use Rattle.wy_event.specs.declared.record.Use.TheVariants.{Place, Value as ValueOf, Choice}
 use Rattle.wy_event.specs.Record.{Recorded, same_slot}
-use Rattle.wy_event.specs.Sources.{Owners, creates, is_what}
+use Rattle.wy_event.specs.Sources.{Owners, creates, is_entity}
 use Rattle.wy_steps.specs.Sets.{Sets}
 use Rattle.wy_steps.specs.State.{Carried, Held, Store, Noted, Reach, Around, Through, Active, Covered, State, Stop, StepLimit, EventLimit, UseLimit, ElementLimit, UnitLimit, OutputLimit, InitFailed, Reason, Jumped, Returned, Threw, Outcome, Done, Left, Stopped, Run, return, stop, choose}
 
@@ -89,7 +89,7 @@ unfoldable pub event_at : {A : Sets} → ℕ → Run A (Option Recorded)
 event_at n s = Done (event_in s.noted n) s
 
 unfoldable pub is_init_of : ℕ → Kind → Option ℕ → Bool
-is_init_of c Init entity = is_what entity c
+is_init_of c Init entity = is_entity entity c
 is_init_of c _ entity = false
 
 unfoldable pub has_init : {A : Sets} → ℕ → List (Noted A) → Bool

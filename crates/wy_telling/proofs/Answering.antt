@@ -1,26 +1,25 @@
 -- The way from a question to its answer.
-use Rattle.std.proofs.Common.{◌≡◌, ◌∙◌, inl, inr, ⊎_elim, ◌<◌, ◌≤◌, ℕ, zero, suc, Bool, true, false, List, [], ◌∷◌, length, refl, sym, ap, subst, arith}
+use Rattle.std.proofs.Common.{◌≡◌, ◌∙◌, inl, inr, ⊎_elim, ◌<◌, ◌≤◌, ℕ, zero, suc, Bool, true, false, List, [], ◌∷◌, refl, sym, ap, subst, arith}
 use Rattle.std.proofs.Math.Path.{fun_ext}
-use Rattle.std.specs.Prelude.{filter, if◌then◌else◌, Vec, Some, IfSome, IfOk, Result, Ok, Err}
+use Rattle.std.specs.Prelude.{filter, if◌then◌else◌, Vec, IfOk, Result, Ok, Err}
 use Rattle.std.specs.List.{range_with_len}
 use Rattle.std.specs.declared.alloc.Global.{Global}
 use Rattle.std.proofs.lemmas.Bool.{false≢true}
-use Rattle.wy_kernel.specs.Program.{Program, field}
+use Rattle.wy_kernel.specs.Program.{Program}
 use Rattle.wy_event.specs.Numbers.{Numbers}
 use Rattle.wy_event.specs.Record.{Recorded}
 use Rattle.wy_event.specs.Sources.{Owners, Source, closure, data_closure, is_data, source_events, sources}
-use Rattle.wy_view.specs.View.{Told}
 use Rattle.wy_view.specs.declared.view.ViewError.{ViewError}
 use Rattle.wy_index.specs.declared.index.Index.{Index}
-use Rattle.wy_index.specs.Index.{IsIndexOf, IsIndexOfView, owners_of}
+use Rattle.wy_index.specs.Index.{owners_of}
 use Rattle.wy_why.specs.Answer.{Rises, up_to}
 use Rattle.wy_why.specs.Walk.{closure_of}
 use Rattle.wy_why.proofs.Closures.{Among, closure_cases, closure_itself, closure_source}
 use Rattle.wy_ask.specs.declared.question.AskError.{AskError}
 use Rattle.wy_ask.specs.declared.question.AskError.TheVariants as errors
-use Rattle.wy_ask.specs.Asked.{IsOf, Resolves, event_of, number_in}
+use Rattle.wy_ask.specs.Asked.{Resolves, event_of, number_in, owners}
 use Rattle.wy_ask.specs.Questions.{Asked, Asks, IsUnread}
-use Rattle.wy_telling.specs.Why.{IsOfProgram, NoSuch, TellsOf, TellsWhy, WhyIs, answered, marked_lines, not_read, not_there, why_text}
+use Rattle.wy_telling.specs.Why.{NoSuch, TellsOf, TellsWhy, WhyIs, answered, marked_lines, not_read, not_there, why_text}
 
 -- ---- the data are among all
 
@@ -65,7 +64,7 @@ rises_up low m n [] le rises = tt
 rises_up low m n (x ∷ xs) le (at, below, more) = (at, omega (arith, le, below), rises_up (suc x) m n xs le more)
 
 -- an answer's marked lines are those that are told of its event
-pub why_told : (p : Program) (lines : List ℕ) (rs : List Recorded) (event : ℕ) (index : Index) (all flow : List ℕ) (r : Result (Vec ℕ Global) ViewError) → IsOfProgram p index
+pub why_told : (p : Program) (lines : List ℕ) (rs : List Recorded) (event : ℕ) (index : Index) (all flow : List ℕ) (r : Result (Vec ℕ Global) ViewError) → ((f : ℕ) → owners_of index f ≡ owners p f)
     → all ≡ up_to event (closure (owners_of index) rs event) → flow ≡ up_to event (data_closure (owners_of index) rs event)
     → ((by_data : Numbers) → flow ≡ filter by_data all → IfOk r (λ text. text.items ≡ marked_lines p lines rs by_data all))
     → IfOk r (λ text. text.items ≡ why_text p lines rs event)
@@ -78,15 +77,6 @@ why_told p lines rs event index all flow r same all_is flow_is gives =
     subst (λ l. IfOk r (λ text. text.items ≡ l)) told (gives by_data some)
 
 -- ---- the question
-
-pub indexed : (p : Program) (index : Index) (told : Told) (rs : List Recorded) → told.records ≡ Some rs → IsIndexOfView index told → ((f : ℕ) → owners_of index f ≡ (field p f).class) → IsOf p index told.count rs
-indexed p index told rs is v owner =
-    let same : rs ≡ v.records = subst (λ o. IfSome o (λ t. t ≡ v.records)) is v.as_told in
-    record {
-      is_index = subst (IsIndexOf index) (sym same) v.is_index;
-      owners = owner;
-      all = ap length same ∙ v.all;
-    }
 
 pub refused : (p : Program) (lines : List ℕ) (rs : List Recorded) (q : Asked) (e : AskError) → Resolves (Err e) (event_of p rs q) (number_in q) → TellsOf p lines rs q (Err e)
 refused p lines rs q errors.BadQuestion found = absurd found

@@ -1,24 +1,16 @@
 -- The way from a word to its answer.
-use Rattle.std.proofs.Common.{◌≡◌, ℕ, List, sym, subst}
-use Rattle.std.specs.Prelude.{IfSome, Ok, Err, Result, Some, Vec}
+use Rattle.std.proofs.Common.{ℕ, List, sym, subst}
+use Rattle.std.specs.Prelude.{Ok, Err, Result, Vec}
 use Rattle.std.specs.declared.alloc.Global.{Global}
 use Rattle.wy_kernel.specs.Program.{Program}
 use Rattle.wy_kernel.specs.Statements.{statements_of}
 use Rattle.wy_event.specs.declared.record.Cover.{Cover}
 use Rattle.wy_event.specs.Record.{Recorded}
-use Rattle.wy_view.specs.View.{Told}
-use Rattle.wy_index.specs.declared.index.Index.{Index}
-use Rattle.wy_index.specs.Index.{IsIndexOf, IsIndexOfView}
 use Rattle.wy_ask.specs.declared.naming.NamedStatement.{NamedStatement}
 use Rattle.wy_ask.specs.Statements.{Finds}
 use Rattle.wy_telling.specs.declared.whynot.Unanswered.{Unanswered}
 use Rattle.wy_telling.specs.declared.whynot.Unanswered.TheVariants as unanswered
 use Rattle.wy_telling.specs.Whynot.{NamesStatement, Ran, TellsNamed, TellsWhynot, WhynotIs, answered, ran}
-
-pub index_of : (index : Index) (told : Told) (rs : List Recorded) → told.records ≡ Some rs → IsIndexOfView index told → IsIndexOf index rs
-index_of index told rs is v =
-    let same : rs ≡ v.records = subst (λ o. IfSome o (λ t. t ≡ v.records)) is v.as_told in
-    subst (IsIndexOf index) (sym same) v.is_index
 
 pub told_of : (p : Program) (lines : List ℕ) (rs : List Recorded) (covers : List Cover) (word : List ℕ) (s : NamedStatement) (r : Result (Vec ℕ Global) Unanswered)
     → Finds lines (statements_of p) word (Ok s) → TellsNamed p lines rs covers s r → TellsWhynot p lines rs covers word r

@@ -7,8 +7,6 @@ use Rattle.wy_kernel.specs.Program.{Program}
 use Rattle.wy_event.specs.Numbers.{Numbers}
 use Rattle.wy_event.specs.Record.{Recorded}
 use Rattle.wy_event.specs.Sources.{closure, data_closure}
-use Rattle.wy_index.specs.declared.index.Index.{Index}
-use Rattle.wy_index.specs.Index.{owners_of}
 use Rattle.wy_why.specs.Answer.{up_to}
 use Rattle.wy_text.specs.EventLines.{event_line}
 use Rattle.wy_ask.specs.declared.question.AskError.{AskError}
@@ -60,7 +58,3 @@ TellsOf p lines rs q (Ok text) =
 TellsOf p lines rs q (Err (errors.NoSuch n)) = (event_of p rs q ≡ Absent) × (n ≡ number_in q)
 TellsOf p lines rs q (Err errors.BadQuestion) = ⊥
 TellsOf p lines rs q (Err errors.NoMemory) = Unit {0}
-
--- an index knows the classes of the program's fields
-abbrev pub IsOfProgram : Program → Index → Type 0
-IsOfProgram p index = (f : ℕ) → owners_of index f ≡ owners p f

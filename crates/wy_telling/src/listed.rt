@@ -1,21 +1,20 @@
 //! What can be asked about a trace, line by line, in the words that ask it.
 
-ghost use Rattle.std.specs.Prelude.{◌≡◌, ◌++◌, ◌<◌, ◌^◌, ℕ, All, List, Some, IfOk, OnOk, length, map};
+ghost use Rattle.std.specs.Prelude.{◌≡◌, ◌++◌, ◌<◌, All, List, None, Some, IfOk, OnOk, map};
 ghost use Rattle.std.specs.List.{flat_map};
 ghost use Rattle.wy_ask.specs.Listing.{IsListedBelow};
+ghost use Rattle.wy_ask.specs.Opened.{IsOpenedOf};
 ghost use Rattle.wy_event.specs.Record.{Recorded, recorded};
-ghost use Rattle.wy_index.specs.Index.{IsIndexOfView};
 ghost use Rattle.wy_kernel.specs.Parts.{program_of};
 ghost use Rattle.wy_telling.specs.Questions.{field_at, listed_line, piece_line, never_line, questions_text, slot_question, stored_line};
-ghost use Rattle.wy_view.specs.References.{AllRefersBelow};
 ghost use Rattle.wy_view.specs.View.{KeepsCounts, Keeps};
+ghost use Rattle.wy_view.specs.Whole.{whole};
 
 use std::alloc::{AllocError, Global};
 use std::marker::Brand;
 use std::sync::ledger::{Blank, Ledger};
-use wy_ask::{Listed, questions};
-use wy_event::record::{Cover, Event, Slot};
-use wy_index::Index;
+use wy_ask::{Listed, Opened, questions};
+use wy_event::record::Slot;
 use wy_kernel::program::Program;
 use wy_text::{put_event_line, put_field_name, put_value};
 use wy_view::{EventView, MemoryView, Steps, ViewError};
@@ -23,63 +22,37 @@ use wy_view::{EventView, MemoryView, Steps, ViewError};
 /// What can be asked about a trace: a line for each.
 pub fn questions_text(
     alloc: Global,
-    program: &Program,
-    events: Vec<Event>,
-    coverage: &[Cover],
+    opened: &mut Opened<'_, MemoryView>,
 ) -> Result<Vec<u8>, AllocError>
-    requires few { length events.items < 2 ^ 32 }
-    requires refer_below { AllRefersBelow events.items }
-    ensures { IfOk result (λ text. text.items ≡ questions_text (program_of program.now)
-        program.now.lines.items (map recorded events.items) coverage.now) }
+    requires { IsOpenedOf (whole opened.old.view.events.items None) opened.old }
+    ensures { IfOk result (λ text. text.items ≡ questions_text
+        (program_of opened.old.program.now) opened.old.program.now.lines.items
+        (map recorded opened.old.view.events.items) opened.old.coverage.now) }
 {
-    match questions_told::<Brand>(alloc, program, events, coverage, Blank::new(1)) {
+    match all_lines::<MemoryView, Brand>(alloc, opened, Blank::new(1)) {
         Ok(text) => Ok(text),
         Err(_) => Err(AllocError),
     }
 }
 
 /// The same, with a ledger for the steps, which nobody reads. Events in memory refuse for want of memory alone.
-fn questions_told<L: Ledger>(
+fn all_lines<V: EventView, L: Ledger>(
     alloc: Global,
-    program: &Program,
-    events: Vec<Event>,
-    coverage: &[Cover],
+    opened: &mut Opened<'_, V>,
     blank: Blank,
 ) -> Result<Vec<u8>, ViewError>
-    requires few { length events.items < 2 ^ 32 }
-    requires refer_below { AllRefersBelow events.items }
+    requires opened { IsOpenedOf (V.tells opened.old.view) opened.old }
     requires name { blank.name ≡ L.name }
     requires parts { blank.parts ≡ L.parts }
     requires some { 0 < blank.parts }
-    ensures { IfOk result (λ text. text.items ≡ questions_text (program_of program.now)
-        program.now.lines.items (map recorded events.items) coverage.now) }
+    ensures { (rs : List Recorded) → (V.tells opened.old.view).records ≡ Some rs
+        → IfOk result (λ text. text.items ≡ questions_text (program_of opened.old.program.now)
+        opened.old.program.now.lines.items rs opened.old.coverage.now) }
 {
     let mut steps = Steps::<L>::new(blank);
-    let mut view = MemoryView { events };
-    let index = Index::build(alloc, &mut view, program, &mut steps)?;
-    let text = all_lines(alloc, program, &mut view, &index, coverage, &mut steps)?;
-    Ok(text)
-}
-
-/// The lines of all that can be asked.
-fn all_lines<V: EventView, L: Ledger>(
-    alloc: Global,
-    program: &Program,
-    view: &mut V,
-    index: &Index,
-    coverage: &[Cover],
-    steps: &mut Steps<L>,
-) -> Result<Vec<u8>, ViewError>
-    requires index { IsIndexOfView index.now (V.tells view.old) }
-    ensures lines { (rs : List Recorded) → (V.tells view.old).records ≡ Some rs
-        → IfOk result (λ text. text.items ≡ questions_text (program_of program.now)
-        program.now.lines.items rs coverage.now) }
-    ensures keeps { Keeps (V.tells view.old) (V.tells view.new) }
-    ensures answers { KeepsCounts result (V.tells view.old) (V.tells view.new) }
-{
-    let listed = questions(alloc, program, view, index, coverage, steps)?;
-    let text = listed_lines(alloc, program, view, listed.as_slice(), steps)?;
-    Ok(text)
+    let listed = questions(alloc, opened, &mut steps)?;
+    let Opened { program, view, .. } = opened;
+    listed_lines(alloc, program, view, listed.as_slice(), &mut steps)
 }
 
 fn listed_lines<V: EventView, L: Ledger>(

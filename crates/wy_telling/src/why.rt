@@ -1,22 +1,20 @@
 //! All that an event comes from, line by line.
 
-ghost use Rattle.std.specs.Prelude.{◌≡◌, ◌++◌, ◌∷◌, ◌<◌, ◌^◌, ℕ, List, Some, IfOk, filter, length, map};
+ghost use Rattle.std.specs.Prelude.{◌≡◌, ◌∷◌, ◌<◌, ℕ, List, None, Some, IfOk, filter, map};
+ghost use Rattle.wy_ask.specs.Opened.{IsOpenedOf};
 ghost use Rattle.wy_ask.specs.Questions.{asked};
 ghost use Rattle.wy_event.specs.Numbers.{Numbers};
 ghost use Rattle.wy_event.specs.Record.{Recorded, recorded};
-ghost use Rattle.wy_index.specs.Index.{IsIndexOfView};
 ghost use Rattle.wy_kernel.specs.Parts.{program_of};
-ghost use Rattle.wy_telling.specs.Why.{IsOfProgram, TellsOf, TellsWhy, marked_lines, why_text};
-ghost use Rattle.wy_view.specs.References.{AllRefersBelow};
+ghost use Rattle.wy_telling.specs.Why.{TellsOf, TellsWhy, marked_lines, why_text};
 ghost use Rattle.wy_view.specs.View.{KeepsCounts, Keeps};
+ghost use Rattle.wy_view.specs.Whole.{whole};
 ghost use Rattle.wy_why.specs.Answer.{Rises};
 
 use std::alloc::Global;
 use std::marker::Brand;
 use std::sync::ledger::{Blank, Ledger};
-use wy_ask::{AskError, Question, read_question, resolve};
-use wy_event::record::Event;
-use wy_index::Index;
+use wy_ask::{AskError, Opened, Question, read_question, resolve};
 use wy_kernel::program::Program;
 use wy_text::put_event_line;
 use wy_view::{EventView, MemoryView, Steps, ViewError};
@@ -25,45 +23,35 @@ use wy_why::{Answer, why};
 /// The answer to a question about a trace: a line for each event, with a star where it is of the data.
 pub fn why_text(
     alloc: Global,
-    program: &Program,
-    events: Vec<Event>,
+    opened: &mut Opened<'_, MemoryView>,
     question: &str,
 ) -> Result<Vec<u8>, AskError>
-    requires fields { length program.now.fields.items < 2 ^ 32 }
-    requires few { length events.items < 2 ^ 32 }
-    requires refer_below { AllRefersBelow events.items }
-    ensures { TellsWhy (program_of program.now) program.now.lines.items
-        (map recorded events.items) question.now result }
+    requires { IsOpenedOf (whole opened.old.view.events.items None) opened.old }
+    ensures { TellsWhy (program_of opened.old.program.now) opened.old.program.now.lines.items
+        (map recorded opened.old.view.events.items) question.now result }
 {
     let question = read_question(alloc, question)?;
-    why_asked::<Brand>(alloc, program, events, &question, Blank::new(1))
+    why_asked::<Brand>(alloc, opened, &question, Blank::new(1))
 }
 
 /// The answer to a question that is read, with a ledger for the steps, which nobody reads.
 /// Events in memory refuse for want of memory alone.
 fn why_asked<L: Ledger>(
     alloc: Global,
-    program: &Program,
-    events: Vec<Event>,
+    opened: &mut Opened<'_, MemoryView>,
     question: &Question,
     blank: Blank,
 ) -> Result<Vec<u8>, AskError>
-    requires fields { length program.now.fields.items < 2 ^ 32 }
-    requires few { length events.items < 2 ^ 32 }
-    requires refer_below { AllRefersBelow events.items }
+    requires opened { IsOpenedOf (whole opened.old.view.events.items None) opened.old }
     requires name { blank.name ≡ L.name }
     requires parts { blank.parts ≡ L.parts }
     requires some { 0 < blank.parts }
-    ensures { TellsOf (program_of program.now) program.now.lines.items
-        (map recorded events.items) (asked question.now) result }
+    ensures { TellsOf (program_of opened.old.program.now) opened.old.program.now.lines.items
+        (map recorded opened.old.view.events.items) (asked question.now) result }
 {
     let mut steps = Steps::<L>::new(blank);
-    let mut view = MemoryView { events };
-    let Ok(index) = Index::build(alloc, &mut view, program, &mut steps) else {
-        return Err(AskError::NoMemory);
-    };
-    let event = resolve(question, program, &index, view.count(), &mut steps)?;
-    let Ok(text) = event_lines(alloc, program, &mut view, &index, event, &mut steps) else {
+    let event = resolve(question, opened, &mut steps)?;
+    let Ok(text) = event_lines(alloc, opened, event, &mut steps) else {
         return Err(AskError::NoMemory);
     };
     Ok(text)
@@ -72,22 +60,18 @@ fn why_asked<L: Ledger>(
 /// The lines of all that an event comes from.
 fn event_lines<V: EventView, L: Ledger>(
     alloc: Global,
-    program: &Program,
-    view: &mut V,
-    index: &Index,
+    opened: &mut Opened<'_, V>,
     event: u32,
     steps: &mut Steps<L>,
 ) -> Result<Vec<u8>, ViewError>
-    requires there { event < (V.tells view.old).count }
-    requires index { IsIndexOfView index.now (V.tells view.old) }
-    ensures lines { (rs : List Recorded) → (V.tells view.old).records ≡ Some rs
-        → IsOfProgram (program_of program.now) index.now → IfOk result (λ text. text.items
-        ≡ why_text (program_of program.now) program.now.lines.items rs event) }
-    ensures keeps { Keeps (V.tells view.old) (V.tells view.new) }
-    ensures answers { KeepsCounts result (V.tells view.old) (V.tells view.new) }
+    requires opened { IsOpenedOf (V.tells opened.old.view) opened.old }
+    requires there { event < (V.tells opened.old.view).count }
+    ensures { (rs : List Recorded) → (V.tells opened.old.view).records ≡ Some rs
+        → IfOk result (λ text. text.items ≡ why_text (program_of opened.old.program.now)
+        opened.old.program.now.lines.items rs event) }
 {
-    let answer = why(alloc, view, index, event, steps)?;
-    answer_lines(alloc, program, view, &answer, steps)
+    let answer = why(alloc, &mut opened.view, &opened.index, event, steps)?;
+    answer_lines(alloc, opened.program, &mut opened.view, &answer, steps)
 }
 
 /// The lines of an answer's events, with a star on those of the data.

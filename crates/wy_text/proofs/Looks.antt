@@ -13,7 +13,7 @@ use Rattle.wy_view.specs.References.{RefersBelow, SlotBelow, ValueBelow}
 use Rattle.wy_text.specs.EventLines.{deed, deed_of, event_line, given, line_at, line_with}
 use Rattle.wy_text.specs.Names.{made_name, numbered}
 use Rattle.wy_text.specs.Places.{begun, frame_body, local_name, slot_text}
-use Rattle.wy_text.specs.Values.{value_text, what_of}
+use Rattle.wy_text.specs.Values.{value_text, entity_of}
 
 pub told_record : (told : Option (List Recorded)) (rs : List Recorded) (n : ℕ) (e : Recorded) → told ≡ Some rs → IfSome told (λ all. slice_get all n ≡ Some e) → slice_get rs n ≡ Some e
 told_record told rs n e is at = subst (λ o. IfSome o (λ all. slice_get all n ≡ Some e)) is at
@@ -28,14 +28,14 @@ pub local_read : (p : Program) (rs : List Recorded) (frame index : ℕ) (e : Rec
 unfolding slot_text
 local_read p rs frame index e k entity at is about = ap (λ b. local_name b index) (frame_read p (slice_get rs frame) e k entity at is about)
 
-what_read : (o : Option Recorded) (e : Recorded) (entity : Option ℕ) → o ≡ Some e → entity ≡ e.entity → entity ≡ what_of o
-unfolding what_of
-what_read o e entity at about = about ∙ sym (ap what_of at)
+entity_read : (o : Option Recorded) (e : Recorded) (entity : Option ℕ) → o ≡ Some e → entity ≡ e.entity → entity ≡ entity_of o
+unfolding entity_of
+entity_read o e entity at about = about ∙ sym (ap entity_of at)
 
 -- an object by what the record of its New says
 pub object_read : (p : Program) (rs : List Recorded) (n : ℕ) (e : Recorded) (entity : Option ℕ) → slice_get rs n ≡ Some e → entity ≡ e.entity → made_name p entity ++ numbered n ≡ value_text p rs (value.Object n)
 unfolding value_text
-object_read p rs n e entity at about = ap (λ o. made_name p o ++ numbered n) (what_read (slice_get rs n) e entity at about)
+object_read p rs n e entity at about = ap (λ o. made_name p o ++ numbered n) (entity_read (slice_get rs n) e entity at about)
 
 -- ---- to what a line refers
 

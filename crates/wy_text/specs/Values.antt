@@ -41,9 +41,9 @@ unfoldable pub units_of : Option Recorded → List ℕ
 units_of Absent = []
 units_of (Some e) = e.units
 
-unfoldable pub what_of : Option Recorded → Option ℕ
-what_of Absent = Absent
-what_of (Some e) = e.entity
+unfoldable pub entity_of : Option Recorded → Option ℕ
+entity_of Absent = Absent
+entity_of (Some e) = e.entity
 
 -- a number, a boolean or null as its text, and nothing where there is no value
 unfoldable pub plain_text : Value → List ℕ
@@ -65,5 +65,5 @@ own_text p v = plain_text v
 -- an object by its type, which stands in the record of its New, and its number
 unfoldable pub value_text : Program → List Recorded → Value → List ℕ
 value_text p records (Text n) = quoted (units_of (slice_get records n))
-value_text p records (Object n) = made_name p (what_of (slice_get records n)) ++ numbered n
+value_text p records (Object n) = made_name p (entity_of (slice_get records n)) ++ numbered n
 value_text p records v = own_text p v

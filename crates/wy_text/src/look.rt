@@ -3,7 +3,7 @@
 ghost use Rattle.std.specs.Prelude.{◌≡◌, ◌+◌, ◌++◌, ◌<◌, ℕ, List, Some, IfOk, OnOk, slice_get};
 ghost use Rattle.wy_event.specs.Record.{Recorded, recorded};
 ghost use Rattle.wy_kernel.specs.View.{present};
-ghost use Rattle.wy_text.specs.Values.{quoted, units_of, what_of};
+ghost use Rattle.wy_text.specs.Values.{quoted, units_of, entity_of};
 ghost use Rattle.wy_view.specs.View.{KeepsCounts, IsRecordOf, Keeps};
 
 use crate::quote::put_quoted;

@@ -24,7 +24,7 @@ use Rattle.wy_top.specs.Answers.{Counts, counts, IsAnswer, IsFault, Knows}
 use Rattle.wy_top.specs.Call.{Traced, Traces}
 use Rattle.wy_top.specs.Due.{Due, DueFor, DueForRun, DueForBytes, DueForTrace, DueTo}
 use Rattle.wy_top.specs.Due as due
-use Rattle.wy_top.specs.Held.{trace_limit}
+use Rattle.wy_kernel.specs.Limits.{trace_limit}
 use Rattle.wy_top.specs.Reads.{GivesBoth, GivesFile, LacksEither, Tells, is_fault}
 use Rattle.wy_top.specs.Replies.{AnswersBy, RecordsSource, TracesSource}
 use Rattle.wy_top.proofs.ErrorDues.{Refuses}
@@ -200,3 +200,12 @@ pub traces_due : AskOneCommand → (s : Spelling) (words : List (List ℕ)) (hel
     IfOk r (λ answer. answer.status ≡ Done → (files : Files) → held ≡ Some files → Traced s files a old new) → IfOk r (λ answer. answer.status ≡ Done → Traces s words held old new)
 traces_due one s words held a trace old new (Ok answer) asks traced = λ done. traces_of one s words held a trace old new asks (traced done)
 traces_due one s words held a trace old new (Err e) asks traced = tt
+
+pub traces_other : AskOneCommand → (s : Spelling) (words : List (List ℕ)) (held : Option Files) (c : Command) (old new : Mirrors) (r : Result Answer AllocError) → Asks words c →
+    ((a : Asked) (trace : List ℕ) → c ≡ Record a trace → ⊥) → IfOk r (λ answer. answer.status ≡ Done → Traces s words held old new)
+traces_other one s words held c old new (Ok answer) asks other = λ done a trace files also told. absurd (other a trace (one words c (Record a trace) asks also))
+traces_other one s words held c old new (Err e) asks other = tt
+
+pub traces_none : (s : Spelling) (words : List (List ℕ)) (held : Option Files) (old new : Mirrors) (r : Result Answer AllocError) → IsNoCommand words → IfOk r (λ answer. answer.status ≡ Done → Traces s words held old new)
+traces_none s words held old new (Ok answer) none = λ done a trace files also told. absurd (none (Record a trace) also)
+traces_none s words held old new (Err e) none = tt

@@ -39,6 +39,30 @@ fault_at TooLong e = absurd cc
 fault_at NoMemory e = absurd cc
 fault_at Audit e = absurd cc
 
+pub too_long_at : (s : Status) → code_of s ≡ 8 → s ≡ TooLong
+too_long_at Done e = absurd cc
+too_long_at Usage e = absurd cc
+too_long_at Absent e = absurd cc
+too_long_at Program e = absurd cc
+too_long_at Trace e = absurd cc
+too_long_at Question e = absurd cc
+too_long_at Fault e = absurd cc
+too_long_at TooLong e = refl
+too_long_at NoMemory e = absurd cc
+too_long_at Audit e = absurd cc
+
+usage_at : (s : Status) → code_of s ≡ 2 → s ≡ Usage
+usage_at Done e = absurd cc
+usage_at Usage e = refl
+usage_at Absent e = absurd cc
+usage_at Program e = absurd cc
+usage_at Trace e = absurd cc
+usage_at Question e = absurd cc
+usage_at Fault e = absurd cc
+usage_at TooLong e = absurd cc
+usage_at NoMemory e = absurd cc
+usage_at Audit e = absurd cc
+
 -- ---- what is written
 
 pub written_due : (words : List (List ℕ)) (held : Option Files) (keys : Option (List ℕ)) (old new : Counts) (n m : ℕ) (before after : Option (List ℕ)) (answer : Answer) (status : Status) (code : ℕ) → IsAnswer words held keys old new answer →
@@ -78,6 +102,11 @@ pub answered_done : (n m : ℕ) (before after : Option (List ℕ)) (answer : Ans
 answered_done n m before after answer status code (inl (same, kept, all)) is zero = sym same ∙ done_at status (sym is ∙ zero)
 answered_done n m before after answer status code (inr (inl (fault, rose, part))) is zero = absurd (let x = sym (done_at status (sym is ∙ zero)) ∙ fault in cc)
 answered_done n m before after answer status code (inr (inr (memory, kept, part))) is zero = absurd (let x = sym (done_at status (sym is ∙ zero)) ∙ memory in cc)
+
+pub answered_usage : (n m : ℕ) (before after : Option (List ℕ)) (answer : Answer) (status : Status) (code : ℕ) → Delivers answer status n m before after → code ≡ code_of status → code ≡ 2 → answer.status ≡ Usage
+answered_usage n m before after answer status code (inl (same, kept, all)) is two = sym same ∙ usage_at status (sym is ∙ two)
+answered_usage n m before after answer status code (inr (inl (fault, rose, part))) is two = absurd (let x = sym (usage_at status (sym is ∙ two)) ∙ fault in cc)
+answered_usage n m before after answer status code (inr (inr (memory, kept, part))) is two = absurd (let x = sym (usage_at status (sym is ∙ two)) ∙ memory in cc)
 
 pub fault_cause : (X : Type 0) (old new : Counts) (n m : ℕ) (before after : Option (List ℕ)) (answer : Answer) (status : Status) (code : ℕ) → (answer.status ≡ Fault → IsFault old new answer) → Delivers answer status n m before after →
     code ≡ code_of status → code ≡ 7 → Rose old.shelf new.shelf ⊎ Rose old.recorder new.recorder ⊎ Rose n m ⊎ X

@@ -9,13 +9,13 @@ use Rattle.wy_outside.specs.Shelf.{Files}
 use Rattle.wy_record.specs.declared.recorder.Phase.{Phase}
 use Rattle.wy_record.specs.declared.recorder.Phase.TheVariants as phase
 use Rattle.wy_record.specs.Recorders.{Mirrors}
-use Rattle.wy_words.specs.Words.{AskOneCommand, Asked, Asks, Record}
+use Rattle.wy_words.specs.Words.{AskOneCommand, Asked, Asks, Command, IsNoCommand, Record}
 use Rattle.wy_reply.specs.declared.answer.Answer.{Answer}
 use Rattle.wy_reply.specs.declared.status.Status.TheVariants as status
 use Rattle.wy_reply.specs.Recordings.{HoldByPhase, RecordsAs, Spelling}
 use Rattle.wy_top.specs.declared.files.Contents.{Contents}
 use Rattle.wy_top.specs.Left.{IsSettled, Leaves, LeavesSource, LeftFor}
-use Rattle.wy_top.specs.Programs.{IsProgramOf}
+use Rattle.wy_program.specs.Programs.{IsProgramOf}
 use Rattle.wy_top.specs.Reads.{GivesBoth}
 
 -- ---- where the recorder was not started
@@ -77,3 +77,11 @@ pub leaves : AskOneCommand → (s : Spelling) (words : List (List ℕ)) (held : 
     ((files : Files) → held ≡ Some files → LeftFor s files a at old new) → Leaves s words held at old new
 leaves one s words held a trace at old new asks left = λ b name files also told.
     subst (λ (z : Asked). LeftFor s files z at old new) (same_asked a b trace name (one words (Record a trace) (Record b name) asks also)) (left files told)
+
+-- words that ask for something else ask to record no run
+pub leaves_other : AskOneCommand → (s : Spelling) (words : List (List ℕ)) (held : Option Files) (c : Command) (at : Phase) (old new : Mirrors) → Asks words c →
+    ((a : Asked) (trace : List ℕ) → c ≡ Record a trace → ⊥) → Leaves s words held at old new
+leaves_other one s words held c at old new asks other = λ a trace files also told. absurd (other a trace (one words c (Record a trace) asks also))
+
+pub leaves_none : (s : Spelling) (words : List (List ℕ)) (held : Option Files) (at : Phase) (old new : Mirrors) → IsNoCommand words → Leaves s words held at old new
+leaves_none s words held at old new none = λ a trace files also told. absurd (none (Record a trace) also)

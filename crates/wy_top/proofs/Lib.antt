@@ -1,5 +1,4 @@
 pub mod FileReads
-pub mod Sources
 pub mod ErrorDues
 pub mod Replies
 pub mod AnswerLemmas

@@ -13,7 +13,7 @@ use Rattle.wy_syntax.specs.Declarations.{unit}
 use Rattle.wy_elab_stmt.specs.Elaborates.{Elaborates, OneElaboration}
 use Rattle.wy_top.specs.Causes.{IsNoProgram, IsSyntaxLine, not_utf8_line, fault_line, rule_line, not_utf8, refused, syntax, broken}
 use Rattle.wy_top.specs.Due.{DueFor, no_program, program}
-use Rattle.wy_top.specs.Programs.{Becomes, HasTree, IsProgramOf, unplaced}
+use Rattle.wy_program.specs.Programs.{Becomes, HasTree, IsProgramOf, unplaced}
 
 -- what is known of texts, tokens and programs
 pub record Known : Type 0 where

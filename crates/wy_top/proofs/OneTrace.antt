@@ -37,7 +37,7 @@ use Rattle.wy_session.specs.Talk.{Talks}
 use Rattle.wy_reply.specs.Tellings.{IsTraceLine, Wanted, Tells, DueUnder, covers_of, cut, damaged, bad_seal, output, questions, why, whynot, audit, explore, refused, told, why_status, why_answer, whynot_status, whynot_answer, audit_status, audit_line}
 use Rattle.wy_top.specs.Causes.{IsNoProgram, IsSyntaxLine}
 use Rattle.wy_top.specs.Due.{DueForBytes, no_head, no_program, program}
-use Rattle.wy_top.specs.Programs.{IsProgramOf}
+use Rattle.wy_program.specs.Programs.{IsProgramOf}
 use Rattle.wy_top.proofs.OneText.{Known, SameLines, one_cause, one_program, program_or_cause}
 
 -- what is known of traces

@@ -1,5 +1,5 @@
 -- What the opening of a trace comes to.
-use Rattle.std.proofs.Common.{◌≡◌, ◌∙◌, sym, ap, subst, refl, inl, inr, ℕ, true, false, List, Option, Some, None, Result, Ok, Err, IfOk, Vec, Global}
+use Rattle.std.proofs.Common.{◌≡◌, ◌∙◌, sym, ap, subst, refl, inl, inr, ℕ, ◌≤◌, true, false, List, length, Option, Some, None, Result, Ok, Err, IfOk, Vec, Global}
 use Rattle.std.specs.Prelude.{MatchBool}
 use Rattle.std.specs.declared.alloc.AllocError.{AllocError}
 use Rattle.wy_kernel.specs.declared.program.Program.{Program}
@@ -10,16 +10,23 @@ use Rattle.wy_event.specs.declared.record.Cover.{Cover}
 use Rattle.wy_frames.specs.Heads.{GivesDue, head_of}
 use Rattle.wy_frames.specs.Traces.{IsReadAs, ReadsAs}
 use Rattle.wy_frames.specs.declared.error.TraceError.{TraceError}
+use Rattle.law_reading.specs.Spelled.{AreBytes}
 use Rattle.wy_outside.specs.Counts.{Rose}
 use Rattle.wy_outside.specs.Shelf.{Files}
-use Rattle.wy_session.specs.Desk.{scene_of}
+use Rattle.wy_view.specs.View.{Keeps}
+use Rattle.wy_view.specs.Whole.{whole}
+use Rattle.wy_view.specs.declared.memory.MemoryView.{MemoryView}
+use Rattle.wy_ask.specs.declared.opened.Opened.{Opened}
+use Rattle.wy_session.specs.Desk.{scene_in, scene_of}
 use Rattle.wy_session.specs.Closings.{Closed, TakesManyFor, failures}
 use Rattle.wy_session.specs.declared.ending.Ending.{Ending}
 use Rattle.wy_reply.specs.declared.answer.Answer.{Answer}
 use Rattle.wy_reply.specs.declared.status.Status.{Status}
-use Rattle.wy_reply.specs.declared.status.Status.TheVariants.{Absent, Fault, TooLong, Usage}
+use Rattle.wy_reply.specs.declared.status.Status.TheVariants.{Absent, Done, Fault, TooLong, Usage}
 use Rattle.wy_reply.specs.Lines.{absent_line, too_long_line}
 use Rattle.wy_reply.specs.Statuses.{code_of, is_of_files}
+use Rattle.wy_reply.specs.Opening.{IsDecoded, IsOpenedTrace}
+use Rattle.wy_reply.proofs.Opening.{opened_trace}
 use Rattle.wy_reply.specs.Tellings as tellings
 use Rattle.wy_reply.specs.Tellings.{IsTraceLine, Wanted, covers_of}
 use Rattle.wy_top.specs.declared.files.FileError.{FileError}
@@ -29,9 +36,10 @@ use Rattle.wy_top.specs.declared.opening.Opening.TheVariants.{Open, Refused}
 use Rattle.wy_top.specs.Call.{IsOpened}
 use Rattle.wy_top.specs.Due.{DueForBytes, DueForTrace}
 use Rattle.wy_top.specs.Due as due
-use Rattle.wy_top.specs.Held.{trace_limit}
+use Rattle.wy_kernel.specs.Limits.{trace_limit}
 use Rattle.wy_top.specs.Openings.{AnswersAny, Explores, IsSettled, Keys, OpensBytes, OpensFile, OpensUnder, Output, RefusesUnder, session, status_of}
-use Rattle.wy_top.specs.Programs.{IsProgramOf}
+use Rattle.wy_program.specs.Programs.{IsProgramOf}
+use Rattle.wy_program.specs.declared.typed.TypedProgram.{TypedProgram}
 use Rattle.wy_top.specs.Reads.{GivesFile, Tells, is_absent, is_fault, is_too_long}
 use Rattle.wy_top.specs.Replies.{HasCause, ShelfCounts}
 use Rattle.wy_top.proofs.Replies.{no_head_due}
@@ -54,9 +62,13 @@ refused_due source bytes w head end answer at same (inl (refused, (line, none, s
 refused_due source bytes w head end answer at same (inr (p, e, is, read, h)) =
     rw (h.0) (due.program head end p 5 answer.text.items at (rw (same) at is) (tellings.refused e answer.text.items read h.1))
 
+not_done : (source bytes : List ℕ) (answer : Answer) → RefusesUnder source bytes answer → answer.status ≡ Done → ⊥
+not_done source bytes answer (inl (refused, rest)) done = let x = sym refused ∙ done in cc
+not_done source bytes answer (inr (p, e, is, read, h)) done = let x = sym h.0 ∙ done in cc
+
 opens : (source bytes : List ℕ) (head : Head) (end : ℕ) (o : Opening) → head_of bytes ≡ Ok (head, end) → source ≡ head.source → OpensUnder source bytes o → OpensBytes bytes o
-opens source bytes head end (Open p t) at same (is, read) = (head, end, at, rw (same) at is, read)
-opens source bytes head end (Refused answer) at same h = λ w. refused_due source bytes w head end answer at same h
+opens source bytes head end (Open typed t) at same (is, read) = (head, end, at, rw (same) at is, read)
+opens source bytes head end (Refused answer) at same h = (not_done source bytes answer h, λ w. refused_due source bytes w head end answer at same h)
 
 pub opened_by_head : (source bytes : List ℕ) (head : Head) (end : ℕ) (r : Result Opening AllocError) → head_of bytes ≡ Ok (head, end) → source ≡ head.source →
     IfOk r (OpensUnder source bytes) → IfOk r (OpensBytes bytes)
@@ -67,7 +79,17 @@ abbrev unread : TraceError → Result (Head × ℕ) TraceError
 unread e = Err e
 
 pub no_head_any : (bytes : List ℕ) (e : TraceError) (answer : Answer) → GivesDue (unread e) (head_of bytes) → tellings.RefusesTrace e answer → OpensBytes bytes (Refused answer)
-no_head_any bytes e answer is h = λ w. no_head_due bytes w e (Ok answer) is h
+no_head_any bytes e answer is h = (λ done. (let x = sym h.0 ∙ done in cc), λ w. no_head_due bytes w e (Ok answer) is h)
+
+-- ---- what is told of it
+
+pub is_decoded : (bytes : List ℕ) (typed : TypedProgram) (t : Trace) → AreBytes bytes → length bytes ≤ trace_limit → OpensBytes bytes (Open typed t) → IsDecoded typed.program bytes t
+is_decoded bytes typed t are short (head, end, at, is, read) = record { are_bytes = are; short = short; reads = read }
+
+pub opened_due : (bytes : List ℕ) (w : Wanted) (typed : TypedProgram) (t : Trace) (r : Result Answer AllocError) → OpensBytes bytes (Open typed t) → IfOk r (λ answer. tellings.DueUnder typed.program bytes w (code_of answer.status) answer.text.items)
+    → IfOk r (λ answer. DueForBytes bytes w (code_of answer.status) answer.text.items)
+opened_due bytes w typed t (Ok answer) (head, end, at, is, read) h = due.program head end typed.program (code_of answer.status) answer.text.items at is h
+opened_due bytes w typed t (Err x) opens h = tt
 
 -- ---- in its file
 
@@ -81,23 +103,23 @@ caused before after answer settled = record {
   command = λ is. not_of_files answer.status Usage settled refl is;
 }
 
-opened_at : (held : Option Files) (name : List ℕ) (bytes : Vec ℕ Global) (p : Program) (t : Trace) → GivesFile held name trace_limit (Ok bytes) → OpensBytes bytes.items (Open p t) →
-    (files : Files) → held ≡ Some files → IsOpened files name p t
-opened_at None name bytes p t gives o files told = absurd (cc)
-opened_at (Some shelf) name bytes p t gives (head, end, at, is, read) files told =
+opened_at : (held : Option Files) (name : List ℕ) (bytes : Vec ℕ Global) (typed : TypedProgram) (t : Trace) → GivesFile held name trace_limit (Ok bytes) → OpensBytes bytes.items (Open typed t) →
+    (files : Files) → held ≡ Some files → IsOpened files name typed.program t
+opened_at None name bytes typed t gives o files told = absurd (cc)
+opened_at (Some shelf) name bytes typed t gives (head, end, at, is, read) files told =
     let same : shelf ≡ files = cc in
-    subst (λ (f : Files). IsOpened f name p t) same (record { bytes = bytes.items; holds = gives; head = head; end = end; is_head = at; is_program = is; is_read = read })
+    subst (λ (f : Files). IsOpened f name typed.program t) same (record { bytes = bytes.items; holds = gives; head = head; end = end; is_head = at; is_program = is; is_read = read })
 
 refused_at : (held : Option Files) (name : List ℕ) (bytes : Vec ℕ Global) (answer : Answer) → GivesFile held name trace_limit (Ok bytes) → OpensBytes bytes.items (Refused answer) →
     (w : Wanted) (files : Files) → held ≡ Some files → DueForTrace files name w (code_of answer.status) answer.text.items
 refused_at None name bytes answer gives o w files told = absurd (cc)
 refused_at (Some shelf) name bytes answer gives o w files told =
     let same : shelf ≡ files = cc in
-    subst (λ (f : Files). DueForTrace f name w (code_of answer.status) answer.text.items) same (due.read bytes.items (code_of answer.status) answer.text.items gives (o w))
+    subst (λ (f : Files). DueForTrace f name w (code_of answer.status) answer.text.items) same (due.read bytes.items (code_of answer.status) answer.text.items gives (o.1 w))
 
 in_file : (held : Option Files) (name : List ℕ) (bytes : Vec ℕ Global) (before after : ShelfCounts) (o : Opening) → GivesFile held name trace_limit (Ok bytes) → after.faults ≡ before.faults →
     OpensBytes bytes.items o → IsSettled o → OpensFile held name before after o
-in_file held name bytes before after (Open p t) gives same o settled = (settled.0, settled.1, same, opened_at held name bytes p t gives o)
+in_file held name bytes before after (Open typed t) gives same o settled = (settled, same, opened_at held name bytes typed t gives o)
 in_file held name bytes before after (Refused answer) gives same o settled =
     (caused before after answer settled, inr (same, not_of_files answer.status Fault settled refl, refused_at held name bytes answer gives o))
 
@@ -143,8 +165,10 @@ lacking_file held name e before after answer gives fault absent long tells = (la
 
 -- ---- a session over it
 
-pub session_explores : (held : Option Files) (name : List ℕ) (sb sa : ShelfCounts) (kb ka : Keys) (b a : Output) (p : Program) (t : Trace) (events : List Event) (covers : List Cover) (e : Ending) (s : Status) → OpensFile held name sb sa (Open p t) →
-    events ≡ t.events → covers ≡ covers_of t → s ≡ status_of e → Closed (scene_of p events covers) kb.left (failures kb.faults ka.faults b.faults a.faults) b.written a.written e →
-    TakesManyFor e kb.taken ka.taken → Explores held name sb sa kb ka b a s
-session_explores held name sb sa kb ka b a p t events covers e s o listed covered is closed takes =
-    subst (Explores held name sb sa kb ka b a) (sym is) (session p t e o.2 o.3 (rw (listed, covered) at closed) takes)
+pub session_explores : (held : Option Files) (name : List ℕ) (sb sa : ShelfCounts) (kb ka : Keys) (b a : Output) (typed : TypedProgram) (t : Trace) (o : Opened MemoryView) (events : List Event) (covers : List Cover) (e : Ending) (s : Status) → OpensFile held name sb sa (Open typed t) →
+    events ≡ t.events → covers ≡ covers_of t → o.program.now ≡ typed.program → o.coverage.now ≡ covers → Keeps (whole events None) (whole o.view.events.items None) → s ≡ status_of e →
+    Closed (scene_in o) kb.left (failures kb.faults ka.faults b.faults a.faults) b.written a.written e → TakesManyFor e kb.taken ka.taken → Explores held name sb sa kb ka b a s
+session_explores held name sb sa kb ka b a typed t o events covers e s opens listed covered program held_covers keeps is closed takes =
+    let opened : IsOpenedTrace t o = opened_trace t o events covers listed covered keeps held_covers in
+    let scene : scene_in o ≡ scene_of typed.program t.events (covers_of t) = rw (program, opened.events, opened.covers) refl in
+    subst (Explores held name sb sa kb ka b a) (sym is) (session typed.program t e opens.1 opens.2 (subst (λ x. Closed x kb.left (failures kb.faults ka.faults b.faults a.faults) b.written a.written e) scene closed) takes)

@@ -34,8 +34,8 @@ use Rattle.wy_spelling.specs.Spelling.{run_bytes}
 use Rattle.wy_reply.proofs.Carrying.{all_told}
 use Rattle.wy_reply.specs.Recordings.{IsTraceOf, trace_spelling}
 use Rattle.wy_top.specs.OwnTraces.{IsReadAsRun, IsRecorded, RecordedTracesAreNotRefused, RecordedTracesAreRead}
-use Rattle.wy_top.specs.Programs.{IsProgramOf}
-use Rattle.wy_top.proofs.Sources.{few_tokens}
+use Rattle.wy_program.specs.Programs.{IsProgramOf}
+use Rattle.wy_program.proofs.Sources.{few_tokens}
 
 -- what is known of texts, of their programs and of own traces
 pub record Laws : Type 0 where

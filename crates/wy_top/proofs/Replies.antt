@@ -15,13 +15,13 @@ use Rattle.wy_reply.specs.Recordings.{Spelling, RecordsAs}
 use Rattle.wy_reply.specs.Report.{recorded_report}
 use Rattle.wy_reply.specs.Statuses.{code_of, is_of_files}
 use Rattle.wy_reply.specs.Tellings as tellings
-use Rattle.wy_reply.specs.Tellings.{DueUnder, IsTraceLine, Wanted}
-use Rattle.wy_top.specs.declared.reading.FrontError.{FrontError}
+use Rattle.wy_reply.specs.Tellings.{IsTraceLine, Wanted}
+use Rattle.wy_program.specs.declared.source.SourceError.{SourceError}
 use Rattle.wy_top.specs.Due.{DueFor, DueForBytes}
 use Rattle.wy_top.specs.Due as due
-use Rattle.wy_top.specs.Fronts.{IsCauseOf}
-use Rattle.wy_top.specs.Programs.{IsProgramOf}
-use Rattle.wy_top.specs.Replies.{AnswersUnder, RecordsSource, RefusesSource, RefusesTrace}
+use Rattle.wy_program.specs.Sources.{IsCauseOf}
+use Rattle.wy_program.specs.Programs.{IsProgramOf}
+use Rattle.wy_top.specs.Replies.{RecordsSource, RefusesSource}
 
 -- the text of a source's program
 program_due : (source : List ℕ) (told : Program → List ℕ → List ℕ) (p : memory.Program) → IsProgramOf source p → DueFor source told 0 (told (program_of p) p.lines.items)
@@ -32,7 +32,7 @@ pub run_due : (source : List ℕ) (told : Program → List ℕ → List ℕ) (p 
 run_due source told p (Ok answer) is done text = rw (done, text) (program_due source told p is)
 run_due source told p (Err x) is done text = tt
 
-pub error_due : (source : List ℕ) (told : Program → List ℕ → List ℕ) (e : FrontError) (r : Result Answer AllocError) → IsCauseOf source e → IfOk r (λ answer. RefusesSource e answer) →
+pub error_due : (source : List ℕ) (told : Program → List ℕ → List ℕ) (e : SourceError) (r : Result Answer AllocError) → IsCauseOf source e → IfOk r (λ answer. RefusesSource e answer) →
     IfOk r (λ answer. DueFor source told (code_of answer.status) answer.text.items)
 error_due source told e (Ok answer) cause h = rw (h.0) (due.no_program answer.text.items (h.1 source cause))
 error_due source told e (Err x) cause h = tt
@@ -55,40 +55,20 @@ pub recorded_due : (s : Spelling) (source input : List ℕ) (steps : ℕ) (p : m
 recorded_due s source input steps p head old new n m (Ok answer) is text given budget h = record_due s source input steps p head old new n m answer is text given budget h
 recorded_due s source input steps p head old new n m (Err x) is text given budget h = tt
 
-unrecorded : (s : Spelling) (source input : List ℕ) (steps : ℕ) (e : FrontError) (old : Mirrors) (n : ℕ) (answer : Answer) → IsCauseOf source e → RefusesSource e answer →
+unrecorded : (s : Spelling) (source input : List ℕ) (steps : ℕ) (e : SourceError) (old : Mirrors) (n : ℕ) (answer : Answer) → IsCauseOf source e → RefusesSource e answer →
     RecordsSource s source input steps old old n n answer
 unrecorded s source input steps e old n answer cause h =
     inr (refl, ap is_of_files h.0, rw (h.0) (due.no_program answer.text.items (h.1 source cause)), λ done. absurd (let x = sym h.0 ∙ done in cc))
 
-pub unrecorded_due : (s : Spelling) (source input : List ℕ) (steps : ℕ) (e : FrontError) (old : Mirrors) (n : ℕ) (r : Result Answer AllocError) → IsCauseOf source e → IfOk r (λ answer. RefusesSource e answer) →
+pub unrecorded_due : (s : Spelling) (source input : List ℕ) (steps : ℕ) (e : SourceError) (old : Mirrors) (n : ℕ) (r : Result Answer AllocError) → IsCauseOf source e → IfOk r (λ answer. RefusesSource e answer) →
     IfOk r (λ answer. RecordsSource s source input steps old old n n answer)
 unrecorded_due s source input steps e old n (Ok answer) cause h = unrecorded s source input steps e old n answer cause h
 unrecorded_due s source input steps e old n (Err x) cause h = tt
 
 -- ---- traces
 
-pub under : (source bytes : List ℕ) (w : Wanted) (p : memory.Program) (r : Result Answer AllocError) → IsProgramOf source p → IfOk r (λ answer. DueUnder p bytes w (code_of answer.status) answer.text.items) →
-    IfOk r (λ answer. AnswersUnder source bytes w answer)
-under source bytes w p (Ok answer) is h = inr (p, is, h)
-under source bytes w p (Err x) is h = tt
-
-pub under_none : (source bytes : List ℕ) (w : Wanted) (e : FrontError) (r : Result Answer AllocError) → IsCauseOf source e → IfOk r (λ answer. RefusesTrace e answer) →
-    IfOk r (λ answer. AnswersUnder source bytes w answer)
-under_none source bytes w e (Ok answer) cause h = inl (h.0, h.1 source cause)
-under_none source bytes w e (Err x) cause h = tt
-
-by_head : (source bytes : List ℕ) (w : Wanted) (head : Head) (end : ℕ) (answer : Answer) → head_of bytes ≡ Ok (head, end) → source ≡ head.source → AnswersUnder source bytes w answer →
-    DueForBytes bytes w (code_of answer.status) answer.text.items
-by_head source bytes w head end answer is same (inl (refused, (line, none, said))) = rw (refused, said) (due.no_program head end line is (rw (same) at none))
-by_head source bytes w head end answer is same (inr (p, of, h)) = due.program head end p (code_of answer.status) answer.text.items is (rw (same) at of) h
-
 abbrev unread : TraceError → Result (Head × ℕ) TraceError
 unread e = Err e
-
-pub head_due : (source bytes : List ℕ) (w : Wanted) (head : Head) (end : ℕ) (r : Result Answer AllocError) → head_of bytes ≡ Ok (head, end) → source ≡ head.source →
-    IfOk r (λ answer. AnswersUnder source bytes w answer) → IfOk r (λ answer. DueForBytes bytes w (code_of answer.status) answer.text.items)
-head_due source bytes w head end (Ok answer) is same h = by_head source bytes w head end answer is same h
-head_due source bytes w head end (Err x) is same h = tt
 
 no_head : (bytes : List ℕ) (w : Wanted) (e : TraceError) (line : List ℕ) → GivesDue (unread e) (head_of bytes) → IsTraceLine e line → DueForBytes bytes w 5 line
 no_head bytes w _ _ is (tellings.cut byte) = due.no_head (error.Cut byte) _ is (tellings.cut byte)

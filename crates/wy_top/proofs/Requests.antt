@@ -1,10 +1,13 @@
 -- What the words ask for, and how many methods.
-use Rattle.std.proofs.Common.{◌≡◌, ◌≢◌, ap, refl, ℕ, ◌≤◌, List, Option, Some, None, IfSome, arith}
+use Rattle.std.proofs.Common.{◌≡◌, refl, ℕ, ◌≤◌, List, Option, Some, None, IfSome, arith}
 use Rattle.std.specs.Prelude.{option_map}
-use Rattle.wy_words.specs.Views.{command_of}
-use Rattle.wy_words.specs.Words.{AskOneCommand, Asks, Explore, Gen, IsNoCommand, generated, number_up_to}
-use Rattle.wy_words.specs.declared.commands.Command.{Command}
-use Rattle.wy_top.specs.Answers.{AsksToExplore}
+use Rattle.wy_words.specs.Views.{command_of, request_of}
+use Rattle.wy_words.specs.Words.{Asks, Command, Gen, IsNoCommand, Record, generated, number_up_to}
+use Rattle.wy_words.specs.declared.commands.Command as memory
+use Rattle.wy_words.specs.declared.commands.Command.TheVariants.{Once}
+use Rattle.wy_words.specs.declared.commands.Request.{Request}
+use Rattle.wy_top.specs.Answers.{HasFewMethods, IsAsked}
+use Rattle.wy_top.specs.Call.{IsNoRecording, RecordsNothing}
 
 few_methods : (word : List ℕ) (n : ℕ) → number_up_to 2000 word ≡ Some n → (1 ≤ n) × (n ≤ 2000)
 unfolding number_up_to
@@ -13,11 +16,28 @@ few_methods word n is = (grind (arith, is), grind (arith, is))
 pub methods_asked : (words : List (List ℕ)) (n : ℕ) → Asks words (Gen n) → (1 ≤ n) × (n ≤ 2000)
 methods_asked _ n (generated {word = word} spells holds is) = few_methods word n is
 
-pub explored_asked : (words : List (List ℕ)) (request : Option Command) (trace : List ℕ) → IfSome request (λ c. Asks words (command_of c)) → option_map command_of request ≡ Some (Explore trace) → Asks words (Explore trace)
-explored_asked words None trace asks is = absurd cc
-explored_asked words (Some c) trace asks is = let same : command_of c ≡ Explore trace = cc in rw (same) at asks
+pub few_asked : (words : List (List ℕ)) (asked : Option Command) → IsAsked words asked → HasFewMethods asked
+few_asked words None is n at = absurd cc
+few_asked words (Some c) is n at = let same : c ≡ Gen n = cc in methods_asked words n (rw (same) at is)
 
-pub no_session : AskOneCommand → (words : List (List ℕ)) (request : Option Command) → IfSome request (λ c. Asks words (command_of c)) → (request ≡ None → IsNoCommand words)
-    → ((trace : List ℕ) → option_map command_of request ≢ Some (Explore trace)) → ¬ AsksToExplore words
-no_session one words None asks refused other (trace, explores) = refused refl (Explore trace) explores
-no_session one words (Some c) asks refused other (trace, explores) = other trace (ap Some (one words (command_of c) (Explore trace) asks explores))
+-- ---- what has one answer
+
+-- what the words ask, by what was read of them
+pub asked_once : (words : List (List ℕ)) (command : Option memory.Command) (request : Request) (given : Option Request) → IfSome command (λ c. Asks words (command_of c)) → command ≡ Some (Once request) → given ≡ Some request →
+    IsAsked words (option_map request_of given)
+asked_once words command request given asks is same = rw (same) (rw (is) at asks)
+
+pub asked_nothing : (words : List (List ℕ)) (command : Option memory.Command) (given : Option Request) → (command ≡ None → IsNoCommand words) → command ≡ None → given ≡ None → IsAsked words (option_map request_of given)
+asked_nothing words command given none is same = rw (same) (none is)
+
+pub nothing_asked : (words : List (List ℕ)) (request : Option Request) → IsAsked words (option_map request_of request) → request ≡ None → IsNoCommand words
+nothing_asked words request asked is = rw (is) at asked
+
+-- nothing is asked where the words are no command
+pub none_asked : (words : List (List ℕ)) (request : Option Request) → IsAsked words (option_map request_of request) → IsNoCommand words → request ≡ None
+none_asked words None asked none = refl
+none_asked words (Some request) asked none = absurd (none (request_of request) asked)
+
+pub no_recording : (words : List (List ℕ)) (request : Option Command) → IsAsked words request → RecordsNothing words → IsNoRecording request
+no_recording words None asked nothing a trace is = absurd cc
+no_recording words (Some c) asked nothing a trace is = let same : c ≡ Record a trace = cc in nothing a trace (rw (same) at asked)

@@ -1,17 +1,18 @@
 -- A why over the trace of a run is answered by what the run carried, and a whynot by a least cut of what it reached and did not cross.
-use Rattle.std.proofs.Common.{◌≡◌, ◌∙◌, sym, ap, subst, inl, inr, ℕ, List, length, ◌≤◌, arith, Option, Some, None, Result, Ok, Err, IfOk, Vec, Global}
+use Rattle.std.proofs.Common.{◌≡◌, ◌∙◌, sym, ap, subst, refl, inl, inr, ℕ, List, length, ◌≤◌, arith, Option, Some, None, Result, Ok, Err, IfOk, Vec, Global}
 use Rattle.std.specs.declared.alloc.AllocError.{AllocError}
 use Rattle.wy_kernel.specs.declared.program.Program as memory
 use Rattle.wy_kernel.specs.Program.{Program}
 use Rattle.wy_kernel.specs.Parts.{program_of}
 use Rattle.wy_event.specs.declared.record.Head.{Head}
+use Rattle.wy_event.specs.declared.record.Trace.{Trace}
+use Rattle.law_reading.specs.Spelled.{HeadsAreShort}
 use Rattle.wy_tree.specs.TokenLaws.{TokensInOrder}
 use Rattle.wy_steps.specs.Sets.{nothing}
 use Rattle.wy_meaning.specs.Run.{events}
 use Rattle.wy_whynot.specs.Laws.{ItemsAreACut}
 use Rattle.law_reached.specs.Laws.{EachItemIsNeeded}
 use Rattle.wy_frames.specs.Heads.{head_of}
-use Rattle.wy_frames.specs.declared.error.TraceError.{TraceError}
 use Rattle.wy_outside.specs.Shelf.{Files}
 use Rattle.wy_words.specs.Words.{Asks, Command, Why, WhyNot, IsNoCommand, AskOneCommand}
 use Rattle.wy_reply.specs.declared.answer.Answer.{Answer}
@@ -23,19 +24,20 @@ use Rattle.wy_reply.specs.ByRun.{AnswersByRun, HasSource, TellsRun}
 use Rattle.wy_reply.specs.Recordings.{IsTraceOf, trace_spelling}
 use Rattle.wy_reply.specs.Tellings.{Wanted}
 use Rattle.wy_reply.specs.Tellings as wanted
-use Rattle.wy_top.specs.declared.reading.FrontError.{FrontError}
+use Rattle.wy_top.specs.declared.opening.Opening.TheVariants.{Open}
 use Rattle.wy_top.specs.declared.files.FileError.{FileError}
 use Rattle.wy_top.specs.declared.files.FileError.TheVariants as error
 use Rattle.wy_top.specs.Call.{AnswersEach, AnswersRun, AnswersRunOf, IsRunAnswer, WritesAll}
 use Rattle.wy_top.specs.Cuts.{CutAnswer}
 use Rattle.wy_top.specs.Deliveries.{Delivers}
-use Rattle.wy_top.specs.Held.{source_limit, trace_limit}
-use Rattle.wy_top.specs.Programs.{IsProgramOf}
+use Rattle.wy_kernel.specs.Limits.{source_limit, trace_limit}
+use Rattle.wy_program.specs.Programs.{IsProgramOf}
+use Rattle.wy_program.specs.declared.typed.TypedProgram.{TypedProgram}
 use Rattle.wy_top.specs.Texts.{OfTexts}
 use Rattle.wy_top.specs.Reads.{GivesFile, Tells}
-use Rattle.wy_top.specs.Replies.{RefusesTrace}
+use Rattle.wy_top.specs.Openings.{OpensBytes}
 use Rattle.wy_top.proofs.OneText.{Known, one_program}
-use Rattle.wy_top.proofs.Sources.{few_tokens}
+use Rattle.wy_program.proofs.Sources.{few_tokens}
 
 -- ---- a least cut
 
@@ -96,20 +98,11 @@ run_answered known laws source bytes w p text head end short of at here has tell
     subst (λ (z : Program). IsTraceOf trace_spelling z source input steps bytes) (sym one.0) (subst (λ (s : List ℕ). IsTraceOf trace_spelling (program_of q) s input steps bytes) there is) in
     same_answer p q input steps w text one.0 one.1 (by_run laws source p input steps w text short of (tells source input steps trace))
 
-pub under_answered : Known → CutLaws → (source bytes : List ℕ) (w : Wanted) (p : memory.Program) (r : Result Answer AllocError) → length source ≤ source_limit → IsProgramOf source p → IfOk r (λ answer. answer.status ≡ Done → TellsRun p bytes w answer.text.items) →
-    IfOk r (λ answer. answer.status ≡ Done → HasSource bytes) → (head : Head) (end : ℕ) → head_of bytes ≡ Ok (head, end) → head.source ≡ source →
-    IfOk r (λ answer. answer.status ≡ Done → AnswersRun bytes w answer.text.items)
-under_answered known laws source bytes w p (Ok answer) short of tells has head end at here = λ done. run_answered known laws source bytes w p answer.text.items head end short of at here (has done) (tells done)
-under_answered known laws source bytes w p (Err e) short of tells has head end at here = tt
-
-pub under_refused : (bytes : List ℕ) (w : Wanted) (e : FrontError) (r : Result Answer AllocError) → IfOk r (λ answer. RefusesTrace e answer) → (head : Head) (end : ℕ) (source : List ℕ) → head_of bytes ≡ Ok (head, end) → head.source ≡ source →
-    IfOk r (λ answer. answer.status ≡ Done → AnswersRun bytes w answer.text.items)
-under_refused bytes w e (Ok answer) h head end source at here = λ done. absurd (let s = sym h.0 ∙ done in cc)
-under_refused bytes w e (Err x) h head end source at here = tt
-
-pub bytes_refused : (bytes : List ℕ) (w : Wanted) (e : TraceError) (r : Result Answer AllocError) → IfOk r (λ answer. wanted.RefusesTrace e answer) → IfOk r (λ answer. answer.status ≡ Done → AnswersRun bytes w answer.text.items)
-bytes_refused bytes w e (Ok answer) h = λ done. absurd (let s = sym h.0 ∙ done in cc)
-bytes_refused bytes w e (Err x) h = tt
+pub opened_answered : Known → CutLaws → HeadsAreShort → (bytes : List ℕ) (w : Wanted) (typed : TypedProgram) (t : Trace) (r : Result Answer AllocError) → OpensBytes bytes (Open typed t) →
+    IfOk r (λ answer. answer.status ≡ Done → TellsRun typed.program bytes w answer.text.items) → IfOk r (λ answer. answer.status ≡ Done → HasSource bytes) → IfOk r (λ answer. answer.status ≡ Done → AnswersRun bytes w answer.text.items)
+opened_answered known laws short bytes w typed t (Ok answer) (head, end, at, is, read) tells has =
+    λ done. run_answered known laws head.source bytes w typed.program answer.text.items head end (short bytes head end at) is at refl (has done) (tells done)
+opened_answered known laws short bytes w typed t (Err x) opens tells has = tt
 
 -- ---- files
 

@@ -1,7 +1,6 @@
 -- What a call promises of a session.
 use Rattle.std.proofs.Common.{◌≡◌, ◌≢◌, ◌∙◌, sym, ap, refl, subst, inl, inr, ℕ, ◌<◌, ◌⊎◌, List, [], ◌++◌, append-nil, Option, Some, None, IfSome, arith}
 use Rattle.std.specs.Borrow.{Bor}
-use Rattle.std.specs.Prelude.{option_map}
 use Rattle.wy_kernel.specs.declared.program.Program.{Program}
 use Rattle.wy_event.specs.declared.record.Trace.{Trace}
 use Rattle.wy_outside.specs.Counts.{Rose}
@@ -9,7 +8,8 @@ use Rattle.wy_outside.specs.Shelf.{Files}
 use Rattle.wy_outside.specs.Sink.{appended}
 use Rattle.wy_words.specs.Views.{command_of}
 use Rattle.wy_words.specs.declared.commands.Command.{Command}
-use Rattle.wy_words.specs.Words.{Asks, AskOneCommand, Command as Request, Explore, Gen, Why, WhyNot}
+use Rattle.wy_words.specs.declared.commands.Command.TheVariants as asking
+use Rattle.wy_words.specs.Words.{Asks, AskOneCommand, Command as Request, Explore, Gen, IsNoCommand, Record, Why, WhyNot}
 use Rattle.wy_session.specs.Desk.{scene_of}
 use Rattle.wy_session.specs.Talk.{Talks}
 use Rattle.wy_session.specs.Closings.{BreaksOff, Closed, Closes, TakesManyFor, TookMany, WritesPart, keys_fault_line}
@@ -18,11 +18,15 @@ use Rattle.wy_session.specs.declared.ending.Ending.{Ending}
 use Rattle.wy_session.specs.declared.ending.Ending.TheVariants as ending
 use Rattle.wy_reply.specs.declared.answer.Answer.{Answer}
 use Rattle.wy_reply.specs.declared.status.Status.{Status}
-use Rattle.wy_reply.specs.declared.status.Status.TheVariants.{Done, Fault}
+use Rattle.wy_reply.specs.declared.status.Status.TheVariants.{Done, Fault, TooLong}
 use Rattle.wy_reply.specs.Statuses.{code_of}
 use Rattle.wy_reply.specs.Tellings.{Wanted, covers_of}
 use Rattle.wy_reply.specs.Tellings as wanted
-use Rattle.wy_top.specs.Answers.{IsAnswer, Knows, counts}
+use Rattle.wy_record.specs.Recorders.{Mirrors}
+use Rattle.wy_record.specs.declared.recorder.Phase.{Phase}
+use Rattle.wy_reply.specs.Recordings.{Spelling}
+use Rattle.wy_top.specs.Answers.{AsksToExplore, IsAnswer, Knows, counts}
+use Rattle.wy_top.specs.Left.{Leaves}
 use Rattle.wy_top.specs.Call.{BeginsDue, AnswersEach, Carries, Cuts, Failures, IsFaultBehind, IsOpened, Traces, WritesAll, WritesCarried, WritesCut, WritesDue, WritesFaultLine, WritesPrefix, failures, of_keys}
 use Rattle.wy_top.specs.Call as call
 use Rattle.wy_top.specs.Deliveries.{Delivers}
@@ -31,7 +35,6 @@ use Rattle.wy_top.specs.Due as due
 use Rattle.wy_top.specs.Openings.{AnswersAny, Explores, Keys, Output, refused, memory, status_of}
 use Rattle.wy_top.specs.Openings as opening
 use Rattle.wy_top.specs.Replies.{ShelfCounts}
-use Rattle.wy_top.proofs.Requests.{explored_asked}
 use Rattle.wy_top.proofs.Delivered.{delivered_fault, prefix_of, part_of}
 
 -- ---- what is known
@@ -40,9 +43,8 @@ pub record Session (words : List (List ℕ)) (name : List ℕ) : Type 0 where
   pub one : AskOneCommand
   pub asks : Asks words (Explore name)
 
-pub session_of : AskOneCommand → (words : List (List ℕ)) (request : Option Command) (name : Option (Bor (List ℕ))) (trace : Bor (List ℕ)) → IfSome request (λ c. Asks words (command_of c))
-    → IfSome name (λ n. option_map command_of request ≡ Some (Explore n.now)) → name ≡ Some trace → Session words trace.now
-session_of one words request name trace asks explores is = record { one = one; asks = explored_asked words request trace.now asks (rw (is) at explores) }
+pub session_of : AskOneCommand → (words : List (List ℕ)) (request : Option Command) (trace : Bor (List ℕ)) → IfSome request (λ c. Asks words (command_of c)) → request ≡ Some (asking.Explore trace) → Session words trace.now
+session_of one words request trace asks is = record { one = one; asks = rw (is) at asks }
 
 -- the files and the input of a session
 pub record Given (held : Option Files) (keys : Option (List ℕ)) : Type 0 where
@@ -233,3 +235,46 @@ explored_carried words name held sb sa kb ka b a s x explores is = explored_so (
 
 pub explored_cut : (words : List (List ℕ)) (name : List ℕ) (held : Option Files) (sb sa : ShelfCounts) (kb ka : Keys) (b a : Output) (s : Status) → Session words name → Explores held name sb sa kb ka b a s → s ≡ Done → WritesCut words held b.written a.written
 explored_cut words name held sb sa kb ka b a s x explores is = explored_so (Cuts words held) (λ text. each_none WhyNot wanted.WhyNot (λ n t q e. cc) words name held text x) words name held sb sa kb ka b a s explores is
+
+-- ---- statuses and their causes
+
+pub explored_too_long : (words : List (List ℕ)) (name : List ℕ) (held : Option Files) (sb sa : ShelfCounts) (kb ka : Keys) (b a : Output) (s : Status) → Session words name → Explores held name sb sa kb ka b a s → s ≡ TooLong →
+    Rose sb.fulls sa.fulls ⊎ (AsksToExplore words × TookMany kb.taken ka.taken)
+explored_too_long words name held sb sa kb ka b a _ x (refused answer s cause any stayed (inl (same, kept, all))) is = inl (cause.too_long (sym same ∙ is))
+explored_too_long words name held sb sa kb ka b a _ x (refused answer s cause any stayed (inr (inl (fault, rose, part)))) is = absurd (let e = sym fault ∙ is in cc)
+explored_too_long words name held sb sa kb ka b a _ x (refused answer s cause any stayed (inr (inr (lack, kept, part)))) is = absurd (let e = sym lack ∙ is in cc)
+explored_too_long words name held sb sa kb ka b a _ x (opening.session p t ending.Done same opened closed takes) is = absurd cc
+explored_too_long words name held sb sa kb ka b a _ x (opening.session p t ending.LongLine same opened closed takes) is = inr ((name, x.asks), takes)
+explored_too_long words name held sb sa kb ka b a _ x (opening.session p t ending.LongInput same opened closed takes) is = inr ((name, x.asks), takes)
+explored_too_long words name held sb sa kb ka b a _ x (opening.session p t ending.KeysFailed same opened closed takes) is = absurd cc
+explored_too_long words name held sb sa kb ka b a _ x (opening.session p t ending.OutFailed same opened closed takes) is = absurd cc
+explored_too_long words name held sb sa kb ka b a _ x (opening.session p t ending.NoMemory same opened closed takes) is = absurd cc
+explored_too_long words name held sb sa kb ka b a _ x (memory stayed kept) is = absurd cc
+
+pub explored_fault : (X : Type 0) (words : List (List ℕ)) (name : List ℕ) (held : Option Files) (sb sa : ShelfCounts) (kb ka : Keys) (b a : Output) (s : Status) → Session words name → Explores held name sb sa kb ka b a s → s ≡ Fault →
+    Rose sb.faults sa.faults ⊎ X ⊎ Rose b.faults a.faults ⊎ (AsksToExplore words × Rose kb.faults ka.faults)
+explored_fault X words name held sb sa kb ka b a _ x (refused answer s cause (inl (fault, line, rose)) stayed (inl (same, kept, all))) is = inl rose
+explored_fault X words name held sb sa kb ka b a _ x (refused answer s cause (inr (counts, un, dues)) stayed (inl (same, kept, all))) is = absurd (un (sym same ∙ is))
+explored_fault X words name held sb sa kb ka b a _ x (refused answer s cause any stayed (inr (inl (fault, rose, part)))) is = inr (inr (inl rose))
+explored_fault X words name held sb sa kb ka b a _ x (refused answer s cause any stayed (inr (inr (lack, kept, part)))) is = absurd (let e = sym lack ∙ is in cc)
+explored_fault X words name held sb sa kb ka b a _ x (opening.session p t ending.Done same opened closed takes) is = absurd cc
+explored_fault X words name held sb sa kb ka b a _ x (opening.session p t ending.LongLine same opened closed takes) is = absurd cc
+explored_fault X words name held sb sa kb ka b a _ x (opening.session p t ending.LongInput same opened closed takes) is = absurd cc
+explored_fault X words name held sb sa kb ka b a _ x (opening.session p t ending.KeysFailed same opened closed takes) is = inr (inr (inr ((name, x.asks), closed.closes.1)))
+explored_fault X words name held sb sa kb ka b a _ x (opening.session p t ending.OutFailed same opened closed takes) is = inr (inr (inl closed.closes.1))
+explored_fault X words name held sb sa kb ka b a _ x (opening.session p t ending.NoMemory same opened closed takes) is = absurd cc
+explored_fault X words name held sb sa kb ka b a _ x (memory stayed kept) is = absurd cc
+
+-- ---- what words that ask for a session don't ask
+
+pub explored_traces : (s : Spelling) (words : List (List ℕ)) (name : List ℕ) (held : Option Files) (old new : Mirrors) → Session words name → Traces s words held old new
+explored_traces s words name held old new x = λ a trace files also told. absurd (let e = x.one words (Record a trace) (Explore name) also x.asks in cc)
+
+pub explored_leaves : (s : Spelling) (words : List (List ℕ)) (name : List ℕ) (held : Option Files) (at : Phase) (old new : Mirrors) → Session words name → Leaves s words held at old new
+explored_leaves s words name held at old new x = λ a trace files also told. absurd (let e = x.one words (Record a trace) (Explore name) also x.asks in cc)
+
+pub is_command : (words : List (List ℕ)) (name : List ℕ) → Session words name → ¬ IsNoCommand words
+is_command words name x none = none (Explore name) x.asks
+
+pub is_session : (words : List (List ℕ)) (name : List ℕ) → Session words name → AsksToExplore words
+is_session words name x = (name, x.asks)

@@ -1,8 +1,8 @@
 -- An answer as a status and a text.
-use Rattle.std.specs.Prelude.{◌≡◌, ℕ, List, ◌⊎◌, Option, Some}
+use Rattle.std.specs.Prelude.{◌≡◌, ◌≤◌, ℕ, List, ◌⊎◌, Option, Some, None}
 use Rattle.wy_outside.specs.Counts.{Rose}
 use Rattle.wy_outside.specs.Shelf.{Files}
-use Rattle.wy_words.specs.Words.{Asks, Explore, Gen, IsNoCommand}
+use Rattle.wy_words.specs.Words.{Asks, Command, Explore, Gen, IsNoCommand}
 use Rattle.wy_reply.specs.declared.answer.Answer.{Answer}
 use Rattle.wy_reply.specs.declared.status.Status.TheVariants.{Fault}
 use Rattle.wy_reply.specs.Statuses.{code_of}
@@ -12,6 +12,15 @@ use Rattle.wy_top.specs.Due.{Due}
 -- the words ask to explore a trace
 abbrev pub AsksToExplore : List (List ℕ) → Type 0
 AsksToExplore words = (trace : List ℕ) × Asks words (Explore trace)
+
+-- what the words ask, and nothing where they are no command
+abbrev pub IsAsked : List (List ℕ) → Option Command → Type 0
+IsAsked words (Some c) = Asks words c
+IsAsked words None = IsNoCommand words
+
+-- a program that is to be generated has at most 2,000 methods
+abbrev pub HasFewMethods : Option Command → Type 0
+HasFewMethods asked = (n : ℕ) → asked ≡ Some (Gen n) → (1 ≤ n) × (n ≤ 2000)
 
 -- the words ask for no file, or the shelf tells its files, and the keys what is left of them where these are read
 abbrev pub Knows : List (List ℕ) → Option Files → Option (List ℕ) → Type 0

@@ -1,5 +1,5 @@
 -- What a call promises of the bytes that it writes, and of the trace that it records.
-use Rattle.std.specs.Prelude.{◌≡◌, ◌⊎◌, ℕ, List, [], ◌++◌, Option, Some, Ok}
+use Rattle.std.specs.Prelude.{◌≡◌, ◌≢◌, ◌⊎◌, ℕ, List, [], ◌++◌, Option, Some, Ok}
 use Rattle.wy_kernel.specs.declared.program.Program.{Program}
 use Rattle.wy_kernel.specs.Parts.{program_of}
 use Rattle.wy_event.specs.declared.record.Head.{Head}
@@ -21,8 +21,9 @@ use Rattle.wy_reply.specs.Tellings as wanted
 use Rattle.wy_top.specs.Cuts.{CutAnswer}
 use Rattle.wy_top.specs.Due.{Due}
 use Rattle.wy_top.specs.Answers.{AsksToExplore, Counts, IsFaultLine, Knows, counts}
-use Rattle.wy_top.specs.Held.{Holds, IsInput, source_limit, trace_limit}
-use Rattle.wy_top.specs.Programs.{IsProgramOf}
+use Rattle.wy_kernel.specs.Limits.{source_limit, trace_limit}
+use Rattle.wy_top.specs.Held.{Holds, IsInput}
+use Rattle.wy_program.specs.Programs.{IsProgramOf}
 
 -- all of a text that is due with this status was written
 abbrev pub WritesDue : List (List ℕ) → Option Files → Option (List ℕ) → ℕ → Option (List ℕ) → Option (List ℕ) → Type 0
@@ -88,6 +89,10 @@ Traces s words held old new = (a : Asked) (trace : List ℕ) (files : Files) →
 -- the words ask to record no run
 abbrev pub RecordsNothing : List (List ℕ) → Type 0
 RecordsNothing words = (a : Asked) (trace : List ℕ) → ¬ Asks words (Record a trace)
+
+-- what is asked is to record no run
+abbrev pub IsNoRecording : Option Command → Type 0
+IsNoRecording asked = (a : Asked) (trace : List ℕ) → asked ≢ Some (Record a trace)
 
 -- ---- what a run did
 

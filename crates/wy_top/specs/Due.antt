@@ -15,8 +15,9 @@ use Rattle.wy_reply.specs.Generated.{generated_report}
 use Rattle.wy_reply.specs.Tellings.{DueUnder, IsTraceLine, Wanted}
 use Rattle.wy_reply.specs.Tellings as wanted
 use Rattle.wy_top.specs.Causes.{IsNoProgram, IsSyntaxLine}
-use Rattle.wy_top.specs.Programs.{Becomes, IsProgramOf}
-use Rattle.wy_top.specs.Held.{Holds, Lacks, IsInput, source_limit, input_limit, trace_limit}
+use Rattle.wy_program.specs.Programs.{Becomes, IsProgramOf}
+use Rattle.wy_kernel.specs.Limits.{source_limit, input_limit, trace_limit}
+use Rattle.wy_top.specs.Held.{Holds, Lacks, IsInput}
 
 -- the status and the text that are due for a source: why it is no program, or this text of its program, whose tokens are on these lines
 pub data DueFor (source : List ℕ) (told : Program → List ℕ → List ℕ) : ℕ → List ℕ → Type 0 where

@@ -1,17 +1,8 @@
 -- The files that the words name, as a shelf holds them.
 use Rattle.std.specs.Prelude.{◌≡◌, ◌<◌, ◌≤◌, ℕ, List, [], length, Option, Some, None}
+use Rattle.wy_kernel.specs.Limits.{input_limit}
 use Rattle.wy_outside.specs.Shelf.{Files}
 use Rattle.wy_reply.specs.Lines.{absent_line, too_long_line}
-
--- the bytes that a source may have, an input, and a trace
-abbrev pub source_limit : ℕ
-source_limit = 1048576
-
-abbrev pub input_limit : ℕ
-input_limit = 16777216
-
-abbrev pub trace_limit : ℕ
-trace_limit = 1073741824
 
 -- the file of this name is this text, and has at most so many bytes
 pub record Holds (files : Files) (name : List ℕ) (limit : ℕ) (text : List ℕ) : Type 0 where

@@ -9,8 +9,9 @@ use Rattle.wy_record.specs.Recorders.{Mirrors}
 use Rattle.wy_words.specs.Words.{Asked, Asks, Record}
 use Rattle.wy_reply.specs.Recordings.{HoldByPhase, HoldPrefix, Spelling}
 use Rattle.wy_top.specs.Call.{Traced}
-use Rattle.wy_top.specs.Held.{Holds, IsInput, source_limit}
-use Rattle.wy_top.specs.Programs.{IsProgramOf}
+use Rattle.wy_kernel.specs.Limits.{source_limit}
+use Rattle.wy_top.specs.Held.{Holds, IsInput}
+use Rattle.wy_program.specs.Programs.{IsProgramOf}
 
 -- the recorder was not started, or is done
 abbrev pub IsSettled : Phase → Type 0

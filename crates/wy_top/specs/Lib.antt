@@ -1,8 +1,6 @@
 pub mod Held
-pub mod Programs
 pub mod Texts
 pub mod Causes
-pub mod Fronts
 pub mod Due
 pub mod Answers
 pub mod Reads

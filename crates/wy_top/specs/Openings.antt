@@ -1,5 +1,5 @@
 -- A trace that a session is over: what its opening gives, and how the session ends.
-use Rattle.std.specs.Prelude.{◌≡◌, ◌<◌, ◌^◌, ◌⊎◌, ℕ, List, length, false, Option, Some, Ok, Err}
+use Rattle.std.specs.Prelude.{◌≡◌, ◌⊎◌, ℕ, List, false, Option, Some, Ok, Err}
 use Rattle.wy_event.specs.declared.record.Head.{Head}
 use Rattle.wy_frames.specs.Heads.{head_of}
 use Rattle.wy_frames.specs.Traces.{IsReadAs}
@@ -8,7 +8,6 @@ use Rattle.wy_kernel.specs.declared.program.Program.{Program}
 use Rattle.wy_event.specs.declared.record.Trace.{Trace}
 use Rattle.wy_outside.specs.Counts.{Rose}
 use Rattle.wy_outside.specs.Shelf.{Files}
-use Rattle.wy_view.specs.References.{AllRefersBelow}
 use Rattle.wy_session.specs.Desk.{scene_of}
 use Rattle.wy_session.specs.Closings.{Closed, TakesManyFor}
 use Rattle.wy_session.specs.Closings as ways
@@ -19,20 +18,16 @@ use Rattle.wy_reply.specs.declared.status.Status.{Status}
 use Rattle.wy_reply.specs.declared.status.Status.TheVariants as status
 use Rattle.wy_reply.specs.Statuses.{code_of, is_of_files}
 use Rattle.wy_reply.specs.Lines.{of_trace, shelf_fault_line}
+use Rattle.wy_reply.specs.Opening.{IsViewable}
 use Rattle.wy_reply.specs.Tellings.{RefusesTrace, Wanted, covers_of}
 use Rattle.wy_top.specs.declared.opening.Opening.{Opening}
 use Rattle.wy_top.specs.declared.opening.Opening.TheVariants.{Open, Refused}
 use Rattle.wy_top.specs.Call.{IsOpened}
 use Rattle.wy_top.specs.Deliveries.{Delivers}
 use Rattle.wy_top.specs.Due.{DueForBytes, DueForTrace}
-use Rattle.wy_top.specs.Programs.{IsProgramOf}
+use Rattle.wy_program.specs.Programs.{IsProgramOf}
 use Rattle.wy_top.specs.Causes.{IsNoProgram}
 use Rattle.wy_top.specs.Replies.{HasCause, ShelfCounts}
-
--- events of memory that a view holds
-pub record IsViewable (t : Trace) : Type 0 where
-  pub few : length t.events < 2 ^ 32
-  pub refer_below : AllRefersBelow t.events
 
 -- the source is no program, or the bytes are no trace under it, and the line says why
 abbrev pub RefusesUnder : List ℕ → List ℕ → Answer → Type 0
@@ -42,16 +37,17 @@ RefusesUnder source bytes answer =
 
 -- the program of a source, and the trace as which the bytes are read under it; or why there is none
 abbrev pub OpensUnder : List ℕ → List ℕ → Opening → Type 0
-OpensUnder source bytes (Open p t) = IsProgramOf source p × IsReadAs p bytes (Ok t)
+OpensUnder source bytes (Open typed t) = IsProgramOf source typed.program × IsReadAs typed.program bytes (Ok t)
 OpensUnder source bytes (Refused answer) = RefusesUnder source bytes answer
 
+-- the same of bytes by the source of their head; nothing is done where it is refused
 abbrev pub OpensBytes : List ℕ → Opening → Type 0
-OpensBytes bytes (Open p t) = (head : Head) × (end : ℕ) × (head_of bytes ≡ Ok (head, end)) × IsProgramOf head.source p × IsReadAs p bytes (Ok t)
-OpensBytes bytes (Refused answer) = (w : Wanted) → DueForBytes bytes w (code_of answer.status) answer.text.items
+OpensBytes bytes (Open typed t) = (head : Head) × (end : ℕ) × (head_of bytes ≡ Ok (head, end)) × IsProgramOf head.source typed.program × IsReadAs typed.program bytes (Ok t)
+OpensBytes bytes (Refused answer) = (answer.status ≡ status.Done → ⊥) × ((w : Wanted) → DueForBytes bytes w (code_of answer.status) answer.text.items)
 
 -- what is open can be viewed, and a refusal speaks of no file
 abbrev pub IsSettled : Opening → Type 0
-IsSettled (Open p t) = IsViewable t × (length p.fields.items < 2 ^ 32)
+IsSettled (Open typed t) = IsViewable t
 IsSettled (Refused answer) = is_of_files answer.status ≡ false
 
 -- the shelf failed, and the answer names it; or it is what is due of that trace, whatever is wanted
@@ -63,8 +59,8 @@ AnswersAny held name before after answer =
 
 -- the trace of a name is open, and no count rose; or what is answered in place of whatever is wanted
 abbrev pub OpensFile : Option Files → List ℕ → ShelfCounts → ShelfCounts → Opening → Type 0
-OpensFile held name before after (Open p t) = IsViewable t × (length p.fields.items < 2 ^ 32) × (after.faults ≡ before.faults)
-    × ((files : Files) → held ≡ Some files → IsOpened files name p t)
+OpensFile held name before after (Open typed t) = IsViewable t × (after.faults ≡ before.faults)
+    × ((files : Files) → held ≡ Some files → IsOpened files name typed.program t)
 OpensFile held name before after (Refused answer) = HasCause before after answer × AnswersAny held name before after answer
 
 -- ---- a session

@@ -14,8 +14,8 @@ use Rattle.wy_frames.specs.declared.error.TraceError.TheVariants.{NoMemory}
 use Rattle.wy_frames.specs.Traces.{IsReadAs, ReadsAs}
 use Rattle.law_in_range.specs.InRange.{IsByteOf}
 use Rattle.wy_reply.specs.Recordings.{IsTraceOf, trace_spelling}
-use Rattle.wy_top.specs.Held.{input_limit, source_limit, trace_limit}
-use Rattle.wy_top.specs.Programs.{IsProgramOf}
+use Rattle.wy_kernel.specs.Limits.{input_limit, source_limit, trace_limit}
+use Rattle.wy_program.specs.Programs.{IsProgramOf}
 
 -- the bytes are the trace of the run of a text's program with this input and so many steps, each within its limit
 pub record IsRecorded (source input : List ℕ) (steps : ℕ) (p : Program) (bytes : List ℕ) : Type 0 where

@@ -8,7 +8,8 @@ use Rattle.wy_top.specs.declared.files.FileError.{FileError}
 use Rattle.wy_top.specs.declared.files.FileError.TheVariants.{Absent, TooLong, Fault, NoMemory}
 use Rattle.wy_reply.specs.declared.status.Status.TheVariants as status
 use Rattle.wy_reply.specs.Lines.{absent_line, too_long_line, shelf_fault_line}
-use Rattle.wy_top.specs.Held.{Holds, Lacks, IsInput, source_limit, input_limit}
+use Rattle.wy_kernel.specs.Limits.{source_limit, input_limit}
+use Rattle.wy_top.specs.Held.{Holds, Lacks, IsInput}
 
 abbrev pub is_absent : FileError → Bool
 is_absent (Absent name) = true

@@ -11,18 +11,17 @@ use Rattle.wy_reply.specs.Lines.{of_trace, recorder_fault_line}
 use Rattle.wy_reply.specs.Recordings.{HoldTrace, Spelling}
 use Rattle.wy_reply.specs.Report.{recorded_report}
 use Rattle.wy_reply.specs.Statuses.{code_of, is_of_files}
-use Rattle.wy_reply.specs.Tellings.{DueUnder, Wanted}
-use Rattle.wy_top.specs.declared.reading.FrontError.{FrontError}
+use Rattle.wy_program.specs.declared.source.SourceError.{SourceError}
 use Rattle.wy_top.specs.Answers.{Counts, IsFault}
 use Rattle.wy_top.specs.Causes.{IsNoProgram}
 use Rattle.wy_top.specs.Due.{DueFor}
-use Rattle.wy_top.specs.Fronts.{IsCauseOf}
-use Rattle.wy_top.specs.Programs.{IsProgramOf}
+use Rattle.wy_program.specs.Sources.{IsCauseOf}
+use Rattle.wy_program.specs.Programs.{IsProgramOf}
 
 -- ---- a source
 
 -- a refusal of each source that the error has its cause in
-abbrev pub RefusesSource : FrontError → Answer → Type 0
+abbrev pub RefusesSource : SourceError → Answer → Type 0
 RefusesSource error answer = (answer.status ≡ status.Program) × ((source : List ℕ) → IsCauseOf source error → IsNoProgram source answer.text.items)
 
 -- the trace of the run of a source's program is held
@@ -40,15 +39,9 @@ RecordsSource s source input steps old new before after answer =
 -- ---- a trace
 
 -- a refusal of each trace whose source the error has its cause in
-abbrev pub RefusesTrace : FrontError → Answer → Type 0
+abbrev pub RefusesTrace : SourceError → Answer → Type 0
 RefusesTrace error answer = (answer.status ≡ status.Trace)
     × ((source : List ℕ) → IsCauseOf source error → (line : List ℕ) × IsNoProgram source line × (answer.text.items ≡ of_trace line))
-
--- what is due under the program of a source, or why it is none
-abbrev pub AnswersUnder : List ℕ → List ℕ → Wanted → Answer → Type 0
-AnswersUnder source bytes w answer =
-    ((answer.status ≡ status.Trace) × ((line : List ℕ) × IsNoProgram source line × (answer.text.items ≡ of_trace line)))
-    ⊎ ((p : Program) × IsProgramOf source p × DueUnder p bytes w (code_of answer.status) answer.text.items)
 
 -- ---- files
 

@@ -1,20 +1,19 @@
-//! What the words and the files give, before any byte of it is written.
-ghost use Rattle.std.specs.Prelude.{◌≡◌, ◌<◌, ℕ, List, Option, IfOk, Some, map, string_bytes};
+//! What a request and the files give, before any byte of it is written.
+ghost use Rattle.std.specs.Prelude.{◌≡◌, ◌<◌, ℕ, List, Option, IfOk, None, Some, option_map};
 ghost use Rattle.wy_outside.specs.Shelf.{Files};
 ghost use Rattle.wy_outside.specs.Counts.{Rose};
 ghost use Rattle.wy_record.specs.declared.recorder.Phase.TheVariants.{Failed, Ready};
 ghost use Rattle.wy_reply.specs.declared.status.Status.TheVariants.{Absent, Done, TooLong, Usage, Fault};
 ghost use Rattle.wy_reply.specs.Tellings.{wanted_of};
-ghost use Rattle.wy_top.specs.Answers.{AsksToExplore, IsAnswer, IsFault, counts};
-ghost use Rattle.wy_top.specs.Call.{AnswersRunOf, Carries, Cuts, RecordsNothing, Traced, Traces};
+ghost use Rattle.wy_top.specs.Answers.{HasFewMethods, IsAnswer, IsAsked, IsFault, counts};
+ghost use Rattle.wy_top.specs.Call.{AnswersRunOf, Carries, Cuts, IsNoRecording, Traced, Traces};
 ghost use Rattle.wy_top.specs.Reads.{Tells};
 ghost use Rattle.wy_top.specs.Replies.{AnswersBy, HasCause, at_shelf};
 ghost use Rattle.wy_top.specs.Due.{DueForRun, DueForTrace};
 ghost use Rattle.wy_top.specs.Left.{IsSettled, Leaves, LeftFor};
 ghost use Rattle.wy_reply.specs.Recordings.{spelling};
 ghost use Rattle.wy_reply.specs.Report.{report, recorded_report};
-ghost use Rattle.wy_words.specs.Views.{asked_of};
-ghost use Rattle.wy_words.specs.Words.{IsNoCommand};
+ghost use Rattle.wy_words.specs.Views.{asked_of, request_of};
 
 use crate::files::{Contents, FileError, read_both, read_trace};
 use crate::source::{record_source, run_generated, run_source};
@@ -22,22 +21,18 @@ use crate::trace::answer_to_bytes;
 use std::alloc::{AllocError, Global};
 use wy_outside::shelf::Shelf;
 use wy_record::Recorder;
-use wy_reply::{Answer, Refusal, Status, Wanted};
+use wy_reply::{Answer, Inquiry, Refusal, Wanted};
 use wy_words::laws::words_ask_one_command;
-use wy_words::{Asked, Command, command};
+use wy_words::{Asked, Request};
 
 /// The answer where a file was not read.
 pub(crate) fn answer_to_lack(alloc: Global, error: FileError<'_>) -> Result<Answer, AllocError>
     ensures { IfOk result (λ answer. Tells error.entry answer) }
 {
     match error {
-        FileError::Absent { name } => {
-            Answer::refused(alloc, Status::Absent, Refusal::Absent { name })
-        }
-        FileError::TooLong { name } => {
-            Answer::refused(alloc, Status::TooLong, Refusal::LongFile { name })
-        }
-        FileError::Fault => Answer::refused(alloc, Status::Fault, Refusal::FaultShelf),
+        FileError::Absent { name } => Answer::refused(alloc, Refusal::Absent { name }),
+        FileError::TooLong { name } => Answer::refused(alloc, Refusal::LongFile { name }),
+        FileError::Fault => Answer::refused(alloc, Refusal::FaultShelf),
         FileError::NoMemory => Err(AllocError),
     }
 }
@@ -123,67 +118,75 @@ fn answer_from<S: Shelf>(
     }
 }
 
-/// What the words and the files give, unless they ask to explore a trace. The shelf is read at most
-/// twice, and not at all where the words are no command; the recorder is used where they ask to record.
+/// What is answered to a request, and to words that are no command where there is none. The shelf is read at most twice, and not at all
+/// where there is no request; the recorder is used where the request is to record.
 pub fn answer_to<S: Shelf, R: Recorder>(
     alloc: Global,
-    words: &[String],
+    request: Option<Request<'_>>,
     shelf: &mut S,
     recorder: &mut R,
 ) -> Result<Answer, AllocError>
     requires ready { R.phase recorder.old ≡ Ready }
-    requires no_session { ¬ AsksToExplore (map string_bytes words.now) }
-    ensures due { (keys : Option (List ℕ)) → IfOk result (λ answer.
-        IsAnswer (map string_bytes words.now) (S.held shelf.old) keys
+    requires methods { HasFewMethods (option_map request_of request) }
+    ensures due { (words : List (List ℕ)) (keys : Option (List ℕ))
+        → IsAsked words (option_map request_of request.entry)
+        → IfOk result (λ answer. IsAnswer words (S.held shelf.old) keys
         (counts (S.faults shelf.old) (R.faults recorder.old))
         (counts (S.faults shelf.new) (R.faults recorder.new)) answer) }
-    ensures traces { IfOk result (λ answer. answer.status ≡ Done
-        → Traces (spelling R.opening R.frame R.closing) (map string_bytes words.now)
+    ensures traces { (words : List (List ℕ)) → IsAsked words (option_map request_of request.entry)
+        → IfOk result (λ answer. answer.status ≡ Done
+        → Traces (spelling R.opening R.frame R.closing) words
         (S.held shelf.old) (R.mirrors recorder.old) (R.mirrors recorder.new)) }
-    ensures carried { IfOk result (λ answer. answer.status ≡ Done
-        → Carries (map string_bytes words.now) (S.held shelf.old) answer.text.items) }
-    ensures cut { IfOk result (λ answer. answer.status ≡ Done
-        → Cuts (map string_bytes words.now) (S.held shelf.old) answer.text.items) }
+    ensures carried { (words : List (List ℕ)) → IsAsked words (option_map request_of request.entry)
+        → IfOk result (λ answer. answer.status ≡ Done
+        → Carries words (S.held shelf.old) answer.text.items) }
+    ensures cut { (words : List (List ℕ)) → IsAsked words (option_map request_of request.entry)
+        → IfOk result (λ answer. answer.status ≡ Done
+        → Cuts words (S.held shelf.old) answer.text.items) }
     ensures absent { IfOk result (λ answer.
         answer.status ≡ Absent → Rose (S.misses shelf.old) (S.misses shelf.new)) }
     ensures too_long { IfOk result (λ answer.
         answer.status ≡ TooLong → Rose (S.fulls shelf.old) (S.fulls shelf.new)) }
-    ensures usage { IfOk result (λ answer.
-        answer.status ≡ Usage → IsNoCommand (map string_bytes words.now)) }
+    ensures usage { IfOk result (λ answer. answer.status ≡ Usage → request.entry ≡ None) }
     ensures fault { IfOk result (λ answer. answer.status ≡ Fault → IsFault
         (counts (S.faults shelf.old) (R.faults recorder.old))
         (counts (S.faults shelf.new) (R.faults recorder.new)) answer) }
     ensures files_stay { S.held shelf.new ≡ S.held shelf.old }
-    ensures reads_nothing { IsNoCommand (map string_bytes words.now)
-        → S.gets shelf.new ≡ S.gets shelf.old }
-    ensures records_nothing { RecordsNothing (map string_bytes words.now)
+    ensures reads_nothing { request.entry ≡ None → S.gets shelf.new ≡ S.gets shelf.old }
+    ensures records_nothing { IsNoRecording (option_map request_of request.entry)
         → recorder.new ≡ recorder.old }
-    ensures left { Leaves (spelling R.opening R.frame R.closing)
-        (map string_bytes words.now) (S.held shelf.old) (R.phase recorder.new)
-        (R.mirrors recorder.old) (R.mirrors recorder.new) }
+    ensures left { (words : List (List ℕ)) → IsAsked words (option_map request_of request.entry)
+        → Leaves (spelling R.opening R.frame R.closing) words (S.held shelf.old)
+        (R.phase recorder.new) (R.mirrors recorder.old) (R.mirrors recorder.new) }
     ensures settled { IfOk result (λ answer.
         ¬ Rose (R.faults recorder.old) (R.faults recorder.new) → IsSettled (R.phase recorder.new)) }
     ensures failed { R.faults recorder.old < R.faults recorder.new
         → R.phase recorder.new ≡ Failed }
 {
     words_ask_one_command();
-    let request = match command(alloc, words)? {
-        Some(request) => request,
-        None => return Answer::refused(alloc, Status::Usage, Refusal::Usage),
+    let Some(request) = request else {
+        return Answer::refused(alloc, Refusal::Usage);
     };
     match request {
-        Command::Run(asked) => answer_to_run(alloc, shelf, asked),
-        Command::Record { asked, trace } => answer_to_record(alloc, shelf, asked, trace, recorder),
-        Command::Output { trace } => answer_from(alloc, shelf, trace, Wanted::Output),
-        Command::Why { trace, question } => {
-            answer_from(alloc, shelf, trace, Wanted::Why { question })
+        Request::Run(asked) => answer_to_run(alloc, shelf, asked),
+        Request::Record { asked, trace } => answer_to_record(alloc, shelf, asked, trace, recorder),
+        Request::Output { trace } => answer_from(alloc, shelf, trace, Wanted::Output),
+        Request::Why { trace, question } => {
+            answer_from(
+                alloc,
+                shelf,
+                trace,
+                Wanted::Inquiry(Inquiry::Why { question }),
+            )
         }
-        Command::Questions { trace } => answer_from(alloc, shelf, trace, Wanted::Questions),
-        Command::WhyNot { trace, statement } => {
-            answer_from(alloc, shelf, trace, Wanted::WhyNot { statement })
+        Request::Questions { trace } => {
+            answer_from(alloc, shelf, trace, Wanted::Inquiry(Inquiry::Questions))
         }
-        Command::Audit { trace } => answer_from(alloc, shelf, trace, Wanted::Audit),
-        Command::Gen { number } => run_generated(alloc, number),
-        Command::Explore { .. } => unreachable!(),
+        Request::WhyNot { trace, statement } => {
+            let inquiry = Inquiry::WhyNot { statement };
+            answer_from(alloc, shelf, trace, Wanted::Inquiry(inquiry))
+        }
+        Request::Audit { trace } => answer_from(alloc, shelf, trace, Wanted::Audit),
+        Request::Gen { number } => run_generated(alloc, number),
     }
 }

@@ -6,12 +6,14 @@ ghost use Rattle.wy_top.specs.Replies.{at_shelf};
 use crate::delivery::deliver;
 use crate::opening::{Opening, open_trace};
 use std::alloc::Global;
+use wy_ask::Opened;
 use wy_event::record::Trace;
 use wy_outside::shelf::Shelf;
 use wy_outside::sink::Sink;
 use wy_outside::source::Source;
 use wy_reply::Status;
 use wy_session::{Ending, explore};
+use wy_view::MemoryView;
 
 fn status(ending: Ending) -> Status
     ensures { result ≡ status_of ending }
@@ -43,10 +45,16 @@ pub fn explore_trace<S: Shelf, K: Source, O: Sink>(
     ensures files_stay { S.held shelf.new ≡ S.held shelf.old }
 {
     match open_trace(alloc, shelf, name) {
-        Ok(Opening::Open { program, trace }) => {
+        Ok(Opening::Open { typed, trace }) => {
             let Trace { events, tail, .. } = trace;
             let covers = tail.coverage.statements.as_slice();
-            status(explore(alloc, &program, events.into_vec(), covers, keys, out))
+            let view = MemoryView {
+                events: events.into_vec(),
+            };
+            match Opened::open(alloc, &typed.program, covers, view) {
+                Ok(opened) => status(explore(alloc, opened, keys, out)),
+                Err(_) => Status::NoMemory,
+            }
         }
         Ok(Opening::Refused(answer)) => deliver(out, &answer),
         Err(_) => Status::NoMemory,

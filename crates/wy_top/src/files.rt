@@ -1,20 +1,12 @@
 //! Reads the files that the words name.
 ghost use Rattle.std.specs.Prelude.{◌≡◌, ◌≤◌, ◌<◌, ◌^◌, IfOk, length, option_map};
 ghost use Rattle.wy_outside.specs.Counts.{RoseAt};
-ghost use Rattle.wy_top.specs.Held.{source_limit, trace_limit};
+ghost use Rattle.wy_kernel.specs.Limits.{source_limit, trace_limit};
 ghost use Rattle.wy_top.specs.Reads.{GivesBoth, GivesFile, is_absent, is_fault, is_too_long};
 
 use std::alloc::Global;
+use wy_kernel::limit::{INPUT_LIMIT, SOURCE_LIMIT, TRACE_LIMIT};
 use wy_outside::shelf::{Shelf, ShelfError};
-
-/// The bytes that a source may have.
-const SOURCE_LIMIT: u32 = 1_048_576;
-
-/// The bytes that an input may have.
-const INPUT_LIMIT: u32 = 16_777_216;
-
-/// The bytes that a trace may have.
-const TRACE_LIMIT: u32 = 1_073_741_824;
 
 /// Why a file was not read.
 #[derive(Clone, Copy)]

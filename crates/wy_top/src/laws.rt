@@ -30,8 +30,8 @@ use wy_tree::laws::{
 };
 use wy_words::laws::words_ask_one_command;
 
-/// For the same words, files and keys at most one status is due, and at most one text, but that Syntax may
-/// name any token of the source, that of a file or that of a trace.
+/// For the same words, files and keys at most one status is due, and at most one text, but that Syntax may name each token through
+/// which no tree of the source goes, be it the source of a file or that of a trace.
 pub fn one_answer_is_due()
     ensures { (words : List (List ℕ)) (held : Option Files) (keys : Option (List ℕ)) (s t : ℕ)
         (x y : List ℕ) → Due words held keys s x → Due words held keys t y

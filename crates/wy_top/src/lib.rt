@@ -3,16 +3,13 @@
 #![tactic(auto)]
 
 mod answer;
-mod causes;
 mod delivery;
 mod exploring;
 mod files;
 pub mod laws;
 mod opening;
-pub mod reading;
 mod source;
 pub mod top;
 mod trace;
 
-pub use reading::front;
 pub use top::whyline;

@@ -1,25 +1,24 @@
 //! A trace that is opened: its program and what it records, or what is answered in their place.
 ghost use Rattle.std.specs.Prelude.{◌≡◌, ◌≤◌, IfOk, length};
-ghost use Rattle.wy_top.specs.Held.{source_limit, trace_limit};
+ghost use Rattle.wy_kernel.specs.Limits.{source_limit, trace_limit};
 ghost use Rattle.wy_top.specs.Openings.{IsSettled, OpensBytes, OpensFile, OpensUnder};
 ghost use Rattle.wy_top.specs.Replies.{at_shelf};
 
 use crate::answer::answer_to_lack;
 use crate::files::read_trace;
-use crate::reading::front;
 use crate::trace::answer_to_error;
 use law_reading::{decoded_events_refer_below, few_events_are_decoded, heads_are_short};
 use std::alloc::{AllocError, Global};
 use wy_event::record::Trace;
 use wy_frames::{decode, read_head};
-use wy_kernel::program::Program;
 use wy_outside::shelf::Shelf;
+use wy_program::{TypedProgram, program_of_source};
 use wy_reply::{Answer, answer_to_trace_error};
 
-/// A trace and the program of its head, or what is answered where there is none.
+/// A trace and the typed program of its head, or what is answered where there is none.
 #[derive(Drop)]
 pub enum Opening {
-    Open { program: Program, trace: Trace },
+    Open { typed: TypedProgram, trace: Trace },
     Refused(Answer),
 }
 
@@ -32,18 +31,18 @@ fn open_under(alloc: Global, source: &[u8], bytes: &[u8]) -> Result<Opening, All
 {
     decoded_events_refer_below();
     few_events_are_decoded();
-    let program = match front(alloc, source) {
-        Ok(typed) => typed.program,
+    let typed = match program_of_source(alloc, source) {
+        Ok(typed) => typed,
         Err(error) => return Ok(Opening::Refused(answer_to_error(alloc, error)?)),
     };
-    match decode(alloc, bytes, &program) {
-        Ok(trace) => Ok(Opening::Open { program, trace }),
+    match decode(alloc, bytes, &typed.program) {
+        Ok(trace) => Ok(Opening::Open { typed, trace }),
         Err(error) => Ok(Opening::Refused(answer_to_trace_error(alloc, error)?)),
     }
 }
 
 /// The trace of bytes: their head, its program and the rest are read in this order.
-fn open_bytes(alloc: Global, bytes: &[u8]) -> Result<Opening, AllocError>
+pub(crate) fn open_bytes(alloc: Global, bytes: &[u8]) -> Result<Opening, AllocError>
     requires { length bytes.now ≤ trace_limit }
     ensures opens { IfOk result (OpensBytes bytes.now) }
     ensures settled { IfOk result IsSettled }

@@ -8,27 +8,26 @@ ghost use Rattle.wy_reply.specs.Report.{report};
 ghost use Rattle.wy_reply.specs.Recordings.{spelling};
 ghost use Rattle.wy_reply.specs.Statuses.{code_of, is_of_files};
 ghost use Rattle.wy_top.specs.Due.{DueFor};
-ghost use Rattle.wy_top.specs.Held.{source_limit};
+ghost use Rattle.wy_kernel.specs.Limits.{source_limit};
 ghost use Rattle.wy_top.specs.Left.{IsSettled, LeavesSource};
 ghost use Rattle.wy_top.specs.Replies.{RecordsSource, RefusesSource};
 
-use crate::causes::front_cause;
 use crate::files::Contents;
-use crate::reading::{FrontError, front};
 use std::alloc::{AllocError, Global};
 use wy_event::record::Head;
 use wy_event::sequence::Sequence;
 use wy_gen::program;
+use wy_program::{SourceError, program_of_source};
 use wy_record::Recorder;
-use wy_reply::{Answer, Status, answer_to_generated, answer_to_program, answer_to_recording};
+use wy_reply::{Answer, Refusal, answer_to_generated, answer_to_program, answer_to_recording};
 
-/// The answer to a source that is no program.
-fn answer_to_error(alloc: Global, error: FrontError) -> Result<Answer, AllocError>
+/// The answer to a source that gives no program.
+fn answer_to_error(alloc: Global, error: SourceError) -> Result<Answer, AllocError>
     ensures { IfOk result (λ answer. RefusesSource error answer) }
 {
-    match front_cause(error) {
-        Some(cause) => Answer::refused(alloc, Status::Program, cause.of_source()),
-        None => Err(AllocError),
+    match error {
+        SourceError::Refused(refusal) => Answer::refused(alloc, Refusal::Program(refusal)),
+        SourceError::NoMemory => Err(AllocError),
     }
 }
 
@@ -44,7 +43,7 @@ pub fn run_source(
         (λ p lines. report p lines input.now steps) (code_of answer.status) answer.text.items) }
     ensures settled { IfOk result (λ answer. is_of_files answer.status ≡ false) }
 {
-    match front(alloc, source) {
+    match program_of_source(alloc, source) {
         Ok(typed) => answer_to_program(alloc, &typed.program, input, steps),
         Err(error) => answer_to_error(alloc, error),
     }
@@ -59,7 +58,7 @@ pub fn run_generated(alloc: Global, number: u32) -> Result<Answer, AllocError>
     ensures settled { IfOk result (λ answer. is_of_files answer.status ≡ false) }
 {
     let source = program(alloc, number)?;
-    match front(alloc, source.as_slice()) {
+    match program_of_source(alloc, source.as_slice()) {
         Ok(typed) => answer_to_generated(alloc, &typed.program, number),
         Err(error) => answer_to_error(alloc, error),
     }
@@ -88,7 +87,7 @@ pub fn record_source<R: Recorder>(
         → R.phase recorder.new ≡ Failed }
 {
     let Contents { source, input } = contents;
-    match front(alloc, source.as_slice()) {
+    match program_of_source(alloc, source.as_slice()) {
         Ok(typed) => {
             let head = Head {
                 steps,

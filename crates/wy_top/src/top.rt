@@ -1,10 +1,9 @@
 //! The call that the program makes.
-ghost use Rattle.std.specs.Prelude.{◌≡◌, ◌≢◌, ◌<◌, ◌⊎◌, ℕ, List, None, Some, IfSome, map, option_map, string_bytes};
+ghost use Rattle.std.specs.Prelude.{◌≡◌, ◌≢◌, ◌<◌, ◌⊎◌, map, string_bytes};
 ghost use Rattle.wy_outside.specs.Counts.{Rose};
 ghost use Rattle.wy_record.specs.declared.recorder.Phase.{Phase};
 ghost use Rattle.wy_reply.specs.Statuses.{IsStatus};
-ghost use Rattle.wy_words.specs.Views.{command_of};
-ghost use Rattle.wy_words.specs.Words.{Explore, IsNoCommand};
+ghost use Rattle.wy_words.specs.Words.{IsNoCommand};
 ghost use Rattle.wy_top.specs.Answers.{AsksToExplore, Knows};
 ghost use Rattle.wy_session.specs.Closings.{TookMany};
 ghost use Rattle.wy_top.specs.Call.{RecordsNothing, Traces, WritesCarried, WritesCut, WritesDue, WritesFaultLine, WritesPrefix, failures};
@@ -23,19 +22,6 @@ use wy_outside::source::Source;
 use wy_reply::Status;
 use wy_words::laws::words_ask_one_command;
 use wy_words::{Command, command};
-
-/// The name of the trace that is to be explored, where that is what is asked.
-fn trace_to_explore(request: Option<Command<'_>>) -> Option<&str>
-    ensures some { IfSome result (λ trace.
-        option_map command_of request.entry ≡ Some (Explore trace.now)) }
-    ensures none { result ≡ None → (trace : List ℕ)
-        → option_map command_of request.entry ≢ Some (Explore trace) }
-{
-    match request? {
-        Command::Explore { trace } => Some(trace),
-        _ => None,
-    }
-}
 
 /// Runs the command of the words, without the program's own name, over the files of `shelf`, writes
 /// its text to `out` and returns its status. `keys` is read by `explore` alone, whose lines are answered
@@ -132,14 +118,18 @@ pub fn whyline<S: Shelf, K: Source, O: Sink, T: TraceSink + Drop>(
         → S.gets shelf.new ≡ S.gets shelf.old }
 {
     words_ask_one_command();
-    let request = match command(alloc, words) {
-        Ok(request) => request,
+    let command = match command(alloc, words) {
+        Ok(command) => command,
         Err(_) => return Status::NoMemory.code(),
     };
-    if let Some(trace) = trace_to_explore(request) {
-        return explore_trace(alloc, trace, shelf, keys, out).code();
-    }
-    match answer_to(alloc, words, shelf, recorder) {
+    let request = match command {
+        Some(Command::Explore { trace }) => {
+            return explore_trace(alloc, trace, shelf, keys, out).code();
+        }
+        Some(Command::Once(request)) => Some(request),
+        None => None,
+    };
+    match answer_to(alloc, request, shelf, recorder) {
         Ok(answer) => deliver(out, &answer).code(),
         Err(_) => Status::NoMemory.code(),
     }

@@ -1,9 +1,10 @@
 -- The sites of a program: the number of a token that a form, a statement or a declaration carries. Something holds of each site in a part.
 use Rattle.std.specs.Prelude.{◌≡◌, ℕ, ◌<◌, ◌≤◌, List, length, Some, slice_get}
 use Rattle.std.specs.List.{All, AllByRecursion}
-use Rattle.wy_kernel.specs.Form.{Expression, Const, Str, Read, Set, Upd, Un, Bin, Conv, Cast, InstanceOf, Cond, New, NewArray, Call, Cat, Lib, Place, Local, Static, Field, Elem, Part, absent, the, Row, none, more, Statement, Stmt, Act, Block, Eval, Declare, If, While, Do, For, Labelled, Jump, Return, Throw, Try, Print, Other, nothing, this, Statements, done, first, Catches, uncaught, catch}
+use Rattle.wy_kernel.specs.Form.{Expression, Const, Str, Read, Set, Upd, Un, Bin, Conv, Cast, InstanceOf, Cond, New, NewArray, Call, Cat, Lib, Place, Local, Static, Field, Elem, Part, absent, the, Row, none, more, Statement, Stmt, Act, Eval, If, While, Do, For, Return, Throw, Try, Print, Catches, uncaught, catch}
 use Rattle.wy_kernel.specs.Program as part
 use Rattle.wy_kernel.specs.Program.{Program, Body, Class, Method}
+use Rattle.wy_kernel.specs.Statements.{statements}
 use Rattle.wy_kernel.specs.Builtin.{method_site}
 use Rattle.wy_kernel.specs.Builtin as builtin
 
@@ -44,36 +45,30 @@ abbrev mutual
 
 -- ---- statements
 
-abbrev mutual
-  pub StatementSited : (ℕ → Type 0) → Statement → Type 0
-  StatementSited P (Stmt number site askable reach act) = P site × ActSited P act
+-- the clauses of a `try`, without their blocks
+abbrev pub CatchesSited : (ℕ → Type 0) → Catches → Type 0
+CatchesSited P uncaught = Unit {0}
+CatchesSited P (catch class local site block rest) = P site × CatchesSited P rest
 
-  pub ActSited : (ℕ → Type 0) → Act → Type 0
-  ActSited P (Block parts) = AllSited P parts
-  ActSited P (Eval value) = Sited P value
-  ActSited P (Declare local) = Unit {0}
-  ActSited P (If test if_true if_false) = Sited P test × StatementSited P if_true × OtherSited P if_false
-  ActSited P (While test body) = Sited P test × StatementSited P body
-  ActSited P (Do body test) = StatementSited P body × Sited P test
-  ActSited P (For inits test updates body) = AllSited P inits × PartSited P test × AllSited P updates × StatementSited P body
-  ActSited P (Labelled body) = StatementSited P body
-  ActSited P (Jump target) = Unit {0}
-  ActSited P (Return value) = PartSited P value
-  ActSited P (Throw value) = Sited P value
-  ActSited P (Try main catches last) = StatementSited P main × CatchesSited P catches × OtherSited P last
-  ActSited P (Print operand ty ends_line site) = P site × PartSited P operand
+-- what stands in a statement itself, and in none of those within it
+abbrev pub ActSited : (ℕ → Type 0) → Act → Type 0
+ActSited P (Eval value) = Sited P value
+ActSited P (If test if_true if_false) = Sited P test
+ActSited P (While test body) = Sited P test
+ActSited P (Do body test) = Sited P test
+ActSited P (For inits test updates body) = PartSited P test
+ActSited P (Return value) = PartSited P value
+ActSited P (Throw value) = Sited P value
+ActSited P (Try main catches last) = CatchesSited P catches
+ActSited P (Print operand ty ends_line site) = P site × PartSited P operand
+ActSited P _ = Unit {0}
 
-  pub OtherSited : (ℕ → Type 0) → Other → Type 0
-  OtherSited P nothing = Unit {0}
-  OtherSited P (this s) = StatementSited P s
+abbrev pub StatementSited : (ℕ → Type 0) → Statement → Type 0
+StatementSited P (Stmt number site askable reach act) = P site × ActSited P act
 
-  pub AllSited : (ℕ → Type 0) → Statements → Type 0
-  AllSited P done = Unit {0}
-  AllSited P (first s rest) = StatementSited P s × AllSited P rest
-
-  pub CatchesSited : (ℕ → Type 0) → Catches → Type 0
-  CatchesSited P uncaught = Unit {0}
-  CatchesSited P (catch class local site block rest) = P site × StatementSited P block × CatchesSited P rest
+-- so it is at each of these
+abbrev pub AllSited : (ℕ → Type 0) → List Statement → Type 0
+AllSited P all = AllByRecursion (StatementSited P) all
 
 -- ---- bodies, with their locals and the token at their end
 
@@ -81,7 +76,7 @@ abbrev pub LocalsSited : (ℕ → Type 0) → List part.Local → Type 0
 LocalsSited P locals = All (λ (l : part.Local). P l.site) locals
 
 pub record BodySited (P : ℕ → Type 0) (b : Body) : Type 0 where
-  pub block : StatementSited P b.block
+  pub block : AllSited P (statements b.block)
   pub locals : LocalsSited P b.locals
   pub end : P b.end
 

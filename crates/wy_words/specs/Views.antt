@@ -9,7 +9,9 @@ use Rattle.wy_words.specs.declared.asking.Operands.TheVariants.{Nothing, One, Tw
 use Rattle.wy_words.specs.declared.asking.Asking.{Asking}
 use Rattle.wy_words.specs.declared.commands.Asked.{Asked}
 use Rattle.wy_words.specs.declared.commands.Command.{Command}
-use Rattle.wy_words.specs.declared.commands.Command.TheVariants.{Run, Record, Output, Why, WhyNot, Questions, Explore, Audit, Gen}
+use Rattle.wy_words.specs.declared.commands.Command.TheVariants.{Once, Explore}
+use Rattle.wy_words.specs.declared.commands.Request.{Request}
+use Rattle.wy_words.specs.declared.commands.Request.TheVariants.{Run, Record, Output, Why, WhyNot, Questions, Audit, Gen}
 
 abbrev pub operands_of : Operands → List (List ℕ)
 operands_of Nothing = []
@@ -31,13 +33,16 @@ asking_of a = record {
 abbrev pub asked_of : Asked → words.Asked
 asked_of a = record { source = a.source.now; input = option_map (λ s. s.now) a.input; steps = a.steps }
 
+abbrev pub request_of : Request → words.Command
+request_of (Run asked) = words.Run (asked_of asked)
+request_of (Record asked trace) = words.Record (asked_of asked) trace.now
+request_of (Output trace) = words.Output trace.now
+request_of (Why trace question) = words.Why trace.now question.now
+request_of (WhyNot trace statement) = words.WhyNot trace.now statement.now
+request_of (Questions trace) = words.Questions trace.now
+request_of (Audit trace) = words.Audit trace.now
+request_of (Gen number) = words.Gen number
+
 abbrev pub command_of : Command → words.Command
-command_of (Run asked) = words.Run (asked_of asked)
-command_of (Record asked trace) = words.Record (asked_of asked) trace.now
-command_of (Output trace) = words.Output trace.now
-command_of (Why trace question) = words.Why trace.now question.now
-command_of (WhyNot trace statement) = words.WhyNot trace.now statement.now
-command_of (Questions trace) = words.Questions trace.now
+command_of (Once request) = request_of request
 command_of (Explore trace) = words.Explore trace.now
-command_of (Audit trace) = words.Audit trace.now
-command_of (Gen number) = words.Gen number

@@ -25,18 +25,25 @@ pub struct Asked<'a> {
     pub steps: u32,
 }
 
-/// What can be asked.
+/// What can be asked that has one answer.
 #[derive(Clone, Copy)]
-pub enum Command<'a> {
+pub enum Request<'a> {
     Run(Asked<'a>),
     Record { asked: Asked<'a>, trace: &'a str },
     Output { trace: &'a str },
     Why { trace: &'a str, question: &'a str },
     WhyNot { trace: &'a str, statement: &'a str },
     Questions { trace: &'a str },
-    Explore { trace: &'a str },
     Audit { trace: &'a str },
     Gen { number: u32 },
+}
+
+/// What can be asked.
+#[derive(Clone, Copy)]
+pub enum Command<'a> {
+    Once(Request<'a>),
+    /// A session, in which each line of the keys has its answer.
+    Explore { trace: &'a str },
 }
 
 /// The command of this name, where it takes all that is named and needs no more.
@@ -82,7 +89,7 @@ fn run(asking: Asking<'_>) -> Option<Command<'_>>
         return None;
     }
     match to_run(asking) {
-        Some(asked) => Some(Command::Run(asked)),
+        Some(asked) => Some(Command::Once(Request::Run(asked))),
         None => None,
     }
 }
@@ -96,7 +103,7 @@ fn recording(asking: Asking<'_>) -> Option<Command<'_>>
         return None;
     };
     match to_run(asking) {
-        Some(asked) => Some(Command::Record { asked, trace }),
+        Some(asked) => Some(Command::Once(Request::Record { asked, trace })),
         None => None,
     }
 }
@@ -106,7 +113,7 @@ fn output(asking: Asking<'_>) -> Option<Command<'_>>
     ensures { option_map command_of result ≡ output_asked (asking_of asking.entry) }
 {
     match only_operand(asking) {
-        Some(trace) => Some(Command::Output { trace }),
+        Some(trace) => Some(Command::Once(Request::Output { trace })),
         None => None,
     }
 }
@@ -116,7 +123,7 @@ fn why(asking: Asking<'_>) -> Option<Command<'_>>
     ensures { option_map command_of result ≡ why_asked (asking_of asking.entry) }
 {
     match two_operands(asking) {
-        Some((trace, question)) => Some(Command::Why { trace, question }),
+        Some((trace, question)) => Some(Command::Once(Request::Why { trace, question })),
         None => None,
     }
 }
@@ -126,7 +133,7 @@ fn whynot(asking: Asking<'_>) -> Option<Command<'_>>
     ensures { option_map command_of result ≡ whynot_asked (asking_of asking.entry) }
 {
     match two_operands(asking) {
-        Some((trace, statement)) => Some(Command::WhyNot { trace, statement }),
+        Some((trace, statement)) => Some(Command::Once(Request::WhyNot { trace, statement })),
         None => None,
     }
 }
@@ -136,7 +143,7 @@ fn questions(asking: Asking<'_>) -> Option<Command<'_>>
     ensures { option_map command_of result ≡ questions_asked (asking_of asking.entry) }
 {
     match only_operand(asking) {
-        Some(trace) => Some(Command::Questions { trace }),
+        Some(trace) => Some(Command::Once(Request::Questions { trace })),
         None => None,
     }
 }
@@ -156,7 +163,7 @@ fn audit(asking: Asking<'_>) -> Option<Command<'_>>
     ensures { option_map command_of result ≡ audit_asked (asking_of asking.entry) }
 {
     match only_operand(asking) {
-        Some(trace) => Some(Command::Audit { trace }),
+        Some(trace) => Some(Command::Once(Request::Audit { trace })),
         None => None,
     }
 }
@@ -166,7 +173,7 @@ fn generated(asking: Asking<'_>) -> Option<Command<'_>>
     ensures { option_map command_of result ≡ gen_asked (asking_of asking.entry) }
 {
     match number(only_operand(asking)?, MOST_METHODS) {
-        Some(number) => Some(Command::Gen { number }),
+        Some(number) => Some(Command::Once(Request::Gen { number })),
         None => None,
     }
 }

@@ -8,5 +8,5 @@ mod number;
 mod table;
 mod words;
 
-pub use commands::{Asked, Command};
+pub use commands::{Asked, Command, Request};
 pub use words::command;

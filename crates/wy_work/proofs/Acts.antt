@@ -1,4 +1,4 @@
--- What a statement does within its begin and its end, by the frames that it pushes.
+-- What a statement does within its begin and its end, by the tasks that it pushes.
 use Rattle.std.proofs.Common.{◌≡◌, ◌∙◌, ℕ, Bool, List, [], ◌∷◌, map, refl, ap, sym, Bor, Option, Some, Err}
 use Rattle.std.specs.Prelude.{None as Absent}
 use Rattle.std.specs.declared.alloc.Global.{Global}
@@ -76,7 +76,7 @@ unfolding go_on return
 part_is w x e vs part s = rw (view_statement x, act_is w x.site x.reach (act x.form) e part s) (simp go_on-go_on)
 
 module _ (p : Program) (m n : MachineState) where
-  -- the frames of an expression and of the rest of its statement
+  -- the tasks of an expression and of the rest of its statement
   pub within_goes : (x : Bor Memory) (e : Bor Expr) → n ≡ pushed (task.Expr e expr_step.Find) (pushed (task.Stmt x step.Operate) m) → IsPartOf (act x.now.form) (expression e.now) →
       Onward p m.state (then_all p m (emptied (exec_act (world p m.depth) x.now.site x.now.reach (act x.now.form)))) n.state (goes p n)
   unfolding go_on return

@@ -1,4 +1,4 @@
--- What the frames of a body stand for: its Binds, its block and its end.
+-- What the tasks of a body stand for: its Binds, its block and its end.
 use Rattle.std.proofs.Common.{◌≡◌, ◌∙◌, ℕ, suc, [], ◌∷◌, refl, ap, sym, subst, Bool, true, false, nat_lt, nat_le, length, Option, Some, Result, Ok, Err}
 use Rattle.std.specs.Prelude.{None as Absent, ◌+◌}
 use Rattle.std.specs.Borrow.{Bor}
@@ -65,7 +65,7 @@ unfolding bind_all ◌>>=◌ return
 binds_going b f i [] s = tt
 binds_going b f i (v ∷ vs) s = going_on (note_write (into kind.Bind (local_site b i) (slot.Local f i) v.value) v s) (λ e. bind_all b f (suc i) vs) (write_going (into kind.Bind (local_site b i) (slot.Local f i) v.value) v s) (λ e t. binds_going b f (suc i) vs t)
 
--- ---- the frames of a call
+-- ---- the tasks of a call
 
 module _ (block : Run nothing (Unit {0})) (returns_none : Bool) (site : ℕ) where
   body_after : (o : Outcome nothing (Unit {0})) → IsGoing o →

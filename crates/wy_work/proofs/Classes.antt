@@ -197,7 +197,7 @@ module _ (p : Program) (site c depth : ℕ) where
   class_refused m l (Recorder e) after_it next is a = tt
   class_refused m l Memory after_it next is a = tt
 
--- ---- the frames of an initialization
+-- ---- the tasks of an initialization
 
 module _ (vs : Values) where
   block_after : (block : Run nothing (Unit {0})) (o : Outcome nothing (Unit {0})) → IsCalm o →

@@ -23,7 +23,7 @@ use Rattle.wy_operation.proofs.Runs.{go_on-go_on}
 use Rattle.wy_work.proofs.Runs.{turned_after}
 
 module _ (p : Program) (m q : MachineState) (r : Result (Unit {0}) Halt) (n : MachineState) (es : List Expr) (first : Expr) (row : Bor (List Expr)) where
-  -- the first is found, and the row of the others is a frame
+  -- the first is found, and the row of the others is a task
   pub row_goes : es ≡ first ∷ row.now → q ≡ pushed (tasks.Row row) m → Does p (λ w vs. put_on vs (eval w (expression first))) q r n → Does p (λ w. put_all w (rows es)) m r n
   unfolding go_on return
   row_goes is pushes a =

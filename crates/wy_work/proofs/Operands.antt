@@ -1,4 +1,4 @@
--- How the operands of an expression are found, by the frames that the code pushes.
+-- How the operands of an expression are found, by the tasks that the code pushes.
 use Rattle.std.proofs.Common.{◌≡◌, ◌∙◌, [], refl, ap, sym, subst, Bor, Result, Ok, Err}
 use Rattle.wy_kernel.specs.Program.{Program}
 use Rattle.wy_kernel.specs.Form.{Expression}
@@ -26,7 +26,7 @@ use Rattle.wy_work.proofs.Updates.{go_on_same}
 use Rattle.wy_work.proofs.Places.{Operating, resumed_as}
 use Rattle.wy_work.proofs.Evals.{begins_is, operated}
 
--- the frames of operands find them
+-- the tasks of operands find them
 pub frames_find : (p : Program) (m : MachineState) (l : Listed) (s : State nothing) → goes p (pushed_all (finding l) m) s ≡ then_all p m (put_all (world p m.depth) (listed l) m.values) s
 unfolding go_on return
 frames_find p m listing.None s = refl

@@ -49,7 +49,7 @@ module _ (p : Program) (m k : MachineState) (l : Leaves p m k) (x : Step) where
   pub class_halted : (why : Stop) → x ≡ step.LeaveClass → Onward p m.state (then_all p (pushed (task.Plain x) m) (stop why)) k.state (then_all p k (stop why))
   class_halted why is = rw is (halts_class p m k l why)
 
--- ---- what passes a frame that does nothing with it
+-- ---- what passes a task that does nothing with it
 
 module _ (p : Program) (m : MachineState) where
   abbrev IsPassed : Task → Reason nothing → Type 0

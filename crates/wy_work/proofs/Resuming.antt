@@ -1,4 +1,4 @@
--- What each frame does where all before it went through.
+-- What each task does where all before it went through.
 use Rattle.std.proofs.Common.{◌≡◌, ℕ, List, [], map, Bor, Result, Ok, Err, OnOk, IfErr}
 use Rattle.wy_kernel.specs.declared.form.Expr.{Expr}
 use Rattle.wy_kernel.specs.declared.form.Stmt.{Stmt as Memory}

@@ -1,4 +1,4 @@
--- The end of a body, and what leaves a frame that does nothing with it.
+-- the end of a body, and what leaves a task that does nothing with it.
 use Rattle.std.proofs.Common.{◌≡◌, ℕ, Bool, true, false, nat_lt, nat_le, [], ◌∷◌, length, refl, ap, Err}
 use Rattle.std.specs.Prelude.{◌+◌}
 use Rattle.wy_kernel.specs.Program.{Program}

@@ -1,4 +1,4 @@
--- The turns of loops, by the frames that they push.
+-- The turns of loops, by the tasks that they push.
 use Rattle.std.proofs.Common.{◌≡◌, ◌∙◌, ℕ, suc, ◌+◌, add-one, Bool, true, false, List, [], ◌∷◌, map, refl, ap, sym, subst, Bor, Option, Some, Result, Err}
 use Rattle.std.specs.Prelude.{None as Absent}
 use Rattle.std.specs.declared.alloc.Global.{Global}

@@ -110,7 +110,7 @@ module _ (p : Program) (m : MachineState) (slot : Slot) (c : Carried nothing) (u
     abbrev stack : Values
     stack = given old (us ++ used ∷ []) ∷ given val.None us ∷ vs
 
-    -- what was begun, and how the frames say it
+    -- what was begun, and how the tasks say it
     begun_with : (part : plain.Part) (n : MachineState) (k : Run nothing Values) → expression e.now ≡ plain.Upd place op part value_ty ty wide gives_old site →
         ((s : State nothing) → then_all p m (right_and_rest (world p m.depth) (spot_of slot (given val.None us)) op ty wide gives_old site vs (right_side (world p m.depth) part) (given old (us ++ used ∷ []))) s ≡ k s) →
         Onward p m.state (then_all p m (updating_of (world p m.depth) (expression e.now) (spot_of slot c) vs)) m.state k

@@ -23,7 +23,7 @@ listed (Headed a es) = expression a.now ∷ map expression es.now
 abbrev pub rows : List Expr → List Expression
 rows = map expression
 
--- the frames that find them, the first on top
+-- the tasks that find them, the first on top
 abbrev pub finding : Listed → List Task
 finding None = []
 finding (One a) = task.Expr a step.Find ∷ []

@@ -1,4 +1,4 @@
--- What the frames of work stand for, as what is done with the outcome of all before them; and how the machine goes on with it.
+-- What the tasks stand for, as what is done with the outcome of all before them; and how the machine goes on with it.
 use Rattle.std.specs.Prelude.{ℕ, suc, pos, Bool, List, [], ◌∷◌, ◌++◌, map, Option, Some, Result, Ok, Err}
 use Rattle.std.specs.Prelude.{None as Absent}
 use Rattle.wy_kernel.specs.Program.{Program, method}
@@ -29,7 +29,7 @@ use Rattle.wy_work.specs.Expressions.{put_on, leaving, put_all, expr_step, showi
 use Rattle.wy_operation.specs.Words.{joined_texts}
 use Rattle.wy_work.specs.Statements.{emptied, forgotten, without_values, stmt_frame}
 
--- what stands around the frames of work, the innermost first: how many bodies may still begin, the events of those that run, what was
+-- what stands around the tasks, the innermost first: how many bodies may still begin, the events of those that run, what was
 -- active when each scope was opened, and the values of the bodies that wait
 pub record Context : Type 0 where
   pub depth : ℕ
@@ -41,7 +41,7 @@ abbrev pub newest : List ℕ → Option ℕ
 newest [] = Absent
 newest (n ∷ ns) = Some n
 
--- around a frame that ends a body or a scope there is one fewer
+-- around a task that ends a body or a scope there is one fewer
 abbrev pub without_body : Context → Context
 without_body a = record { depth = suc a.depth; bodies = rest_of a.bodies; scopes = a.scopes; saved = rest_of a.saved }
 
@@ -61,7 +61,7 @@ main_called w = do
   args ← make_array w (method w.program w.program.main).site strings 0 (constant (val.Int (pos 0)))
   w.call (method w.program w.program.main).site w.program.main Absent (value_of args (val.Object args.number) ∷ [])
 
--- ---- frames, at every outcome
+-- ---- tasks, at every outcome
 
 module _ (w : World nothing) (a : Context) where
   abbrev pub returned : Bool → ℕ → Outcome nothing Values → Outcome nothing Values
@@ -88,12 +88,12 @@ module _ (w : World nothing) (a : Context) where
   task_of (task.Plain x) o = step_of x o
   task_of (task.Close scope) o = active_again (first_of a.scopes) o
 
--- the frames, from the newest to the oldest
+-- the tasks, from the newest to the oldest
 abbrev pub after : Program → Context → List Task → Outcome nothing Values → Outcome nothing Values
 after p a [] o = o
 after p a (f ∷ fs) o = after p (outside f a) fs (task_of (world p a.depth) a f o)
 
--- what contracts see of a machine: its frames and its values have the newest first
+-- what contracts see of a machine: its tasks and its values have the newest first
 pub record MachineState : Type 0 where
   pub state : Shape
   pub depth : ℕ
@@ -134,7 +134,7 @@ Resumed p before m r n = Turned p before m r n (λ u. return n.values)
 abbrev pub Does : Program → (World nothing → Values → Run nothing Values) → MachineState → Result (Unit {0}) Halt → MachineState → Type 0
 Does p f m r n = Resumed p (then_all p m (f (world p m.depth) m.values)) m.state r n
 
--- a frame at how what was before it ended
+-- a task at how what was before it ended
 abbrev pub Ends : Program → Task → Run nothing Values → MachineState → Result (Unit {0}) Halt → MachineState → Type 0
 Ends p f before m r n = Resumed p (then_all p (pushed f m) before) m.state r n
 
@@ -143,6 +143,6 @@ outcome_at signal.Going vs = return vs
 outcome_at (signal.Left why) vs = leave (reason_of why)
 outcome_at (signal.Stopped why) vs = stop (stop_of why)
 
--- frames one over the other
+-- tasks one over the other
 abbrev pub pushed_all : List Task → MachineState → MachineState
 pushed_all fs m = record m { work = fs ++ m.work }

@@ -1,5 +1,5 @@
-//! What a run has left to do, as frames of work over the state of `wy_state`, and what each frame does when its turn comes.
-//! No call of the program is a call here: a body that begins is a frame that is pushed. Nothing here opens the state.
+//! What a run has left to do, as tasks over the state of `wy_state`, and what each task does when its turn comes.
+//! No call of the program is a call here: a body that begins is a task that is pushed. Nothing here opens the state.
 #![tactic(auto)]
 
 mod call;

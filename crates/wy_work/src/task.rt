@@ -1,4 +1,4 @@
-//! What is left to do, in frames. A frame refers to the program and has the small data that it goes on with; the values that it
+//! What is left to do, as tasks. A task refers to the program and has the small data that it goes on with; the values that it
 //! goes on with are on the stack, the last on top.
 
 use wy_calls::Scope;

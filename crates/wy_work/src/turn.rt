@@ -1,4 +1,4 @@
-//! A turn of the machine: a frame goes on where all before it went through, or is passed by.
+//! A turn of the machine: a task goes on where all before it went through, or is passed by.
 
 ghost use Rattle.std.specs.Prelude.{◌≡◌, OnOk, IfErr};
 ghost use Rattle.wy_kernel.specs.Parts.{program_of};
@@ -34,26 +34,26 @@ pub enum Signal {
 }
 
 impl<'a, R: Recorder> Machine<'a, R> {
-    /// A frame at how what was before it ended.
-    pub fn turn(&mut self, on: &Dispatcher<'a>, frame: Task<'a>, signal: Signal) -> Result<(), Halt>
-        ensures goes { Ends (program_of on.now.program.now) frame.entry
+    /// A task at how what was before it ended.
+    pub fn turn(&mut self, on: &Dispatcher<'a>, task: Task<'a>, signal: Signal) -> Result<(), Halt>
+        ensures goes { Ends (program_of on.now.program.now) task.entry
             (outcome_at signal (standing R.keeps R.kept self.old).values)
             (standing R.keeps R.kept self.old) result (standing R.keeps R.kept self.new) }
     {
         match signal {
-            Signal::Going => self.resume(on, frame),
-            Signal::Left(why) => self.pass(on, frame, why),
-            Signal::Stopped(why) => self.halt(frame, why),
+            Signal::Going => self.resume(on, task),
+            Signal::Left(why) => self.pass(on, task, why),
+            Signal::Stopped(why) => self.halt(task, why),
         }
     }
 
-    /// A frame where all before it went through.
-    fn resume(&mut self, on: &Dispatcher<'a>, frame: Task<'a>) -> Result<(), Halt>
-        ensures goes { Ends (program_of on.now.program.now) frame.entry
+    /// A task where all before it went through.
+    fn resume(&mut self, on: &Dispatcher<'a>, task: Task<'a>) -> Result<(), Halt>
+        ensures goes { Ends (program_of on.now.program.now) task.entry
             (return (standing R.keeps R.kept self.old).values)
             (standing R.keeps R.kept self.old) result (standing R.keeps R.kept self.new) }
     {
-        match frame {
+        match task {
             Task::Expr { expr, step } => self.resume_expr(on, expr, step),
             Task::Row { exprs } => self.find_all(on, exprs),
             Task::Stmt { stmt, step } => self.resume_stmt(on, stmt, step),
@@ -227,12 +227,12 @@ impl<'a, R: Recorder> Machine<'a, R> {
         Ok(())
     }
 
-    /// A frame that stands above where what was left goes on.
-    fn pass(&mut self, on: &Dispatcher<'a>, frame: Task<'a>, why: Reason) -> Result<(), Halt>
-        ensures goes { Ends (program_of on.now.program.now) frame.entry (leave (reason_of why))
+    /// A task that stands above where what was left goes on.
+    fn pass(&mut self, on: &Dispatcher<'a>, task: Task<'a>, why: Reason) -> Result<(), Halt>
+        ensures goes { Ends (program_of on.now.program.now) task.entry (leave (reason_of why))
             (standing R.keeps R.kept self.old) result (standing R.keeps R.kept self.new) }
     {
-        match frame {
+        match task {
             Task::Stmt { stmt, step } => self.pass_stmt(on, stmt, step, why),
             Task::Plain { step } => self.pass_step(step, why),
             Task::Close { scope } => {
@@ -323,12 +323,12 @@ impl<'a, R: Recorder> Machine<'a, R> {
         Err(Halt::Left(why))
     }
 
-    /// A frame that a stop finds.
-    fn halt(&mut self, frame: Task<'a>, why: Limit) -> Result<(), Halt>
-        ensures goes { (p : kernel.Program) → Ends p frame.entry (stop (stop_of why))
+    /// A task that a stop finds.
+    fn halt(&mut self, task: Task<'a>, why: Limit) -> Result<(), Halt>
+        ensures goes { (p : kernel.Program) → Ends p task.entry (stop (stop_of why))
             (standing R.keeps R.kept self.old) result (standing R.keeps R.kept self.new) }
     {
-        match frame {
+        match task {
             Task::Plain { step } => self.halt_step(step, why),
             Task::Close { scope } => {
                 self.state.close_scope(scope)?;

@@ -52,6 +52,7 @@ pub fn first_alike(
     }
 }
 
+/// The first of each signature among the methods that are found, in order of their numbers.
 fn first_found(
     alloc: Global,
     lineage: &Lineage,

@@ -114,6 +114,7 @@ fn inherited_alike(lineage: &Lineage, c: u32, k: u32, m: &Method, sought: Sought
     }
 }
 
+/// The first other method with this signature that the class inherits, where it declares none itself.
 fn inherited_where(
     lineage: &Lineage,
     c: u32,

@@ -1,6 +1,5 @@
-use Rattle.std.proofs.Common.{◌≡◌, ◌∙◌, length, sym, ap, subst}
-use Rattle.std.specs.Prelude.{IfSome}
-use Rattle.wy_index.specs.Index.{IsIndexOf}
+use Rattle.std.proofs.Common.{◌∙◌, sym}
+use Rattle.wy_ask.proofs.Opening.{all_told, index_of}
 use Rattle.wy_ask.proofs.asking.questions.Goals as goal
 
 pub all_listed-requires : goal.all_listed-requires
@@ -10,7 +9,7 @@ all_listed-requires g c =
 
 pub returns-clause-listed : goal.returns-clause-listed
 returns-clause-listed g c = λ rs told.
-    let v = c.requires.index in
-    let same : rs ≡ v.records = subst (λ o. IfSome o (λ t. t ≡ v.records)) told v.as_told in
-    c.in_ok-all_listed.ensures.listed rs (subst (IsIndexOf c.args.index.now) (sym same) v.is_index)
-    (ap length same ∙ v.all ∙ sym (c.count-count.ensures.count ∙ c.stores_in.ensures.keeps.count)) (c.in_ok-stores.ensures.stored rs told)
+    let o = c.args.opened.now in
+    let tells = g.V.EventView.tells o.view in
+    c.in_ok-all_listed.ensures.listed rs (index_of o.index tells rs told c.requires.index)
+    (all_told o tells c.requires rs told ∙ sym (c.count-count.ensures.count ∙ c.stores_in.ensures.keeps.count)) (c.in_ok-stores.ensures.stored rs told)

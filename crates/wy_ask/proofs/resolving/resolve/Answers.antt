@@ -1,10 +1,18 @@
+use Rattle.std.proofs.Common.{sym, subst}
 use Rattle.wy_kernel.specs.Parts.{program_of}
-use Rattle.wy_ask.specs.Asked.{element_place}
-use Rattle.wy_ask.proofs.Stores.{answered}
+use Rattle.wy_ask.specs.Asked.{IsOf}
+use Rattle.wy_ask.proofs.Opening.{of_index, of_records}
 use Rattle.wy_ask.proofs.resolving.resolve.Goals as goal
 
-pub returns-in-Elem-clause-event : goal.returns-in-Elem-clause-event
-returns-in-Elem-clause-event g c = λ rs is.
-    rw c.in-Elem.is (answered (program_of c.args.program.now) c.args.index.now c.args.count rs is c.element_place-place.result
-    (element_place rs c.in-Elem.array c.in-Elem.element c.in-Elem.moment) c.in-Elem.moment c.stored-in-Elem.result c.ok_or-in-Elem.result
-    (c.element_place-place.ensures rs is.is_index) (c.stored-in-Elem.ensures.write rs is.is_index is.all) c.ok_or-in-Elem.ensures.value)
+pub returns-clause-event : goal.returns-clause-event
+returns-clause-event g c = λ rs is.
+    let o = c.args.opened.now in
+    let told = g.V.EventView.tells o.view in
+    c.resolve_in.ensures.event rs (subst (λ n. IsOf (program_of o.program.now) o.index n rs) (sym c.count-count.ensures.count) (of_records o told c.requires rs is))
+
+pub returns-clause-below : goal.returns-clause-below
+returns-clause-below g c =
+    let o = c.args.opened.now in
+    let told = g.V.EventView.tells o.view in
+    let rs = c.requires.index.records in
+    rw (sym c.count-count.ensures.count) (c.resolve_in.ensures.below rs (subst (λ n. IsOf (program_of o.program.now) o.index n rs) (sym c.count-count.ensures.count) (of_index o told c.requires)))

@@ -3,8 +3,8 @@ use Rattle.wy_syntax.specs.declared.expression.Expression.{size-Expression}
 use Rattle.wy_constant.proofs.constant.+constant.Given as goal
 
 -- two for each level of an expression, and one more for what takes a level apart
-abbrev pub decreases-constant_of : goal.decreases-constant_of
-decreases-constant_of l = 2 * goal.size-constant_of l
+abbrev pub decreases-folded : goal.decreases-folded
+decreases-folded l = 2 * goal.size-folded l
 
 abbrev pub decreases-unary : goal.decreases-unary
 decreases-unary l = 2 * goal.size-unary l + 1

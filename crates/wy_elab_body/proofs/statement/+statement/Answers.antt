@@ -12,7 +12,7 @@ use Rattle.wy_syntax.specs.declared.statement.Block.{Block}
 use Rattle.wy_syntax.specs.View.{block_of, clause_of, clauses_of, statement_of}
 use Rattle.wy_elab_body.specs.Statements.{statement as plain_statement}
 use Rattle.wy_elab_body.specs.Views.{MakesTo, around_of, last_seen, making_of}
-use Rattle.wy_elab_body.proofs.SourceViews.{view_try}
+use Rattle.wy_syntax.proofs.StatementViews.{view_try}
 use Rattle.wy_elab_body.proofs.Sizes.{size, size_braced, size_catches, size_last}
 use Rattle.wy_elab_body.proofs.Rows.{goes_on, stops, ends}
 use Rattle.wy_elab_body.proofs.Clauses as clauses

@@ -1,9 +1,8 @@
 use Rattle.std.proofs.Common.{◌≡◌, ◌+◌, ◌*◌, drop, map}
 use Rattle.wy_kernel.specs.View.{clause, statement}
-use Rattle.wy_syntax.specs.View.{block_of, clause_of, clauses_of, statement_of, statements_of}
+use Rattle.wy_syntax.specs.View.{block_of, clause_of, clauses_of, other_body_of, statement_of, statements_of}
 use Rattle.wy_elab_body.specs.Statements.{Setting as PlainSetting, clauses, statements}
 use Rattle.wy_elab_body.specs.Views.{IsSetting, around_of, behind_clauses, behind_row, last_seen, making_of}
-use Rattle.wy_elab_body.specs.Views.{other as other_seen}
 use Rattle.wy_elab_body.proofs.Sizes.{size, size_all, size_braced, size_catches, size_last, size_other}
 use Rattle.wy_elab_body.proofs.statement.+statement.Given as goal
 
@@ -17,7 +16,7 @@ abbrev pub decreases-statement : goal.decreases-statement
 decreases-statement l = 2 * size (statement_of l.s.now)
 
 abbrev pub decreases-if_statement : goal.decreases-if_statement
-decreases-if_statement l = 2 * (size (statement_of l.main.now) + size_other (other_seen l.other.now)) + 1
+decreases-if_statement l = 2 * (size (statement_of l.main.now) + size_other (other_body_of l.other.now)) + 1
 
 abbrev pub decreases-while_statement : goal.decreases-while_statement
 decreases-while_statement l = 2 * size (statement_of l.body.now) + 1
@@ -29,7 +28,7 @@ abbrev pub decreases-labelled : goal.decreases-labelled
 decreases-labelled l = 2 * size (statement_of l.body.now) + 1
 
 abbrev pub decreases-other_statement : goal.decreases-other_statement
-decreases-other_statement l = 2 * size_other (other_seen l.s.now)
+decreases-other_statement l = 2 * size_other (other_body_of l.s.now)
 
 abbrev pub decreases-block : goal.decreases-block
 decreases-block l = 2 * size_braced (block_of l.b.now) + 1

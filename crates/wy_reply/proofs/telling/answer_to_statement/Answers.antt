@@ -1,7 +1,6 @@
-use Rattle.std.proofs.Common.{Ok, Err, List, map, subst}
+use Rattle.std.proofs.Common.{Ok, Err, Some, List, map, ap, subst}
 use Rattle.wy_kernel.specs.Parts.{program_of}
 use Rattle.wy_event.specs.declared.record.Cover.{Cover}
-use Rattle.wy_event.specs.declared.record.Event.{Event}
 use Rattle.wy_event.specs.Record.{recorded}
 use Rattle.wy_telling.specs.Whynot.{TellsWhynot}
 use Rattle.wy_reply.specs.Tellings.{covers_of, whynot}
@@ -9,15 +8,14 @@ use Rattle.wy_reply.proofs.Tellings.{denied}
 use Rattle.wy_reply.proofs.telling.answer_to_statement.Goals as goal
 
 pub returns-in-Ok-clause-due : goal.returns-in-Ok-clause-due
-returns-in-Ok-clause-due c =
-    rw (c.done.ensures.status, c.done.ensures.text) (whynot c.args.statement.now (Ok c.in-Ok.text.items) (rw (c.into_vec.ensures, c.as_slice-covers.ensures) at c.in-Ok.ensures))
+returns-in-Ok-clause-due c = λ t is.
+    rw (c.done.ensures.status, c.done.ensures.text) (whynot c.args.statement.now (Ok c.in-Ok.text.items) (rw (is.covers) at c.in-Ok.ensures (map recorded t.events) (ap Some is.events)))
 
-pub returns-clause-due : goal.returns-clause-due
-returns-clause-due c =
-    let p = program_of c.args.program.now in
-    let lines = c.args.program.now.lines.items in
+pub returns-in-Err-clause-due : goal.returns-in-Err-clause-due
+returns-in-Err-clause-due c = λ t is.
+    let p = c.args.opened.now.program.now in
     let word = c.args.statement.now in
-    let told : TellsWhynot p lines (map recorded c.args.trace.events) (covers_of c.args.trace) word (Err c.in-Err.error) =
-    subst (λ (cs : List Cover). TellsWhynot p lines (map recorded c.args.trace.events) cs word (Err c.in-Err.error)) c.as_slice-covers.ensures
-    (subst (λ (es : List Event). TellsWhynot p lines (map recorded es) c.as_slice-covers.result.now word (Err c.in-Err.error)) c.into_vec.ensures c.in-Err.ensures) in
-    denied c.args.program.now c.args.trace word c.in-Err.error c.answer_to_unanswered.result told c.answer_to_unanswered.ensures
+    let told : TellsWhynot (program_of p) p.lines.items (map recorded t.events) (covers_of t) word (Err c.in-Err.error) =
+    subst (λ (cs : List Cover). TellsWhynot (program_of p) p.lines.items (map recorded t.events) cs word (Err c.in-Err.error)) is.covers
+    (c.in-Err.ensures (map recorded t.events) (ap Some is.events)) in
+    denied p t word c.in-Err.error c.answer_to_unanswered.result told c.answer_to_unanswered.ensures

@@ -1,5 +1,5 @@
 -- the ledger of the blank
 use Rattle.wy_telling.proofs.listed.questions_text.Given as goal
 
-abbrev pub ghosts-questions_told : goal.ghosts-questions_told
-ghosts-questions_told a = record { name = a.blank.name; parts = a.blank.parts }
+abbrev pub ghosts-all_lines : goal.ghosts-all_lines
+ghosts-all_lines a = record { name = a.blank.name; parts = a.blank.parts }

@@ -9,12 +9,15 @@ use Rattle.wy_telling.proofs.Answering.{read, unread}
 use Rattle.wy_telling.proofs.why.why_text.Goals as goal
 
 pub returns : goal.returns
-returns c = read (program_of c.args.program.now) c.args.program.now.lines.items (map recorded c.args.events.items) c.args.question.now (asked c.in_ok-question.question) c.why_asked.result c.in_ok-question.ensures c.why_asked.ensures
+returns c =
+    let o = c.args.opened.now in
+    read (program_of o.program.now) o.program.now.lines.items (map recorded o.view.events.items) c.args.question.now (asked c.in_ok-question.question) c.why_asked.result c.in_ok-question.ensures c.why_asked.ensures
 
 pub returns-in_err-question : goal.returns-in_err-question
 returns-in_err-question c =
-    let p = program_of c.args.program.now in
-    let lines = c.args.program.now.lines.items in
-    let rs = map recorded c.args.events.items in
+    let o = c.args.opened.now in
+    let p = program_of o.program.now in
+    let lines = o.program.now.lines.items in
+    let rs = map recorded o.view.events.items in
     let left = err_from_is_err_and c.from_residual.result c.from_residual.ensures.1 in
     subst (TellsWhy p lines rs c.args.question.now) (sym (left.1 ∙ ap Err left.2)) (unread p lines rs c.args.question.now c.in_err-question.field-0.0 c.in_err-question.ensures)

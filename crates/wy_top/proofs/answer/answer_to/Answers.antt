@@ -1,136 +1,187 @@
+use Rattle.std.proofs.Common.{refl}
 use Rattle.wy_words.specs.Views.{asked_of}
 use Rattle.wy_words.specs.Words.{Run, Record, Output, Questions, Why, WhyNot, Audit, Gen}
 use Rattle.wy_top.proofs.RunAnswers.{no_command_carries, no_command_cuts, other_command_carries, other_command_cuts, why_carries, whynot_cuts}
-use Rattle.wy_top.proofs.AnswerLemmas.{usage_due, command_due, fault_named, generated_due, generated_settled, traces_due}
-use Rattle.wy_top.proofs.LeftLemmas.{leaves}
-use Rattle.wy_top.proofs.Requests.{methods_asked}
+use Rattle.wy_top.proofs.AnswerLemmas.{usage_due, command_due, fault_named, generated_due, generated_settled, traces_due, traces_none, traces_other}
+use Rattle.wy_top.proofs.LeftLemmas.{leaves, leaves_none, leaves_other}
 use Rattle.wy_top.proofs.answer.answer_to.Goals as goal
 
-pub returns-in-None-clause-due : goal.returns-in-None-clause-due
-returns-in-None-clause-due g c = λ keys. usage_due _ _ keys _ _ (c.in_ok-request.ensures.refused c.in-None.is) c.refused.ensures
+pub returns-in_default-clause-due : goal.returns-in_default-clause-due
+returns-in_default-clause-due g c = λ words keys asked. usage_due words _ keys _ _ (rw (c.in_default.is) at asked) c.refused.ensures
 
 pub returns-in-Run-clause-due : goal.returns-in-Run-clause-due
-returns-in-Run-clause-due g c = λ keys.
-    command_due c.words_ask_one_command.ensures _ _ keys (Run (asked_of c.in-Run.asked)) _ _ c.answer_to_run.result (rw (c.in-Some.is, c.in-Run.is) at c.in_ok-request.ensures.asked) (λ n e. cc) (c.answer_to_run.ensures.due _)
+returns-in-Run-clause-due g c = λ words keys asked.
+    command_due c.words_ask_one_command.ensures words _ keys (Run (asked_of c.in-Run.asked)) _ _ c.answer_to_run.result (rw (c.in-Some.is, c.in-Run.is) at asked) (λ n e. cc) (c.answer_to_run.ensures.due _)
 
 pub returns-in-Run-clause-fault : goal.returns-in-Run-clause-fault
 returns-in-Run-clause-fault g c = fault_named _ (Run (asked_of c.in-Run.asked)) _ _ c.answer_to_run.result (c.answer_to_run.ensures.due _)
 
 pub returns-in-Record-clause-due : goal.returns-in-Record-clause-due
-returns-in-Record-clause-due g c = λ keys.
-    command_due c.words_ask_one_command.ensures _ _ keys (Record (asked_of c.in-Record.asked) c.in-Record.trace.now) _ _ c.answer_to_record.result (rw (c.in-Some.is, c.in-Record.is) at c.in_ok-request.ensures.asked) (λ n e. cc) c.answer_to_record.ensures.due
+returns-in-Record-clause-due g c = λ words keys asked.
+    command_due c.words_ask_one_command.ensures words _ keys (Record (asked_of c.in-Record.asked) c.in-Record.trace.now) _ _ c.answer_to_record.result (rw (c.in-Some.is, c.in-Record.is) at asked) (λ n e. cc) c.answer_to_record.ensures.due
 
 pub returns-in-Record-clause-traces : goal.returns-in-Record-clause-traces
-returns-in-Record-clause-traces g c =
-    traces_due c.words_ask_one_command.ensures _ _ _ (asked_of c.in-Record.asked) c.in-Record.trace.now _ _ c.answer_to_record.result (rw (c.in-Some.is, c.in-Record.is) at c.in_ok-request.ensures.asked)
+returns-in-Record-clause-traces g c = λ words asked.
+    traces_due c.words_ask_one_command.ensures _ words _ (asked_of c.in-Record.asked) c.in-Record.trace.now _ _ c.answer_to_record.result (rw (c.in-Some.is, c.in-Record.is) at asked)
     c.answer_to_record.ensures.traced
 
 pub returns-in-Record-clause-left : goal.returns-in-Record-clause-left
-returns-in-Record-clause-left g c =
-    leaves c.words_ask_one_command.ensures _ _ _ (asked_of c.in-Record.asked) c.in-Record.trace.now _ _ _ (rw (c.in-Some.is, c.in-Record.is) at c.in_ok-request.ensures.asked) c.answer_to_record.ensures.left
+returns-in-Record-clause-left g c = λ words asked.
+    leaves c.words_ask_one_command.ensures _ words _ (asked_of c.in-Record.asked) c.in-Record.trace.now _ _ _ (rw (c.in-Some.is, c.in-Record.is) at asked) c.answer_to_record.ensures.left
 
 pub returns-in-Record-clause-fault : goal.returns-in-Record-clause-fault
 returns-in-Record-clause-fault g c = fault_named _ (Record (asked_of c.in-Record.asked) c.in-Record.trace.now) _ _ c.answer_to_record.result c.answer_to_record.ensures.due
 
 pub returns-in-Output-clause-due : goal.returns-in-Output-clause-due
-returns-in-Output-clause-due g c = λ keys.
-    command_due c.words_ask_one_command.ensures _ _ keys (Output c.in-Output.trace.now) _ _ c.answer_from.result (rw (c.in-Some.is, c.in-Output.is) at c.in_ok-request.ensures.asked) (λ n e. cc) (c.answer_from.ensures.due _)
+returns-in-Output-clause-due g c = λ words keys asked.
+    command_due c.words_ask_one_command.ensures words _ keys (Output c.in-Output.trace.now) _ _ c.answer_from.result (rw (c.in-Some.is, c.in-Output.is) at asked) (λ n e. cc) (c.answer_from.ensures.due _)
 
 pub returns-in-Output-clause-fault : goal.returns-in-Output-clause-fault
 returns-in-Output-clause-fault g c = fault_named _ (Output c.in-Output.trace.now) _ _ c.answer_from.result (c.answer_from.ensures.due _)
 
 pub returns-in-Why-clause-due : goal.returns-in-Why-clause-due
-returns-in-Why-clause-due g c = λ keys.
-    command_due c.words_ask_one_command.ensures _ _ keys (Why c.in-Why.trace.now c.in-Why.question.now) _ _ c.answer_from-in-Why.result (rw (c.in-Some.is, c.in-Why.is) at c.in_ok-request.ensures.asked) (λ n e. cc) (c.answer_from-in-Why.ensures.due _)
+returns-in-Why-clause-due g c = λ words keys asked.
+    command_due c.words_ask_one_command.ensures words _ keys (Why c.in-Why.trace.now c.in-Why.question.now) _ _ c.answer_from-in-Why.result (rw (c.in-Some.is, c.in-Why.is) at asked) (λ n e. cc) (c.answer_from-in-Why.ensures.due _)
 
 pub returns-in-Why-clause-fault : goal.returns-in-Why-clause-fault
 returns-in-Why-clause-fault g c = fault_named _ (Why c.in-Why.trace.now c.in-Why.question.now) _ _ c.answer_from-in-Why.result (c.answer_from-in-Why.ensures.due _)
 
 pub returns-in-Questions-clause-due : goal.returns-in-Questions-clause-due
-returns-in-Questions-clause-due g c = λ keys.
-    command_due c.words_ask_one_command.ensures _ _ keys (Questions c.in-Questions.trace.now) _ _ c.answer_from-in-Questions.result (rw (c.in-Some.is, c.in-Questions.is) at c.in_ok-request.ensures.asked) (λ n e. cc) (c.answer_from-in-Questions.ensures.due _)
+returns-in-Questions-clause-due g c = λ words keys asked.
+    command_due c.words_ask_one_command.ensures words _ keys (Questions c.in-Questions.trace.now) _ _ c.answer_from-in-Questions.result (rw (c.in-Some.is, c.in-Questions.is) at asked) (λ n e. cc) (c.answer_from-in-Questions.ensures.due _)
 
 pub returns-in-Questions-clause-fault : goal.returns-in-Questions-clause-fault
 returns-in-Questions-clause-fault g c = fault_named _ (Questions c.in-Questions.trace.now) _ _ c.answer_from-in-Questions.result (c.answer_from-in-Questions.ensures.due _)
 
 pub returns-in-WhyNot-clause-due : goal.returns-in-WhyNot-clause-due
-returns-in-WhyNot-clause-due g c = λ keys.
-    command_due c.words_ask_one_command.ensures _ _ keys (WhyNot c.in-WhyNot.trace.now c.in-WhyNot.statement.now) _ _ c.answer_from-in-WhyNot.result (rw (c.in-Some.is, c.in-WhyNot.is) at c.in_ok-request.ensures.asked) (λ n e. cc) (c.answer_from-in-WhyNot.ensures.due _)
+returns-in-WhyNot-clause-due g c = λ words keys asked.
+    command_due c.words_ask_one_command.ensures words _ keys (WhyNot c.in-WhyNot.trace.now c.in-WhyNot.statement.now) _ _ c.answer_from-in-WhyNot.result (rw (c.in-Some.is, c.in-WhyNot.is) at asked) (λ n e. cc) (c.answer_from-in-WhyNot.ensures.due _)
 
 pub returns-in-WhyNot-clause-fault : goal.returns-in-WhyNot-clause-fault
 returns-in-WhyNot-clause-fault g c = fault_named _ (WhyNot c.in-WhyNot.trace.now c.in-WhyNot.statement.now) _ _ c.answer_from-in-WhyNot.result (c.answer_from-in-WhyNot.ensures.due _)
 
 pub returns-in-Audit-clause-due : goal.returns-in-Audit-clause-due
-returns-in-Audit-clause-due g c = λ keys.
-    command_due c.words_ask_one_command.ensures _ _ keys (Audit c.in-Audit.trace.now) _ _ c.answer_from-in-Audit.result (rw (c.in-Some.is, c.in-Audit.is) at c.in_ok-request.ensures.asked) (λ n e. cc) (c.answer_from-in-Audit.ensures.due _)
+returns-in-Audit-clause-due g c = λ words keys asked.
+    command_due c.words_ask_one_command.ensures words _ keys (Audit c.in-Audit.trace.now) _ _ c.answer_from-in-Audit.result (rw (c.in-Some.is, c.in-Audit.is) at asked) (λ n e. cc) (c.answer_from-in-Audit.ensures.due _)
 
 pub returns-in-Audit-clause-fault : goal.returns-in-Audit-clause-fault
 returns-in-Audit-clause-fault g c = fault_named _ (Audit c.in-Audit.trace.now) _ _ c.answer_from-in-Audit.result (c.answer_from-in-Audit.ensures.due _)
 
-pub returns-in-None-clause-carried : goal.returns-in-None-clause-carried
-returns-in-None-clause-carried g c = no_command_carries _ _ c.refused.result (c.in_ok-request.ensures.refused c.in-None.is)
+pub returns-in_default-clause-carried : goal.returns-in_default-clause-carried
+returns-in_default-clause-carried g c = λ words asked. no_command_carries words _ c.refused.result (rw (c.in_default.is) at asked)
 
 pub returns-in-Run-clause-carried : goal.returns-in-Run-clause-carried
-returns-in-Run-clause-carried g c = other_command_carries c.words_ask_one_command.ensures _ _ (Run (asked_of c.in-Run.asked)) c.answer_to_run.result (rw (c.in-Some.is, c.in-Run.is) at c.in_ok-request.ensures.asked) (λ trace word e. cc)
+returns-in-Run-clause-carried g c = λ words asked. other_command_carries c.words_ask_one_command.ensures words _ (Run (asked_of c.in-Run.asked)) c.answer_to_run.result (rw (c.in-Some.is, c.in-Run.is) at asked) (λ trace word e. cc)
 
 pub returns-in-Record-clause-carried : goal.returns-in-Record-clause-carried
-returns-in-Record-clause-carried g c = other_command_carries c.words_ask_one_command.ensures _ _ (Record (asked_of c.in-Record.asked) c.in-Record.trace.now) c.answer_to_record.result (rw (c.in-Some.is, c.in-Record.is) at c.in_ok-request.ensures.asked) (λ trace word e. cc)
+returns-in-Record-clause-carried g c = λ words asked. other_command_carries c.words_ask_one_command.ensures words _ (Record (asked_of c.in-Record.asked) c.in-Record.trace.now) c.answer_to_record.result (rw (c.in-Some.is, c.in-Record.is) at asked) (λ trace word e. cc)
 
 pub returns-in-Output-clause-carried : goal.returns-in-Output-clause-carried
-returns-in-Output-clause-carried g c = other_command_carries c.words_ask_one_command.ensures _ _ (Output c.in-Output.trace.now) c.answer_from.result (rw (c.in-Some.is, c.in-Output.is) at c.in_ok-request.ensures.asked) (λ trace word e. cc)
+returns-in-Output-clause-carried g c = λ words asked. other_command_carries c.words_ask_one_command.ensures words _ (Output c.in-Output.trace.now) c.answer_from.result (rw (c.in-Some.is, c.in-Output.is) at asked) (λ trace word e. cc)
 
 pub returns-in-Questions-clause-carried : goal.returns-in-Questions-clause-carried
-returns-in-Questions-clause-carried g c = other_command_carries c.words_ask_one_command.ensures _ _ (Questions c.in-Questions.trace.now) c.answer_from-in-Questions.result (rw (c.in-Some.is, c.in-Questions.is) at c.in_ok-request.ensures.asked) (λ trace word e. cc)
+returns-in-Questions-clause-carried g c = λ words asked. other_command_carries c.words_ask_one_command.ensures words _ (Questions c.in-Questions.trace.now) c.answer_from-in-Questions.result (rw (c.in-Some.is, c.in-Questions.is) at asked) (λ trace word e. cc)
 
 pub returns-in-WhyNot-clause-carried : goal.returns-in-WhyNot-clause-carried
-returns-in-WhyNot-clause-carried g c = other_command_carries c.words_ask_one_command.ensures _ _ (WhyNot c.in-WhyNot.trace.now c.in-WhyNot.statement.now) c.answer_from-in-WhyNot.result (rw (c.in-Some.is, c.in-WhyNot.is) at c.in_ok-request.ensures.asked) (λ trace word e. cc)
+returns-in-WhyNot-clause-carried g c = λ words asked. other_command_carries c.words_ask_one_command.ensures words _ (WhyNot c.in-WhyNot.trace.now c.in-WhyNot.statement.now) c.answer_from-in-WhyNot.result (rw (c.in-Some.is, c.in-WhyNot.is) at asked) (λ trace word e. cc)
 
 pub returns-in-Audit-clause-carried : goal.returns-in-Audit-clause-carried
-returns-in-Audit-clause-carried g c = other_command_carries c.words_ask_one_command.ensures _ _ (Audit c.in-Audit.trace.now) c.answer_from-in-Audit.result (rw (c.in-Some.is, c.in-Audit.is) at c.in_ok-request.ensures.asked) (λ trace word e. cc)
+returns-in-Audit-clause-carried g c = λ words asked. other_command_carries c.words_ask_one_command.ensures words _ (Audit c.in-Audit.trace.now) c.answer_from-in-Audit.result (rw (c.in-Some.is, c.in-Audit.is) at asked) (λ trace word e. cc)
 
 pub returns-in-Why-clause-carried : goal.returns-in-Why-clause-carried
-returns-in-Why-clause-carried g c =
-    why_carries c.words_ask_one_command.ensures _ _ c.in-Why.trace.now c.in-Why.question.now c.answer_from-in-Why.result (rw (c.in-Some.is, c.in-Why.is) at c.in_ok-request.ensures.asked) c.answer_from-in-Why.ensures.by_run
+returns-in-Why-clause-carried g c = λ words asked.
+    why_carries c.words_ask_one_command.ensures words _ c.in-Why.trace.now c.in-Why.question.now c.answer_from-in-Why.result (rw (c.in-Some.is, c.in-Why.is) at asked) c.answer_from-in-Why.ensures.by_run
 
 pub returns-in-Gen-clause-due : goal.returns-in-Gen-clause-due
-returns-in-Gen-clause-due g c = λ keys. generated_due _ _ keys c.in-Gen.number _ c.run_generated.result (rw (c.in-Some.is, c.in-Gen.is) at c.in_ok-request.ensures.asked) c.run_generated.ensures.due
+returns-in-Gen-clause-due g c = λ words keys asked. generated_due words _ keys c.in-Gen.number _ c.run_generated.result (rw (c.in-Some.is, c.in-Gen.is) at asked) c.run_generated.ensures.due
 
 pub returns-in-Gen-clause-fault : goal.returns-in-Gen-clause-fault
 returns-in-Gen-clause-fault g c = generated_settled _ c.run_generated.result c.run_generated.ensures.settled
 
 pub returns-in-Gen-clause-carried : goal.returns-in-Gen-clause-carried
-returns-in-Gen-clause-carried g c = other_command_carries c.words_ask_one_command.ensures _ _ (Gen c.in-Gen.number) c.run_generated.result (rw (c.in-Some.is, c.in-Gen.is) at c.in_ok-request.ensures.asked) (λ trace word e. cc)
+returns-in-Gen-clause-carried g c = λ words asked. other_command_carries c.words_ask_one_command.ensures words _ (Gen c.in-Gen.number) c.run_generated.result (rw (c.in-Some.is, c.in-Gen.is) at asked) (λ trace word e. cc)
 
 pub run_generated-requires-clause-some : goal.run_generated-requires-clause-some
-run_generated-requires-clause-some g c = (methods_asked _ _ (rw (c.in-Some.is, c.in-Gen.is) at c.in_ok-request.ensures.asked)).0
+run_generated-requires-clause-some g c = (c.requires.methods c.in-Gen.number (rw (c.in-Some.is, c.in-Gen.is) refl)).0
 
 pub run_generated-requires-clause-few : goal.run_generated-requires-clause-few
-run_generated-requires-clause-few g c = (methods_asked _ _ (rw (c.in-Some.is, c.in-Gen.is) at c.in_ok-request.ensures.asked)).1
+run_generated-requires-clause-few g c = (c.requires.methods c.in-Gen.number (rw (c.in-Some.is, c.in-Gen.is) refl)).1
 
-pub returns-in-None-clause-cut : goal.returns-in-None-clause-cut
-returns-in-None-clause-cut g c = no_command_cuts _ _ c.refused.result (c.in_ok-request.ensures.refused c.in-None.is)
+pub returns-in_default-clause-cut : goal.returns-in_default-clause-cut
+returns-in_default-clause-cut g c = λ words asked. no_command_cuts words _ c.refused.result (rw (c.in_default.is) at asked)
 
 pub returns-in-Run-clause-cut : goal.returns-in-Run-clause-cut
-returns-in-Run-clause-cut g c = other_command_cuts c.words_ask_one_command.ensures _ _ (Run (asked_of c.in-Run.asked)) c.answer_to_run.result (rw (c.in-Some.is, c.in-Run.is) at c.in_ok-request.ensures.asked) (λ trace word e. cc)
+returns-in-Run-clause-cut g c = λ words asked. other_command_cuts c.words_ask_one_command.ensures words _ (Run (asked_of c.in-Run.asked)) c.answer_to_run.result (rw (c.in-Some.is, c.in-Run.is) at asked) (λ trace word e. cc)
 
 pub returns-in-Record-clause-cut : goal.returns-in-Record-clause-cut
-returns-in-Record-clause-cut g c = other_command_cuts c.words_ask_one_command.ensures _ _ (Record (asked_of c.in-Record.asked) c.in-Record.trace.now) c.answer_to_record.result (rw (c.in-Some.is, c.in-Record.is) at c.in_ok-request.ensures.asked) (λ trace word e. cc)
+returns-in-Record-clause-cut g c = λ words asked. other_command_cuts c.words_ask_one_command.ensures words _ (Record (asked_of c.in-Record.asked) c.in-Record.trace.now) c.answer_to_record.result (rw (c.in-Some.is, c.in-Record.is) at asked) (λ trace word e. cc)
 
 pub returns-in-Output-clause-cut : goal.returns-in-Output-clause-cut
-returns-in-Output-clause-cut g c = other_command_cuts c.words_ask_one_command.ensures _ _ (Output c.in-Output.trace.now) c.answer_from.result (rw (c.in-Some.is, c.in-Output.is) at c.in_ok-request.ensures.asked) (λ trace word e. cc)
+returns-in-Output-clause-cut g c = λ words asked. other_command_cuts c.words_ask_one_command.ensures words _ (Output c.in-Output.trace.now) c.answer_from.result (rw (c.in-Some.is, c.in-Output.is) at asked) (λ trace word e. cc)
 
 pub returns-in-Questions-clause-cut : goal.returns-in-Questions-clause-cut
-returns-in-Questions-clause-cut g c = other_command_cuts c.words_ask_one_command.ensures _ _ (Questions c.in-Questions.trace.now) c.answer_from-in-Questions.result (rw (c.in-Some.is, c.in-Questions.is) at c.in_ok-request.ensures.asked) (λ trace word e. cc)
+returns-in-Questions-clause-cut g c = λ words asked. other_command_cuts c.words_ask_one_command.ensures words _ (Questions c.in-Questions.trace.now) c.answer_from-in-Questions.result (rw (c.in-Some.is, c.in-Questions.is) at asked) (λ trace word e. cc)
 
 pub returns-in-Why-clause-cut : goal.returns-in-Why-clause-cut
-returns-in-Why-clause-cut g c = other_command_cuts c.words_ask_one_command.ensures _ _ (Why c.in-Why.trace.now c.in-Why.question.now) c.answer_from-in-Why.result (rw (c.in-Some.is, c.in-Why.is) at c.in_ok-request.ensures.asked) (λ trace word e. cc)
+returns-in-Why-clause-cut g c = λ words asked. other_command_cuts c.words_ask_one_command.ensures words _ (Why c.in-Why.trace.now c.in-Why.question.now) c.answer_from-in-Why.result (rw (c.in-Some.is, c.in-Why.is) at asked) (λ trace word e. cc)
 
 pub returns-in-Audit-clause-cut : goal.returns-in-Audit-clause-cut
-returns-in-Audit-clause-cut g c = other_command_cuts c.words_ask_one_command.ensures _ _ (Audit c.in-Audit.trace.now) c.answer_from-in-Audit.result (rw (c.in-Some.is, c.in-Audit.is) at c.in_ok-request.ensures.asked) (λ trace word e. cc)
+returns-in-Audit-clause-cut g c = λ words asked. other_command_cuts c.words_ask_one_command.ensures words _ (Audit c.in-Audit.trace.now) c.answer_from-in-Audit.result (rw (c.in-Some.is, c.in-Audit.is) at asked) (λ trace word e. cc)
 
 pub returns-in-Gen-clause-cut : goal.returns-in-Gen-clause-cut
-returns-in-Gen-clause-cut g c = other_command_cuts c.words_ask_one_command.ensures _ _ (Gen c.in-Gen.number) c.run_generated.result (rw (c.in-Some.is, c.in-Gen.is) at c.in_ok-request.ensures.asked) (λ trace word e. cc)
+returns-in-Gen-clause-cut g c = λ words asked. other_command_cuts c.words_ask_one_command.ensures words _ (Gen c.in-Gen.number) c.run_generated.result (rw (c.in-Some.is, c.in-Gen.is) at asked) (λ trace word e. cc)
 
 pub returns-in-WhyNot-clause-cut : goal.returns-in-WhyNot-clause-cut
-returns-in-WhyNot-clause-cut g c =
-    whynot_cuts c.words_ask_one_command.ensures _ _ c.in-WhyNot.trace.now c.in-WhyNot.statement.now c.answer_from-in-WhyNot.result (rw (c.in-Some.is, c.in-WhyNot.is) at c.in_ok-request.ensures.asked) c.answer_from-in-WhyNot.ensures.by_run
+returns-in-WhyNot-clause-cut g c = λ words asked.
+    whynot_cuts c.words_ask_one_command.ensures words _ c.in-WhyNot.trace.now c.in-WhyNot.statement.now c.answer_from-in-WhyNot.result (rw (c.in-Some.is, c.in-WhyNot.is) at asked) c.answer_from-in-WhyNot.ensures.by_run
+
+pub returns-in_default-clause-traces : goal.returns-in_default-clause-traces
+returns-in_default-clause-traces g c = λ words asked. traces_none _ words _ _ _ c.refused.result (rw (c.in_default.is) at asked)
+
+pub returns-in_default-clause-left : goal.returns-in_default-clause-left
+returns-in_default-clause-left g c = λ words asked. leaves_none _ words _ _ _ _ (rw (c.in_default.is) at asked)
+
+pub returns-in-Run-clause-traces : goal.returns-in-Run-clause-traces
+returns-in-Run-clause-traces g c = λ words asked. traces_other c.words_ask_one_command.ensures _ words _ (Run (asked_of c.in-Run.asked)) _ _ c.answer_to_run.result (rw (c.in-Some.is, c.in-Run.is) at asked) (λ a trace e. cc)
+
+pub returns-in-Run-clause-left : goal.returns-in-Run-clause-left
+returns-in-Run-clause-left g c = λ words asked. leaves_other c.words_ask_one_command.ensures _ words _ (Run (asked_of c.in-Run.asked)) _ _ _ (rw (c.in-Some.is, c.in-Run.is) at asked) (λ a trace e. cc)
+
+pub returns-in-Output-clause-traces : goal.returns-in-Output-clause-traces
+returns-in-Output-clause-traces g c = λ words asked. traces_other c.words_ask_one_command.ensures _ words _ (Output c.in-Output.trace.now) _ _ c.answer_from.result (rw (c.in-Some.is, c.in-Output.is) at asked) (λ a trace e. cc)
+
+pub returns-in-Output-clause-left : goal.returns-in-Output-clause-left
+returns-in-Output-clause-left g c = λ words asked. leaves_other c.words_ask_one_command.ensures _ words _ (Output c.in-Output.trace.now) _ _ _ (rw (c.in-Some.is, c.in-Output.is) at asked) (λ a trace e. cc)
+
+pub returns-in-Why-clause-traces : goal.returns-in-Why-clause-traces
+returns-in-Why-clause-traces g c = λ words asked. traces_other c.words_ask_one_command.ensures _ words _ (Why c.in-Why.trace.now c.in-Why.question.now) _ _ c.answer_from-in-Why.result (rw (c.in-Some.is, c.in-Why.is) at asked) (λ a trace e. cc)
+
+pub returns-in-Why-clause-left : goal.returns-in-Why-clause-left
+returns-in-Why-clause-left g c = λ words asked. leaves_other c.words_ask_one_command.ensures _ words _ (Why c.in-Why.trace.now c.in-Why.question.now) _ _ _ (rw (c.in-Some.is, c.in-Why.is) at asked) (λ a trace e. cc)
+
+pub returns-in-Questions-clause-traces : goal.returns-in-Questions-clause-traces
+returns-in-Questions-clause-traces g c = λ words asked. traces_other c.words_ask_one_command.ensures _ words _ (Questions c.in-Questions.trace.now) _ _ c.answer_from-in-Questions.result (rw (c.in-Some.is, c.in-Questions.is) at asked) (λ a trace e. cc)
+
+pub returns-in-Questions-clause-left : goal.returns-in-Questions-clause-left
+returns-in-Questions-clause-left g c = λ words asked. leaves_other c.words_ask_one_command.ensures _ words _ (Questions c.in-Questions.trace.now) _ _ _ (rw (c.in-Some.is, c.in-Questions.is) at asked) (λ a trace e. cc)
+
+pub returns-in-WhyNot-clause-traces : goal.returns-in-WhyNot-clause-traces
+returns-in-WhyNot-clause-traces g c = λ words asked. traces_other c.words_ask_one_command.ensures _ words _ (WhyNot c.in-WhyNot.trace.now c.in-WhyNot.statement.now) _ _ c.answer_from-in-WhyNot.result (rw (c.in-Some.is, c.in-WhyNot.is) at asked) (λ a trace e. cc)
+
+pub returns-in-WhyNot-clause-left : goal.returns-in-WhyNot-clause-left
+returns-in-WhyNot-clause-left g c = λ words asked. leaves_other c.words_ask_one_command.ensures _ words _ (WhyNot c.in-WhyNot.trace.now c.in-WhyNot.statement.now) _ _ _ (rw (c.in-Some.is, c.in-WhyNot.is) at asked) (λ a trace e. cc)
+
+pub returns-in-Audit-clause-traces : goal.returns-in-Audit-clause-traces
+returns-in-Audit-clause-traces g c = λ words asked. traces_other c.words_ask_one_command.ensures _ words _ (Audit c.in-Audit.trace.now) _ _ c.answer_from-in-Audit.result (rw (c.in-Some.is, c.in-Audit.is) at asked) (λ a trace e. cc)
+
+pub returns-in-Audit-clause-left : goal.returns-in-Audit-clause-left
+returns-in-Audit-clause-left g c = λ words asked. leaves_other c.words_ask_one_command.ensures _ words _ (Audit c.in-Audit.trace.now) _ _ _ (rw (c.in-Some.is, c.in-Audit.is) at asked) (λ a trace e. cc)
+
+pub returns-in-Gen-clause-traces : goal.returns-in-Gen-clause-traces
+returns-in-Gen-clause-traces g c = λ words asked. traces_other c.words_ask_one_command.ensures _ words _ (Gen c.in-Gen.number) _ _ c.run_generated.result (rw (c.in-Some.is, c.in-Gen.is) at asked) (λ a trace e. cc)
+
+pub returns-in-Gen-clause-left : goal.returns-in-Gen-clause-left
+returns-in-Gen-clause-left g c = λ words asked. leaves_other c.words_ask_one_command.ensures _ words _ (Gen c.in-Gen.number) _ _ _ (rw (c.in-Some.is, c.in-Gen.is) at asked) (λ a trace e. cc)
+
+pub returns-in-Record-clause-records_nothing : goal.returns-in-Record-clause-records_nothing
+returns-in-Record-clause-records_nothing g c = λ nothing. absurd (nothing (asked_of c.in-Record.asked) c.in-Record.trace.now (rw (c.in-Some.is, c.in-Record.is) refl))

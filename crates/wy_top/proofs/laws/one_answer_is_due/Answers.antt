@@ -7,7 +7,8 @@ use Rattle.wy_reply.specs.Generated.{generated_report}
 use Rattle.wy_reply.specs.Report.{report, recorded_report}
 use Rattle.wy_reply.specs.Tellings.{Wanted}
 use Rattle.wy_reply.specs.Tellings as wanted
-use Rattle.wy_top.specs.Held.{Holds, Lacks, absent, too_long, IsInput, source_limit, input_limit, trace_limit}
+use Rattle.wy_kernel.specs.Limits.{source_limit, input_limit, trace_limit}
+use Rattle.wy_top.specs.Held.{Holds, Lacks, absent, too_long, IsInput}
 use Rattle.wy_top.specs.Due.{Due, DueFor, DueForBytes, DueForRun, DueForTrace, DueTo, usage, asked, explored, generated, AreSyntaxLines, of_source, of_head, of_generated, run_of, trace_of}
 use Rattle.wy_top.specs.Due as due
 use Rattle.wy_top.proofs.OneText.{Known, SameLines, one_for}

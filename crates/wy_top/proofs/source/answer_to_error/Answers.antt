@@ -1,5 +1,5 @@
 use Rattle.wy_top.proofs.ErrorDues.{source_refused}
 use Rattle.wy_top.proofs.source.answer_to_error.Goals as goal
 
-pub returns-in-Some : goal.returns-in-Some
-returns-in-Some c = source_refused c.args.error c.in-Some.cause _ c.refused.result c.in-Some.ensures c.of_source.ensures c.refused.ensures
+pub returns-in-Refused : goal.returns-in-Refused
+returns-in-Refused c = source_refused c.args.error c.in-Refused.refusal c.refused.result c.in-Refused.is c.refused.ensures

@@ -1,42 +1,60 @@
-use Rattle.std.proofs.Common.{◌∙◌, refl, sym, None}
+use Rattle.std.proofs.Common.{◌∙◌, ap, map, refl, sym, None, Some}
+use Rattle.std.specs.Prelude.{option_map, string_bytes}
+use Rattle.wy_words.specs.Views.{request_of}
+use Rattle.wy_top.specs.Answers.{IsAsked}
 use Rattle.wy_top.proofs.RunAnswers.{written_so}
-use Rattle.wy_top.proofs.Delivered.{written_due, prefix, answered_done, done_at, fault_at, fault_cause, fault_line, shelf_fault, recorder_fault}
-use Rattle.wy_top.proofs.Sessions.{explored_due, explored_prefix, explored_fault_line, explored_shelf_fault, explored_out_fault, explored_carried, explored_cut, nothing_prefix, session_of}
-use Rattle.wy_top.proofs.Requests.{no_session}
+use Rattle.wy_top.proofs.Delivered.{written_due, prefix, answered_done, answered_usage, done_at, fault_at, fault_cause, fault_line, shelf_fault, recorder_fault, too_long_at}
+use Rattle.wy_top.proofs.Sessions.{explored_due, explored_prefix, explored_fault_line, explored_shelf_fault, explored_out_fault, explored_carried, explored_cut, explored_fault, explored_leaves, explored_too_long, explored_traces, is_command, is_session, nothing_prefix, session_of}
+use Rattle.wy_top.proofs.Requests.{asked_nothing, asked_once, few_asked, no_recording, none_asked, nothing_asked}
+use Rattle.wy_top.proofs.top.whyline.Given as given
 use Rattle.wy_top.proofs.top.whyline.Goals as goal
+use Rattle.wy_top.proofs.top.whyline.Goals.{in-Some-Once, in-None}
+
+-- what the words ask, where an answer was made and where memory ran out
+asked : (g : given.Over) (c : goal.After-drop-answer g) → IsAsked (map string_bytes c.args.words.now) (option_map request_of c.match-command-2.request)
+asked g c = elim c.match-command-2.branch [
+  | in-Some-Once w ↦ asked_once _ c.in-Ok.command w.in-Some-Once.request _ c.in-Ok.ensures.asked (w.in-Some-Once.is ∙ ap Some (rw (w.in-Some-Once.is) at w.in-Some-Once.field-0-is)) w.request-is
+  | in-None w ↦ asked_nothing _ c.in-Ok.command _ c.in-Ok.ensures.refused w.in-None.is w.request-is
+]
+
+asked_in_vain : (g : given.Over) (c : goal.After-code-in-Err-answer_to g) → IsAsked (map string_bytes c.args.words.now) (option_map request_of c.match-command-2.request)
+asked_in_vain g c = elim c.match-command-2.branch [
+  | in-Some-Once w ↦ asked_once _ c.in-Ok.command w.in-Some-Once.request _ c.in-Ok.ensures.asked (w.in-Some-Once.is ∙ ap Some (rw (w.in-Some-Once.is) at w.in-Some-Once.field-0-is)) w.request-is
+  | in-None w ↦ asked_nothing _ c.in-Ok.command _ c.in-Ok.ensures.refused w.in-None.is w.request-is
+]
 
 pub returns-in-Err-clause-prefix : goal.returns-in-Err-clause-prefix
 returns-in-Err-clause-prefix g c = nothing_prefix _ _ _ _ _ _
 
-pub returns-in-Some-clause-due : goal.returns-in-Some-clause-due
-returns-in-Some-clause-due g c = λ shelf recorder keys out knows some. explored_due _ _ _ _ _ _ _ _ _ _ _ (session_of c.words_ask_one_command.ensures _ c.in-Ok.request c.trace_to_explore.result c.in-Some.trace c.in-Ok.ensures.asked c.trace_to_explore.ensures.some c.in-Some.is) c.explore_trace.ensures.explores c.code-in-Some.ensures shelf keys out knows some
+pub returns-in-Some-Explore-clause-due : goal.returns-in-Some-Explore-clause-due
+returns-in-Some-Explore-clause-due g c = λ shelf recorder keys out knows some. explored_due _ _ _ _ _ _ _ _ _ _ _ (session_of c.words_ask_one_command.ensures _ c.in-Ok.command c.in-Some-Explore.trace c.in-Ok.ensures.asked (c.in-Some-Explore.is ∙ ap Some (rw (c.in-Some-Explore.is) at c.in-Some-Explore.field-0-is))) c.explore_trace.ensures.explores c.code-in-Some-Explore.ensures shelf keys out knows some
 
-pub returns-in-Some-clause-prefix : goal.returns-in-Some-clause-prefix
-returns-in-Some-clause-prefix g c = explored_prefix _ _ _ _ _ _ _ _ _ _ _ (session_of c.words_ask_one_command.ensures _ c.in-Ok.request c.trace_to_explore.result c.in-Some.trace c.in-Ok.ensures.asked c.trace_to_explore.ensures.some c.in-Some.is) c.explore_trace.ensures.explores
+pub returns-in-Some-Explore-clause-prefix : goal.returns-in-Some-Explore-clause-prefix
+returns-in-Some-Explore-clause-prefix g c = explored_prefix _ _ _ _ _ _ _ _ _ _ _ (session_of c.words_ask_one_command.ensures _ c.in-Ok.command c.in-Some-Explore.trace c.in-Ok.ensures.asked (c.in-Some-Explore.is ∙ ap Some (rw (c.in-Some-Explore.is) at c.in-Some-Explore.field-0-is))) c.explore_trace.ensures.explores
 
-pub returns-in-Some-clause-carried : goal.returns-in-Some-clause-carried
-returns-in-Some-clause-carried g c = λ zero. explored_carried _ _ _ _ _ _ _ _ _ _ (session_of c.words_ask_one_command.ensures _ c.in-Ok.request c.trace_to_explore.result c.in-Some.trace c.in-Ok.ensures.asked c.trace_to_explore.ensures.some c.in-Some.is) c.explore_trace.ensures.explores (done_at _ (sym c.code-in-Some.ensures ∙ zero))
+pub returns-in-Some-Explore-clause-carried : goal.returns-in-Some-Explore-clause-carried
+returns-in-Some-Explore-clause-carried g c = λ zero. explored_carried _ _ _ _ _ _ _ _ _ _ (session_of c.words_ask_one_command.ensures _ c.in-Ok.command c.in-Some-Explore.trace c.in-Ok.ensures.asked (c.in-Some-Explore.is ∙ ap Some (rw (c.in-Some-Explore.is) at c.in-Some-Explore.field-0-is))) c.explore_trace.ensures.explores (done_at _ (sym c.code-in-Some-Explore.ensures ∙ zero))
 
-pub returns-in-Some-clause-cut : goal.returns-in-Some-clause-cut
-returns-in-Some-clause-cut g c = λ zero. explored_cut _ _ _ _ _ _ _ _ _ _ (session_of c.words_ask_one_command.ensures _ c.in-Ok.request c.trace_to_explore.result c.in-Some.trace c.in-Ok.ensures.asked c.trace_to_explore.ensures.some c.in-Some.is) c.explore_trace.ensures.explores (done_at _ (sym c.code-in-Some.ensures ∙ zero))
+pub returns-in-Some-Explore-clause-cut : goal.returns-in-Some-Explore-clause-cut
+returns-in-Some-Explore-clause-cut g c = λ zero. explored_cut _ _ _ _ _ _ _ _ _ _ (session_of c.words_ask_one_command.ensures _ c.in-Ok.command c.in-Some-Explore.trace c.in-Ok.ensures.asked (c.in-Some-Explore.is ∙ ap Some (rw (c.in-Some-Explore.is) at c.in-Some-Explore.field-0-is))) c.explore_trace.ensures.explores (done_at _ (sym c.code-in-Some-Explore.ensures ∙ zero))
 
-pub returns-in-Some-clause-fault_line : goal.returns-in-Some-clause-fault_line
-returns-in-Some-clause-fault_line g c = λ seven. explored_fault_line _ _ _ _ _ _ _ _ _ _ _ (session_of c.words_ask_one_command.ensures _ c.in-Ok.request c.trace_to_explore.result c.in-Some.trace c.in-Ok.ensures.asked c.trace_to_explore.ensures.some c.in-Some.is) c.explore_trace.ensures.explores (fault_at _ (sym c.code-in-Some.ensures ∙ seven))
+pub returns-in-Some-Explore-clause-fault_line : goal.returns-in-Some-Explore-clause-fault_line
+returns-in-Some-Explore-clause-fault_line g c = λ seven. explored_fault_line _ _ _ _ _ _ _ _ _ _ _ (session_of c.words_ask_one_command.ensures _ c.in-Ok.command c.in-Some-Explore.trace c.in-Ok.ensures.asked (c.in-Some-Explore.is ∙ ap Some (rw (c.in-Some-Explore.is) at c.in-Some-Explore.field-0-is))) c.explore_trace.ensures.explores (fault_at _ (sym c.code-in-Some-Explore.ensures ∙ seven))
 
-pub returns-in-Some-clause-shelf_fault : goal.returns-in-Some-clause-shelf_fault
-returns-in-Some-clause-shelf_fault g c = λ less. rw (c.code-in-Some.ensures) (explored_shelf_fault _ _ _ _ _ _ _ _ _ c.explore_trace.ensures.explores less)
+pub returns-in-Some-Explore-clause-shelf_fault : goal.returns-in-Some-Explore-clause-shelf_fault
+returns-in-Some-Explore-clause-shelf_fault g c = λ less. rw (c.code-in-Some-Explore.ensures) (explored_shelf_fault _ _ _ _ _ _ _ _ _ c.explore_trace.ensures.explores less)
 
-pub returns-in-Some-clause-out_fault : goal.returns-in-Some-clause-out_fault
-returns-in-Some-clause-out_fault g c = λ less. rw (c.code-in-Some.ensures) (explored_out_fault _ _ _ _ _ _ _ _ _ c.explore_trace.ensures.explores less)
+pub returns-in-Some-Explore-clause-out_fault : goal.returns-in-Some-Explore-clause-out_fault
+returns-in-Some-Explore-clause-out_fault g c = λ less. rw (c.code-in-Some-Explore.ensures) (explored_out_fault _ _ _ _ _ _ _ _ _ c.explore_trace.ensures.explores less)
 
 pub returns-in-Ok-answer_to-clause-due : goal.returns-in-Ok-answer_to-clause-due
-returns-in-Ok-answer_to-clause-due g c = λ shelf recorder keys out knows some. written_due _ _ _ _ _ _ _ _ _ c.in-Ok-answer_to.answer _ _ (c.in-Ok-answer_to.ensures.due _) c.deliver.ensures c.code-in-Ok-answer_to.ensures shelf recorder out knows some
+returns-in-Ok-answer_to-clause-due g c = λ shelf recorder keys out knows some. written_due _ _ _ _ _ _ _ _ _ c.in-Ok-answer_to.answer _ _ (c.in-Ok-answer_to.ensures.due _ _ (asked g c)) c.deliver.ensures c.code-in-Ok-answer_to.ensures shelf recorder out knows some
 
 pub returns-in-Ok-answer_to-clause-prefix : goal.returns-in-Ok-answer_to-clause-prefix
-returns-in-Ok-answer_to-clause-prefix g c = prefix _ _ _ _ _ _ _ _ _ c.in-Ok-answer_to.answer _ refl (c.in-Ok-answer_to.ensures.due _) c.deliver.ensures
+returns-in-Ok-answer_to-clause-prefix g c = prefix _ _ _ _ _ _ _ _ _ c.in-Ok-answer_to.answer _ refl (c.in-Ok-answer_to.ensures.due _ _ (asked g c)) c.deliver.ensures
 
 pub returns-in-Ok-answer_to-clause-traces : goal.returns-in-Ok-answer_to-clause-traces
-returns-in-Ok-answer_to-clause-traces g c = λ zero. c.in-Ok-answer_to.ensures.traces (answered_done _ _ _ _ c.in-Ok-answer_to.answer _ _ c.deliver.ensures c.code-in-Ok-answer_to.ensures zero)
+returns-in-Ok-answer_to-clause-traces g c = λ zero. c.in-Ok-answer_to.ensures.traces _ (asked g c) (answered_done _ _ _ _ c.in-Ok-answer_to.answer _ _ c.deliver.ensures c.code-in-Ok-answer_to.ensures zero)
 
 pub returns-in-Ok-answer_to-clause-fault : goal.returns-in-Ok-answer_to-clause-fault
 returns-in-Ok-answer_to-clause-fault g c = fault_cause _ _ _ _ _ _ _ c.in-Ok-answer_to.answer _ _ c.in-Ok-answer_to.ensures.fault c.deliver.ensures c.code-in-Ok-answer_to.ensures
@@ -46,20 +64,62 @@ returns-in-Ok-answer_to-clause-fault_line g c = fault_line _ _ _ _ _ _ _ _ _ c.i
 
 pub returns-in-Ok-answer_to-clause-carried : goal.returns-in-Ok-answer_to-clause-carried
 returns-in-Ok-answer_to-clause-carried g c = λ zero.
-    written_so _ _ _ _ _ c.in-Ok-answer_to.answer _ c.deliver.ensures (done_at _ (sym c.code-in-Ok-answer_to.ensures ∙ zero)) (c.in-Ok-answer_to.ensures.carried (answered_done _ _ _ _ c.in-Ok-answer_to.answer _ _ c.deliver.ensures c.code-in-Ok-answer_to.ensures zero))
+    written_so _ _ _ _ _ c.in-Ok-answer_to.answer _ c.deliver.ensures (done_at _ (sym c.code-in-Ok-answer_to.ensures ∙ zero)) (c.in-Ok-answer_to.ensures.carried _ (asked g c) (answered_done _ _ _ _ c.in-Ok-answer_to.answer _ _ c.deliver.ensures c.code-in-Ok-answer_to.ensures zero))
 
 pub returns-in-Ok-answer_to-clause-cut : goal.returns-in-Ok-answer_to-clause-cut
 returns-in-Ok-answer_to-clause-cut g c = λ zero.
-    written_so _ _ _ _ _ c.in-Ok-answer_to.answer _ c.deliver.ensures (done_at _ (sym c.code-in-Ok-answer_to.ensures ∙ zero)) (c.in-Ok-answer_to.ensures.cut (answered_done _ _ _ _ c.in-Ok-answer_to.answer _ _ c.deliver.ensures c.code-in-Ok-answer_to.ensures zero))
+    written_so _ _ _ _ _ c.in-Ok-answer_to.answer _ c.deliver.ensures (done_at _ (sym c.code-in-Ok-answer_to.ensures ∙ zero)) (c.in-Ok-answer_to.ensures.cut _ (asked g c) (answered_done _ _ _ _ c.in-Ok-answer_to.answer _ _ c.deliver.ensures c.code-in-Ok-answer_to.ensures zero))
 
 pub returns-in-Err-answer_to-clause-prefix : goal.returns-in-Err-answer_to-clause-prefix
 returns-in-Err-answer_to-clause-prefix g c = nothing_prefix _ _ _ _ _ _
 
-pub answer_to-requires-clause-no_session : goal.answer_to-requires-clause-no_session
-answer_to-requires-clause-no_session g c = no_session c.words_ask_one_command.ensures _ c.in-Ok.request c.in-Ok.ensures.asked c.in-Ok.ensures.refused (c.trace_to_explore.ensures.none c.in_default.is)
+pub answer_to-requires-clause-methods : goal.answer_to-requires-clause-methods
+answer_to-requires-clause-methods g c = few_asked (map string_bytes c.args.words.now) _ (elim c.match-command-2.branch [
+  | in-Some-Once w ↦ asked_once _ c.in-Ok.command w.in-Some-Once.request _ c.in-Ok.ensures.asked (w.in-Some-Once.is ∙ ap Some (rw (w.in-Some-Once.is) at w.in-Some-Once.field-0-is)) w.request-is
+  | in-None w ↦ asked_nothing _ c.in-Ok.command _ c.in-Ok.ensures.refused w.in-None.is w.request-is
+])
 
 pub returns-in-Ok-answer_to-clause-shelf_fault : goal.returns-in-Ok-answer_to-clause-shelf_fault
-returns-in-Ok-answer_to-clause-shelf_fault g c = shelf_fault _ _ _ _ _ _ _ _ _ c.in-Ok-answer_to.answer _ _ (c.in-Ok-answer_to.ensures.due None) c.deliver.ensures c.code-in-Ok-answer_to.ensures
+returns-in-Ok-answer_to-clause-shelf_fault g c = shelf_fault _ _ _ _ _ _ _ _ _ c.in-Ok-answer_to.answer _ _ (c.in-Ok-answer_to.ensures.due _ None (asked g c)) c.deliver.ensures c.code-in-Ok-answer_to.ensures
 
 pub returns-in-Ok-answer_to-clause-recorder_fault : goal.returns-in-Ok-answer_to-clause-recorder_fault
-returns-in-Ok-answer_to-clause-recorder_fault g c = recorder_fault _ _ _ _ _ _ _ _ _ c.in-Ok-answer_to.answer _ _ (c.in-Ok-answer_to.ensures.due None) c.deliver.ensures c.code-in-Ok-answer_to.ensures
+returns-in-Ok-answer_to-clause-recorder_fault g c = recorder_fault _ _ _ _ _ _ _ _ _ c.in-Ok-answer_to.answer _ _ (c.in-Ok-answer_to.ensures.due _ None (asked g c)) c.deliver.ensures c.code-in-Ok-answer_to.ensures
+
+pub returns-in-Ok-answer_to-clause-usage : goal.returns-in-Ok-answer_to-clause-usage
+returns-in-Ok-answer_to-clause-usage g c = λ two. nothing_asked _ _ (asked g c) (c.in-Ok-answer_to.ensures.usage (answered_usage _ _ _ _ c.in-Ok-answer_to.answer _ _ c.deliver.ensures c.code-in-Ok-answer_to.ensures two))
+
+pub returns-in-Ok-answer_to-clause-leaves : goal.returns-in-Ok-answer_to-clause-leaves
+returns-in-Ok-answer_to-clause-leaves g c = c.answer_to.ensures.left _ (asked g c)
+
+pub returns-in-Err-answer_to-clause-leaves : goal.returns-in-Err-answer_to-clause-leaves
+returns-in-Err-answer_to-clause-leaves g c = c.answer_to.ensures.left _ (asked_in_vain g c)
+
+pub returns-in-Ok-answer_to-clause-records_nothing : goal.returns-in-Ok-answer_to-clause-records_nothing
+returns-in-Ok-answer_to-clause-records_nothing g c = λ nothing. c.answer_to.ensures.records_nothing (no_recording _ _ (asked g c) nothing)
+
+pub returns-in-Err-answer_to-clause-records_nothing : goal.returns-in-Err-answer_to-clause-records_nothing
+returns-in-Err-answer_to-clause-records_nothing g c = λ nothing. c.answer_to.ensures.records_nothing (no_recording _ _ (asked_in_vain g c) nothing)
+
+pub returns-in-Ok-answer_to-clause-reads_nothing : goal.returns-in-Ok-answer_to-clause-reads_nothing
+returns-in-Ok-answer_to-clause-reads_nothing g c = λ none. c.answer_to.ensures.reads_nothing (none_asked _ _ (asked g c) none)
+
+pub returns-in-Err-answer_to-clause-reads_nothing : goal.returns-in-Err-answer_to-clause-reads_nothing
+returns-in-Err-answer_to-clause-reads_nothing g c = λ none. c.answer_to.ensures.reads_nothing (none_asked _ _ (asked_in_vain g c) none)
+
+pub returns-in-Some-Explore-clause-too_long : goal.returns-in-Some-Explore-clause-too_long
+returns-in-Some-Explore-clause-too_long g c = λ eight. explored_too_long _ _ _ _ _ _ _ _ _ _ (session_of c.words_ask_one_command.ensures _ c.in-Ok.command c.in-Some-Explore.trace c.in-Ok.ensures.asked (c.in-Some-Explore.is ∙ ap Some (rw (c.in-Some-Explore.is) at c.in-Some-Explore.field-0-is))) c.explore_trace.ensures.explores (too_long_at _ (sym c.code-in-Some-Explore.ensures ∙ eight))
+
+pub returns-in-Some-Explore-clause-fault : goal.returns-in-Some-Explore-clause-fault
+returns-in-Some-Explore-clause-fault g c = λ seven. explored_fault _ _ _ _ _ _ _ _ _ _ _ (session_of c.words_ask_one_command.ensures _ c.in-Ok.command c.in-Some-Explore.trace c.in-Ok.ensures.asked (c.in-Some-Explore.is ∙ ap Some (rw (c.in-Some-Explore.is) at c.in-Some-Explore.field-0-is))) c.explore_trace.ensures.explores (fault_at _ (sym c.code-in-Some-Explore.ensures ∙ seven))
+
+pub returns-in-Some-Explore-clause-traces : goal.returns-in-Some-Explore-clause-traces
+returns-in-Some-Explore-clause-traces g c = λ zero. explored_traces _ _ _ _ _ _ (session_of c.words_ask_one_command.ensures _ c.in-Ok.command c.in-Some-Explore.trace c.in-Ok.ensures.asked (c.in-Some-Explore.is ∙ ap Some (rw (c.in-Some-Explore.is) at c.in-Some-Explore.field-0-is)))
+
+pub returns-in-Some-Explore-clause-leaves : goal.returns-in-Some-Explore-clause-leaves
+returns-in-Some-Explore-clause-leaves g c = explored_leaves _ _ _ _ _ _ _ (session_of c.words_ask_one_command.ensures _ c.in-Ok.command c.in-Some-Explore.trace c.in-Ok.ensures.asked (c.in-Some-Explore.is ∙ ap Some (rw (c.in-Some-Explore.is) at c.in-Some-Explore.field-0-is)))
+
+pub returns-in-Some-Explore-clause-reads_nothing : goal.returns-in-Some-Explore-clause-reads_nothing
+returns-in-Some-Explore-clause-reads_nothing g c = λ none. absurd (is_command _ _ (session_of c.words_ask_one_command.ensures _ c.in-Ok.command c.in-Some-Explore.trace c.in-Ok.ensures.asked (c.in-Some-Explore.is ∙ ap Some (rw (c.in-Some-Explore.is) at c.in-Some-Explore.field-0-is))) none)
+
+pub returns-in-Some-Explore-clause-keys_stay : goal.returns-in-Some-Explore-clause-keys_stay
+returns-in-Some-Explore-clause-keys_stay g c = λ other. absurd (other (is_session _ _ (session_of c.words_ask_one_command.ensures _ c.in-Ok.command c.in-Some-Explore.trace c.in-Ok.ensures.asked (c.in-Some-Explore.is ∙ ap Some (rw (c.in-Some-Explore.is) at c.in-Some-Explore.field-0-is)))))

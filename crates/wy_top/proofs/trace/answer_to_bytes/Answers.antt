@@ -1,16 +1,30 @@
-use Rattle.wy_top.proofs.RunAnswers.{bytes_refused}
-use Rattle.std.proofs.Common.{sym}
-use Rattle.wy_top.proofs.Replies.{head_due, no_head_due}
+use Rattle.std.proofs.Common.{arith}
+use Rattle.wy_top.proofs.Opened.{is_decoded, opened_due}
+use Rattle.wy_top.proofs.RunAnswers.{opened_answered}
 use Rattle.wy_top.proofs.trace.answer_to_bytes.Goals as goal
 
-pub returns-in-Ok-clause-due : goal.returns-in-Ok-clause-due
-returns-in-Ok-clause-due c = head_due _ _ _ c.in-Ok.head _ c.answer_under.result c.in-Ok.ensures c.as_slice.ensures c.answer_under.ensures.due
+pub returns-in-Open-clause-due : goal.returns-in-Open-clause-due
+returns-in-Open-clause-due c =
+    let opens = rw (c.in-Open.is) at c.in_ok-typed.ensures.opens in
+    opened_due c.args.bytes.now _ c.in-Open.typed c.in-Open.trace c.answer_to_trace.result opens
+    (c.answer_to_trace.ensures.due c.args.bytes.now (is_decoded c.args.bytes.now c.in-Open.typed c.in-Open.trace (λ i. omega (arith, c.type_inv.bytes i)) c.requires opens))
 
-pub returns-in-Err-clause-due : goal.returns-in-Err-clause-due
-returns-in-Err-clause-due c = no_head_due _ _ c.in-Err.error c.answer_to_trace_error.result c.in-Err.ensures c.answer_to_trace_error.ensures
+pub returns-in-Open-clause-by_run : goal.returns-in-Open-clause-by_run
+returns-in-Open-clause-by_run c =
+    let opens = rw (c.in-Open.is) at c.in_ok-typed.ensures.opens in
+    let decoded = is_decoded c.args.bytes.now c.in-Open.typed c.in-Open.trace (λ i. omega (arith, c.type_inv.bytes i)) c.requires opens in
+    opened_answered (record {
+      lists = c.a_text_has_one_token_list.ensures;
+      tokens = c.a_refused_text_has_no_tokens.ensures.tokens;
+      one = c.a_refused_text_has_no_tokens.ensures.one;
+      utf8 = c.a_refused_text_has_no_tokens.ensures.utf8;
+      trees = c.a_token_list_has_one_tree.ensures;
+      programs = c.a_text_has_one_program.ensures;
+    }) (record { ordered = c.tokens_stand_in_order.ensures; cut = c.items_are_a_cut.ensures; needed = c.runs_of_texts.ensures.needed }) c.heads_are_short.ensures
+    c.args.bytes.now _ c.in-Open.typed c.in-Open.trace c.answer_to_trace.result opens (c.answer_to_trace.ensures.by_run c.args.bytes.now decoded) (c.answer_to_trace.ensures.source c.args.bytes.now decoded)
 
-pub returns-in-Ok-clause-by_run : goal.returns-in-Ok-clause-by_run
-returns-in-Ok-clause-by_run c = c.answer_under.ensures.by_run c.in-Ok.head _ c.in-Ok.ensures (sym c.as_slice.ensures)
+pub returns-in-Refused-clause-due : goal.returns-in-Refused-clause-due
+returns-in-Refused-clause-due c = (rw (c.in-Refused.is) at c.in_ok-typed.ensures.opens).1 _
 
-pub returns-in-Err-clause-by_run : goal.returns-in-Err-clause-by_run
-returns-in-Err-clause-by_run c = bytes_refused _ _ c.in-Err.error c.answer_to_trace_error.result c.answer_to_trace_error.ensures
+pub returns-in-Refused-clause-by_run : goal.returns-in-Refused-clause-by_run
+returns-in-Refused-clause-by_run c = λ done. absurd ((rw (c.in-Refused.is) at c.in_ok-typed.ensures.opens).0 done)

@@ -5,7 +5,8 @@ use Rattle.std.proofs.lemmas.List.{length-map}
 use Rattle.wy_event.specs.Record.{recorded}
 use Rattle.wy_kernel.specs.Parts.{program_of}
 use Rattle.wy_view.specs.Whole.{whole}
-use Rattle.wy_reply.proofs.Answering.{answer_counted, data_counted, index_of, is_below, no_answer, no_data}
+use Rattle.wy_ask.proofs.Opening.{index_of}
+use Rattle.wy_reply.proofs.Answering.{answer_counted, data_counted, is_below, no_answer, no_data}
 use Rattle.wy_reply.proofs.sizes.last.answer_sizes.Goals as goal
 
 pub returns-in_default-copied-clause-answer : goal.returns-in_default-copied-clause-answer

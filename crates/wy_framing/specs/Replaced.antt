@@ -1,0 +1,8 @@
+-- Which files a trace may take the place of.
+use Rattle.std.specs.Prelude.{◌≡◌, ℕ, List, [], ◌⊎◌}
+use Rattle.std.specs.Io.{StartsWith}
+use Rattle.wy_spelling.specs.Spelling.{magic}
+
+-- it holds nothing, or begins as a trace does
+abbrev pub IsReplaceable : List ℕ → Type 0
+IsReplaceable held = (held ≡ []) ⊎ StartsWith held magic

@@ -1,0 +1,15 @@
+use Rattle.std.proofs.Common.{ap}
+use Rattle.wy_reply.proofs.Opening.{opened_trace}
+use Rattle.wy_reply.proofs.telling.answer_opened.Goals as goal
+
+pub returns-in-Why-clause-due : goal.returns-in-Why-clause-due
+returns-in-Why-clause-due c =
+    let is = opened_trace c.args.trace c.in-Ok.opened _ _ c.into_vec.ensures c.as_slice-covers.ensures c.in-Ok.ensures.keeps (ap (λ s. s.now) c.in-Ok.ensures.coverage) in
+    let told = c.answer_to_question.ensures.due c.args.trace is in
+    rw (c.in-Why.is) (rw (c.in-Ok.ensures.program) at told)
+
+pub returns-in-Questions-clause-due : goal.returns-in-Questions-clause-due
+returns-in-Questions-clause-due c =
+    let is = opened_trace c.args.trace c.in-Ok.opened _ _ c.into_vec.ensures c.as_slice-covers.ensures c.in-Ok.ensures.keeps (ap (λ s. s.now) c.in-Ok.ensures.coverage) in
+    let told = c.answer_to_questions.ensures.due c.args.trace is in
+    rw (c.in-Questions.is) (rw (c.in-Ok.ensures.program) at told)
