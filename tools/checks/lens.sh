@@ -8,16 +8,9 @@
 # WHYLENS names another program than that of tools/program.
 set -u
 source "$(dirname "$0")/counting.bash"
+source tools/checks/refused_sources.bash
 program=$(readlink -f "${WHYLENS:-$(tools/program whylens)}")
 file=$scratch/Main.java
-
-source_of() { # PLACE CODE
-  case $1 in
-    first) printf '%s\nclass Main {\n  public static void main(String[] args) {\n  }\n}\n' "$2" ;;
-    class) printf 'class Main {\n  %s\n  public static void main(String[] args) {\n  }\n}\n' "$2" ;;
-    main) printf 'class Main {\n  public static void main(String[] args) {\n    %s\n  }\n}\n' "$2" ;;
-  esac
-}
 
 explained() { # writes what is said of the file to out; fails unless the status is 4
   "$program" explain "$file" >"$scratch/out" 2>&1

@@ -4,15 +4,8 @@
 # WHYLINE names another program than that of tools/program.
 set -u
 source "$(dirname "$0")/counting.bash"
+source tools/checks/refused_sources.bash
 program=$(readlink -f "${WHYLINE:-$(tools/program)}")
-
-source_of() { # PLACE CODE
-  case $1 in
-    first) printf '%s\nclass Main {\n  public static void main(String[] args) {\n  }\n}\n' "$2" ;;
-    class) printf 'class Main {\n  %s\n  public static void main(String[] args) {\n  }\n}\n' "$2" ;;
-    main) printf 'class Main {\n  public static void main(String[] args) {\n    %s\n  }\n}\n' "$2" ;;
-  esac
-}
 
 in_table=0
 while IFS='|' read -r _ code place answer _; do
