@@ -2,9 +2,11 @@
 #![tactic(auto)]
 
 mod laws;
+pub mod opening;
 pub mod source;
 mod typed;
 
 pub use laws::texts_are_programs;
+pub use opening::{OpenTrace, OpeningError, trace_of_bytes};
 pub use source::{SourceError, program_of_source};
 pub use typed::{TypedProgram, typed_program};

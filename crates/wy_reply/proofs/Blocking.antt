@@ -13,7 +13,7 @@ use Rattle.wy_meaning.specs.Run.{events}
 use Rattle.wy_meaning.specs.Kept.{covered_of, kept_tail}
 use Rattle.wy_telling.specs.Whynot.{WhynotIs, Denied, NotRead, NoSuch, Ran, answered, ran, not_there, not_read}
 use Rattle.wy_reply.specs.Blocked.{BlockedAnswer}
-use Rattle.wy_reply.specs.Tellings.{Wanted, WhyNot, Tells, covers_of, why, whynot, questions, explore, audit, output}
+use Rattle.wy_reply.specs.Tellings.{Wanted, WhyNot, Tells, covers_of, affects, why, whynot, questions, explore, audit, output}
 
 abbrev ok_text : List ℕ → Result (List ℕ) Denied
 ok_text x = Ok x
@@ -37,6 +37,7 @@ tells_whynot : (p : memory.Program) (t : Trace) (w : Wanted) (s : ℕ) (x : List
     (r : Result (List ℕ) Denied) × (r ≡ Ok x) × WhynotIs (program_of p) p.lines.items (map recorded t.events) (covers_of t) word r
 tells_whynot p t _ _ _ output word same zero_is = absurd (cc)
 tells_whynot p t _ _ _ (why question answer is) word same zero_is = absurd (cc)
+tells_whynot p t _ _ _ (affects question answer is) word same zero_is = absurd (cc)
 tells_whynot p t _ _ _ questions word same zero_is = absurd (cc)
 tells_whynot p t _ _ _ (whynot asked (Ok text) is) word same zero_is =
     let e : asked ≡ word = cc in

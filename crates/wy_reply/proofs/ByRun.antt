@@ -24,8 +24,9 @@ use Rattle.wy_reply.specs.declared.answer.Answer.{Answer}
 use Rattle.wy_reply.specs.declared.status.Status.TheVariants.{Done}
 use Rattle.wy_reply.specs.Statuses.{code_of}
 use Rattle.wy_reply.specs.Recordings.{IsTraceOf, trace_spelling}
-use Rattle.wy_reply.specs.Tellings.{Wanted, Output, Explore, Questions, Why, WhyNot, Audit, Tells, covers_of}
+use Rattle.wy_reply.specs.Tellings.{Wanted, Output, Explore, Questions, Why, Affects, WhyNot, Audit, Tells, covers_of}
 use Rattle.wy_reply.specs.ByRun.{AnswersByRun, HasSource, TellsRun}
+use Rattle.wy_reply.proofs.Affecting.{told_affected}
 use Rattle.wy_reply.proofs.Carrying.{Runs, all_told, told_carried}
 use Rattle.wy_reply.proofs.Blocking.{covers_read, told_blocked}
 
@@ -65,6 +66,7 @@ told_by_run laws p t s x input steps read covers Output tells done = tt
 told_by_run laws p t s x input steps read covers (Explore keys) tells done = tt
 told_by_run laws p t s x input steps read covers Questions tells done = tt
 told_by_run laws p t s x input steps read covers (Why asks) tells done = told_carried p t (Why asks) s x input steps (run_of laws (program_of p) input steps) read tells done asks refl
+told_by_run laws p t s x input steps read covers (Affects asks) tells done = told_affected p t (Affects asks) s x input steps (run_of laws (program_of p) input steps) read tells done asks refl
 told_by_run laws p t s x input steps read covers (WhyNot word) tells done = told_blocked p t s x input steps read covers word tells done
 told_by_run laws p t s x input steps read covers Audit tells done = tt
 

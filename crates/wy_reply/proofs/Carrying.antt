@@ -28,8 +28,9 @@ use Rattle.wy_ask.specs.Reading.{and_then}
 use Rattle.wy_ask.specs.Questions.{Asked}
 use Rattle.wy_ask.specs.Questions as question
 use Rattle.wy_ask.proofs.Stores.{print_below}
-use Rattle.wy_telling.specs.Why.{WhyIs, Refused, NotRead, NoSuch, answered, not_there, not_read, marked_lines, why_text}
-use Rattle.wy_reply.specs.Tellings.{Wanted, Why, Tells, why, whynot, questions, explore, audit, output}
+use Rattle.wy_telling.specs.Answers.{Refused, NotRead, NoSuch, answered, not_there, not_read, marked_lines}
+use Rattle.wy_telling.specs.Why.{WhyIs, why_text}
+use Rattle.wy_reply.specs.Tellings.{Wanted, Why, Tells, affects, why, whynot, questions, explore, audit, output}
 use Rattle.wy_reply.specs.Carried.{CarriedAnswer, Means, SameSets, static, field, element, local}
 
 -- ---- bytes tell all of a run's records
@@ -168,7 +169,7 @@ number_below : (b : Bool) (n w m : ℕ) → nat_lt n m ≡ b → cond b (Some n)
 number_below true n w m less e = let lt = ltb-true n m less in let same = some_is n w e in omega (arith, lt, same)
 number_below false n w m less e = absurd (cc)
 
-event_below : (p : Program) (rs : List Recorded) (q : Asked) (w : ℕ) → event_of p rs q ≡ Some w → w < length rs
+pub event_below : (p : Program) (rs : List Recorded) (q : Asked) (w : ℕ) → event_of p rs q ≡ Some w → w < length rs
 event_below p rs (question.Print k) w e = print_below rs k (Some w) (sym e)
 event_below p rs (question.Event n) w e = number_below (nat_lt n (length rs)) n w (length rs) refl e
 event_below p rs (question.Static class name m) w e = found_below (owners p) rs (static_place p class name) m w (found (owners p) rs (static_place p class name) m w e)
@@ -184,12 +185,12 @@ pub record Runs (p : Program) (input : List ℕ) (steps : ℕ) : Type 0 where
   pub carried : BackwardIsForward p input steps
   pub stores : StoredIsLastWrite p input steps
 
-noted_at : (l : List (Noted numbers)) (n : ℕ) → n < length (map (λ (e : Noted numbers). e.event) l) → (e : Noted numbers) × (slice_get l n ≡ Some e)
+pub noted_at : (l : List (Noted numbers)) (n : ℕ) → n < length (map (λ (e : Noted numbers). e.event) l) → (e : Noted numbers) × (slice_get l n ≡ Some e)
 noted_at [] n less = absurd (omega (arith, less))
 noted_at (e ∷ l) zero less = (e, refl)
 noted_at (e ∷ l) (suc n) less = noted_at l n (omega (arith, less))
 
-owners_are : (p : Program) → owners p ≡ owner_in p
+pub owners_are : (p : Program) → owners p ≡ owner_in p
 unfolding owner_in
 owners_are p = refl
 
@@ -197,7 +198,7 @@ placed : (p : Program) (rs : List Recorded) (place : Option Slot) (x : Slot) (m 
 placed p rs place x m w is f = let both : Some f.slot ≡ Some x = sym f.is_slot ∙ is in let same : f.slot ≡ x = cc in (f.reached, subst (λ (y : Slot). last_write (owners p) rs y m ≡ Some w) same f.is_last)
 
 -- the records of a run are those of its history
-history_length : (p : Program) (input : List ℕ) (steps : ℕ) → length (events numbers p input steps) ≡ length (history numbers p input steps)
+pub history_length : (p : Program) (input : List ℕ) (steps : ℕ) → length (events numbers p input steps) ≡ length (history numbers p input steps)
 unfolding events
 history_length p input steps = length-map (history numbers p input steps) (λ (e : Noted numbers). e.event)
 
@@ -208,10 +209,10 @@ history_below : (p : Program) (input : List ℕ) (steps w : ℕ) → w < length 
 unfolding events
 history_below p input steps w less = less
 
-abbrev ok_text : List ℕ → Result (List ℕ) Refused
+abbrev pub ok_text : List ℕ → Result (List ℕ) Refused
 ok_text x = Ok x
 
-ok_is : (x y : List ℕ) → ok_text x ≡ ok_text y → x ≡ y
+pub ok_is : (x y : List ℕ) → ok_text x ≡ ok_text y → x ≡ y
 ok_is x y e = cc
 
 -- the place of a question with a moment, as what is found has it
@@ -265,6 +266,7 @@ tells_why p t _ _ _ output asks same zero_is = absurd (cc)
 tells_why p t _ _ _ (why question (Ok text) is) asks same zero_is = let e : question ≡ asks = cc in (Ok text, refl, subst (λ (q : List ℕ). WhyIs (program_of p) p.lines.items (map recorded t.events) q (Ok text)) e is)
 tells_why p t _ _ _ (why question (Err NotRead) is) asks same zero_is = absurd (omega (arith, zero_is))
 tells_why p t _ _ _ (why question (Err (NoSuch n)) is) asks same zero_is = absurd (omega (arith, zero_is))
+tells_why p t _ _ _ (affects question answer is) asks same zero_is = absurd (cc)
 tells_why p t _ _ _ questions asks same zero_is = absurd (cc)
 tells_why p t _ _ _ (whynot word answer is) asks same zero_is = absurd (cc)
 tells_why p t _ _ _ (explore input status text is) asks same zero_is = absurd (cc)

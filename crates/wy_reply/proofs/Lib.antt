@@ -1,6 +1,7 @@
 pub mod Reports
 pub mod Tellings
 pub mod Carrying
+mod Affecting
 mod Blocking
 mod ByRun
 mod SizesLine

@@ -1,5 +1,5 @@
 -- What a trace tells is due.
-use Rattle.std.proofs.Common.{◌≡◌, sym, subst, ℕ, List, map, Result, Ok, Err, IfOk}
+use Rattle.std.proofs.Common.{◌≡◌, sym, subst, ℕ, List, map, Result, Ok, Err, IfOk, Vec, Global}
 use Rattle.std.specs.declared.alloc.AllocError.{AllocError}
 use Rattle.wy_kernel.specs.declared.program.Program.{Program}
 use Rattle.wy_kernel.specs.Parts.{program_of}
@@ -10,16 +10,18 @@ use Rattle.wy_frames.specs.declared.error.TraceError.{TraceError}
 use Rattle.wy_frames.specs.Traces.{IsReadAs}
 use Rattle.wy_machine.specs.Audits.{AuditIs}
 use Rattle.wy_machine.specs.declared.auditing.Verdict.{Verdict}
-use Rattle.wy_telling.specs.Why.{WhyIs, Refused}
+use Rattle.wy_telling.specs.Answers.{AnswerIs, Refused, NotRead, NoSuch, Telling, TellsAnswer}
 use Rattle.wy_reply.specs.declared.answer.Answer.{Answer}
 use Rattle.wy_reply.specs.declared.status.Status.{Status}
 use Rattle.wy_reply.specs.declared.status.Status.TheVariants as status
 use Rattle.wy_reply.specs.Statuses.{code_of}
+use Rattle.wy_ask.specs.declared.question.AskError.{AskError}
+use Rattle.wy_ask.specs.declared.question.AskError.TheVariants as errors
 use Rattle.wy_telling.specs.Whynot.{WhynotIs, Denied, TellsWhynot}
 use Rattle.wy_telling.specs.Whynot as denied_as
 use Rattle.wy_telling.specs.declared.whynot.Unanswered.{Unanswered}
 use Rattle.wy_telling.specs.declared.whynot.Unanswered.TheVariants as unanswered
-use Rattle.wy_reply.specs.Tellings.{IsTraceLine, RefusesTrace, Wanted, Why, WhyNot, Audit, Tells, DeniesAs, DueUnder, covers_of, why_status, why_answer, audit_status, audit_line, why, whynot, audit, told}
+use Rattle.wy_reply.specs.Tellings.{IsTraceLine, RefusesTrace, SaysAsTold, Wanted, WhyNot, Audit, Tells, DeniesAs, DueUnder, covers_of, answer_status, answer_text, audit_status, audit_line, whynot, audit, told}
 
 -- the status and the text of a refusal, where it was made
 abbrev pub Refuses : Status → List ℕ → Result Answer AllocError → Type 0
@@ -33,10 +35,16 @@ refuses_line e d line (Err x) same is h = tt
 abbrev Told : Program → Trace → Wanted → Answer → Type 0
 Told p t w answer = Tells p t w (code_of answer.status) answer.text.items
 
-pub told_why : (p : Program) (t : Trace) (question : List ℕ) (a : Result (List ℕ) Refused) (s : Status) (r : Result Answer AllocError) → WhyIs (program_of p) p.lines.items (map recorded t.events) question a →
-    code_of s ≡ why_status a → Refuses s (why_answer a) r → IfOk r (Told p t (Why question))
-told_why p t question a s (Ok answer) is same h = rw (h.0, h.1, same) (why question a is)
-told_why p t question a s (Err x) is same h = tt
+-- what is told of a question, where each answer to it is a row of what a trace tells
+pub told_answer : (telling : Telling) (p : Program) (t : Trace) (question : List ℕ) (w : Wanted)
+    → ((a : Result (List ℕ) Refused) → AnswerIs telling (program_of p) p.lines.items (map recorded t.events) question a → Tells p t w (answer_status a) (answer_text a))
+    → (outcome : Result (Vec ℕ Global) AskError) (r : Result Answer AllocError) → TellsAnswer telling (program_of p) p.lines.items (map recorded t.events) question outcome
+    → IfOk r (SaysAsTold outcome) → IfOk r (Told p t w)
+told_answer telling p t question w row outcome (Err x) is h = tt
+told_answer telling p t question w row (Ok text) (Ok answer) is h = rw (h.0, h.1) (row (Ok text.items) is)
+told_answer telling p t question w row (Err errors.BadQuestion) (Ok answer) is h = rw (h.0, h.1) (row (Err NotRead) is)
+told_answer telling p t question w row (Err (errors.NoSuch n)) (Ok answer) is h = rw (h.0, h.1) (row (Err (NoSuch n)) is)
+told_answer telling p t question w row (Err errors.NoMemory) (Ok answer) is h = absurd h
 
 -- what is denied of a word is told
 pub denied : (p : Program) (t : Trace) (word : List ℕ) (e : Unanswered) (r : Result Answer AllocError)

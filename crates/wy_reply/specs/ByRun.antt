@@ -6,13 +6,14 @@ use Rattle.wy_kernel.specs.Parts.{program_of}
 use Rattle.wy_event.specs.declared.record.Head.{Head}
 use Rattle.wy_frames.specs.Heads.{head_of}
 use Rattle.wy_reply.specs.Blocked.{BlockedAnswer}
-use Rattle.wy_reply.specs.Carried.{CarriedAnswer}
+use Rattle.wy_reply.specs.Carried.{AffectedAnswer, CarriedAnswer}
 use Rattle.wy_reply.specs.Recordings.{IsTraceOf, trace_spelling}
-use Rattle.wy_reply.specs.Tellings.{Wanted, Why, WhyNot}
+use Rattle.wy_reply.specs.Tellings.{Wanted, Why, Affects, WhyNot}
 
--- a why tells what the run carried, and a whynot what it reached and did not cross
+-- a why tells what the run carried, an affects to what it carried the event, and a whynot what it reached and did not cross
 abbrev pub AnswersByRun : Program → List ℕ → List ℕ → ℕ → Wanted → List ℕ → Type 0
 AnswersByRun p lines input steps (Why asks) text = CarriedAnswer p lines input steps asks text
+AnswersByRun p lines input steps (Affects asks) text = AffectedAnswer p lines input steps asks text
 AnswersByRun p lines input steps (WhyNot word) text = BlockedAnswer p lines input steps word text
 AnswersByRun p lines input steps _ text = Unit {0}
 

@@ -1,18 +1,22 @@
--- What a run carried to the event that a question asks about.
-use Rattle.std.specs.Prelude.{◌≡◌, ℕ, List, Some, slice_get}
+-- What a run carried to the event that a question asks about, and to which events it carried that one.
+use Rattle.std.specs.Prelude.{◌≡◌, ℕ, List, length, Option, Some, slice_get}
+use Rattle.std.specs.Prelude.{None as Absent}
 use Rattle.wy_kernel.specs.Program.{Program}
 use Rattle.wy_event.specs.declared.record.Slot.{Slot}
 use Rattle.wy_event.specs.declared.record.Slot.TheVariants as slot
+use Rattle.wy_event.specs.Numbers.{Numbers, none}
 use Rattle.wy_event.specs.Record.{Recorded}
 use Rattle.wy_steps.specs.Sets.{numbers}
 use Rattle.wy_steps.specs.State.{Held, Noted}
 use Rattle.wy_meaning.specs.Run.{events, history}
 use Rattle.law_carried.specs.Backward.{stored_at}
 use Rattle.wy_why.specs.Answer.{up_to}
+use Rattle.wy_affects.specs.Affected.{above_with}
 use Rattle.wy_ask.specs.Asked.{event_of, static_place, field_place, element_place}
 use Rattle.wy_ask.specs.Questions.{Asked, Asks}
 use Rattle.wy_ask.specs.Questions as question
-use Rattle.wy_telling.specs.Why.{marked_lines}
+use Rattle.wy_telling.specs.Answers.{marked_lines}
+use Rattle.wy_telling.specs.Affects.{later_lines}
 
 -- a question with a moment asks about this slot at it
 pub data Means (p : Program) (rs : List Recorded) : Asked → Slot → ℕ → Type 0 where
@@ -38,3 +42,25 @@ pub record CarriedAnswer (p : Program) (lines input : List ℕ) (steps : ℕ) (a
   pub lists : text ≡ marked_lines p lines (events numbers p input steps) noted.from_data (up_to event noted.from_all)
   pub stored : (x : Slot) (moment : ℕ) → Means p (events numbers p input steps) asked x moment →
       (h : Held numbers) × (stored_at p input steps moment x ≡ Some h) × SameSets h noted
+
+-- ---- the other way
+
+-- what a run carried to an event, and what it carried by data
+abbrev pub all_to : Option (Noted numbers) → Numbers
+all_to Absent = none
+all_to (Some e) = e.from_all
+
+abbrev pub data_to : Option (Noted numbers) → Numbers
+data_to Absent = none
+data_to (Some e) = e.from_data
+
+-- the text is the lines of all later events to which the run carried the event that the question asks about, with a star on those
+-- to which it carried it by data
+pub record AffectedAnswer (p : Program) (lines input : List ℕ) (steps : ℕ) (asks text : List ℕ) : Type 0 where
+  pub asked : Asked
+  pub is_asked : Asks asks asked
+  pub event : ℕ
+  pub is_event : event_of p (events numbers p input steps) asked ≡ Some event
+  pub lists : text ≡ later_lines p lines (events numbers p input steps)
+      (λ n. data_to (slice_get (history numbers p input steps) n) event)
+      (above_with (λ n. all_to (slice_get (history numbers p input steps) n)) event (length (history numbers p input steps)))

@@ -8,7 +8,7 @@ abbrev pub line_of : List ℕ → List ℕ
 line_of text = text ++ 10 ∷ []
 
 abbrev pub usage_line : List ℕ
-usage_line = line_of (codes "usage: whyline run, record, output, questions, why, whynot, explore, audit or gen")
+usage_line = line_of (codes "usage: whyline COMMAND WORDS")
 
 abbrev pub absent_line : List ℕ → List ℕ
 absent_line name = line_of (codes "absent: " ++ name)

@@ -1,5 +1,6 @@
 -- What is due for the bytes of a trace, under the program of its head.
-use Rattle.std.specs.Prelude.{◌≡◌, ℕ, List, map, Result, Ok, Err}
+use Rattle.std.specs.Prelude.{◌≡◌, ℕ, List, map, Result, Ok, Err, Vec}
+use Rattle.std.specs.declared.alloc.Global.{Global}
 use Rattle.wy_kernel.specs.declared.program.Program.{Program}
 use Rattle.wy_kernel.specs.Parts.{program_of}
 use Rattle.wy_event.specs.Record.{recorded}
@@ -14,12 +15,16 @@ use Rattle.wy_machine.specs.Audits.{AuditIs}
 use Rattle.wy_machine.specs.declared.auditing.Verdict.{Verdict}
 use Rattle.wy_machine.specs.declared.auditing.Verdict.TheVariants as verdict
 use Rattle.wy_telling.specs.Output.{output_text}
-use Rattle.wy_telling.specs.Why.{WhyIs, Refused, NotRead, NoSuch}
+use Rattle.wy_telling.specs.Answers.{Refused, NotRead, NoSuch}
+use Rattle.wy_telling.specs.Why.{WhyIs}
+use Rattle.wy_telling.specs.Affects.{AffectsIs}
 use Rattle.wy_telling.specs.Questions.{questions_text}
 use Rattle.wy_telling.specs.Whynot.{WhynotIs, Denied}
 use Rattle.wy_telling.specs.Whynot as denial
 use Rattle.wy_telling.specs.declared.whynot.Unanswered.{Unanswered}
 use Rattle.wy_telling.specs.declared.whynot.Unanswered.TheVariants as unanswered
+use Rattle.wy_ask.specs.declared.question.AskError.{AskError}
+use Rattle.wy_ask.specs.declared.question.AskError.TheVariants as errors
 use Rattle.wy_session.specs.Desk.{scene_of}
 use Rattle.wy_session.specs.Talk.{Talks}
 use Rattle.wy_reply.specs.Lines.{cut_line, damaged_line, bad_seal_line, not_read_line, no_such_line, ran_line, equal_line, differs_line, tail_differs_line}
@@ -44,24 +49,26 @@ RefusesTrace error answer = (answer.status ≡ status.Trace) × IsTraceLine erro
 abbrev pub Refuses : List ℕ → Answer → Type 0
 Refuses line answer = (answer.status ≡ status.Question) × (answer.text.items ≡ line)
 
--- what a trace is to tell: what its run wrote, what can be asked, why a question's event is as it is,
+-- what a trace is to tell: what its run wrote, what can be asked, what a question's event comes from, what comes from it,
 -- why a statement never began, whether it is the trace of that run, or what a session over it answers
 pub data Wanted : Type 0 where
   Output : Wanted
   Explore : (input : List ℕ) → Wanted
   Questions : Wanted
   Why : List ℕ → Wanted
+  Affects : List ℕ → Wanted
   WhyNot : List ℕ → Wanted
   Audit : Wanted
 
-abbrev pub why_status : Result (List ℕ) Refused → ℕ
-why_status (Ok text) = 0
-why_status (Err e) = 6
+-- the status and the text of the answer to a question
+abbrev pub answer_status : Result (List ℕ) Refused → ℕ
+answer_status (Ok text) = 0
+answer_status (Err e) = 6
 
-abbrev pub why_answer : Result (List ℕ) Refused → List ℕ
-why_answer (Ok text) = text
-why_answer (Err NotRead) = not_read_line
-why_answer (Err (NoSuch number)) = no_such_line number
+abbrev pub answer_text : Result (List ℕ) Refused → List ℕ
+answer_text (Ok text) = text
+answer_text (Err NotRead) = not_read_line
+answer_text (Err (NoSuch number)) = no_such_line number
 
 abbrev pub whynot_status : Result (List ℕ) Denied → ℕ
 whynot_status (Ok text) = 0
@@ -91,7 +98,9 @@ covers_of t = t.tail.coverage.statements
 pub data Tells (p : Program) (t : Trace) : Wanted → ℕ → List ℕ → Type 0 where
   output : Tells p t Output 0 (output_text (program_of p) p.lines.items (map recorded t.events) t.tail)
   why : (question : List ℕ) (answer : Result (List ℕ) Refused) → WhyIs (program_of p) p.lines.items (map recorded t.events) question answer
-      → Tells p t (Why question) (why_status answer) (why_answer answer)
+      → Tells p t (Why question) (answer_status answer) (answer_text answer)
+  affects : (question : List ℕ) (answer : Result (List ℕ) Refused) → AffectsIs (program_of p) p.lines.items (map recorded t.events) question answer
+      → Tells p t (Affects question) (answer_status answer) (answer_text answer)
   questions : Tells p t Questions 0
       (questions_text (program_of p) p.lines.items (map recorded t.events) (covers_of t))
   whynot : (word : List ℕ) (answer : Result (List ℕ) Denied)
@@ -110,6 +119,7 @@ pub data DueUnder (p : Program) (bytes : List ℕ) (w : Wanted) : ℕ → List �
 
 abbrev pub inquiry_of : Inquiry → Wanted
 inquiry_of (inquiry.Why question) = Why question.now
+inquiry_of (inquiry.Affects question) = Affects question.now
 inquiry_of inquiry.Questions = Questions
 inquiry_of (inquiry.WhyNot statement) = WhyNot statement.now
 
@@ -117,6 +127,15 @@ abbrev pub wanted_of : Asked → Wanted
 wanted_of asked.Output = Output
 wanted_of (asked.Inquiry i) = inquiry_of i
 wanted_of asked.Audit = Audit
+
+-- ---- what is told of a question, in memory
+
+-- the text that is told, or a refusal with the line of why there is none
+abbrev pub SaysAsTold : Result (Vec ℕ Global) AskError → Answer → Type 0
+SaysAsTold (Ok text) answer = (answer.status ≡ status.Done) × (answer.text.items ≡ text.items)
+SaysAsTold (Err errors.BadQuestion) answer = Refuses not_read_line answer
+SaysAsTold (Err (errors.NoSuch number)) answer = Refuses (no_such_line number) answer
+SaysAsTold (Err errors.NoMemory) answer = ⊥
 
 -- ---- a word that has no answer, in memory
 

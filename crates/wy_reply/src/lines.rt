@@ -82,11 +82,7 @@ pub fn refusal_line(alloc: Global, refusal: Refusal<'_>) -> Result<Vec<u8>, Allo
     ensures { IfOk result (λ line. line.items ≡ refusal_text refusal.entry) }
 {
     match refusal {
-        Refusal::Usage => line(
-            alloc,
-            "usage: whyline run, record, output, questions, why, whynot, explore, audit or gen",
-            "",
-        ),
+        Refusal::Usage => line(alloc, "usage: whyline COMMAND WORDS", ""),
         Refusal::Absent { name } => line(alloc, "absent: ", name),
         Refusal::Program(refusal) => source_refusal_line(alloc, "", refusal),
         Refusal::Cut { byte } => numbered(alloc, "trace: Cut at byte ", byte),

@@ -6,7 +6,7 @@ ghost use Rattle.wy_reply.specs.declared.status.Status.TheVariants.{Done};
 ghost use Rattle.wy_reply.specs.ByRun.{HasSource, TellsRun};
 ghost use Rattle.wy_reply.specs.Statuses.{code_of, is_of_files};
 ghost use Rattle.wy_reply.specs.Opening.{IsDecoded, IsOpenedTrace, IsViewable};
-ghost use Rattle.wy_reply.specs.Tellings.{DeniesAs, DueUnder, RefusesTrace, Tells, inquiry_of, wanted_of};
+ghost use Rattle.wy_reply.specs.Tellings.{DeniesAs, DueUnder, RefusesTrace, SaysAsTold, Tells, inquiry_of, wanted_of};
 ghost use Rattle.wy_reply.specs.Tellings as wanted;
 ghost use Rattle.wy_view.specs.Whole.{whole};
 
@@ -25,7 +25,7 @@ use wy_fitting::end_fits;
 use wy_frames::TraceError;
 use wy_kernel::program::Program;
 use wy_machine::{Verdict, audit};
-use wy_telling::{Unanswered, output_text, questions_text, why_text, whynot_text};
+use wy_telling::{Unanswered, affects_text, output_text, questions_text, why_text, whynot_text};
 use wy_view::MemoryView;
 
 /// What is looked up by where things stand in the records of a trace.
@@ -33,6 +33,8 @@ use wy_view::MemoryView;
 pub enum Inquiry<'a> {
     /// What the event comes from that a question asks about.
     Why { question: &'a str },
+    /// What comes from the event that a question asks about.
+    Affects { question: &'a str },
     /// What can be asked of it.
     Questions,
     /// Why the statement never began that a word names.
@@ -73,7 +75,7 @@ fn answer_to_output(alloc: Global, program: &Program, trace: &Trace) -> Result<A
     Ok(Answer::done(text))
 }
 
-fn answer_to_question(
+fn answer_to_why(
     alloc: Global,
     opened: &mut Opened<'_, MemoryView>,
     question: &str,
@@ -84,7 +86,31 @@ fn answer_to_question(
         (code_of answer.status) answer.text.items) }
     ensures settled { IfOk result (λ answer. is_of_files answer.status ≡ false) }
 {
-    match why_text(alloc, opened, question) {
+    let told = why_text(alloc, opened, question);
+    answer_to_question(alloc, told)
+}
+
+fn answer_to_affects(
+    alloc: Global,
+    opened: &mut Opened<'_, MemoryView>,
+    question: &str,
+) -> Result<Answer, AllocError>
+    requires { IsOpenedOf (whole opened.old.view.events.items None) opened.old }
+    ensures due { (t : Trace) → IsOpenedTrace t opened.old
+        → IfOk result (λ answer. Tells opened.old.program.now t (wanted.Affects question.now)
+        (code_of answer.status) answer.text.items) }
+    ensures settled { IfOk result (λ answer. is_of_files answer.status ≡ false) }
+{
+    let told = affects_text(alloc, opened, question);
+    answer_to_question(alloc, told)
+}
+
+/// The answer to a question: what is told of its event, or why it has none.
+fn answer_to_question(alloc: Global, told: Result<Vec<u8>, AskError>) -> Result<Answer, AllocError>
+    ensures says { IfOk result (SaysAsTold told) }
+    ensures settled { IfOk result (λ answer. is_of_files answer.status ≡ false) }
+{
+    match told {
         Ok(text) => Ok(Answer::done(text)),
         Err(AskError::BadQuestion) => Answer::refused(alloc, Refusal::NotRead),
         Err(AskError::NoSuch(number)) => Answer::refused(alloc, Refusal::NoSuch { number }),
@@ -181,7 +207,8 @@ fn answer_opened(
         return Err(AllocError);
     };
     match inquiry {
-        Inquiry::Why { question } => answer_to_question(alloc, &mut opened, question),
+        Inquiry::Why { question } => answer_to_why(alloc, &mut opened, question),
+        Inquiry::Affects { question } => answer_to_affects(alloc, &mut opened, question),
         Inquiry::Questions => answer_to_questions(alloc, &mut opened),
         Inquiry::WhyNot { statement } => answer_to_statement(alloc, &opened, statement),
     }

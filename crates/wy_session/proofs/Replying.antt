@@ -11,7 +11,8 @@ use Rattle.wy_index.specs.declared.index.Index.{Index}
 use Rattle.wy_index.specs.Index.{owners_of}
 use Rattle.wy_why.specs.Answer.{up_to}
 use Rattle.wy_ask.specs.Asked.{owners}
-use Rattle.wy_telling.specs.Why.{marked_lines, why_text}
+use Rattle.wy_telling.specs.Answers.{marked_lines}
+use Rattle.wy_telling.specs.Why.{why_text}
 use Rattle.wy_telling.proofs.Answering.{why_told}
 use Rattle.wy_explore.specs.declared.explorer.Answered.{Answered}
 use Rattle.wy_kernel.specs.Parts.{program_of}

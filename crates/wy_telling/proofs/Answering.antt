@@ -1,5 +1,5 @@
 -- The way from a question to its answer.
-use Rattle.std.proofs.Common.{◌≡◌, ◌∙◌, inl, inr, ⊎_elim, ◌<◌, ◌≤◌, ℕ, zero, suc, Bool, true, false, List, [], ◌∷◌, refl, sym, ap, subst, arith}
+use Rattle.std.proofs.Common.{◌≡◌, ◌∙◌, inl, inr, ⊎_elim, ◌-◌, ◌<◌, ◌≤◌, ℕ, zero, suc, Bool, true, false, List, [], ◌∷◌, length, refl, sym, ap, subst, arith}
 use Rattle.std.proofs.Math.Path.{fun_ext}
 use Rattle.std.specs.Prelude.{filter, if◌then◌else◌, Vec, IfOk, Result, Ok, Err}
 use Rattle.std.specs.List.{range_with_len}
@@ -19,7 +19,10 @@ use Rattle.wy_ask.specs.declared.question.AskError.{AskError}
 use Rattle.wy_ask.specs.declared.question.AskError.TheVariants as errors
 use Rattle.wy_ask.specs.Asked.{Resolves, event_of, number_in, owners}
 use Rattle.wy_ask.specs.Questions.{Asked, Asks, IsUnread}
-use Rattle.wy_telling.specs.Why.{NoSuch, TellsOf, TellsWhy, WhyIs, answered, marked_lines, not_read, not_there, why_text}
+use Rattle.wy_affects.specs.Affected.{affected, affected_by_data}
+use Rattle.wy_telling.specs.Affects.{affects_text, later_lines, nothing_later_line}
+use Rattle.wy_telling.specs.Answers.{AnswerIs, NoSuch, Telling, TellsAnswer, TellsOf, answered, marked_lines, not_read, not_there}
+use Rattle.wy_telling.specs.Why.{why_text}
 
 -- ---- the data are among all
 
@@ -63,6 +66,10 @@ pub rises_up : (low m n : ℕ) (xs : List ℕ) → m ≤ n → Rises low m xs �
 rises_up low m n [] le rises = tt
 rises_up low m n (x ∷ xs) le (at, below, more) = (at, omega (arith, le, below), rises_up (suc x) m n xs le more)
 
+pub from_zero : (low high : ℕ) (xs : List ℕ) → Rises low high xs → Rises 0 high xs
+from_zero low high [] rises = tt
+from_zero low high (x ∷ xs) (at, below, more) = (omega arith, below, more)
+
 -- an answer's marked lines are those that are told of its event
 pub why_told : (p : Program) (lines : List ℕ) (rs : List Recorded) (event : ℕ) (index : Index) (all flow : List ℕ) (r : Result (Vec ℕ Global) ViewError) → ((f : ℕ) → owners_of index f ≡ owners p f)
     → all ≡ up_to event (closure (owners_of index) rs event) → flow ≡ up_to event (data_closure (owners_of index) rs event)
@@ -76,22 +83,46 @@ why_told p lines rs event index all flow r same all_is flow_is gives =
     let told : marked_lines p lines rs by_data all ≡ why_text p lines rs event = ap (marked_lines p lines rs by_data) all_is ∙ ap (λ o. marked_lines p lines rs (data_closure o rs event) (up_to event (closure o rs event))) (fun_ext same) in
     subst (λ l. IfOk r (λ text. text.items ≡ l)) told (gives by_data some)
 
--- ---- the question
+-- the lines of what comes from an event, where something does, are those that are told of it
+pub affects_told : (p : Program) (lines : List ℕ) (rs : List Recorded) (event : ℕ) (index : Index) (all flow : List ℕ) (r : Result (Vec ℕ Global) ViewError) → ((f : ℕ) → owners_of index f ≡ owners p f)
+    → all ≡ affected (owners_of index) rs event → flow ≡ affected_by_data (owners_of index) rs event → (all ≡ [] → ⊥)
+    → ((by_data : Numbers) → flow ≡ filter by_data all → IfOk r (λ text. text.items ≡ marked_lines p lines rs by_data all))
+    → IfOk r (λ text. text.items ≡ affects_text p lines rs event)
+unfolding affects_text
+affects_told p lines rs event index all flow r same all_is flow_is some gives =
+    let owner = owners_of index in
+    let by_data : Numbers = λ n. data_closure owner rs n event in
+    let part : flow ≡ filter by_data all = flow_is ∙ filter_within (λ n. closure owner rs n event) by_data (λ n. data_within owner rs n event) (range_with_len (suc event) (length rs - suc event)) ∙ ap (filter by_data) (sym all_is) in
+    let told : marked_lines p lines rs by_data all ≡ affects_text p lines rs event =
+    some_later p lines rs by_data all some ∙ ap (later_lines p lines rs by_data) all_is ∙ ap (λ o. later_lines p lines rs (λ n. data_closure o rs n event) (affected o rs event)) (fun_ext same) in
+    subst (λ l. IfOk r (λ text. text.items ≡ l)) told (gives by_data part)
+  where
+    some_later : (p : Program) (lines : List ℕ) (rs : List Recorded) (by_data : Numbers) (events : List ℕ) → (events ≡ [] → ⊥) → marked_lines p lines rs by_data events ≡ later_lines p lines rs by_data events
+    some_later p lines rs by_data [] some = absurd (some refl)
+    some_later p lines rs by_data (n ∷ events) some = refl
 
-pub refused : (p : Program) (lines : List ℕ) (rs : List Recorded) (q : Asked) (e : AskError) → Resolves (Err e) (event_of p rs q) (number_in q) → TellsOf p lines rs q (Err e)
-refused p lines rs q errors.BadQuestion found = absurd found
-refused p lines rs q (errors.NoSuch n) found = found
-refused p lines rs q errors.NoMemory found = tt
+-- the line that is told of an event from which nothing comes
+pub nothing_told : (p : Program) (lines : List ℕ) (rs : List Recorded) (event : ℕ) (index : Index) (all text : List ℕ) → ((f : ℕ) → owners_of index f ≡ owners p f)
+    → all ≡ affected (owners_of index) rs event → all ≡ [] → text ≡ nothing_later_line → text ≡ affects_text p lines rs event
+unfolding affects_text
+nothing_told p lines rs event index all text same all_is none is =
+    is ∙ ap (later_lines p lines rs (λ n. data_closure (owners p) rs n event)) (sym none ∙ all_is ∙ ap (λ o. affected o rs event) (fun_ext same))
 
--- ---- the answer
+-- ---- the question, and its answer
 
-pub unread : (p : Program) (lines : List ℕ) (rs : List Recorded) (text : List ℕ) (e : AskError) → IsUnread text e → TellsWhy p lines rs text (Err e)
-unread p lines rs text errors.BadQuestion none = not_read none
-unread p lines rs text (errors.NoSuch n) none = absurd none
-unread p lines rs text errors.NoMemory none = tt
+module _ (telling : Telling) (p : Program) (lines : List ℕ) (rs : List Recorded) where
+  pub refused : (q : Asked) (e : AskError) → Resolves (Err e) (event_of p rs q) (number_in q) → TellsOf telling p lines rs q (Err e)
+  refused q errors.BadQuestion found = absurd found
+  refused q (errors.NoSuch n) found = found
+  refused q errors.NoMemory found = tt
 
-pub read : (p : Program) (lines : List ℕ) (rs : List Recorded) (text : List ℕ) (q : Asked) (r : Result (Vec ℕ Global) AskError) → Asks text q → TellsOf p lines rs q r → TellsWhy p lines rs text r
-read p lines rs text q (Ok told) asks (event, at, is) = subst (λ l. WhyIs p lines rs text (Ok l)) (sym is) (answered q event asks at)
-read p lines rs text q (Err (errors.NoSuch n)) asks (none, is) = subst (λ m. WhyIs p lines rs text (Err (NoSuch m))) (sym is) (not_there q asks none)
-read p lines rs text q (Err errors.BadQuestion) asks told = absurd told
-read p lines rs text q (Err errors.NoMemory) asks told = tt
+  pub unread : (text : List ℕ) (e : AskError) → IsUnread text e → TellsAnswer telling p lines rs text (Err e)
+  unread text errors.BadQuestion none = not_read none
+  unread text (errors.NoSuch n) none = absurd none
+  unread text errors.NoMemory none = tt
+
+  pub read : (text : List ℕ) (q : Asked) (r : Result (Vec ℕ Global) AskError) → Asks text q → TellsOf telling p lines rs q r → TellsAnswer telling p lines rs text r
+  read text q (Ok told) asks (event, at, is) = subst (λ l. AnswerIs telling p lines rs text (Ok l)) (sym is) (answered q event asks at)
+  read text q (Err (errors.NoSuch n)) asks (none, is) = subst (λ m. AnswerIs telling p lines rs text (Err (NoSuch m))) (sym is) (not_there q asks none)
+  read text q (Err errors.BadQuestion) asks told = absurd told
+  read text q (Err errors.NoMemory) asks told = tt

@@ -8,7 +8,7 @@ use Rattle.wy_kernel.specs.Program.{Program}
 use Rattle.wy_event.specs.Numbers.{Numbers}
 use Rattle.wy_event.specs.Record.{Recorded}
 use Rattle.wy_text.specs.EventLines.{event_line}
-use Rattle.wy_telling.specs.Why.{marked_lines}
+use Rattle.wy_telling.specs.Answers.{marked_lines}
 use Rattle.wy_why.specs.Answer.{Rises}
 
 -- the first of a list is this number

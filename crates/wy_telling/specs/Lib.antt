@@ -1,7 +1,9 @@
 pub mod Printed
 pub mod Thrown
 pub mod Output
+pub mod Answers
 pub mod Why
+pub mod Affects
 pub mod Questions
 pub mod Caught
 pub mod Items

@@ -1,13 +1,13 @@
 //! What follows from the definitions alone.
 
-ghost use Rattle.wy_telling.specs.Why.{OneAnswerToWhy};
+ghost use Rattle.wy_telling.specs.Answers.{OneAnswerToQuestions};
 ghost use Rattle.wy_telling.specs.Whynot.{OneAnswerToWhynot};
 
 use wy_whynot::laws::items_are_one;
 
-/// A question has one answer.
-pub fn one_answer_to_why()
-    ensures { OneAnswerToWhy }
+/// A question has one answer, whatever is told of the event that it asks about.
+pub fn one_answer_to_questions()
+    ensures { OneAnswerToQuestions }
 {}
 
 /// A word has one answer.

@@ -1,40 +1,42 @@
 //! All that an event comes from, line by line.
 
-ghost use Rattle.std.specs.Prelude.{◌≡◌, ◌∷◌, ◌<◌, ℕ, List, None, Some, IfOk, filter, map};
+ghost use Rattle.std.specs.Prelude.{◌≡◌, ◌<◌, List, None, Some, IfOk, filter, map};
 ghost use Rattle.wy_ask.specs.Opened.{IsOpenedOf};
 ghost use Rattle.wy_ask.specs.Questions.{asked};
 ghost use Rattle.wy_event.specs.Numbers.{Numbers};
 ghost use Rattle.wy_event.specs.Record.{Recorded, recorded};
 ghost use Rattle.wy_kernel.specs.Parts.{program_of};
-ghost use Rattle.wy_telling.specs.Why.{TellsOf, TellsWhy, marked_lines, why_text};
+ghost use Rattle.wy_telling.specs.Answers.{TellsAnswer, TellsOf, marked_lines};
+ghost use Rattle.wy_telling.specs.Why.{why_text};
 ghost use Rattle.wy_view.specs.View.{KeepsCounts, Keeps};
 ghost use Rattle.wy_view.specs.Whole.{whole};
 ghost use Rattle.wy_why.specs.Answer.{Rises};
 
+use crate::marked::marked_lines;
 use std::alloc::Global;
 use std::marker::Brand;
 use std::sync::ledger::{Blank, Ledger};
 use wy_ask::{AskError, Opened, Question, read_question, resolve};
 use wy_kernel::program::Program;
-use wy_text::put_event_line;
 use wy_view::{EventView, MemoryView, Steps, ViewError};
 use wy_why::{Answer, why};
 
-/// The answer to a question about a trace: a line for each event, with a star where it is of the data.
+/// What the event comes from that a question asks about: a line for each event, with a star where it is of the data.
 pub fn why_text(
     alloc: Global,
     opened: &mut Opened<'_, MemoryView>,
     question: &str,
 ) -> Result<Vec<u8>, AskError>
     requires { IsOpenedOf (whole opened.old.view.events.items None) opened.old }
-    ensures { TellsWhy (program_of opened.old.program.now) opened.old.program.now.lines.items
-        (map recorded opened.old.view.events.items) question.now result }
+    ensures { TellsAnswer why_text (program_of opened.old.program.now)
+        opened.old.program.now.lines.items (map recorded opened.old.view.events.items)
+        question.now result }
 {
     let question = read_question(alloc, question)?;
     why_asked::<Brand>(alloc, opened, &question, Blank::new(1))
 }
 
-/// The answer to a question that is read, with a ledger for the steps, which nobody reads.
+/// The same of a question that is read, with a ledger for the steps, which nobody reads.
 /// Events in memory refuse for want of memory alone.
 fn why_asked<L: Ledger>(
     alloc: Global,
@@ -46,8 +48,9 @@ fn why_asked<L: Ledger>(
     requires name { blank.name ≡ L.name }
     requires parts { blank.parts ≡ L.parts }
     requires some { 0 < blank.parts }
-    ensures { TellsOf (program_of opened.old.program.now) opened.old.program.now.lines.items
-        (map recorded opened.old.view.events.items) (asked question.now) result }
+    ensures { TellsOf why_text (program_of opened.old.program.now)
+        opened.old.program.now.lines.items (map recorded opened.old.view.events.items)
+        (asked question.now) result }
 {
     let mut steps = Steps::<L>::new(blank);
     let event = resolve(question, opened, &mut steps)?;
@@ -90,28 +93,12 @@ pub fn answer_lines<V: EventView, L: Ledger>(
     ensures keeps { Keeps (V.tells view.old) (V.tells view.new) }
     ensures answers { KeepsCounts result (V.tells view.old) (V.tells view.new) }
 {
-    let mut text = Vec::new(alloc);
-    let mut flow = answer.flow.as_slice();
-    for event in answer.all.as_slice() {
-        let (marked, rest) = taken(flow, *event);
-        flow = rest;
-        put_event_line(&mut text, program, view, *event, marked, steps)?;
-    }
-    Ok(text)
-}
-
-/// Whether an event is the next of the data, and what comes behind it there.
-fn taken(flow: &[u32], event: u32) -> (bool, &[u32])
-    ensures { (by_data : Numbers) (high : ℕ) (rest : List ℕ) → Rises 0 high (event ∷ rest)
-        → flow.now ≡ filter by_data (event ∷ rest)
-        → (result.0 ≡ by_data event) × (result.1.now ≡ filter by_data rest) }
-{
-    let Some((first, rest)) = flow.split_first() else {
-        return (false, flow);
-    };
-    if *first == event {
-        (true, rest)
-    } else {
-        (false, flow)
-    }
+    marked_lines(
+        alloc,
+        program,
+        view,
+        answer.all.as_slice(),
+        answer.flow.as_slice(),
+        steps,
+    )
 }

@@ -25,7 +25,9 @@ use Rattle.wy_frames.specs.Traces.{AllStand, IsReadAs, IsReadBehind}
 use Rattle.law_reading.specs.OneReading.{ReadsInOneWay, SaysOfBytes}
 use Rattle.wy_machine.specs.Audits.{OneAuditIsDue}
 use Rattle.wy_telling.specs.Output.{output_text}
-use Rattle.wy_telling.specs.Why.{OneAnswerToWhy, WhyIs}
+use Rattle.wy_telling.specs.Affects.{AffectsIs, affects_text}
+use Rattle.wy_telling.specs.Answers.{OneAnswerToQuestions}
+use Rattle.wy_telling.specs.Why.{WhyIs, why_text}
 use Rattle.wy_tree.specs.Tokens.{SpannedToken, Tokens}
 use Rattle.wy_reply.specs.Lines.{of_trace}
 use Rattle.wy_telling.specs.Questions.{questions_text}
@@ -34,7 +36,7 @@ use Rattle.wy_session.specs.Desk.{scene_of}
 use Rattle.wy_session.specs.Laws.{OneTalk}
 use Rattle.wy_session.specs.Scene.{Scene}
 use Rattle.wy_session.specs.Talk.{Talks}
-use Rattle.wy_reply.specs.Tellings.{IsTraceLine, Wanted, Tells, DueUnder, covers_of, cut, damaged, bad_seal, output, questions, why, whynot, audit, explore, refused, told, why_status, why_answer, whynot_status, whynot_answer, audit_status, audit_line}
+use Rattle.wy_reply.specs.Tellings.{IsTraceLine, Wanted, Tells, DueUnder, covers_of, cut, damaged, bad_seal, output, questions, why, affects, whynot, audit, explore, refused, told, answer_status, answer_text, whynot_status, whynot_answer, audit_status, audit_line}
 use Rattle.wy_top.specs.Causes.{IsNoProgram, IsSyntaxLine}
 use Rattle.wy_top.specs.Due.{DueForBytes, no_head, no_program, program}
 use Rattle.wy_program.specs.Programs.{IsProgramOf}
@@ -43,7 +45,7 @@ use Rattle.wy_top.proofs.OneText.{Known, SameLines, one_cause, one_program, prog
 -- what is known of traces
 pub record Traces : Type 0 where
   pub reading : ReadsInOneWay
-  pub answers : OneAnswerToWhy
+  pub answers : OneAnswerToQuestions
   pub statements : OneAnswerToWhynot
   pub audits : OneAuditIsDue
   pub sessions : OneTalk
@@ -145,9 +147,13 @@ Same s t x y = (s ≡ t) × (x ≡ y)
 one_telling : Traces → (p q : memory.Program) (t : Trace) (w : Wanted) (s u : ℕ) (x y : List ℕ) → program_of p ≡ program_of q → p.lines.items ≡ q.lines.items → Tells p t w s x → Tells q t w u y → Same s u x y
 one_telling known p q t _ _ _ _ _ parts lines output output = (refl, λ i. output_text (parts i) (lines i) (map recorded t.events) t.tail)
 one_telling known p q t _ _ _ _ _ parts lines (why question a first) (why asked b second) =
-    let e : a ≡ b = known.answers (program_of p) p.lines.items (map recorded t.events) question a b first
+    let e : a ≡ b = known.answers why_text (program_of p) p.lines.items (map recorded t.events) question a b first
     (subst (λ (l : List ℕ). WhyIs (program_of p) l (map recorded t.events) question b) (sym lines) (subst (λ (z : Program). WhyIs z q.lines.items (map recorded t.events) question b) (sym parts) second)) in
-    (ap why_status e, ap why_answer e)
+    (ap answer_status e, ap answer_text e)
+one_telling known p q t _ _ _ _ _ parts lines (affects question a first) (affects asked b second) =
+    let e : a ≡ b = known.answers affects_text (program_of p) p.lines.items (map recorded t.events) question a b first
+    (subst (λ (l : List ℕ). AffectsIs (program_of p) l (map recorded t.events) question b) (sym lines) (subst (λ (z : Program). AffectsIs z q.lines.items (map recorded t.events) question b) (sym parts) second)) in
+    (ap answer_status e, ap answer_text e)
 one_telling known p q t _ _ _ _ _ parts lines questions questions = (refl, λ i. questions_text (parts i) (lines i) (map recorded t.events) (covers_of t))
 one_telling known p q t _ _ _ _ _ parts lines (whynot word a first) (whynot asked b second) =
     let e : a ≡ b = known.statements (program_of p) p.lines.items (map recorded t.events) (covers_of t) word a b first

@@ -1,14 +1,13 @@
 -- What the opening of a trace comes to.
-use Rattle.std.proofs.Common.{◌≡◌, ◌∙◌, sym, ap, subst, refl, inl, inr, ℕ, ◌≤◌, true, false, List, length, Option, Some, None, Result, Ok, Err, IfOk, Vec, Global}
+use Rattle.std.proofs.Common.{◌≡◌, ◌⊎◌, ◌∙◌, sym, ap, subst, refl, inl, inr, ℕ, ◌≤◌, true, false, List, length, Option, Some, None, Result, Ok, Err, IfOk, Vec, Global}
 use Rattle.std.specs.Prelude.{MatchBool}
 use Rattle.std.specs.declared.alloc.AllocError.{AllocError}
 use Rattle.wy_kernel.specs.declared.program.Program.{Program}
-use Rattle.wy_event.specs.declared.record.Head.{Head}
 use Rattle.wy_event.specs.declared.record.Trace.{Trace}
 use Rattle.wy_event.specs.declared.record.Event.{Event}
 use Rattle.wy_event.specs.declared.record.Cover.{Cover}
-use Rattle.wy_frames.specs.Heads.{GivesDue, head_of}
-use Rattle.wy_frames.specs.Traces.{IsReadAs, ReadsAs}
+use Rattle.wy_frames.specs.Heads.{head_of}
+use Rattle.wy_frames.specs.Traces.{IsReadAs}
 use Rattle.wy_frames.specs.declared.error.TraceError.{TraceError}
 use Rattle.law_reading.specs.Spelled.{AreBytes}
 use Rattle.wy_outside.specs.Counts.{Rose}
@@ -22,7 +21,7 @@ use Rattle.wy_session.specs.Closings.{Closed, TakesManyFor, failures}
 use Rattle.wy_session.specs.declared.ending.Ending.{Ending}
 use Rattle.wy_reply.specs.declared.answer.Answer.{Answer}
 use Rattle.wy_reply.specs.declared.status.Status.{Status}
-use Rattle.wy_reply.specs.declared.status.Status.TheVariants.{Absent, Done, Fault, TooLong, Usage}
+use Rattle.wy_reply.specs.declared.status.Status.TheVariants.{Absent, Fault, TooLong, Usage}
 use Rattle.wy_reply.specs.Lines.{absent_line, too_long_line}
 use Rattle.wy_reply.specs.Statuses.{code_of, is_of_files}
 use Rattle.wy_reply.specs.Opening.{IsDecoded, IsOpenedTrace}
@@ -37,49 +36,40 @@ use Rattle.wy_top.specs.Call.{IsOpened}
 use Rattle.wy_top.specs.Due.{DueForBytes, DueForTrace}
 use Rattle.wy_top.specs.Due as due
 use Rattle.wy_kernel.specs.Limits.{trace_limit}
-use Rattle.wy_top.specs.Openings.{AnswersAny, Explores, IsSettled, Keys, OpensBytes, OpensFile, OpensUnder, Output, RefusesUnder, session, status_of}
+use Rattle.wy_top.specs.Openings.{AnswersAny, Explores, IsSettled, Keys, OpensBytes, OpensFile, Output, session, status_of}
+use Rattle.wy_program.specs.Openings.{ByHead, IsNoTrace}
 use Rattle.wy_program.specs.Programs.{IsProgramOf}
+use Rattle.wy_program.specs.Sources.{IsCauseOf}
+use Rattle.wy_program.specs.declared.source.SourceError.{SourceError}
 use Rattle.wy_program.specs.declared.typed.TypedProgram.{TypedProgram}
 use Rattle.wy_top.specs.Reads.{GivesFile, Tells, is_absent, is_fault, is_too_long}
-use Rattle.wy_top.specs.Replies.{HasCause, ShelfCounts}
-use Rattle.wy_top.proofs.Replies.{no_head_due}
+use Rattle.wy_top.specs.Replies.{HasCause, RefusesTrace, ShelfCounts}
 
--- ---- under the program of a source
+-- ---- bytes that are no trace
 
-is_read : (p : Program) (bytes : List ℕ) (e : TraceError) (line : List ℕ) → ReadsAs (Err e) p bytes → IsTraceLine e line → IsReadAs p bytes (Err e)
-is_read p bytes _ _ read (tellings.cut byte) = read
-is_read p bytes _ _ read (tellings.damaged byte rule) = read
-is_read p bytes _ _ read tellings.bad_seal = read
+refused_head : (bytes : List ℕ) (e : TraceError) (answer : Answer) → head_of bytes ≡ Err e → tellings.RefusesTrace e answer → OpensBytes bytes (Refused answer)
+refused_head bytes e answer is h = (λ done. (let x = sym h.0 ∙ done in cc), λ w. rw (h.0) (due.no_head e answer.text.items is h.1))
 
-pub no_trace_under : (source bytes : List ℕ) (p : Program) (e : TraceError) (answer : Answer) → IsProgramOf source p → ReadsAs (Err e) p bytes → tellings.RefusesTrace e answer → RefusesUnder source bytes answer
-no_trace_under source bytes p e answer is read h = inr (p, e, is, is_read p bytes e answer.text.items read h.1, h)
+refused_rest : (bytes : List ℕ) (e : TraceError) (answer : Answer) → ByHead bytes (λ source. (p : Program) × IsProgramOf source p × IsReadAs p bytes (Err e)) → tellings.RefusesTrace e answer → OpensBytes bytes (Refused answer)
+refused_rest bytes e answer (head, end, at, (p, is, read)) h =
+    (λ done. (let x = sym h.0 ∙ done in cc), λ w. rw (h.0) (due.program head end p 5 answer.text.items at is (tellings.refused e answer.text.items read h.1)))
 
--- ---- by a head
+refused_trace : (bytes : List ℕ) (e : TraceError) (answer : Answer) → (head_of bytes ≡ Err e) ⊎ ByHead bytes (λ source. (p : Program) × IsProgramOf source p × IsReadAs p bytes (Err e)) → tellings.RefusesTrace e answer → OpensBytes bytes (Refused answer)
+refused_trace bytes e answer (inl is) h = refused_head bytes e answer is h
+refused_trace bytes e answer (inr by) h = refused_rest bytes e answer by h
 
-refused_due : (source bytes : List ℕ) (w : Wanted) (head : Head) (end : ℕ) (answer : Answer) → head_of bytes ≡ Ok (head, end) → source ≡ head.source → RefusesUnder source bytes answer →
-    DueForBytes bytes w (code_of answer.status) answer.text.items
-refused_due source bytes w head end answer at same (inl (refused, (line, none, said))) = rw (refused, said) (due.no_program head end line at (rw (same) at none))
-refused_due source bytes w head end answer at same (inr (p, e, is, read, h)) =
-    rw (h.0) (due.program head end p 5 answer.text.items at (rw (same) at is) (tellings.refused e answer.text.items read h.1))
+no_trace : (bytes : List ℕ) (e : TraceError) (answer : Answer) (line : List ℕ) → IsTraceLine e line → IsNoTrace bytes e → tellings.RefusesTrace e answer → OpensBytes bytes (Refused answer)
+no_trace bytes e answer _ (tellings.cut byte) none h = refused_trace bytes e answer none h
+no_trace bytes e answer _ (tellings.damaged byte rule) none h = refused_trace bytes e answer none h
+no_trace bytes e answer _ tellings.bad_seal none h = refused_trace bytes e answer none h
 
-not_done : (source bytes : List ℕ) (answer : Answer) → RefusesUnder source bytes answer → answer.status ≡ Done → ⊥
-not_done source bytes answer (inl (refused, rest)) done = let x = sym refused ∙ done in cc
-not_done source bytes answer (inr (p, e, is, read, h)) done = let x = sym h.0 ∙ done in cc
+pub no_trace_of : (bytes : List ℕ) (e : TraceError) (answer : Answer) → IsNoTrace bytes e → tellings.RefusesTrace e answer → OpensBytes bytes (Refused answer)
+no_trace_of bytes e answer none h = no_trace bytes e answer answer.text.items h.1 none h
 
-opens : (source bytes : List ℕ) (head : Head) (end : ℕ) (o : Opening) → head_of bytes ≡ Ok (head, end) → source ≡ head.source → OpensUnder source bytes o → OpensBytes bytes o
-opens source bytes head end (Open typed t) at same (is, read) = (head, end, at, rw (same) at is, read)
-opens source bytes head end (Refused answer) at same h = (not_done source bytes answer h, λ w. refused_due source bytes w head end answer at same h)
-
-pub opened_by_head : (source bytes : List ℕ) (head : Head) (end : ℕ) (r : Result Opening AllocError) → head_of bytes ≡ Ok (head, end) → source ≡ head.source →
-    IfOk r (OpensUnder source bytes) → IfOk r (OpensBytes bytes)
-opened_by_head source bytes head end (Ok o) at same h = opens source bytes head end o at same h
-opened_by_head source bytes head end (Err e) at same h = tt
-
-abbrev unread : TraceError → Result (Head × ℕ) TraceError
-unread e = Err e
-
-pub no_head_any : (bytes : List ℕ) (e : TraceError) (answer : Answer) → GivesDue (unread e) (head_of bytes) → tellings.RefusesTrace e answer → OpensBytes bytes (Refused answer)
-no_head_any bytes e answer is h = (λ done. (let x = sym h.0 ∙ done in cc), λ w. no_head_due bytes w e (Ok answer) is h)
+pub no_program_of : (bytes : List ℕ) (e : SourceError) (answer : Answer) → ByHead bytes (λ source. IsCauseOf source e) → RefusesTrace e answer → OpensBytes bytes (Refused answer)
+no_program_of bytes e answer (head, end, at, cause) (refused, says) =
+    let (line, none, said) = says head.source cause in
+    (λ done. (let x = sym refused ∙ done in cc), λ w. rw (refused, said) (due.no_program head end line at none))
 
 -- ---- what is told of it
 

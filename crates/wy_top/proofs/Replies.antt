@@ -6,18 +6,13 @@ use Rattle.wy_kernel.specs.Program.{Program}
 use Rattle.wy_kernel.specs.Parts.{program_of}
 use Rattle.wy_event.specs.declared.record.Head.{Head}
 use Rattle.wy_record.specs.Recorders.{Mirrors}
-use Rattle.wy_frames.specs.Heads.{GivesDue, head_of}
-use Rattle.wy_frames.specs.declared.error.TraceError.{TraceError}
-use Rattle.wy_frames.specs.declared.error.TraceError.TheVariants as error
 use Rattle.wy_reply.specs.declared.answer.Answer.{Answer}
 use Rattle.wy_reply.specs.declared.status.Status.TheVariants as status
 use Rattle.wy_reply.specs.Recordings.{Spelling, RecordsAs}
 use Rattle.wy_reply.specs.Report.{recorded_report}
 use Rattle.wy_reply.specs.Statuses.{code_of, is_of_files}
-use Rattle.wy_reply.specs.Tellings as tellings
-use Rattle.wy_reply.specs.Tellings.{IsTraceLine, Wanted}
 use Rattle.wy_program.specs.declared.source.SourceError.{SourceError}
-use Rattle.wy_top.specs.Due.{DueFor, DueForBytes}
+use Rattle.wy_top.specs.Due.{DueFor}
 use Rattle.wy_top.specs.Due as due
 use Rattle.wy_program.specs.Sources.{IsCauseOf}
 use Rattle.wy_program.specs.Programs.{IsProgramOf}
@@ -64,18 +59,3 @@ pub unrecorded_due : (s : Spelling) (source input : List ℕ) (steps : ℕ) (e :
     IfOk r (λ answer. RecordsSource s source input steps old old n n answer)
 unrecorded_due s source input steps e old n (Ok answer) cause h = unrecorded s source input steps e old n answer cause h
 unrecorded_due s source input steps e old n (Err x) cause h = tt
-
--- ---- traces
-
-abbrev unread : TraceError → Result (Head × ℕ) TraceError
-unread e = Err e
-
-no_head : (bytes : List ℕ) (w : Wanted) (e : TraceError) (line : List ℕ) → GivesDue (unread e) (head_of bytes) → IsTraceLine e line → DueForBytes bytes w 5 line
-no_head bytes w _ _ is (tellings.cut byte) = due.no_head (error.Cut byte) _ is (tellings.cut byte)
-no_head bytes w _ _ is (tellings.damaged byte rule) = due.no_head (error.Damaged byte rule) _ is (tellings.damaged byte rule)
-no_head bytes w _ _ is tellings.bad_seal = due.no_head error.BadSeal _ is tellings.bad_seal
-
-pub no_head_due : (bytes : List ℕ) (w : Wanted) (e : TraceError) (r : Result Answer AllocError) → GivesDue (unread e) (head_of bytes) → IfOk r (λ answer. tellings.RefusesTrace e answer) →
-    IfOk r (λ answer. DueForBytes bytes w (code_of answer.status) answer.text.items)
-no_head_due bytes w e (Ok answer) is h = rw (h.0) (no_head bytes w e answer.text.items is h.1)
-no_head_due bytes w e (Err x) is h = tt

@@ -1,4 +1,5 @@
--- A why over the trace of a run is answered by what the run carried, and a whynot by a least cut of what it reached and did not cross.
+-- A why over the trace of a run is answered by what the run carried, an affects by to what it carried the event, and a whynot by a
+-- least cut of what it reached and did not cross.
 use Rattle.std.proofs.Common.{◌≡◌, ◌∙◌, sym, ap, subst, refl, inl, inr, ℕ, List, length, ◌≤◌, arith, Option, Some, None, Result, Ok, Err, IfOk, Vec, Global}
 use Rattle.std.specs.declared.alloc.AllocError.{AllocError}
 use Rattle.wy_kernel.specs.declared.program.Program as memory
@@ -14,11 +15,11 @@ use Rattle.wy_whynot.specs.Laws.{ItemsAreACut}
 use Rattle.law_reached.specs.Laws.{EachItemIsNeeded}
 use Rattle.wy_frames.specs.Heads.{head_of}
 use Rattle.wy_outside.specs.Shelf.{Files}
-use Rattle.wy_words.specs.Words.{Asks, Command, Why, WhyNot, IsNoCommand, AskOneCommand}
+use Rattle.wy_words.specs.Words.{Asks, Command, Why, Affects, WhyNot, IsNoCommand, AskOneCommand}
 use Rattle.wy_reply.specs.declared.answer.Answer.{Answer}
 use Rattle.wy_reply.specs.declared.status.Status.{Status}
 use Rattle.wy_reply.specs.declared.status.Status.TheVariants.{Done}
-use Rattle.wy_reply.specs.Carried.{CarriedAnswer}
+use Rattle.wy_reply.specs.Carried.{AffectedAnswer, CarriedAnswer}
 use Rattle.wy_reply.specs.Blocked.{BlockedAnswer}
 use Rattle.wy_reply.specs.ByRun.{AnswersByRun, HasSource, TellsRun}
 use Rattle.wy_reply.specs.Recordings.{IsTraceOf, trace_spelling}
@@ -27,7 +28,7 @@ use Rattle.wy_reply.specs.Tellings as wanted
 use Rattle.wy_top.specs.declared.opening.Opening.TheVariants.{Open}
 use Rattle.wy_top.specs.declared.files.FileError.{FileError}
 use Rattle.wy_top.specs.declared.files.FileError.TheVariants as error
-use Rattle.wy_top.specs.Call.{AnswersEach, AnswersRun, AnswersRunOf, IsRunAnswer, WritesAll}
+use Rattle.wy_top.specs.Call.{AnswersEach, AnswersRun, AnswersRunOf, Carries, IsRunAnswer, WritesAll}
 use Rattle.wy_top.specs.Cuts.{CutAnswer}
 use Rattle.wy_top.specs.Deliveries.{Delivers}
 use Rattle.wy_kernel.specs.Limits.{source_limit, trace_limit}
@@ -65,6 +66,7 @@ by_run laws source p input steps wanted.Output text short of h = tt
 by_run laws source p input steps (wanted.Explore keys) text short of h = tt
 by_run laws source p input steps wanted.Questions text short of h = tt
 by_run laws source p input steps (wanted.Why question) text short of h = h
+by_run laws source p input steps (wanted.Affects question) text short of h = h
 by_run laws source p input steps (wanted.WhyNot word) text short of h = least laws source p p.lines.items input steps word text short of h
 by_run laws source p input steps wanted.Audit text short of h = tt
 
@@ -73,6 +75,11 @@ same_why : (p q : memory.Program) (input : List ℕ) (steps : ℕ) (question tex
     CarriedAnswer (program_of p) p.lines.items input steps question text → CarriedAnswer (program_of q) q.lines.items input steps question text
 same_why p q input steps question text same lines h =
     subst (λ (z : Program). CarriedAnswer z q.lines.items input steps question text) same (subst (λ (l : List ℕ). CarriedAnswer (program_of p) l input steps question text) lines h)
+
+same_affects : (p q : memory.Program) (input : List ℕ) (steps : ℕ) (question text : List ℕ) → program_of p ≡ program_of q → p.lines.items ≡ q.lines.items →
+    AffectedAnswer (program_of p) p.lines.items input steps question text → AffectedAnswer (program_of q) q.lines.items input steps question text
+same_affects p q input steps question text same lines h =
+    subst (λ (z : Program). AffectedAnswer z q.lines.items input steps question text) same (subst (λ (l : List ℕ). AffectedAnswer (program_of p) l input steps question text) lines h)
 
 same_whynot : (p q : memory.Program) (input : List ℕ) (steps : ℕ) (word text : List ℕ) → program_of p ≡ program_of q → p.lines.items ≡ q.lines.items →
     CutAnswer (program_of p) p.lines.items input steps word text → CutAnswer (program_of q) q.lines.items input steps word text
@@ -84,6 +91,7 @@ same_answer p q input steps wanted.Output text same lines h = tt
 same_answer p q input steps (wanted.Explore keys) text same lines h = tt
 same_answer p q input steps wanted.Questions text same lines h = tt
 same_answer p q input steps (wanted.Why question) text same lines h = same_why p q input steps question text same lines h
+same_answer p q input steps (wanted.Affects question) text same lines h = same_affects p q input steps question text same lines h
 same_answer p q input steps (wanted.WhyNot word) text same lines h = same_whynot p q input steps word text same lines h
 same_answer p q input steps wanted.Audit text same lines h = tt
 
@@ -138,6 +146,9 @@ IsOneForm command = (t q u p : List ℕ) → command t q ≡ command u p → (t 
 why_is : IsOneForm Why
 why_is t q u p e = (cc, cc)
 
+affects_is : IsOneForm Affects
+affects_is t q u p e = (cc, cc)
+
 whynot_is : IsOneForm WhyNot
 whynot_is t q u p e = (cc, cc)
 
@@ -160,21 +171,36 @@ this_command command w form one words held trace word (Ok answer) asks is = λ d
     subst (λ (q : List ℕ). AnswersRunOf held name (w q) answer.text.items) same.1 (subst (λ (t : List ℕ). AnswersRunOf held t (w word) answer.text.items) same.0 (is done))
 this_command command w form one words held trace word (Err e) asks is = tt
 
-pub no_command_carries : (words : List (List ℕ)) (held : Option Files) (r : Result Answer AllocError) → IsNoCommand words → EachIsAnswered Why wanted.Why words held r
-no_command_carries = no_command Why wanted.Why
+-- what the run carried is answered to each why and to each affects
+abbrev pub IsCarried : List (List ℕ) → Option Files → Result Answer AllocError → Type 0
+IsCarried words held r = IfOk r (λ answer. answer.status ≡ Done → Carries words held answer.text.items)
+
+both : (words : List (List ℕ)) (held : Option Files) (r : Result Answer AllocError) → EachIsAnswered Why wanted.Why words held r → EachIsAnswered Affects wanted.Affects words held r → IsCarried words held r
+both words held (Ok answer) first second = λ done. (first done, second done)
+both words held (Err e) first second = tt
+
+pub no_command_carries : (words : List (List ℕ)) (held : Option Files) (r : Result Answer AllocError) → IsNoCommand words → IsCarried words held r
+no_command_carries words held r none = both words held r (no_command Why wanted.Why words held r none) (no_command Affects wanted.Affects words held r none)
 
 pub no_command_cuts : (words : List (List ℕ)) (held : Option Files) (r : Result Answer AllocError) → IsNoCommand words → EachIsAnswered WhyNot wanted.WhyNot words held r
 no_command_cuts = no_command WhyNot wanted.WhyNot
 
-pub other_command_carries : AskOneCommand → (words : List (List ℕ)) (held : Option Files) (c : Command) (r : Result Answer AllocError) → Asks words c → ((trace word : List ℕ) → c ≡ Why trace word → ⊥) → EachIsAnswered Why wanted.Why words held r
-other_command_carries = other_command Why wanted.Why
+pub other_command_carries : AskOneCommand → (words : List (List ℕ)) (held : Option Files) (c : Command) (r : Result Answer AllocError) → Asks words c → ((trace word : List ℕ) → c ≡ Why trace word → ⊥) → ((trace word : List ℕ) → c ≡ Affects trace word → ⊥) →
+    IsCarried words held r
+other_command_carries one words held c r asks no_why no_affects = both words held r (other_command Why wanted.Why one words held c r asks no_why) (other_command Affects wanted.Affects one words held c r asks no_affects)
 
 pub other_command_cuts : AskOneCommand → (words : List (List ℕ)) (held : Option Files) (c : Command) (r : Result Answer AllocError) → Asks words c → ((trace word : List ℕ) → c ≡ WhyNot trace word → ⊥) → EachIsAnswered WhyNot wanted.WhyNot words held r
 other_command_cuts = other_command WhyNot wanted.WhyNot
 
 pub why_carries : AskOneCommand → (words : List (List ℕ)) (held : Option Files) (trace question : List ℕ) (r : Result Answer AllocError) → Asks words (Why trace question) →
-    IfOk r (λ answer. answer.status ≡ Done → AnswersRunOf held trace (wanted.Why question) answer.text.items) → EachIsAnswered Why wanted.Why words held r
-why_carries = this_command Why wanted.Why why_is
+    IfOk r (λ answer. answer.status ≡ Done → AnswersRunOf held trace (wanted.Why question) answer.text.items) → IsCarried words held r
+why_carries one words held trace question r asks is =
+    both words held r (this_command Why wanted.Why why_is one words held trace question r asks is) (other_command Affects wanted.Affects one words held (Why trace question) r asks (λ t q e. cc))
+
+pub affects_carries : AskOneCommand → (words : List (List ℕ)) (held : Option Files) (trace question : List ℕ) (r : Result Answer AllocError) → Asks words (Affects trace question) →
+    IfOk r (λ answer. answer.status ≡ Done → AnswersRunOf held trace (wanted.Affects question) answer.text.items) → IsCarried words held r
+affects_carries one words held trace question r asks is =
+    both words held r (other_command Why wanted.Why one words held (Affects trace question) r asks (λ t q e. cc)) (this_command Affects wanted.Affects affects_is one words held trace question r asks is)
 
 pub whynot_cuts : AskOneCommand → (words : List (List ℕ)) (held : Option Files) (trace statement : List ℕ) (r : Result Answer AllocError) → Asks words (WhyNot trace statement) →
     IfOk r (λ answer. answer.status ≡ Done → AnswersRunOf held trace (wanted.WhyNot statement) answer.text.items) → EachIsAnswered WhyNot wanted.WhyNot words held r

@@ -9,7 +9,7 @@ use Rattle.wy_outside.specs.Sink.{appended}
 use Rattle.wy_words.specs.Views.{command_of}
 use Rattle.wy_words.specs.declared.commands.Command.{Command}
 use Rattle.wy_words.specs.declared.commands.Command.TheVariants as asking
-use Rattle.wy_words.specs.Words.{Asks, AskOneCommand, Command as Request, Explore, Gen, IsNoCommand, Record, Why, WhyNot}
+use Rattle.wy_words.specs.Words.{Asks, AskOneCommand, Command as Request, Explore, Gen, IsNoCommand, Record, Why, Affects, WhyNot}
 use Rattle.wy_session.specs.Desk.{scene_of}
 use Rattle.wy_session.specs.Talk.{Talks}
 use Rattle.wy_session.specs.Closings.{BreaksOff, Closed, Closes, TakesManyFor, TookMany, WritesPart, keys_fault_line}
@@ -223,7 +223,7 @@ each_none : (command : List ℕ → List ℕ → Request) (w : List ℕ → Want
     AnswersEach command w words held text
 each_none command w other words name held text x = λ trace word asks. absurd (other name trace word (x.one words (Explore name) (command trace word) x.asks asks))
 
--- what a session wrote answers no why and no whynot of the words
+-- what a session wrote answers no why, no affects and no whynot of the words
 explored_so : (is_so : List ℕ → Type 0) → ((text : List ℕ) → is_so text) → (words : List (List ℕ)) (name : List ℕ) (held : Option Files) (sb sa : ShelfCounts) (kb ka : Keys) (b a : Output) (s : Status) → Explores held name sb sa kb ka b a s → s ≡ Done →
     WritesAll is_so b.written a.written
 explored_so is_so any words name held sb sa kb ka b a _ (refused answer s cause other stayed delivers) is = (answer.text.items, delivered_all answer s b.faults a.faults b.written a.written delivers is, any answer.text.items)
@@ -231,7 +231,7 @@ explored_so is_so any words name held sb sa kb ka b a _ (opening.session p t e s
 explored_so is_so any words name held sb sa kb ka b a _ (memory stayed kept) is = absurd cc
 
 pub explored_carried : (words : List (List ℕ)) (name : List ℕ) (held : Option Files) (sb sa : ShelfCounts) (kb ka : Keys) (b a : Output) (s : Status) → Session words name → Explores held name sb sa kb ka b a s → s ≡ Done → WritesCarried words held b.written a.written
-explored_carried words name held sb sa kb ka b a s x explores is = explored_so (Carries words held) (λ text. each_none Why wanted.Why (λ n t q e. cc) words name held text x) words name held sb sa kb ka b a s explores is
+explored_carried words name held sb sa kb ka b a s x explores is = explored_so (Carries words held) (λ text. (each_none Why wanted.Why (λ n t q e. cc) words name held text x, each_none Affects wanted.Affects (λ n t q e. cc) words name held text x)) words name held sb sa kb ka b a s explores is
 
 pub explored_cut : (words : List (List ℕ)) (name : List ℕ) (held : Option Files) (sb sa : ShelfCounts) (kb ka : Keys) (b a : Output) (s : Status) → Session words name → Explores held name sb sa kb ka b a s → s ≡ Done → WritesCut words held b.written a.written
 explored_cut words name held sb sa kb ka b a s x explores is = explored_so (Cuts words held) (λ text. each_none WhyNot wanted.WhyNot (λ n t q e. cc) words name held text x) words name held sb sa kb ka b a s explores is

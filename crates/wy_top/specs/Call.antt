@@ -13,8 +13,8 @@ use Rattle.wy_record.specs.Recorders.{Mirrors}
 use Rattle.wy_session.specs.Desk.{scene_of}
 use Rattle.wy_session.specs.Talk.{BeginsTalk, IsPrefixOf}
 use Rattle.wy_session.specs.Closings.{keys_fault_line}
-use Rattle.wy_words.specs.Words.{Asked, Asks, Command, Explore, Record, Why, WhyNot}
-use Rattle.wy_reply.specs.Carried.{CarriedAnswer}
+use Rattle.wy_words.specs.Words.{Asked, Asks, Command, Explore, Record, Why, Affects, WhyNot}
+use Rattle.wy_reply.specs.Carried.{AffectedAnswer, CarriedAnswer}
 use Rattle.wy_reply.specs.Recordings.{HoldTrace, IsTraceOf, Spelling, trace_spelling}
 use Rattle.wy_reply.specs.Tellings.{Wanted, covers_of}
 use Rattle.wy_reply.specs.Tellings as wanted
@@ -96,9 +96,11 @@ IsNoRecording asked = (a : Asked) (trace : List ℕ) → asked ≢ Some (Record 
 
 -- ---- what a run did
 
--- a why tells what the run carried, and a whynot a least cut of what it reached and did not cross
+-- a why tells what the run carried, an affects to what it carried the event, and a whynot a least cut of what it reached and did not
+-- cross
 abbrev pub IsRunAnswer : Program → List ℕ → ℕ → Wanted → List ℕ → Type 0
 IsRunAnswer p input steps (wanted.Why question) text = CarriedAnswer (program_of p) p.lines.items input steps question text
+IsRunAnswer p input steps (wanted.Affects question) text = AffectedAnswer (program_of p) p.lines.items input steps question text
 IsRunAnswer p input steps (wanted.WhyNot word) text = CutAnswer (program_of p) p.lines.items input steps word text
 IsRunAnswer p input steps _ text = Unit {0}
 
@@ -114,9 +116,9 @@ AnswersRunOf held name w text = (files : Files) (bytes : List ℕ) → held ≡ 
 abbrev pub AnswersEach : (List ℕ → List ℕ → Command) → (List ℕ → Wanted) → List (List ℕ) → Option Files → List ℕ → Type 0
 AnswersEach command w words held text = (trace word : List ℕ) → Asks words (command trace word) → AnswersRunOf held trace (w word) text
 
--- each why is answered by what the run carried
+-- each why and each affects is answered by what the run carried
 abbrev pub Carries : List (List ℕ) → Option Files → List ℕ → Type 0
-Carries = AnswersEach Why wanted.Why
+Carries words held text = AnswersEach Why wanted.Why words held text × AnswersEach Affects wanted.Affects words held text
 
 -- each whynot is answered by a least cut
 abbrev pub Cuts : List (List ℕ) → Option Files → List ℕ → Type 0

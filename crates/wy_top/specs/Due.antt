@@ -7,7 +7,7 @@ use Rattle.wy_outside.specs.Shelf.{Files}
 use Rattle.wy_tree.specs.Tokens.{SpannedToken, Tokens}
 use Rattle.wy_frames.specs.Heads.{head_of}
 use Rattle.wy_frames.specs.declared.error.TraceError.{TraceError}
-use Rattle.wy_words.specs.Words.{Asked, Asks, Command, Run, Record, Output, Questions, Why, WhyNot, Audit, Explore, Gen, IsNoCommand}
+use Rattle.wy_words.specs.Words.{Asked, Asks, Command, Run, Record, Output, Questions, Why, Affects, WhyNot, Audit, Explore, Gen, IsNoCommand}
 use Rattle.wy_reply.specs.Lines.{usage_line, of_trace}
 use Rattle.wy_gen.specs.Generated.{source}
 use Rattle.wy_reply.specs.Report.{report, recorded_report}
@@ -47,6 +47,7 @@ DueTo files (Run a) status text = DueForRun files a (λ input p lines. report p 
 DueTo files (Record a trace) status text = DueForRun files a (λ input p lines. recorded_report p lines input a.steps) status text
 DueTo files (Output trace) status text = DueForTrace files trace wanted.Output status text
 DueTo files (Why trace question) status text = DueForTrace files trace (wanted.Why question) status text
+DueTo files (Affects trace question) status text = DueForTrace files trace (wanted.Affects question) status text
 DueTo files (Questions trace) status text = DueForTrace files trace wanted.Questions status text
 DueTo files (WhyNot trace statement) status text =
     DueForTrace files trace (wanted.WhyNot statement) status text
@@ -73,6 +74,7 @@ run_of _ = None
 abbrev pub trace_of : Command → Option (List ℕ)
 trace_of (Output trace) = Some trace
 trace_of (Why trace question) = Some trace
+trace_of (Affects trace question) = Some trace
 trace_of (Questions trace) = Some trace
 trace_of (WhyNot trace statement) = Some trace
 trace_of (Audit trace) = Some trace

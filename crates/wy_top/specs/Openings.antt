@@ -1,9 +1,8 @@
 -- A trace that a session is over: what its opening gives, and how the session ends.
-use Rattle.std.specs.Prelude.{◌≡◌, ◌⊎◌, ℕ, List, false, Option, Some, Ok, Err}
+use Rattle.std.specs.Prelude.{◌≡◌, ◌⊎◌, ℕ, List, false, Option, Some, Ok}
 use Rattle.wy_event.specs.declared.record.Head.{Head}
 use Rattle.wy_frames.specs.Heads.{head_of}
 use Rattle.wy_frames.specs.Traces.{IsReadAs}
-use Rattle.wy_frames.specs.declared.error.TraceError.{TraceError}
 use Rattle.wy_kernel.specs.declared.program.Program.{Program}
 use Rattle.wy_event.specs.declared.record.Trace.{Trace}
 use Rattle.wy_outside.specs.Counts.{Rose}
@@ -17,30 +16,18 @@ use Rattle.wy_reply.specs.declared.answer.Answer.{Answer}
 use Rattle.wy_reply.specs.declared.status.Status.{Status}
 use Rattle.wy_reply.specs.declared.status.Status.TheVariants as status
 use Rattle.wy_reply.specs.Statuses.{code_of, is_of_files}
-use Rattle.wy_reply.specs.Lines.{of_trace, shelf_fault_line}
+use Rattle.wy_reply.specs.Lines.{shelf_fault_line}
 use Rattle.wy_reply.specs.Opening.{IsViewable}
-use Rattle.wy_reply.specs.Tellings.{RefusesTrace, Wanted, covers_of}
+use Rattle.wy_reply.specs.Tellings.{Wanted, covers_of}
 use Rattle.wy_top.specs.declared.opening.Opening.{Opening}
 use Rattle.wy_top.specs.declared.opening.Opening.TheVariants.{Open, Refused}
 use Rattle.wy_top.specs.Call.{IsOpened}
 use Rattle.wy_top.specs.Deliveries.{Delivers}
 use Rattle.wy_top.specs.Due.{DueForBytes, DueForTrace}
 use Rattle.wy_program.specs.Programs.{IsProgramOf}
-use Rattle.wy_top.specs.Causes.{IsNoProgram}
 use Rattle.wy_top.specs.Replies.{HasCause, ShelfCounts}
 
--- the source is no program, or the bytes are no trace under it, and the line says why
-abbrev pub RefusesUnder : List ℕ → List ℕ → Answer → Type 0
-RefusesUnder source bytes answer =
-    ((answer.status ≡ status.Trace) × ((line : List ℕ) × IsNoProgram source line × (answer.text.items ≡ of_trace line)))
-    ⊎ ((p : Program) × (e : TraceError) × IsProgramOf source p × IsReadAs p bytes (Err e) × RefusesTrace e answer)
-
--- the program of a source, and the trace as which the bytes are read under it; or why there is none
-abbrev pub OpensUnder : List ℕ → List ℕ → Opening → Type 0
-OpensUnder source bytes (Open typed t) = IsProgramOf source typed.program × IsReadAs typed.program bytes (Ok t)
-OpensUnder source bytes (Refused answer) = RefusesUnder source bytes answer
-
--- the same of bytes by the source of their head; nothing is done where it is refused
+-- the program of the source of the head of bytes, and the trace as which they are read under it; or why there is none, and nothing is done
 abbrev pub OpensBytes : List ℕ → Opening → Type 0
 OpensBytes bytes (Open typed t) = (head : Head) × (end : ℕ) × (head_of bytes ≡ Ok (head, end)) × IsProgramOf head.source typed.program × IsReadAs typed.program bytes (Ok t)
 OpensBytes bytes (Refused answer) = (answer.status ≡ status.Done → ⊥) × ((w : Wanted) → DueForBytes bytes w (code_of answer.status) answer.text.items)

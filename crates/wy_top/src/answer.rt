@@ -172,12 +172,12 @@ pub fn answer_to<S: Shelf, R: Recorder>(
         Request::Record { asked, trace } => answer_to_record(alloc, shelf, asked, trace, recorder),
         Request::Output { trace } => answer_from(alloc, shelf, trace, Wanted::Output),
         Request::Why { trace, question } => {
-            answer_from(
-                alloc,
-                shelf,
-                trace,
-                Wanted::Inquiry(Inquiry::Why { question }),
-            )
+            let inquiry = Inquiry::Why { question };
+            answer_from(alloc, shelf, trace, Wanted::Inquiry(inquiry))
+        }
+        Request::Affects { trace, question } => {
+            let inquiry = Inquiry::Affects { question };
+            answer_from(alloc, shelf, trace, Wanted::Inquiry(inquiry))
         }
         Request::Questions { trace } => {
             answer_from(alloc, shelf, trace, Wanted::Inquiry(Inquiry::Questions))

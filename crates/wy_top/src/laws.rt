@@ -24,7 +24,7 @@ use wy_machine::one_audit_is_due;
 use wy_parser::laws::a_token_list_has_one_tree;
 use wy_program::texts_are_programs;
 use wy_session::laws::one_talk;
-use wy_telling::laws::{one_answer_to_why, one_answer_to_whynot};
+use wy_telling::laws::{one_answer_to_questions, one_answer_to_whynot};
 use wy_tree::laws::{
     a_refused_text_has_no_tokens, a_text_has_one_token_list, tokens_stand_in_order,
 };
@@ -42,7 +42,7 @@ pub fn one_answer_is_due()
     a_token_list_has_one_tree();
     a_text_has_one_program();
     bytes_are_read_in_one_way();
-    one_answer_to_why();
+    one_answer_to_questions();
     one_answer_to_whynot();
     one_audit_is_due();
     one_talk();

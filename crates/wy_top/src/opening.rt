@@ -1,18 +1,16 @@
 //! A trace that is opened: its program and what it records, or what is answered in their place.
 ghost use Rattle.std.specs.Prelude.{◌≡◌, ◌≤◌, IfOk, length};
-ghost use Rattle.wy_kernel.specs.Limits.{source_limit, trace_limit};
-ghost use Rattle.wy_top.specs.Openings.{IsSettled, OpensBytes, OpensFile, OpensUnder};
+ghost use Rattle.wy_kernel.specs.Limits.{trace_limit};
+ghost use Rattle.wy_top.specs.Openings.{IsSettled, OpensBytes, OpensFile};
 ghost use Rattle.wy_top.specs.Replies.{at_shelf};
 
 use crate::answer::answer_to_lack;
 use crate::files::read_trace;
 use crate::trace::answer_to_error;
-use law_reading::{decoded_events_refer_below, few_events_are_decoded, heads_are_short};
 use std::alloc::{AllocError, Global};
 use wy_event::record::Trace;
-use wy_frames::{decode, read_head};
 use wy_outside::shelf::Shelf;
-use wy_program::{TypedProgram, program_of_source};
+use wy_program::{OpenTrace, OpeningError, TypedProgram, trace_of_bytes};
 use wy_reply::{Answer, answer_to_trace_error};
 
 /// A trace and the typed program of its head, or what is answered where there is none.
@@ -22,35 +20,18 @@ pub enum Opening {
     Refused(Answer),
 }
 
-/// The trace of bytes whose head has this source.
-fn open_under(alloc: Global, source: &[u8], bytes: &[u8]) -> Result<Opening, AllocError>
-    requires source { length source.now ≤ source_limit }
-    requires bytes { length bytes.now ≤ trace_limit }
-    ensures opens { IfOk result (OpensUnder source.now bytes.now) }
-    ensures settled { IfOk result IsSettled }
-{
-    decoded_events_refer_below();
-    few_events_are_decoded();
-    let typed = match program_of_source(alloc, source) {
-        Ok(typed) => typed,
-        Err(error) => return Ok(Opening::Refused(answer_to_error(alloc, error)?)),
-    };
-    match decode(alloc, bytes, &typed.program) {
-        Ok(trace) => Ok(Opening::Open { typed, trace }),
-        Err(error) => Ok(Opening::Refused(answer_to_trace_error(alloc, error)?)),
-    }
-}
-
 /// The trace of bytes: their head, its program and the rest are read in this order.
 pub(crate) fn open_bytes(alloc: Global, bytes: &[u8]) -> Result<Opening, AllocError>
     requires { length bytes.now ≤ trace_limit }
     ensures opens { IfOk result (OpensBytes bytes.now) }
     ensures settled { IfOk result IsSettled }
 {
-    heads_are_short();
-    match read_head(alloc, bytes) {
-        Ok((head, _)) => open_under(alloc, head.source.as_slice(), bytes),
-        Err(error) => Ok(Opening::Refused(answer_to_trace_error(alloc, error)?)),
+    match trace_of_bytes(alloc, bytes) {
+        Ok(OpenTrace { typed, trace }) => Ok(Opening::Open { typed, trace }),
+        Err(OpeningError::Source(error)) => Ok(Opening::Refused(answer_to_error(alloc, error)?)),
+        Err(OpeningError::Trace(error)) => {
+            Ok(Opening::Refused(answer_to_trace_error(alloc, error)?))
+        }
     }
 }
 

@@ -89,7 +89,7 @@ lower : (low high : ℕ) (ns : List ℕ) → Rises (suc low) high ns → Rises l
 lower low high [] up = tt
 lower low high (n ∷ ns) up = (omega (arith, up.0), up.1, up.2)
 
-range_rises : (p : ℕ → Bool) (low len high : ℕ) → low + len ≤ high → Rises low high (filter p (range_with_len low len))
+pub range_rises : (p : ℕ → Bool) (low len high : ℕ) → low + len ≤ high → Rises low high (filter p (range_with_len low len))
 range_rises p low zero high le = tt
 range_rises p low (suc len) high le = go (p low) (subst (λ a. Rises a high (filter p (range_with_len (low + 1) len))) (add-one low) (range_rises p (low + 1) len high (omega (arith, le))))
   where

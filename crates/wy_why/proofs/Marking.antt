@@ -62,7 +62,7 @@ module _ (owner : Owners) (rs : List Recorded) (all flow : Bool) (u : Use) (j : 
   unfolding use_source
   by_choice e is = ap (λ v. union_of only (taken all flow (use_source owner rs v)) j) is ∙ choice_taken all flow e j
 
-source_events-append : (all : Bool) (a b : List Source) → source_events all (a ++ b) ≡ source_events all a ++ source_events all b
+pub source_events-append : (all : Bool) (a b : List Source) → source_events all (a ++ b) ≡ source_events all a ++ source_events all b
 unfolding source_events
 source_events-append all [] b = refl
 source_events-append all (s ∷ a) b = go (all || is_data s.role) (source_events-append all a b)

@@ -26,7 +26,7 @@ pub struct Answer {
 }
 
 /// Marks of the events up to one, which alone is marked, as data.
-fn first_marks(alloc: Global, event: u32) -> Result<Vec<Mark>, AllocError>
+pub fn first_marks(alloc: Global, event: u32) -> Result<Vec<Mark>, AllocError>
     ensures room { IfOk result (λ marks. length marks.items ≡ event + 1) }
     ensures alone { IfOk result (λ marks. (all : Bool) (j : ℕ)
         → marked all marks.items j ≡ nat_eq j event) }

@@ -7,5 +7,6 @@ mod mark;
 pub mod source;
 mod walk;
 
-pub use answer::{Answer, why};
+pub use answer::{Answer, first_marks, why};
+pub use mark::Mark;
 pub use source::{Role, Source, sources};

@@ -19,7 +19,7 @@ use wy_view::Steps;
 
 /// How an event is in the answer: not, in it, or in its data too.
 #[derive(Clone, Copy, Debug)]
-pub(crate) enum Mark {
+pub enum Mark {
     Out,
     In,
     Flow,

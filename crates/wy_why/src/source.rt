@@ -50,7 +50,7 @@ fn compare(a: Source, b: Source) -> Ordering
 }
 
 /// Puts sources in order, each once.
-fn put_in_order(sources: Vec<Source>) -> Vec<Source>
+pub fn put_in_order(sources: Vec<Source>) -> Vec<Source>
     ensures rises { IsStrictlySortedBy source_cmp result.items }
     ensures keeps { (s : Source) → Contains sources.items s → Contains result.items s }
     ensures adds_none { (s : Source) → Contains result.items s → Contains sources.items s }
@@ -87,7 +87,8 @@ fn source_by<L: Ledger>(index: &Index, used: Use, steps: &mut Steps<L>) -> Optio
     }
 }
 
-fn keep(found: &mut Vec<Source>, source: Option<Source>) -> Result<(), AllocError>
+/// Puts a source behind the others, if there is one.
+pub fn keep(found: &mut Vec<Source>, source: Option<Source>) -> Result<(), AllocError>
     ensures { OnOk result (found.new.items ≡ found.old.items ++ option_to_list source) }
 {
     if let Some(source) = source {
@@ -114,8 +115,9 @@ fn of_uses<L: Ledger>(
     Ok(found)
 }
 
+/// The control parent of an event, if it has one.
 #[tactic(auto, unfolding(wy_event::specs::Record::recorded, wy_kernel::specs::View::present, wy_event::specs::Sources::with_role))]
-fn parent(event: &Event) -> Option<Source>
+pub fn parent(event: &Event) -> Option<Source>
     ensures { option_to_list (option_map source_of result)
         ≡ records.with_role records.Control (recorded event.now).control }
 {

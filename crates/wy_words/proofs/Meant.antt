@@ -7,9 +7,9 @@ use Rattle.wy_words.specs.Awaited.{Awaited}
 use Rattle.wy_words.specs.Awaited as awaited
 use Rattle.wy_words.specs.declared.commands.Command as memory
 use Rattle.wy_words.specs.Views.{command_of}
-use Rattle.wy_words.specs.Words.{Part, Spells, Holds, Command, Run, Record, Output, Why, WhyNot, Questions, Explore, Audit, Gen, number_up_to, asked, Asks, IsNoCommand, AskOneCommand}
+use Rattle.wy_words.specs.Words.{Part, Spells, Holds, Command, Run, Record, Output, Why, WhyNot, Affects, Questions, Explore, Audit, Gen, number_up_to, asked, Asks, IsNoCommand, AskOneCommand}
 use Rattle.wy_words.specs.Words as words
-use Rattle.wy_words.specs.Reading.{Asking, nothing, named, named_in, ended, command_named, run, run_of, recording, is_bare, only_operand, two_operands, output, why, whynot, questions, explore, audit, generated}
+use Rattle.wy_words.specs.Reading.{Asking, nothing, named, named_in, ended, command_named, run, run_of, recording, is_bare, only_operand, two_operands, output, why, whynot, affects, questions, explore, audit, generated}
 use Rattle.wy_words.proofs.Spelled.{spelled, named_spelled}
 use Rattle.wy_words.proofs.Held.{naming, held, holds}
 
@@ -47,6 +47,10 @@ whynot_named : (trace statement : List ℕ) → command_named (codes "whynot") (
 unfolding command_named whynot two_operands is_bare
 whynot_named trace statement = refl
 
+affects_named : (trace question : List ℕ) → command_named (codes "affects") (naming (trace ∷ (question ∷ [])) None None None) ≡ Some (Affects trace question)
+unfolding command_named affects two_operands is_bare
+affects_named trace question = refl
+
 questions_named : (trace : List ℕ) → command_named (codes "questions") (naming (trace ∷ []) None None None) ≡ Some (Questions trace)
 unfolding command_named questions only_operand is_bare
 questions_named trace = refl
@@ -74,6 +78,8 @@ asked_read _ _ (words.why {words = ws} {parts = ps} {trace = t} {question = q} s
     ap (option_and_then (command_named (codes "why"))) (named_there ws ps (t ∷ (q ∷ [])) None None None (omega arith) s h) ∙ why_named t q
 asked_read _ _ (words.whynot {words = ws} {parts = ps} {trace = t} {statement = k} s h) =
     ap (option_and_then (command_named (codes "whynot"))) (named_there ws ps (t ∷ (k ∷ [])) None None None (omega arith) s h) ∙ whynot_named t k
+asked_read _ _ (words.affects {words = ws} {parts = ps} {trace = t} {question = k} s h) =
+    ap (option_and_then (command_named (codes "affects"))) (named_there ws ps (t ∷ (k ∷ [])) None None None (omega arith) s h) ∙ affects_named t k
 asked_read _ _ (words.questions {words = ws} {parts = ps} {trace = t} s h) =
     ap (option_and_then (command_named (codes "questions"))) (named_there ws ps (t ∷ []) None None None (omega arith) s h) ∙ questions_named t
 asked_read _ _ (words.explore {words = ws} {parts = ps} {trace = t} s h) =
@@ -214,6 +220,11 @@ whynot_meant : (behind : List (List ℕ)) (a : Asking) (c : Command) → Stands 
 unfolding whynot
 whynot_meant behind a c s is = of_two (codes "whynot") behind a WhyNot c (λ first second t. words.whynot t.spells t.hold) s is
 
+affects_meant : (behind : List (List ℕ)) (a : Asking) (c : Command) → Stands behind a.operands a.input a.trace a.steps
+    → affects a ≡ Some c → Asks (codes "affects" ∷ behind) c
+unfolding affects
+affects_meant behind a c s is = of_two (codes "affects") behind a Affects c (λ first second t. words.affects t.spells t.hold) s is
+
 -- a command by its name
 by_name : (name front : List ℕ) (behind : List (List ℕ)) (c : Command) → bytes_eq name front ≡ true → Asks (front ∷ behind) c → Asks (name ∷ behind) c
 by_name name front behind c same h = subst (λ n. Asks (n ∷ behind) c) (sym ((bytes_eq-Decides name front).0 same)) h
@@ -222,22 +233,23 @@ command_meant : (name : List ℕ) (behind : List (List ℕ)) (a : Asking) (c : C
     → command_named name a ≡ Some c → Asks (name ∷ behind) c
 unfolding command_named
 command_meant name behind a c s is =
-    go (bytes_eq name (codes "run")) (bytes_eq name (codes "record")) (bytes_eq name (codes "output")) (bytes_eq name (codes "why")) (bytes_eq name (codes "whynot")) (bytes_eq name (codes "questions")) (bytes_eq name (codes "explore")) (bytes_eq name (codes "audit")) (bytes_eq name (codes "gen"))
-    refl refl refl refl refl refl refl refl refl is
+    go (bytes_eq name (codes "run")) (bytes_eq name (codes "record")) (bytes_eq name (codes "output")) (bytes_eq name (codes "why")) (bytes_eq name (codes "whynot")) (bytes_eq name (codes "affects")) (bytes_eq name (codes "questions")) (bytes_eq name (codes "explore")) (bytes_eq name (codes "audit")) (bytes_eq name (codes "gen"))
+    refl refl refl refl refl refl refl refl refl refl is
   where
-    go : (r d o y w q x u g : Bool) → bytes_eq name (codes "run") ≡ r → bytes_eq name (codes "record") ≡ d → bytes_eq name (codes "output") ≡ o → bytes_eq name (codes "why") ≡ y → bytes_eq name (codes "whynot") ≡ w → bytes_eq name (codes "questions") ≡ q → bytes_eq name (codes "explore") ≡ x → bytes_eq name (codes "audit") ≡ u → bytes_eq name (codes "gen") ≡ g
-        → (if r then run a else (if d then recording a.trace a else (if o then output a else (if y then why a else (if w then whynot a else (if q then questions a else (if x then explore a else (if u then audit a else (if g then generated a else None))))))))) ≡ Some c
+    go : (b0 b1 b2 b3 b4 b5 b6 b7 b8 b9 : Bool) → bytes_eq name (codes "run") ≡ b0 → bytes_eq name (codes "record") ≡ b1 → bytes_eq name (codes "output") ≡ b2 → bytes_eq name (codes "why") ≡ b3 → bytes_eq name (codes "whynot") ≡ b4 → bytes_eq name (codes "affects") ≡ b5 → bytes_eq name (codes "questions") ≡ b6 → bytes_eq name (codes "explore") ≡ b7 → bytes_eq name (codes "audit") ≡ b8 → bytes_eq name (codes "gen") ≡ b9
+        → (if b0 then run a else (if b1 then recording a.trace a else (if b2 then output a else (if b3 then why a else (if b4 then whynot a else (if b5 then affects a else (if b6 then questions a else (if b7 then explore a else (if b8 then audit a else (if b9 then generated a else None)))))))))) ≡ Some c
         → Asks (name ∷ behind) c
-    go true d o y w q x u g er ed eo ey ew eq ex eu eg e = by_name name (codes "run") behind c er (run_meant behind a.operands a.awaited a.input a.trace a.steps c s e)
-    go false true o y w q x u g er ed eo ey ew eq ex eu eg e = by_name name (codes "record") behind c ed (recording_meant behind a.operands a.awaited a.input a.trace a.steps c s e)
-    go false false true y w q x u g er ed eo ey ew eq ex eu eg e = by_name name (codes "output") behind c eo (output_meant behind a c s e)
-    go false false false true w q x u g er ed eo ey ew eq ex eu eg e = by_name name (codes "why") behind c ey (why_meant behind a c s e)
-    go false false false false true q x u g er ed eo ey ew eq ex eu eg e = by_name name (codes "whynot") behind c ew (whynot_meant behind a c s e)
-    go false false false false false true x u g er ed eo ey ew eq ex eu eg e = by_name name (codes "questions") behind c eq (questions_meant behind a c s e)
-    go false false false false false false true u g er ed eo ey ew eq ex eu eg e = by_name name (codes "explore") behind c ex (explore_meant behind a c s e)
-    go false false false false false false false true g er ed eo ey ew eq ex eu eg e = by_name name (codes "audit") behind c eu (audit_meant behind a c s e)
-    go false false false false false false false false true er ed eo ey ew eq ex eu eg e = by_name name (codes "gen") behind c eg (gen_meant behind a c s e)
-    go false false false false false false false false false er ed eo ey ew eq ex eu eg e = absurd (none-some c e)
+    go true b1 b2 b3 b4 b5 b6 b7 b8 b9 e0 e1 e2 e3 e4 e5 e6 e7 e8 e9 e = by_name name (codes "run") behind c e0 (run_meant behind a.operands a.awaited a.input a.trace a.steps c s e)
+    go false true b2 b3 b4 b5 b6 b7 b8 b9 e0 e1 e2 e3 e4 e5 e6 e7 e8 e9 e = by_name name (codes "record") behind c e1 (recording_meant behind a.operands a.awaited a.input a.trace a.steps c s e)
+    go false false true b3 b4 b5 b6 b7 b8 b9 e0 e1 e2 e3 e4 e5 e6 e7 e8 e9 e = by_name name (codes "output") behind c e2 (output_meant behind a c s e)
+    go false false false true b4 b5 b6 b7 b8 b9 e0 e1 e2 e3 e4 e5 e6 e7 e8 e9 e = by_name name (codes "why") behind c e3 (why_meant behind a c s e)
+    go false false false false true b5 b6 b7 b8 b9 e0 e1 e2 e3 e4 e5 e6 e7 e8 e9 e = by_name name (codes "whynot") behind c e4 (whynot_meant behind a c s e)
+    go false false false false false true b6 b7 b8 b9 e0 e1 e2 e3 e4 e5 e6 e7 e8 e9 e = by_name name (codes "affects") behind c e5 (affects_meant behind a c s e)
+    go false false false false false false true b7 b8 b9 e0 e1 e2 e3 e4 e5 e6 e7 e8 e9 e = by_name name (codes "questions") behind c e6 (questions_meant behind a c s e)
+    go false false false false false false false true b8 b9 e0 e1 e2 e3 e4 e5 e6 e7 e8 e9 e = by_name name (codes "explore") behind c e7 (explore_meant behind a c s e)
+    go false false false false false false false false true b9 e0 e1 e2 e3 e4 e5 e6 e7 e8 e9 e = by_name name (codes "audit") behind c e8 (audit_meant behind a c s e)
+    go false false false false false false false false false true e0 e1 e2 e3 e4 e5 e6 e7 e8 e9 e = by_name name (codes "gen") behind c e9 (gen_meant behind a c s e)
+    go false false false false false false false false false false e0 e1 e2 e3 e4 e5 e6 e7 e8 e9 e = absurd (none-some c e)
 
 pub read_asked : (words : List (List ℕ)) (c : Command) → read_as words ≡ Some c → Asks words c
 read_asked [] c is = absurd (none-some c is)

@@ -65,6 +65,7 @@ asked_known _ _ _ (words.recording s h) = refl
 asked_known _ _ _ (words.output s h) = refl
 asked_known _ _ _ (words.why s h) = refl
 asked_known _ _ _ (words.whynot s h) = refl
+asked_known _ _ _ (words.affects s h) = refl
 asked_known _ _ _ (words.questions s h) = refl
 asked_known _ _ _ (words.explore s h) = refl
 asked_known _ _ _ (words.audit s h) = refl

@@ -1,7 +1,7 @@
 -- What stands in the words that are read so far, as the calls of this crate find it. No definition of a command rests on it.
 use Rattle.std.specs.Prelude.{ℕ, length, true, not, ◌||◌, is_some, List, [], ◌∷◌, ◌++◌, Bool, ◌&&◌, nat_eq, nat_lt, bytes_eq, if◌then◌else◌, Option, Some, None, is_none, option_and_then, option_map, codes, drop}
 use Rattle.std.specs.List.{starts_with}
-use Rattle.wy_words.specs.Words.{is_plain, number_up_to, Part, Operand, Input, Trace, Steps, Asked, Command, Run, Record, Output, Why, WhyNot, Questions, Explore, Audit, Gen, asked}
+use Rattle.wy_words.specs.Words.{is_plain, number_up_to, Part, Operand, Input, Trace, Steps, Asked, Command, Run, Record, Output, Why, WhyNot, Affects, Questions, Explore, Audit, Gen, asked}
 use Rattle.wy_words.specs.Awaited.{Awaited}
 use Rattle.wy_words.specs.Awaited as awaited
 
@@ -116,6 +116,9 @@ why a = option_map (λ w. Why w.0 w.1) (two_operands a.operands a)
 unfoldable pub whynot : Asking → Option Command
 whynot a = option_map (λ w. WhyNot w.0 w.1) (two_operands a.operands a)
 
+unfoldable pub affects : Asking → Option Command
+affects a = option_map (λ w. Affects w.0 w.1) (two_operands a.operands a)
+
 unfoldable pub questions : Asking → Option Command
 questions a = option_map Questions (only_operand a.operands a)
 
@@ -136,7 +139,8 @@ command_named name a =
     else (if bytes_eq name (codes "output") then output a
     else (if bytes_eq name (codes "why") then why a
     else (if bytes_eq name (codes "whynot") then whynot a
+    else (if bytes_eq name (codes "affects") then affects a
     else (if bytes_eq name (codes "questions") then questions a
     else (if bytes_eq name (codes "explore") then explore a
     else (if bytes_eq name (codes "audit") then audit a
-    else (if bytes_eq name (codes "gen") then generated a else None))))))))
+    else (if bytes_eq name (codes "gen") then generated a else None)))))))))

@@ -85,6 +85,7 @@ pub data Command : Type 0 where
   Output : (trace : List ℕ) → Command
   Why : (trace question : List ℕ) → Command
   WhyNot : (trace statement : List ℕ) → Command
+  Affects : (trace question : List ℕ) → Command
   Questions : (trace : List ℕ) → Command
   Explore : (trace : List ℕ) → Command
   Audit : (trace : List ℕ) → Command
@@ -109,6 +110,8 @@ pub data Asks : List (List ℕ) → Command → Type 0 where
       → Holds parts (trace ∷ (question ∷ [])) None None None → Asks (codes "why" ∷ words) (Why trace question)
   whynot : {words : List (List ℕ)} {parts : List Part} {trace statement : List ℕ} → Spells words parts
       → Holds parts (trace ∷ (statement ∷ [])) None None None → Asks (codes "whynot" ∷ words) (WhyNot trace statement)
+  affects : {words : List (List ℕ)} {parts : List Part} {trace question : List ℕ} → Spells words parts
+      → Holds parts (trace ∷ (question ∷ [])) None None None → Asks (codes "affects" ∷ words) (Affects trace question)
   questions : {words : List (List ℕ)} {parts : List Part} {trace : List ℕ} → Spells words parts
       → Holds parts (trace ∷ []) None None None → Asks (codes "questions" ∷ words) (Questions trace)
   explore : {words : List (List ℕ)} {parts : List Part} {trace : List ℕ} → Spells words parts

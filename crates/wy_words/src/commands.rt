@@ -6,7 +6,7 @@ ghost use Rattle.wy_words.specs.Reading.{explore as explore_asked, generated as 
 ghost use Rattle.wy_words.specs.Reading.{is_bare as bare, only_operand as alone, output as output_asked};
 ghost use Rattle.wy_words.specs.Reading.{recording as recording_asked, run as run_asked, run_of};
 ghost use Rattle.wy_words.specs.Reading.{questions as questions_asked, two_operands as both};
-ghost use Rattle.wy_words.specs.Reading.{why as why_asked, whynot as whynot_asked};
+ghost use Rattle.wy_words.specs.Reading.{affects as affects_asked, why as why_asked, whynot as whynot_asked};
 
 use crate::asking::{Asking, Operands};
 use crate::number::number;
@@ -33,6 +33,7 @@ pub enum Request<'a> {
     Output { trace: &'a str },
     Why { trace: &'a str, question: &'a str },
     WhyNot { trace: &'a str, statement: &'a str },
+    Affects { trace: &'a str, question: &'a str },
     Questions { trace: &'a str },
     Audit { trace: &'a str },
     Gen { number: u32 },
@@ -65,6 +66,9 @@ pub fn command_named<'a>(name: &str, asking: Asking<'a>) -> Option<Command<'a>>
     }
     if name == "whynot" {
         return whynot(asking);
+    }
+    if name == "affects" {
+        return affects(asking);
     }
     if name == "questions" {
         return questions(asking);
@@ -134,6 +138,16 @@ fn whynot(asking: Asking<'_>) -> Option<Command<'_>>
 {
     match two_operands(asking) {
         Some((trace, statement)) => Some(Command::Once(Request::WhyNot { trace, statement })),
+        None => None,
+    }
+}
+
+#[tactic(auto, unfolding(crate::specs::Reading::affects))]
+fn affects(asking: Asking<'_>) -> Option<Command<'_>>
+    ensures { option_map command_of result ≡ affects_asked (asking_of asking.entry) }
+{
+    match two_operands(asking) {
+        Some((trace, question)) => Some(Command::Once(Request::Affects { trace, question })),
         None => None,
     }
 }

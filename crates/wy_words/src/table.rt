@@ -19,12 +19,13 @@ pub const TRACE: &str = "trace";
 
 pub const STEPS: &str = "steps";
 
-static NAMES: [&str; 9] = [
+static NAMES: [&str; 10] = [
     "run",
     "record",
     "output",
     "why",
     "whynot",
+    "affects",
     "questions",
     "explore",
     "audit",

@@ -4,7 +4,8 @@ use Rattle.std.proofs.lemmas.Result.{err_from_is_err_and}
 use Rattle.wy_event.specs.Record.{recorded}
 use Rattle.wy_kernel.specs.Parts.{program_of}
 use Rattle.wy_ask.specs.Questions.{asked}
-use Rattle.wy_telling.specs.Why.{TellsOf}
+use Rattle.wy_telling.specs.Answers.{TellsOf}
+use Rattle.wy_telling.specs.Why.{why_text}
 use Rattle.wy_telling.proofs.Answering.{refused}
 use Rattle.wy_telling.proofs.why.why_asked.Goals as goal
 
@@ -21,4 +22,4 @@ returns-in_err-event g c =
     let rs = map recorded o.view.events.items in
     let q = asked c.args.question.now in
     let left = err_from_is_err_and c.from_residual.result c.from_residual.ensures.1 in
-    subst (TellsOf p lines rs q) (sym (left.1 ∙ ap Err left.2)) (refused p lines rs q c.in_err-event.field-0.0 (c.in_err-event.ensures.event rs refl))
+    subst (TellsOf why_text p lines rs q) (sym (left.1 ∙ ap Err left.2)) (refused why_text p lines rs q c.in_err-event.field-0.0 (c.in_err-event.ensures.event rs refl))

@@ -4,14 +4,15 @@ use Rattle.std.proofs.lemmas.Result.{err_from_is_err_and}
 use Rattle.wy_event.specs.Record.{recorded}
 use Rattle.wy_kernel.specs.Parts.{program_of}
 use Rattle.wy_ask.specs.Questions.{asked}
-use Rattle.wy_telling.specs.Why.{TellsWhy}
+use Rattle.wy_telling.specs.Answers.{TellsAnswer}
+use Rattle.wy_telling.specs.Why.{why_text}
 use Rattle.wy_telling.proofs.Answering.{read, unread}
 use Rattle.wy_telling.proofs.why.why_text.Goals as goal
 
 pub returns : goal.returns
 returns c =
     let o = c.args.opened.now in
-    read (program_of o.program.now) o.program.now.lines.items (map recorded o.view.events.items) c.args.question.now (asked c.in_ok-question.question) c.why_asked.result c.in_ok-question.ensures c.why_asked.ensures
+    read why_text (program_of o.program.now) o.program.now.lines.items (map recorded o.view.events.items) c.args.question.now (asked c.in_ok-question.question) c.why_asked.result c.in_ok-question.ensures c.why_asked.ensures
 
 pub returns-in_err-question : goal.returns-in_err-question
 returns-in_err-question c =
@@ -20,4 +21,4 @@ returns-in_err-question c =
     let lines = o.program.now.lines.items in
     let rs = map recorded o.view.events.items in
     let left = err_from_is_err_and c.from_residual.result c.from_residual.ensures.1 in
-    subst (TellsWhy p lines rs c.args.question.now) (sym (left.1 ∙ ap Err left.2)) (unread p lines rs c.args.question.now c.in_err-question.field-0.0 c.in_err-question.ensures)
+    subst (TellsAnswer why_text p lines rs c.args.question.now) (sym (left.1 ∙ ap Err left.2)) (unread why_text p lines rs c.args.question.now c.in_err-question.field-0.0 c.in_err-question.ensures)

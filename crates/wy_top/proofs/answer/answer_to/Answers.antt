@@ -1,7 +1,7 @@
 use Rattle.std.proofs.Common.{refl}
 use Rattle.wy_words.specs.Views.{asked_of}
-use Rattle.wy_words.specs.Words.{Run, Record, Output, Questions, Why, WhyNot, Audit, Gen}
-use Rattle.wy_top.proofs.RunAnswers.{no_command_carries, no_command_cuts, other_command_carries, other_command_cuts, why_carries, whynot_cuts}
+use Rattle.wy_words.specs.Words.{Run, Record, Output, Questions, Why, Affects, WhyNot, Audit, Gen}
+use Rattle.wy_top.proofs.RunAnswers.{affects_carries, no_command_carries, no_command_cuts, other_command_carries, other_command_cuts, why_carries, whynot_cuts}
 use Rattle.wy_top.proofs.AnswerLemmas.{usage_due, command_due, fault_named, generated_due, generated_settled, traces_due, traces_none, traces_other}
 use Rattle.wy_top.proofs.LeftLemmas.{leaves, leaves_none, leaves_other}
 use Rattle.wy_top.proofs.answer.answer_to.Goals as goal
@@ -43,8 +43,15 @@ pub returns-in-Why-clause-due : goal.returns-in-Why-clause-due
 returns-in-Why-clause-due g c = λ words keys asked.
     command_due c.words_ask_one_command.ensures words _ keys (Why c.in-Why.trace.now c.in-Why.question.now) _ _ c.answer_from-in-Why.result (rw (c.in-Some.is, c.in-Why.is) at asked) (λ n e. cc) (c.answer_from-in-Why.ensures.due _)
 
+pub returns-in-Affects-clause-due : goal.returns-in-Affects-clause-due
+returns-in-Affects-clause-due g c = λ words keys asked.
+    command_due c.words_ask_one_command.ensures words _ keys (Affects c.in-Affects.trace.now c.in-Affects.question.now) _ _ c.answer_from-in-Affects.result (rw (c.in-Some.is, c.in-Affects.is) at asked) (λ n e. cc) (c.answer_from-in-Affects.ensures.due _)
+
 pub returns-in-Why-clause-fault : goal.returns-in-Why-clause-fault
 returns-in-Why-clause-fault g c = fault_named _ (Why c.in-Why.trace.now c.in-Why.question.now) _ _ c.answer_from-in-Why.result (c.answer_from-in-Why.ensures.due _)
+
+pub returns-in-Affects-clause-fault : goal.returns-in-Affects-clause-fault
+returns-in-Affects-clause-fault g c = fault_named _ (Affects c.in-Affects.trace.now c.in-Affects.question.now) _ _ c.answer_from-in-Affects.result (c.answer_from-in-Affects.ensures.due _)
 
 pub returns-in-Questions-clause-due : goal.returns-in-Questions-clause-due
 returns-in-Questions-clause-due g c = λ words keys asked.
@@ -71,26 +78,30 @@ pub returns-in_default-clause-carried : goal.returns-in_default-clause-carried
 returns-in_default-clause-carried g c = λ words asked. no_command_carries words _ c.refused.result (rw (c.in_default.is) at asked)
 
 pub returns-in-Run-clause-carried : goal.returns-in-Run-clause-carried
-returns-in-Run-clause-carried g c = λ words asked. other_command_carries c.words_ask_one_command.ensures words _ (Run (asked_of c.in-Run.asked)) c.answer_to_run.result (rw (c.in-Some.is, c.in-Run.is) at asked) (λ trace word e. cc)
+returns-in-Run-clause-carried g c = λ words asked. other_command_carries c.words_ask_one_command.ensures words _ (Run (asked_of c.in-Run.asked)) c.answer_to_run.result (rw (c.in-Some.is, c.in-Run.is) at asked) (λ trace word e. cc) (λ trace word e. cc)
 
 pub returns-in-Record-clause-carried : goal.returns-in-Record-clause-carried
-returns-in-Record-clause-carried g c = λ words asked. other_command_carries c.words_ask_one_command.ensures words _ (Record (asked_of c.in-Record.asked) c.in-Record.trace.now) c.answer_to_record.result (rw (c.in-Some.is, c.in-Record.is) at asked) (λ trace word e. cc)
+returns-in-Record-clause-carried g c = λ words asked. other_command_carries c.words_ask_one_command.ensures words _ (Record (asked_of c.in-Record.asked) c.in-Record.trace.now) c.answer_to_record.result (rw (c.in-Some.is, c.in-Record.is) at asked) (λ trace word e. cc) (λ trace word e. cc)
 
 pub returns-in-Output-clause-carried : goal.returns-in-Output-clause-carried
-returns-in-Output-clause-carried g c = λ words asked. other_command_carries c.words_ask_one_command.ensures words _ (Output c.in-Output.trace.now) c.answer_from.result (rw (c.in-Some.is, c.in-Output.is) at asked) (λ trace word e. cc)
+returns-in-Output-clause-carried g c = λ words asked. other_command_carries c.words_ask_one_command.ensures words _ (Output c.in-Output.trace.now) c.answer_from.result (rw (c.in-Some.is, c.in-Output.is) at asked) (λ trace word e. cc) (λ trace word e. cc)
 
 pub returns-in-Questions-clause-carried : goal.returns-in-Questions-clause-carried
-returns-in-Questions-clause-carried g c = λ words asked. other_command_carries c.words_ask_one_command.ensures words _ (Questions c.in-Questions.trace.now) c.answer_from-in-Questions.result (rw (c.in-Some.is, c.in-Questions.is) at asked) (λ trace word e. cc)
+returns-in-Questions-clause-carried g c = λ words asked. other_command_carries c.words_ask_one_command.ensures words _ (Questions c.in-Questions.trace.now) c.answer_from-in-Questions.result (rw (c.in-Some.is, c.in-Questions.is) at asked) (λ trace word e. cc) (λ trace word e. cc)
 
 pub returns-in-WhyNot-clause-carried : goal.returns-in-WhyNot-clause-carried
-returns-in-WhyNot-clause-carried g c = λ words asked. other_command_carries c.words_ask_one_command.ensures words _ (WhyNot c.in-WhyNot.trace.now c.in-WhyNot.statement.now) c.answer_from-in-WhyNot.result (rw (c.in-Some.is, c.in-WhyNot.is) at asked) (λ trace word e. cc)
+returns-in-WhyNot-clause-carried g c = λ words asked. other_command_carries c.words_ask_one_command.ensures words _ (WhyNot c.in-WhyNot.trace.now c.in-WhyNot.statement.now) c.answer_from-in-WhyNot.result (rw (c.in-Some.is, c.in-WhyNot.is) at asked) (λ trace word e. cc) (λ trace word e. cc)
 
 pub returns-in-Audit-clause-carried : goal.returns-in-Audit-clause-carried
-returns-in-Audit-clause-carried g c = λ words asked. other_command_carries c.words_ask_one_command.ensures words _ (Audit c.in-Audit.trace.now) c.answer_from-in-Audit.result (rw (c.in-Some.is, c.in-Audit.is) at asked) (λ trace word e. cc)
+returns-in-Audit-clause-carried g c = λ words asked. other_command_carries c.words_ask_one_command.ensures words _ (Audit c.in-Audit.trace.now) c.answer_from-in-Audit.result (rw (c.in-Some.is, c.in-Audit.is) at asked) (λ trace word e. cc) (λ trace word e. cc)
 
 pub returns-in-Why-clause-carried : goal.returns-in-Why-clause-carried
 returns-in-Why-clause-carried g c = λ words asked.
     why_carries c.words_ask_one_command.ensures words _ c.in-Why.trace.now c.in-Why.question.now c.answer_from-in-Why.result (rw (c.in-Some.is, c.in-Why.is) at asked) c.answer_from-in-Why.ensures.by_run
+
+pub returns-in-Affects-clause-carried : goal.returns-in-Affects-clause-carried
+returns-in-Affects-clause-carried g c = λ words asked.
+    affects_carries c.words_ask_one_command.ensures words _ c.in-Affects.trace.now c.in-Affects.question.now c.answer_from-in-Affects.result (rw (c.in-Some.is, c.in-Affects.is) at asked) c.answer_from-in-Affects.ensures.by_run
 
 pub returns-in-Gen-clause-due : goal.returns-in-Gen-clause-due
 returns-in-Gen-clause-due g c = λ words keys asked. generated_due words _ keys c.in-Gen.number _ c.run_generated.result (rw (c.in-Some.is, c.in-Gen.is) at asked) c.run_generated.ensures.due
@@ -99,7 +110,7 @@ pub returns-in-Gen-clause-fault : goal.returns-in-Gen-clause-fault
 returns-in-Gen-clause-fault g c = generated_settled _ c.run_generated.result c.run_generated.ensures.settled
 
 pub returns-in-Gen-clause-carried : goal.returns-in-Gen-clause-carried
-returns-in-Gen-clause-carried g c = λ words asked. other_command_carries c.words_ask_one_command.ensures words _ (Gen c.in-Gen.number) c.run_generated.result (rw (c.in-Some.is, c.in-Gen.is) at asked) (λ trace word e. cc)
+returns-in-Gen-clause-carried g c = λ words asked. other_command_carries c.words_ask_one_command.ensures words _ (Gen c.in-Gen.number) c.run_generated.result (rw (c.in-Some.is, c.in-Gen.is) at asked) (λ trace word e. cc) (λ trace word e. cc)
 
 pub run_generated-requires-clause-some : goal.run_generated-requires-clause-some
 run_generated-requires-clause-some g c = (c.requires.methods c.in-Gen.number (rw (c.in-Some.is, c.in-Gen.is) refl)).0
@@ -124,6 +135,9 @@ returns-in-Questions-clause-cut g c = λ words asked. other_command_cuts c.words
 
 pub returns-in-Why-clause-cut : goal.returns-in-Why-clause-cut
 returns-in-Why-clause-cut g c = λ words asked. other_command_cuts c.words_ask_one_command.ensures words _ (Why c.in-Why.trace.now c.in-Why.question.now) c.answer_from-in-Why.result (rw (c.in-Some.is, c.in-Why.is) at asked) (λ trace word e. cc)
+
+pub returns-in-Affects-clause-cut : goal.returns-in-Affects-clause-cut
+returns-in-Affects-clause-cut g c = λ words asked. other_command_cuts c.words_ask_one_command.ensures words _ (Affects c.in-Affects.trace.now c.in-Affects.question.now) c.answer_from-in-Affects.result (rw (c.in-Some.is, c.in-Affects.is) at asked) (λ trace word e. cc)
 
 pub returns-in-Audit-clause-cut : goal.returns-in-Audit-clause-cut
 returns-in-Audit-clause-cut g c = λ words asked. other_command_cuts c.words_ask_one_command.ensures words _ (Audit c.in-Audit.trace.now) c.answer_from-in-Audit.result (rw (c.in-Some.is, c.in-Audit.is) at asked) (λ trace word e. cc)
@@ -156,8 +170,14 @@ returns-in-Output-clause-left g c = λ words asked. leaves_other c.words_ask_one
 pub returns-in-Why-clause-traces : goal.returns-in-Why-clause-traces
 returns-in-Why-clause-traces g c = λ words asked. traces_other c.words_ask_one_command.ensures _ words _ (Why c.in-Why.trace.now c.in-Why.question.now) _ _ c.answer_from-in-Why.result (rw (c.in-Some.is, c.in-Why.is) at asked) (λ a trace e. cc)
 
+pub returns-in-Affects-clause-traces : goal.returns-in-Affects-clause-traces
+returns-in-Affects-clause-traces g c = λ words asked. traces_other c.words_ask_one_command.ensures _ words _ (Affects c.in-Affects.trace.now c.in-Affects.question.now) _ _ c.answer_from-in-Affects.result (rw (c.in-Some.is, c.in-Affects.is) at asked) (λ a trace e. cc)
+
 pub returns-in-Why-clause-left : goal.returns-in-Why-clause-left
 returns-in-Why-clause-left g c = λ words asked. leaves_other c.words_ask_one_command.ensures _ words _ (Why c.in-Why.trace.now c.in-Why.question.now) _ _ _ (rw (c.in-Some.is, c.in-Why.is) at asked) (λ a trace e. cc)
+
+pub returns-in-Affects-clause-left : goal.returns-in-Affects-clause-left
+returns-in-Affects-clause-left g c = λ words asked. leaves_other c.words_ask_one_command.ensures _ words _ (Affects c.in-Affects.trace.now c.in-Affects.question.now) _ _ _ (rw (c.in-Some.is, c.in-Affects.is) at asked) (λ a trace e. cc)
 
 pub returns-in-Questions-clause-traces : goal.returns-in-Questions-clause-traces
 returns-in-Questions-clause-traces g c = λ words asked. traces_other c.words_ask_one_command.ensures _ words _ (Questions c.in-Questions.trace.now) _ _ c.answer_from-in-Questions.result (rw (c.in-Some.is, c.in-Questions.is) at asked) (λ a trace e. cc)

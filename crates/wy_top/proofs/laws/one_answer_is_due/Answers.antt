@@ -1,7 +1,7 @@
 use Rattle.std.proofs.Common.{◌≡◌, ◌∙◌, sym, ap, subst, refl, inl, inr, ◌⊎◌, ℕ, List, length, Option, Some, None, arith}
 use Rattle.wy_kernel.specs.Program.{Program}
 use Rattle.wy_outside.specs.Shelf.{Files}
-use Rattle.wy_words.specs.Words.{Asked, Asks, Command, Run, Record, Output, Questions, Why, WhyNot, Audit, Explore, Gen, AskOneCommand}
+use Rattle.wy_words.specs.Words.{Asked, Asks, Command, Run, Record, Output, Questions, Why, Affects, WhyNot, Audit, Explore, Gen, AskOneCommand}
 use Rattle.wy_gen.specs.Generated.{source}
 use Rattle.wy_reply.specs.Generated.{generated_report}
 use Rattle.wy_reply.specs.Report.{report, recorded_report}
@@ -101,6 +101,8 @@ one_command known traces words held (Output trace) f s t x y asks told first sec
     trace_same words held (Output trace) f trace s t x y asks told refl (one_trace known traces f trace wanted.Output s t x y first second)
 one_command known traces words held (Why trace question) f s t x y asks told first second =
     trace_same words held (Why trace question) f trace s t x y asks told refl (one_trace known traces f trace (wanted.Why question) s t x y first second)
+one_command known traces words held (Affects trace question) f s t x y asks told first second =
+    trace_same words held (Affects trace question) f trace s t x y asks told refl (one_trace known traces f trace (wanted.Affects question) s t x y first second)
 one_command known traces words held (Questions trace) f s t x y asks told first second =
     trace_same words held (Questions trace) f trace s t x y asks told refl (one_trace known traces f trace wanted.Questions s t x y first second)
 one_command known traces words held (WhyNot trace statement) f s t x y asks told first second =
@@ -163,4 +165,4 @@ returns c =
       utf8 = c.a_refused_text_has_no_tokens.ensures.utf8;
       trees = c.a_token_list_has_one_tree.ensures;
       programs = c.a_text_has_one_program.ensures;
-    }) (record { reading = c.bytes_are_read_in_one_way.ensures; answers = c.one_answer_to_why.ensures; statements = c.one_answer_to_whynot.ensures; audits = c.one_audit_is_due.ensures; sessions = c.one_talk.ensures }) c.words_ask_one_command.ensures
+    }) (record { reading = c.bytes_are_read_in_one_way.ensures; answers = c.one_answer_to_questions.ensures; statements = c.one_answer_to_whynot.ensures; audits = c.one_audit_is_due.ensures; sessions = c.one_talk.ensures }) c.words_ask_one_command.ensures

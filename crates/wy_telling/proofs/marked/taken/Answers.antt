@@ -1,7 +1,7 @@
 use Rattle.std.proofs.Common.{◌≡◌, ◌∙◌, false, [], ap, ne_eqb}
 use Rattle.std.proofs.lemmas.List.{nil_from_length}
 use Rattle.wy_telling.proofs.Merging.{begins_with, comes_later, comes_next}
-use Rattle.wy_telling.proofs.why.taken.Goals as goal
+use Rattle.wy_telling.proofs.marked.taken.Goals as goal
 
 pub returns-then-first-event : goal.returns-then-first-event
 returns-then-first-event c = λ set high rest rises is. comes_next set c.args.event high rest c.args.flow.now c.in-Some.rest.now c.in-Some.first.now rises is c.in-Some.ensures.cases.0 c.if-first-event.true

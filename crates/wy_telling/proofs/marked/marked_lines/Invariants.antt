@@ -5,8 +5,8 @@ use Rattle.wy_event.specs.Numbers.{Numbers}
 use Rattle.wy_event.specs.Record.{Recorded}
 use Rattle.wy_kernel.specs.Parts.{program_of}
 use Rattle.wy_view.specs.View.{Keeps}
-use Rattle.wy_telling.specs.Why.{marked_lines}
-use Rattle.wy_telling.proofs.why.answer_lines.Given as goal
+use Rattle.wy_telling.specs.Answers.{marked_lines}
+use Rattle.wy_telling.proofs.marked.marked_lines.Given as goal
 
 abbrev pub invariant-loop-event : goal.invariant-loop-event
 invariant-loop-event g l =
@@ -14,8 +14,8 @@ invariant-loop-event g l =
     record {
       keeps : Keeps (told l.initial.view) (told l.view);
       faults : (told l.view).faults ≡ (told l.initial.view).faults;
-      flow : (by_data : Numbers) → l.answer.flow.items ≡ filter by_data l.answer.all.items
-          → l.flow ≡ filter by_data (drop l.event-index l.answer.all.items);
-      lines : (rs : List Recorded) → (told l.initial.view).records ≡ Some rs → (by_data : Numbers) → l.answer.flow.items ≡ filter by_data l.answer.all.items
-          → l.text.items ≡ marked_lines (program_of l.program) l.program.lines.items rs by_data (take l.event-index l.answer.all.items);
+      flow : (by_data : Numbers) → l.initial.flow ≡ filter by_data l.all
+          → l.flow ≡ filter by_data (drop l.event-index l.all);
+      lines : (rs : List Recorded) → (told l.initial.view).records ≡ Some rs → (by_data : Numbers) → l.initial.flow ≡ filter by_data l.all
+          → l.text.items ≡ marked_lines (program_of l.program) l.program.lines.items rs by_data (take l.event-index l.all);
     }

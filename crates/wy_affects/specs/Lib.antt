@@ -1,0 +1,3 @@
+pub mod Affected
+pub mod Given
+pub mod Pass
