@@ -1,6 +1,6 @@
 -- From what the parse of the table gave to what is asked.
 use Rattle.std.proofs.Common.{◌≡◌, ◌≢◌, ◌∙◌, true, false, List, [], Option, Some, None, is_some, refl, sym, ap, subst, inl, inr, codes}
-use Rattle.std.specs.Prelude.{IfSome, option_map}
+use Rattle.std.specs.Prelude.{IfSome, option_and_then, option_map}
 use Rattle.std.proofs.lemmas.Bool.{false≢true}
 use Rattle.std.proofs.lemmas.Option.{none-some, same_Some}
 use Rattle.clap.specs.Kinds.{HasKind, IsAmong}
@@ -16,7 +16,7 @@ use Rattle.clap.specs.declared.parser.matches.ArgMatches.TheViews.{out-ArgMatche
 use Rattle.wy_lens.specs.declared.words.Request as memory
 use Rattle.wy_lens.specs.Table.{table}
 use Rattle.wy_lens.specs.Views.{request_of}
-use Rattle.wy_lens.specs.Words.{AskNothing, Asks, Explain, Help, IsFault, Request, Version, source_in}
+use Rattle.wy_lens.specs.Words.{AskNothing, Asks, Explain, Tell, Help, IsFault, Request, Version, request_for, request_in}
 use Rattle.wy_lens.specs.Words as words
 
 pub table_is_simple : is_simple table ≡ true
@@ -25,15 +25,17 @@ table_is_simple = refl
 pub table_simple : is_simple_and_free table ≡ true
 table_simple = refl
 
-pub some_asked : (given : List Text) (a : App) (m : ArgMatches) (source : Text) → a ≡ table → fault_of a given ≡ [] → subcommand_rows_of m ≡ subcommand_of a given
-    → Some source ≡ source_in (subcommand_rows_of m) → Asks given (Explain source)
-some_asked given a m source told quiet rows is =
-    words.explain source (ap (λ x. fault_of x given) (sym told) ∙ quiet) (ap source_in (ap (λ x. subcommand_of x given) (sym told) ∙ sym rows) ∙ sym is)
+pub entered_asks : (given : List Text) (a : App) (m : ArgMatches) (r : Option memory.Request) → a ≡ table → fault_of a given ≡ [] → subcommand_rows_of m ≡ subcommand_of a given
+    → option_map request_of r ≡ request_in (subcommand_rows_of m) → IfSome r (λ q. Asks given (request_of q))
+entered_asks given a m None told quiet rows is = tt
+entered_asks given a m (Some q) told quiet rows is =
+    words.entered (request_of q) (ap (λ x. fault_of x given) (sym told) ∙ quiet) (ap request_in (ap (λ x. subcommand_of x given) (sym told) ∙ sym rows) ∙ sym is)
 
-pub none_asked : (given : List Text) (a : App) (m : ArgMatches) → a ≡ table → fault_of a given ≡ [] → subcommand_rows_of m ≡ subcommand_of a given
-    → None ≡ source_in (subcommand_rows_of m) → AskNothing given
-none_asked given a m told quiet rows is =
-    words.none (ap (λ x. fault_of x given) (sym told) ∙ quiet) (ap source_in (ap (λ x. subcommand_of x given) (sym told) ∙ sym rows) ∙ sym is)
+pub none_asked : (given : List Text) (a : App) (m : ArgMatches) (r : Option memory.Request) → a ≡ table → fault_of a given ≡ [] → subcommand_rows_of m ≡ subcommand_of a given
+    → option_map request_of r ≡ request_in (subcommand_rows_of m) → r ≡ None → AskNothing given
+none_asked given a m r told quiet rows is none =
+    words.none (ap (λ x. fault_of x given) (sym told) ∙ quiet)
+    (ap request_in (ap (λ x. subcommand_of x given) (sym told) ∙ sym rows) ∙ sym is ∙ ap (option_map request_of) none)
 
 abbrev Among : List Text → Error → Type 0
 Among given e = IsAmong (kind_of e) (fault_of table given)
@@ -44,6 +46,7 @@ among given a e told has other = elim has [ inl memory ↦ absurd (other memory)
 -- what a failed parse asks
 pub fault_asks : (given : List Text) (a : App) (e : Error) (r : Request) → a ≡ table → HasKind (fault_of a given) e → IsFault (kind_of e) (Some r) → Asks given r
 fault_asks given a e (Explain source) told has is = absurd is
+fault_asks given a e (Tell trace telling) told has is = absurd is
 fault_asks given a e Help told has is =
     words.help (subst (λ k. IsAmong k (fault_of table given)) is (among given a e told has (λ memory. absurd (help_no_memory (sym memory ∙ is)))))
   where
@@ -82,10 +85,10 @@ mapped_both f None n rs named there = absurd (none-some n (sym named))
 mapped_both f (Some x) n rs named there =
     ap (λ (t : Text). Some (t, (f x).1)) (sym (same_Some n (f x).0 named)) ∙ ap (λ (t : List Row). Some (n, t)) (sym (same_Some rs (f x).1 there))
 
-pub nothing_found : (m : ArgMatches) → has_subcommand m ≡ false → source_in (subcommand_rows_of m) ≡ None
-nothing_found m none = ap source_in (mapped_none _ (out-ArgMatches m).subcommand none)
+pub nothing_found : (m : ArgMatches) → has_subcommand m ≡ false → request_in (subcommand_rows_of m) ≡ None
+nothing_found m none = ap request_in (mapped_none _ (out-ArgMatches m).subcommand none)
 
 pub found_so : (m : ArgMatches) (name : Text) (rows : List Row) → Some name ≡ subcommand_name_of m
     → Some rows ≡ option_map (λ (p : Text × List Row). p.1) (subcommand_rows (out-ArgMatches m).subcommand)
-    → source_in (subcommand_rows_of m) ≡ first_of (codes "source") rows
-found_so m name rows named there = ap source_in (mapped_both _ (out-ArgMatches m).subcommand name rows named there)
+    → request_in (subcommand_rows_of m) ≡ option_and_then (request_for name rows) (first_of (codes "first") rows)
+found_so m name rows named there = ap request_in (mapped_both _ (out-ArgMatches m).subcommand name rows named there)

@@ -7,9 +7,10 @@ use Rattle.wy_lens.specs.Due.{Due}
 use Rattle.wy_lens.specs.Deliveries.{Delivers, WritesFirst}
 use Rattle.wy_lens.specs.Statuses.{code_of}
 use Rattle.wy_lens.specs.Texts.{fault_line}
+use Rattle.wy_lens.specs.Words.{AskNothing}
 use Rattle.wy_lens.specs.declared.answer.Answer.{Answer}
 use Rattle.wy_lens.specs.declared.status.Status.{Status}
-use Rattle.wy_lens.specs.declared.status.Status.TheVariants.{Done, Usage, Absent, Refused, Fault, TooLong, NoMemory}
+use Rattle.wy_lens.specs.declared.status.Status.TheVariants.{Done, Usage, Absent, Refused, Trace, Question, Fault, TooLong, NoMemory}
 use Rattle.wy_outside.specs.Counts.{Rose}
 use Rattle.wy_outside.specs.Shelf.{Files}
 use Rattle.wy_outside.specs.Sink.{appended}
@@ -21,6 +22,8 @@ absent_at Done e = absurd cc
 absent_at Usage e = absurd cc
 absent_at Absent e = refl
 absent_at Refused e = absurd cc
+absent_at Trace e = absurd cc
+absent_at Question e = absurd cc
 absent_at Fault e = absurd cc
 absent_at TooLong e = absurd cc
 absent_at NoMemory e = absurd cc
@@ -30,6 +33,8 @@ fault_at Done e = absurd cc
 fault_at Usage e = absurd cc
 fault_at Absent e = absurd cc
 fault_at Refused e = absurd cc
+fault_at Trace e = absurd cc
+fault_at Question e = absurd cc
 fault_at Fault e = refl
 fault_at TooLong e = absurd cc
 fault_at NoMemory e = absurd cc
@@ -39,9 +44,22 @@ too_long_at Done e = absurd cc
 too_long_at Usage e = absurd cc
 too_long_at Absent e = absurd cc
 too_long_at Refused e = absurd cc
+too_long_at Trace e = absurd cc
+too_long_at Question e = absurd cc
 too_long_at Fault e = absurd cc
 too_long_at TooLong e = refl
 too_long_at NoMemory e = absurd cc
+
+usage_at : (s : Status) → code_of s ≡ 2 → s ≡ Usage
+usage_at Done e = absurd cc
+usage_at Usage e = refl
+usage_at Absent e = absurd cc
+usage_at Refused e = absurd cc
+usage_at Trace e = absurd cc
+usage_at Question e = absurd cc
+usage_at Fault e = absurd cc
+usage_at TooLong e = absurd cc
+usage_at NoMemory e = absurd cc
 
 -- ---- what is written
 
@@ -77,6 +95,12 @@ pub nothing_written : (words : List (List ℕ)) (held : Option Files) (before : 
 nothing_written words held before = (fault_line, 0, unwritten before, inl refl)
 
 -- ---- causes
+
+pub usage_cause : (words : List (List ℕ)) (n m : ℕ) (before after : Option (List ℕ)) (answer : Answer) (status : Status) (code : ℕ) → (answer.status ≡ Usage → AskNothing words) → Delivers answer status n m before after
+    → code ≡ code_of status → code ≡ 2 → AskNothing words
+usage_cause words n m before after answer status code asks (inl (same, kept, all)) is two = asks (sym same ∙ usage_at status (sym is ∙ two))
+usage_cause words n m before after answer status code asks (inr (inl (fault, rose, part))) is two = absurd (let x = sym (usage_at status (sym is ∙ two)) ∙ fault in cc)
+usage_cause words n m before after answer status code asks (inr (inr (memory, kept, part))) is two = absurd (let x = sym (usage_at status (sym is ∙ two)) ∙ memory in cc)
 
 pub absent_cause : (a b c d n m : ℕ) (before after : Option (List ℕ)) (answer : Answer) (status : Status) (code : ℕ) → HasCause a b c d answer → Delivers answer status n m before after
     → code ≡ code_of status → code ≡ 3 → Rose a b

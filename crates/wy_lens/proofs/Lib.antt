@@ -3,3 +3,4 @@ mod Delivered
 mod Said
 mod Sources
 mod Told
+mod Replies

@@ -1,18 +1,21 @@
 -- What a call answers, and what is written of it.
 use Rattle.std.specs.Prelude.{◌≡◌, ◌≢◌, ◌⊎◌, ℕ, List, take, Option, Some}
-use Rattle.wy_lens.specs.Due.{Due, DueFor, DueForFile}
+use Rattle.wy_lens.specs.Due.{Due, DueFor}
 use Rattle.wy_lens.specs.Statuses.{code_of}
-use Rattle.wy_lens.specs.Texts.{fault_line}
-use Rattle.wy_lens.specs.Words.{Asks, Explain}
+use Rattle.wy_lens.specs.Texts.{absent_line, fault_line}
+use Rattle.wy_lens.specs.Traces.{DueForBytes}
+use Rattle.wy_lens.specs.Words.{Asks, Explain, Tell, Telling}
 use Rattle.wy_lens.specs.declared.answer.Answer.{Answer}
-use Rattle.wy_lens.specs.declared.status.Status.TheVariants.{Absent, Fault, TooLong}
+use Rattle.wy_lens.specs.declared.status.Status.TheVariants.{Absent, Fault, TooLong, Usage}
 use Rattle.wy_outside.specs.Counts.{Rose}
+use Rattle.wy_outside.specs.declared.shelf.ShelfError.{ShelfError}
+use Rattle.wy_outside.specs.declared.shelf.ShelfError.TheVariants.{Absent as Missing, Failed, NoMemory}
 use Rattle.wy_outside.specs.Shelf.{Files}
 use Rattle.wy_outside.specs.Sink.{appended}
 
 -- the words ask for no file, or the shelf tells its files
 abbrev pub Knows : List (List ℕ) → Option Files → Type 0
-Knows words held = ((name : List ℕ) → Asks words (Explain name) → ⊥) ⊎ ((files : Files) × (held ≡ Some files))
+Knows words held = (((name : List ℕ) → Asks words (Explain name) → ⊥) × ((name : List ℕ) (telling : Telling) → Asks words (Tell name telling) → ⊥)) ⊎ ((files : Files) × (held ≡ Some files))
 
 -- the shelf failed, and the answer says so; or it did not, and the answer is what is due where this is so
 abbrev pub Answers : (ℕ → List ℕ → Type 0) → ℕ → ℕ → Answer → Type 0
@@ -23,14 +26,27 @@ Answers due faults_before faults_after answer =
 abbrev pub IsAnswer : List (List ℕ) → Option Files → ℕ → ℕ → Answer → Type 0
 IsAnswer words held faults_before faults_after answer = Answers (λ status text. Knows words held → Due words held status text) faults_before faults_after answer
 
--- what is due for a source
+-- an answer speaks neither of a file nor of the words
+abbrev pub SpeaksOfNoFile : Answer → Type 0
+SpeaksOfNoFile answer = (answer.status ≢ Fault) × (answer.status ≢ Absent) × (answer.status ≢ TooLong) × (answer.status ≢ Usage)
+
+-- what is due for a source, and for the bytes of a trace
 abbrev pub IsSourceAnswer : List ℕ → List ℕ → Answer → Type 0
-IsSourceAnswer name source answer = (answer.status ≢ Fault) × DueFor name source (code_of answer.status) answer.text.items
+IsSourceAnswer name source answer = SpeaksOfNoFile answer × DueFor name source (code_of answer.status) answer.text.items
+
+abbrev pub IsBytesAnswer : List ℕ → Telling → Answer → Type 0
+IsBytesAnswer bytes telling answer = SpeaksOfNoFile answer × DueForBytes bytes telling (code_of answer.status) answer.text.items
 
 -- the same for the file of a name
-abbrev pub IsFileAnswer : List ℕ → Option Files → ℕ → ℕ → Answer → Type 0
-IsFileAnswer name held faults_before faults_after answer =
-    Answers (λ status text. (files : Files) → held ≡ Some files → DueForFile files name status text) faults_before faults_after answer
+abbrev pub IsFileAnswer : (Files → ℕ → List ℕ → Type 0) → Option Files → ℕ → ℕ → Answer → Type 0
+IsFileAnswer due held faults_before faults_after answer =
+    Answers (λ status text. (files : Files) → held ≡ Some files → due files status text) faults_before faults_after answer
+
+-- why the file of a name was not read; want of memory has no answer
+abbrev pub Lacks : List ℕ → ShelfError → Answer → Type 0
+Lacks name Missing answer = (answer.status ≡ Absent) × (answer.text.items ≡ absent_line name)
+Lacks name Failed answer = (answer.status ≡ Fault) × (answer.text.items ≡ fault_line)
+Lacks name NoMemory answer = ⊥
 
 -- each status that speaks of a file has its cause
 abbrev pub HasCause : ℕ → ℕ → ℕ → ℕ → Answer → Type 0

@@ -4,6 +4,8 @@ pub mod Words
 pub mod Views
 pub mod Refusals
 pub mod Texts
+pub mod Traces
 pub mod Due
 pub mod Answers
 pub mod Deliveries
+pub mod Replies

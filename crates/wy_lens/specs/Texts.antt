@@ -3,12 +3,16 @@ use Rattle.std.specs.Prelude.{ℕ, List, ◌++◌, codes}
 use Rattle.wy_explain.specs.Explained.{line_of}
 
 unfoldable pub usage_text : List ℕ
-usage_text = line_of (codes "usage: whylens explain SRC")
+usage_text = line_of (codes "usage: whylens COMMAND WORDS, or whylens --help")
 
 unfoldable pub help_text : List ℕ
 help_text =
-    line_of (codes "usage: whylens explain SRC") ++ (line_of (codes "  explain SRC  says whether whyline runs the program in the file SRC, and if not, where it stops and why")
-    ++ line_of (codes "  --version    names the program"))
+    line_of (codes "explain SRC                            says whether whyline runs the program in the file SRC, and if not, where it stops and why")
+    ++ (line_of (codes "show TRACE QUESTION [--all] [--data]   the answer of whyline why by the lines of the source: how often each ran, and what was last there")
+    ++ (line_of (codes "show TRACE --stop [--all] [--data]     the same of where the run stopped")
+    ++ (line_of (codes "slice TRACE QUESTION                   the source, only the lines of the answer")
+    ++ (line_of (codes "events TRACE [LINE]                    all events, or those of a line")
+    ++ line_of (codes "--version                              names the program")))))
 
 unfoldable pub version_text : List ℕ
 version_text = line_of (codes "whylens 1")

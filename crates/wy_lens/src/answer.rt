@@ -1,19 +1,23 @@
 //! What the words and the files give, before any byte of it is written.
-ghost use Rattle.std.specs.Prelude.{◌≡◌, ◌≤◌, IfOk, length, map, string_bytes};
-ghost use Rattle.wy_kernel.specs.Limits.{source_limit};
+ghost use Rattle.std.specs.Prelude.{◌≡◌, ◌≢◌, ◌≤◌, IfOk, length, map, string_bytes};
+ghost use Rattle.wy_kernel.specs.Limits.{source_limit, trace_limit};
 ghost use Rattle.wy_explain.specs.Explained.{program_line};
-ghost use Rattle.wy_lens.specs.Answers.{HasCause, IsAnswer, IsFileAnswer, IsSourceAnswer};
+ghost use Rattle.wy_lens.specs.Answers.{HasCause, IsAnswer, IsFileAnswer, IsSourceAnswer, Lacks};
+ghost use Rattle.wy_lens.specs.Due.{DueForSource, DueForTrace};
 ghost use Rattle.wy_lens.specs.Refusals.{IsExplained};
+ghost use Rattle.wy_lens.specs.Views.{telling_of};
+ghost use Rattle.wy_lens.specs.Words.{AskNothing};
 ghost use Rattle.wy_program.specs.Sources.{IsRefusedFor};
 
 use crate::fixed::{absent, fault, help, too_long, usage, version};
 use crate::refusal::explained;
 use crate::status::Status;
-use crate::words::{Request, asked_by};
+use crate::traced::answer_to_bytes;
+use crate::words::{Request, Telling, asked_by};
 use std::alloc::{AllocError, Global};
 use wy_constant::SourceRefusal;
 use wy_explain::program_line;
-use wy_kernel::limit::SOURCE_LIMIT;
+use wy_kernel::limit::{SOURCE_LIMIT, TRACE_LIMIT};
 use wy_outside::shelf::{Shelf, ShelfError};
 use wy_program::{SourceError, program_of_source};
 
@@ -67,20 +71,52 @@ fn answer_to_source(alloc: Global, name: &str, source: &[u8]) -> Result<Answer, 
     }
 }
 
-/// What is due for the file of a name.
+/// What is due for the source of a name.
 fn answer_to_file<S: Shelf>(alloc: Global, shelf: &mut S, name: &str) -> Result<Answer, AllocError>
-    ensures due { IfOk result (λ answer. IsFileAnswer name.now (S.held shelf.old)
-        (S.faults shelf.old) (S.faults shelf.new) answer) }
+    ensures due { IfOk result (λ answer. IsFileAnswer (λ files. DueForSource files name.now)
+        (S.held shelf.old) (S.faults shelf.old) (S.faults shelf.new) answer) }
     ensures causes { IfOk result (λ answer. HasCause (S.misses shelf.old) (S.misses shelf.new)
         (S.fulls shelf.old) (S.fulls shelf.new) answer) }
+    ensures asked { IfOk result (λ answer. answer.status ≢ Status.Usage) }
     ensures files_stay { S.held shelf.new ≡ S.held shelf.old }
 {
     match shelf.read(alloc, name, SOURCE_LIMIT + 1) {
         Ok(source) if source.len() > SOURCE_LIMIT as usize => too_long(alloc, name),
         Ok(source) => answer_to_source(alloc, name, source.as_slice()),
-        Err(ShelfError::Absent) => absent(alloc, name),
-        Err(ShelfError::Failed) => fault(alloc),
-        Err(ShelfError::NoMemory) => Err(AllocError),
+        Err(error) => lacking(alloc, name, error),
+    }
+}
+
+/// What is due for the trace of a name.
+fn answer_to_trace<S: Shelf>(
+    alloc: Global,
+    shelf: &mut S,
+    name: &str,
+    telling: Telling<'_>,
+) -> Result<Answer, AllocError>
+    ensures due { IfOk result (λ answer. IsFileAnswer
+        (λ files. DueForTrace files name.now (telling_of telling.entry))
+        (S.held shelf.old) (S.faults shelf.old) (S.faults shelf.new) answer) }
+    ensures causes { IfOk result (λ answer. HasCause (S.misses shelf.old) (S.misses shelf.new)
+        (S.fulls shelf.old) (S.fulls shelf.new) answer) }
+    ensures asked { IfOk result (λ answer. answer.status ≢ Status.Usage) }
+    ensures files_stay { S.held shelf.new ≡ S.held shelf.old }
+{
+    match shelf.read(alloc, name, TRACE_LIMIT + 1) {
+        Ok(bytes) if bytes.len() > TRACE_LIMIT as usize => too_long(alloc, name),
+        Ok(bytes) => answer_to_bytes(alloc, bytes.as_slice(), telling),
+        Err(error) => lacking(alloc, name, error),
+    }
+}
+
+/// What is written where the file of a name was not read.
+fn lacking(alloc: Global, name: &str, error: ShelfError) -> Result<Answer, AllocError>
+    ensures { IfOk result (Lacks name.now error) }
+{
+    match error {
+        ShelfError::Absent => absent(alloc, name),
+        ShelfError::Failed => fault(alloc),
+        ShelfError::NoMemory => Err(AllocError),
     }
 }
 
@@ -94,10 +130,13 @@ pub fn answer_to<S: Shelf>(
         (S.faults shelf.old) (S.faults shelf.new) answer) }
     ensures causes { IfOk result (λ answer. HasCause (S.misses shelf.old) (S.misses shelf.new)
         (S.fulls shelf.old) (S.fulls shelf.new) answer) }
+    ensures usage { IfOk result (λ answer. answer.status ≡ Status.Usage
+        → AskNothing (map string_bytes words.now)) }
     ensures files_stay { S.held shelf.new ≡ S.held shelf.old }
 {
     match asked_by(alloc, words)? {
         Some(Request::Explain { source }) => answer_to_file(alloc, shelf, source),
+        Some(Request::Tell { trace, telling }) => answer_to_trace(alloc, shelf, trace, telling),
         Some(Request::Help) => help(alloc),
         Some(Request::Version) => version(alloc),
         None => usage(alloc),

@@ -32,7 +32,11 @@ pub fn usage(alloc: Global) -> Result<Answer, AllocError>
     ensures { IfOk result (λ answer. (answer.status ≡ Status.Usage)
         × (answer.text.items ≡ usage_text)) }
 {
-    told(alloc, Status::Usage, "usage: whylens explain SRC\n")
+    told(
+        alloc,
+        Status::Usage,
+        "usage: whylens COMMAND WORDS, or whylens --help\n",
+    )
 }
 
 #[tactic(auto, unfolding(crate::specs::Texts::help_text))]
@@ -43,9 +47,12 @@ pub fn help(alloc: Global) -> Result<Answer, AllocError>
     told(
         alloc,
         Status::Done,
-        "usage: whylens explain SRC
-  explain SRC  says whether whyline runs the program in the file SRC, and if not, where it stops and why
-  --version    names the program
+        "explain SRC                            says whether whyline runs the program in the file SRC, and if not, where it stops and why
+show TRACE QUESTION [--all] [--data]   the answer of whyline why by the lines of the source: how often each ran, and what was last there
+show TRACE --stop [--all] [--data]     the same of where the run stopped
+slice TRACE QUESTION                   the source, only the lines of the answer
+events TRACE [LINE]                    all events, or those of a line
+--version                              names the program
 ",
     )
 }

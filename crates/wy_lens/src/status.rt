@@ -12,9 +12,13 @@ pub enum Status {
     Absent,
     /// The source is no program.
     Refused,
+    /// The trace is cut or damaged, or its source is no program.
+    Trace,
+    /// The question isn't read, or names nothing.
+    Question,
     /// The file could not be read, or the output not be written.
     Fault,
-    /// The file has more bytes than a source may have.
+    /// The file has more bytes than a source, or a trace, may have.
     TooLong,
     NoMemory,
 }
@@ -31,6 +35,8 @@ impl Status {
             Status::Usage => 2,
             Status::Absent => 3,
             Status::Refused => 4,
+            Status::Trace => 5,
+            Status::Question => 6,
             Status::Fault => 7,
             Status::TooLong => 8,
             Status::NoMemory => 9,
