@@ -1,14 +1,22 @@
 # Completion of the words of whylens, for bash; for zsh behind `autoload -U bashcompinit && bashcompinit`.
 #
 #   source completions/whylens.bash
+#
+# Sources are completed by *.java and traces by *.trace.
+
+_whylens_files() { # SUFFIX BEGINNING: the files of the suffix, and folders
+  compgen -f -X "!*.$1" -- "$2"
+  compgen -d -S / -- "$2"
+}
 
 _whylens() {
   local begun=${COMP_WORDS[COMP_CWORD]} replies=''
-  if [ "$COMP_CWORD" -eq 1 ]; then
-    replies=$(compgen -W 'explain --help --version' -- "$begun")
-  elif [ "$COMP_CWORD" -eq 2 ] && [ "${COMP_WORDS[1]}" = explain ]; then
-    replies=$(compgen -f -X '!*.java' -- "$begun"; compgen -d -S / -- "$begun")
-  fi
+  case $COMP_CWORD:${COMP_WORDS[1]} in
+    1:*) replies=$(compgen -W 'explain show slice events --help --version' -- "$begun") ;;
+    2:explain) replies=$(_whylens_files java "$begun") ;;
+    2:show | 2:slice | 2:events) replies=$(_whylens_files trace "$begun") ;;
+    *:show) replies=$(compgen -W '--all --data --stop' -- "$begun") ;;
+  esac
   COMPREPLY=()
   local reply
   while IFS= read -r reply; do

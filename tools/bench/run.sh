@@ -78,3 +78,5 @@ awk -v r="$recorded" -v a="$alone" -v h="$taken" \
 measure output "$program" output "$trace"
 measure audit "$program" audit "$trace"
 measure why "$program" why "$trace" p0
+measure "why of one event" "$program" why "$trace" e9
+measure "affects of the first event" "$program" affects "$trace" e0

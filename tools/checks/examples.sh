@@ -43,7 +43,7 @@ head -c 1048577 /dev/zero | tr '\0' ' ' >"$scratch/long.java"
 head -c 16777216 /dev/zero | tr '\0' 'x' >"$scratch/full"
 head -c 16777217 /dev/zero | tr '\0' 'x' >"$scratch/over"
 
-usage='usage: whyline run, record, output, questions, why, whynot, explore, audit or gen'
+usage='usage: whyline COMMAND WORDS'
 
 expect_line "the step limit" 0 '-- step limit' run "$scratch/endless.java"
 expect_line "a step too few" 0 '-- step limit' run --steps 19 examples/first.java
@@ -121,6 +121,10 @@ expect_line "an inherited field, made with its object" 0 $'#2 line 3 call S.main
 expect_line "a field before its object" 6 'question: no such 4' why "$scratch/made.trace" field:4:java.lang.Throwable.message@4
 expect_line "a field of an array" 6 'question: no such 2' why "$scratch/made.trace" field:1:java.lang.Throwable.message@2
 expect_line "what can be asked" 0 'p0 #8 line 8 print 5' questions "$trace"
+expect_line "what a test affects" 0 $'#7 line 6 set y = 5\n#8 line 8 print 5' affects "$trace" e6
+expect_line "what a value affects" 0 $'#6 line 5 test true *\n#7 line 6 set y = 5 *\n#8 line 8 print 5 *' affects "$trace" e4
+expect_line "what is used no more" 0 'nothing later' affects "$trace" e5
+expect_line "what no event affects" 6 'question: no such 10' affects "$trace" e10
 expect_line "a statement that ran" 6 'question: line 8.1 ran 1 times, first before #8' whynot "$trace" 8
 expect_line "a line without a statement" 6 'question: no such 99' whynot "$trace" 99
 for word in 0 0.1 5.0 5. 5.1.1 x; do

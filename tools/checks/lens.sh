@@ -1,15 +1,16 @@
 #!/usr/bin/env bash
-# Runs `whylens explain` on texts that are no programs, and compares what it writes of each:
-# - what docs/lens.md shows: its first block is Prices.java, and behind a line "$ ./whylens " stands what is written;
+# Runs what docs/lens.md shows, and `whylens explain` on texts that are no programs, and compares what is written of each:
+# - docs/lens.md: its first block is Prices.java, and behind a line "$ ./whylens " or "$ ./whyline " stands what is written;
 # - the rows of the table behind the line `<!-- refusals -->` of docs/language.md: the rule that the row names, and that some
 #   feature is named;
 # - the rows of lens.tsv: the text, where it is put (as in docs/language.md), LINE:COLUMN, the rule, and the feature, or - where none
 #   is named. The line below must be the source's, and the caret below it must stand in that column.
-# WHYLENS names another program than that of tools/program.
+# WHYLENS and WHYLINE name other programs than those of tools/program.
 set -u
 source "$(dirname "$0")/counting.bash"
 source tools/checks/refused_sources.bash
 program=$(readlink -f "${WHYLENS:-$(tools/program whylens)}")
+whyline=$(readlink -f "${WHYLINE:-$(tools/program)}")
 file=$scratch/Main.java
 
 explained() { # writes what is said of the file to out; fails unless the status is 4
@@ -24,12 +25,30 @@ blocks() { # writes each block of docs/lens.md to the file block.N
 blocks
 cp -r examples "$scratch/examples"
 cp "$scratch/block.1" "$scratch/Prices.java"
+compare() { # WORDS: compares what the command writes with the file `wanted`
+  local words
+  read -r -a words <<<"$1"
+  case ${words[0]} in
+    ./whylens) words[0]=$program ;;
+    *) words[0]=$whyline ;;
+  esac
+  (cd "$scratch" && "${words[@]}") >"$scratch/out" 2>&1
+  cmp -s "$scratch/wanted" "$scratch/out" && report "docs/lens.md: $1" 1 || report "docs/lens.md: $1" 0
+}
+
 for block in "$scratch"/block.*; do
-  words=$(sed -n '1s/^\$ .\/whylens //p' "$block")
-  [ -n "$words" ] || continue
-  # shellcheck disable=SC2086
-  (cd "$scratch" && "$program" $words) >"$scratch/out" 2>&1
-  tail -n +2 "$block" | cmp -s - "$scratch/out" && report "docs/lens.md: $words" 1 || report "docs/lens.md: $words" 0
+  words=''
+  while IFS= read -r line; do
+    case $line in
+      '$ ./why'*)
+        [ -n "$words" ] && compare "$words"
+        words=${line#'$ '}
+        : >"$scratch/wanted"
+        ;;
+      *) printf '%s\n' "$line" >>"$scratch/wanted" ;;
+    esac
+  done <"$block"
+  [ -n "$words" ] && compare "$words"
 done
 
 while IFS='|' read -r _ code place answer _; do

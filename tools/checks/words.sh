@@ -5,7 +5,7 @@ set -u
 source "$(dirname "$0")/counting.bash"
 program=$(readlink -f "${WHYLINE:-$(tools/program)}")
 rows=$PWD/tools/checks/words.tsv
-usage='usage: whyline run, record, output, questions, why, whynot, explore, audit or gen'
+usage='usage: whyline COMMAND WORDS'
 
 cp examples/first.java "$scratch/S" && cd "$scratch" || exit 1
 printf 'xyz' >I
