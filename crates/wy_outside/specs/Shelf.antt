@@ -1,5 +1,5 @@
 -- What a shelf holds, and what a read of it answers.
-use Rattle.std.specs.Prelude.{◌≡◌, ◌≢◌, ℕ, ◌<◌, Bool, true, false, List, [], ◌∷◌, AllPairs, if◌then◌else◌, bytes_eq, take, option_map, Option, Some, None, Result, Ok, Err, Vec, vec_len, String, string_bytes, ⊤}
+use Rattle.std.specs.Prelude.{◌≡◌, ◌≢◌, ℕ, ◌<◌, Bool, MatchBool, true, false, List, [], ◌∷◌, AllPairs, if◌then◌else◌, bytes_eq, nat_le, length, take, drop, option_map, Option, Some, None, Result, Ok, Err, Vec, vec_len, String, string_bytes, ⊤}
 use Rattle.std.specs.declared.alloc.Global.{Global}
 use Rattle.wy_outside.specs.Counts.{Rose}
 use Rattle.wy_outside.specs.declared.shelf.ShelfError.{ShelfError}
@@ -19,6 +19,11 @@ is_absent Failed = false
 is_absent Absent = true
 is_absent NoMemory = false
 
+-- Absent says that there is no such file
+abbrev pub LacksWhenAbsent : Files → List ℕ → ShelfError → Type 0
+LacksWhenAbsent files name Absent = files name ≡ None
+LacksWhenAbsent files name _ = ⊤
+
 -- where the files are told, Ok gives the first max bytes of the named one, and Absent says that there is none
 abbrev pub ReadsFile : Option Files → List ℕ → ℕ → Result (Vec ℕ Global) ShelfError → Type 0
 ReadsFile None name max outcome = ⊤
@@ -27,10 +32,27 @@ ReadsFile (Some files) name max (Err Absent) = files name ≡ None
 ReadsFile (Some files) name max (Err Failed) = ⊤
 ReadsFile (Some files) name max (Err NoMemory) = ⊤
 
+-- where the files are told, Ok gives of the named one what stands from there on, at most len bytes, and Absent says that there is none
+abbrev pub ReadsPart : Option Files → List ℕ → ℕ → ℕ → Result (Vec ℕ Global) ShelfError → Type 0
+ReadsPart None name from len outcome = ⊤
+ReadsPart (Some files) name from len (Ok bytes) = option_map (λ all. take len (drop from all)) (files name) ≡ Some bytes.items
+ReadsPart (Some files) name from len (Err error) = LacksWhenAbsent files name error
+
+-- where the files are told, Ok says whether the named one has at least size bytes, and Absent says that there is none
+abbrev pub Reaches : Option Files → List ℕ → ℕ → Result Bool ShelfError → Type 0
+Reaches None name size outcome = ⊤
+Reaches (Some files) name size (Ok long) = option_map (λ all. nat_le size (length all)) (files name) ≡ Some long
+Reaches (Some files) name size (Err error) = LacksWhenAbsent files name error
+
 -- the count of full reads rose exactly at an Ok of max bytes
 abbrev pub RoseWhenFull : ℕ → Result (Vec ℕ Global) ShelfError → ℕ → ℕ → Type 0
 RoseWhenFull max (Ok bytes) old new = (vec_len bytes ≡ max → Rose old new) × (vec_len bytes < max → new ≡ old)
 RoseWhenFull max (Err _) old new = new ≡ old
+
+-- the count of full reads rose exactly at an Ok that says that the file reaches so far
+abbrev pub RoseWhenReached : Result Bool ShelfError → ℕ → ℕ → Type 0
+RoseWhenReached (Ok long) old new = MatchBool long (Rose old new) (new ≡ old)
+RoseWhenReached (Err _) old new = new ≡ old
 
 -- the files of a list of names and contents: the first of a name
 abbrev pub files_of : List (String Global × Vec ℕ Global) → Files

@@ -1,5 +1,5 @@
-//! A copy of the front of bytes.
-ghost use Rattle.std.specs.Prelude.{◌≡◌, ◌≤◌, take, IfOk, vec_len};
+//! Copies of parts of bytes.
+ghost use Rattle.std.specs.Prelude.{◌≡◌, ◌≤◌, take, drop, IfOk, vec_len};
 
 use std::alloc::{AllocError, Global};
 
@@ -10,4 +10,13 @@ pub fn first_bytes(alloc: Global, bytes: &[u8], max: u32) -> Result<Vec<u8>, All
 {
     let len = bytes.len().min(max as usize);
     Vec::from_slice(alloc, &bytes[..len])
+}
+
+/// The bytes from a place on: `len` of them, or as many as there are.
+pub fn bytes_from(alloc: Global, bytes: &[u8], from: u32, len: u32) -> Result<Vec<u8>, AllocError>
+    ensures value { IfOk result (λ part. part.items ≡ take len (drop from bytes.now)) }
+    ensures bound { IfOk result (λ part. vec_len part ≤ len) }
+{
+    let from = bytes.len().min(from as usize);
+    first_bytes(alloc, &bytes[from..], len)
 }

@@ -8,7 +8,7 @@ use Rattle.wy_view.specs.Counts.{last_count, count_after, Rose, RoseAtMost}
 use Rattle.wy_view.specs.View.{Told, Keeps, RefusedFor}
 
 pub keeps_itself : (a : Told) → Keeps a a
-keeps_itself a = record { records = refl; count = refl; faults = omega arith; misses = omega arith; changes = omega arith }
+keeps_itself a = record { records = refl; count = refl; faults = omega arith; misses = omega arith; changes = omega arith; lender = refl }
 
 pub keeps_on : (a b c : Told) → Keeps a b → Keeps b c → Keeps a c
 keeps_on a b c first second = record {
@@ -17,6 +17,7 @@ keeps_on a b c first second = record {
   faults = omega arith;
   misses = omega arith;
   changes = omega arith;
+  lender = second.lender ∙ first.lender;
 }
 
 -- ---- counts
@@ -55,6 +56,6 @@ at_most m n (Some a) (Some b) le h = omega (arith, le, h)
 -- a refusal after calls that went well
 pub refused_since : (e : ViewError) (a b c : Told) → Keeps a b → b.faults ≡ a.faults → Keeps b c → RefusedFor e b c → RefusedFor e a c
 refused_since ReadFault a b c first same second h = rose_since a.faults b.faults c.faults first.faults second.faults h
-refused_since Gone a b c first same second h = (rose_since a.misses b.misses c.misses first.misses second.misses h.0, h.1 ∙ same)
-refused_since (Changed block kept found) a b c first same second h = (rose_since a.changes b.changes c.changes first.changes second.changes h.0, h.1, h.2 ∙ same)
+refused_since Gone a b c first same second h = (rose_since a.misses b.misses c.misses first.misses second.misses h.0, h.1 ∙ same, sym first.records ∙ h.2)
+refused_since (Changed block kept found) a b c first same second h = (rose_since a.changes b.changes c.changes first.changes second.changes h.0, h.1, h.2 ∙ same, sym first.records ∙ h.3)
 refused_since NoMemory a b c first same second h = h ∙ same

@@ -1,6 +1,7 @@
 -- What a view tells, and what a call of it leaves.
 use Rattle.std.specs.Prelude.{◌≡◌, ◌≢◌, ◌≤◌, ℕ, List, Option, Some, IfSome, option_map, slice_get, Result, Ok, Err, ⊤}
-use Rattle.std.specs.Borrow.{follows_so, Fml, RattleType, MutBor}
+use Rattle.std.specs.Borrow.{follows_so, Fml, RattleType, MutBor, GName}
+use Rattle.std.specs.Prelude.{None as Absent}
 use mathlib.Core.Option.{none}
 use Rattle.wy_event.specs.Record.{Recorded}
 use Rattle.wy_view.specs.Counts.{count_after, Rose}
@@ -8,7 +9,8 @@ use Rattle.wy_view.specs.declared.view.ViewError.{ViewError}
 use Rattle.wy_view.specs.declared.view.ViewError.TheVariants.{ReadFault, Gone, Changed, NoMemory}
 
 -- the records, and how many events were asked for, where these are told; how many records there are;
--- and how often a read failed, the trace was gone, and a part of it was found changed
+-- how often a read failed, the trace was gone, and a part of it was found changed;
+-- and from whom the view has borrowed what it reads, where it has
 pub record Told : Type 0 where
   pub records : Option (List Recorded)
   pub reads : Option ℕ
@@ -16,24 +18,28 @@ pub record Told : Type 0 where
   pub faults : ℕ
   pub misses : ℕ
   pub changes : ℕ
+  pub lender : Option GName
 
--- the records stay, and no count fell
+-- the records stay, and who lent; no count fell
 pub record Keeps (old new : Told) : Type 0 where
   pub records : new.records ≡ old.records
   pub count : new.count ≡ old.count
   pub faults : old.faults ≤ new.faults
   pub misses : old.misses ≤ new.misses
   pub changes : old.changes ≤ new.changes
+  pub lender : new.lender ≡ old.lender
 
 -- told reads count one more
 abbrev pub ReadsOnce : Told → Told → Type 0
 ReadsOnce old new = new.reads ≡ option_map (λ n. count_after n 1) old.reads
 
--- what rose where a view refuses: each refusal but that of memory has its cause, and only ReadFault is a fault
+-- what rose where a view refuses: each refusal but that of memory has its cause, and only ReadFault is a fault.
+-- What is told is there, and is what it was
 abbrev pub RefusedFor : ViewError → Told → Told → Type 0
 RefusedFor ReadFault old new = Rose old.faults new.faults
-RefusedFor Gone old new = Rose old.misses new.misses × (new.faults ≡ old.faults)
-RefusedFor (Changed block kept found) old new = Rose old.changes new.changes × (kept ≢ found) × (new.faults ≡ old.faults)
+RefusedFor Gone old new = Rose old.misses new.misses × (new.faults ≡ old.faults) × (old.records ≡ Absent)
+RefusedFor (Changed block kept found) old new =
+    Rose old.changes new.changes × (kept ≢ found) × (new.faults ≡ old.faults) × (old.records ≡ Absent)
 RefusedFor NoMemory old new = new.faults ≡ old.faults
 
 -- an answer, and what rose where it is a refusal

@@ -18,7 +18,7 @@ pub struct MemoryView {
 
 impl EventView for MemoryView {
     ghost use Rattle.std.specs.Borrow.{sem};
-    ghost use Rattle.std.specs.Prelude.{Some, None, length, ◌<◌, ◌≡◌, ◌+◌, IfOk, IsOk};
+    ghost use Rattle.std.specs.Prelude.{Some, None, length, ◌<◌, ◌≡◌, ◌+◌, IfOk, IsOk, ⊤};
     ghost use Rattle.wy_event.specs.Record.{recorded};
     ghost use Rattle.wy_view.specs.References.{RefersBelow};
     ghost use Rattle.wy_view.specs.View.{KeepsCounts, IsRecordOf, Keeps, ReadsOnce, Rests};
@@ -26,6 +26,8 @@ impl EventView for MemoryView {
     ghost use Rattle.wy_view.specs.contracts.memory.MemoryView.{the_row};
 
     ghost tells = { λ v. whole v.events.items None };
+
+    ghost asked = { λ _ _ _ _. ⊤ };
 
     fn count(&self) -> u32 {
         self.events.len() as u32
@@ -41,7 +43,7 @@ impl EventView for MemoryView {
         ensures* after { sem 𝓛 (Rests the_row self.entry (λ now.
             let before = whole self.old.events.items None in
             let after = whole now.events.items None in
-            Keeps before after × ReadsOnce before after × KeepsCounts result before after)) }
+            Keeps before after × ReadsOnce before after × KeepsCounts result before after × ⊤)) }
     {
         steps.tick();
         Ok(&self.events[n as usize])

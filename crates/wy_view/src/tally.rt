@@ -19,7 +19,7 @@ pub struct TallyView {
 
 impl EventView for TallyView {
     ghost use Rattle.std.specs.Borrow.{sem};
-    ghost use Rattle.std.specs.Prelude.{Some, None, length, ◌<◌, ◌≡◌, ◌+◌, IfOk, IsOk};
+    ghost use Rattle.std.specs.Prelude.{Some, None, length, ◌<◌, ◌≡◌, ◌+◌, IfOk, IsOk, ⊤};
     ghost use Rattle.wy_event.specs.Record.{recorded};
     ghost use Rattle.wy_view.specs.References.{RefersBelow};
     ghost use Rattle.wy_view.specs.View.{KeepsCounts, IsRecordOf, Keeps, ReadsOnce, Rests};
@@ -27,6 +27,8 @@ impl EventView for TallyView {
     ghost use Rattle.wy_view.specs.contracts.tally.TallyView.{the_row};
 
     ghost tells = { λ v. whole v.events.items (Some v.reads) };
+
+    ghost asked = { λ _ _ _ _. ⊤ };
 
     fn count(&self) -> u32 {
         self.events.len() as u32
@@ -42,7 +44,7 @@ impl EventView for TallyView {
         ensures* after { sem 𝓛 (Rests the_row self.entry (λ now.
             let before = whole self.old.events.items (Some self.old.reads) in
             let after = whole now.events.items (Some now.reads) in
-            Keeps before after × ReadsOnce before after × KeepsCounts result before after)) }
+            Keeps before after × ReadsOnce before after × KeepsCounts result before after × ⊤)) }
     {
         steps.tick();
         self.reads = self.reads.saturating_add(1);

@@ -44,9 +44,13 @@ impl From<AllocError> for ViewError {
 /// The events of a trace. Each refers to earlier events alone, wherever it comes from.
 pub trait EventView {
     ghost use Rattle.std.specs.Borrow.{sem};
+    ghost use Rattle.std.specs.Prelude.{ℕ, Bool, is_ok};
     ghost use Rattle.wy_view.specs.View.{Told, Keeps, ReadsOnce, KeepsCounts, IsRecordOf, Rests};
 
     ghost tells: { Self → Told };
+
+    /// What a look at event n leaves, by whether the event was given.
+    ghost asked: { Self → ℕ → Bool → Self → Type 0 };
 
     /// How many events there are.
     fn count(&self) -> u32
@@ -61,5 +65,6 @@ pub trait EventView {
         ensures record { IfOk result (λ event. IsRecordOf (tells self.old) n (recorded event.now)) }
         ensures* after { sem 𝓛 (Rests Self.row self.entry (λ now. Keeps (tells self.old) (tells now)
             × ReadsOnce (tells self.old) (tells now)
-            × KeepsCounts result (tells self.old) (tells now))) };
+            × KeepsCounts result (tells self.old) (tells now)
+            × asked self.old n (is_ok result) now)) };
 }

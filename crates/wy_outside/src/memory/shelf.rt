@@ -1,13 +1,12 @@
 //! A shelf in memory: it tells its files, and exactly the listed calls fail.
-ghost use Rattle.std.specs.Prelude.{◌≡◌, ◌≤◌, Some, false, IfOk, vec_len};
-ghost use Rattle.std.specs.Option.{option_copied};
+ghost use Rattle.std.specs.Prelude.{◌≡◌, ◌≤◌, Some, IfOk, vec_len};
 ghost use Rattle.wy_outside.specs.Counts.{count_after, RoseAt};
 ghost use Rattle.wy_outside.specs.Failing.{uncalled, fails_next, after_call, FailsExactly};
-ghost use Rattle.wy_outside.specs.Shelf.{files_of, AreDistinct, is_failed, is_absent, ReadsFile, RoseWhenFull};
+ghost use Rattle.wy_outside.specs.Shelf.{files_of, AreDistinct, is_failed, is_absent, ReadsFile, ReadsPart, Reaches, RoseWhenFull, RoseWhenReached};
 
 use crate::count::ShelfCounts;
 use crate::failing::FailingCalls;
-use crate::piece::first_bytes;
+use crate::memory::files::{held_reaches, read_held, read_held_at};
 use crate::shelf::{Shelf, ShelfError};
 use std::alloc::Global;
 
@@ -72,33 +71,55 @@ impl Shelf for MemoryShelf {
         self.counts.count_read(&answer, max);
         answer
     }
-}
 
-/// What a shelf of these files answers, if it doesn't fail.
-fn read_held(
-    alloc: Global,
-    files: &[(String, Vec<u8>)],
-    name: &str,
-    max: u32,
-) -> Result<Vec<u8>, ShelfError>
-    ensures content { ReadsFile (Some (files_of files.now)) name.now max result }
-    ensures bound { IfOk result (λ bytes. vec_len bytes ≤ max) }
-    ensures unfailed { FailsExactly is_failed false result }
-{
-    match file_named(files, name) {
-        Some(content) => first_bytes(alloc, content, max).map_err(|_| ShelfError::NoMemory),
-        None => Err(ShelfError::Absent),
+    fn read_at(
+        &mut self,
+        alloc: Global,
+        name: &str,
+        from: u32,
+        len: u32,
+    ) -> Result<Vec<u8>, ShelfError>
+        ensures fails { FailsExactly is_failed (fails_next self.old.script) result }
+        ensures script { self.new.script ≡ after_call self.old.script }
+        ensures files_stay { self.new.files ≡ self.old.files }
+        ensures content { ReadsPart (Some (files_of self.old.files.items)) name.now from len result }
+        ensures bound { IfOk result (λ bytes. vec_len bytes ≤ len) }
+        ensures failed { RoseAt is_failed result self.old.counts.faults self.new.counts.faults }
+        ensures absent { RoseAt is_absent result self.old.counts.misses self.new.counts.misses }
+        ensures full { self.new.counts.fulls ≡ self.old.counts.fulls }
+        ensures got { self.new.counts.gets ≡ count_after self.old.counts.gets 1 }
+        ensures faults_kept { self.old.counts.faults ≤ self.new.counts.faults }
+        ensures misses_kept { self.old.counts.misses ≤ self.new.counts.misses }
+        ensures gets_kept { self.old.counts.gets ≤ self.new.counts.gets }
+    {
+        let answer = if self.script.count_call() {
+            Err(ShelfError::Failed)
+        } else {
+            read_held_at(alloc, &self.files, name, from, len)
+        };
+        self.counts.count_read_at(&answer);
+        answer
     }
-}
 
-/// The content of the first file of a name.
-fn file_named<'a>(files: &'a [(String, Vec<u8>)], name: &str) -> Option<&'a [u8]>
-    ensures { option_copied result ≡ files_of files.now name.now }
-{
-    for (file_name, content) in files {
-        if file_name.as_str() == name {
-            return Some(content.as_slice());
-        }
+    fn reaches(&mut self, name: &str, size: u32) -> Result<bool, ShelfError>
+        ensures fails { FailsExactly is_failed (fails_next self.old.script) result }
+        ensures script { self.new.script ≡ after_call self.old.script }
+        ensures files_stay { self.new.files ≡ self.old.files }
+        ensures content { Reaches (Some (files_of self.old.files.items)) name.now size result }
+        ensures failed { RoseAt is_failed result self.old.counts.faults self.new.counts.faults }
+        ensures absent { RoseAt is_absent result self.old.counts.misses self.new.counts.misses }
+        ensures full { RoseWhenReached result self.old.counts.fulls self.new.counts.fulls }
+        ensures got { self.new.counts.gets ≡ self.old.counts.gets }
+        ensures faults_kept { self.old.counts.faults ≤ self.new.counts.faults }
+        ensures misses_kept { self.old.counts.misses ≤ self.new.counts.misses }
+        ensures fulls_kept { self.old.counts.fulls ≤ self.new.counts.fulls }
+    {
+        let answer = if self.script.count_call() {
+            Err(ShelfError::Failed)
+        } else {
+            held_reaches(&self.files, name, size)
+        };
+        self.counts.count_reaches(&answer);
+        answer
     }
-    None
 }

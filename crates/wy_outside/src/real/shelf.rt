@@ -4,9 +4,9 @@ ghost use Rattle.std.specs.Prelude.{◌≡◌, ◌≤◌, take, None, IfOk, IfSo
 use crate::count::ShelfCounts;
 use crate::shelf::{Shelf, ShelfError};
 use std::alloc::Global;
-use std::fs;
-use std::io::{ErrorKind, Read};
+use std::io::{ErrorKind, Read, Seek, SeekFrom};
 use std::rt::Files;
+use std::{fs, io};
 
 /// The files that the system keeps. A name is a path. A path that leads to no file is absent;
 /// whatever else the system refuses, as a folder or a file without permission, is a fault.
@@ -47,15 +47,59 @@ impl<R: Files> Shelf for FileShelf<R> {
         self.counts.count_read(&answer, max);
         answer
     }
+
+    fn read_at(
+        &mut self,
+        alloc: Global,
+        name: &str,
+        from: u32,
+        len: u32,
+    ) -> Result<Vec<u8>, ShelfError> {
+        let answer = read_file_at(&self.rt, alloc, name, from, len);
+        self.counts.count_read_at(&answer);
+        answer
+    }
+
+    fn reaches(&mut self, name: &str, size: u32) -> Result<bool, ShelfError> {
+        let answer = file_reaches(&self.rt, name, size);
+        self.counts.count_reaches(&answer);
+        answer
+    }
 }
 
 fn read_file<R: Files>(rt: &R, alloc: Global, path: &str, max: u32) -> Result<Vec<u8>, ShelfError>
     ensures { IfOk result (λ bytes. vec_len bytes ≤ max) }
 {
-    match fs::open(rt, path) {
-        Ok(mut file) => read_prefix(&mut file, alloc, max),
-        Err(error) if error.kind() == ErrorKind::NotFound => Err(ShelfError::Absent),
-        Err(_) => Err(ShelfError::Failed),
+    let mut file = fs::open(rt, path).map_err(refusal)?;
+    read_prefix(&mut file, alloc, max)
+}
+
+/// A pipe has no places, so the system refuses to go to one.
+fn read_file_at<R: Files>(
+    rt: &R,
+    alloc: Global,
+    path: &str,
+    from: u32,
+    len: u32,
+) -> Result<Vec<u8>, ShelfError>
+    ensures { IfOk result (λ bytes. vec_len bytes ≤ len) }
+{
+    let mut file = fs::open(rt, path).map_err(refusal)?;
+    file.seek(SeekFrom::Start(u64::from(from)))
+        .map_err(refusal)?;
+    read_prefix(&mut file, alloc, len)
+}
+
+fn file_reaches<R: Files>(rt: &R, path: &str, size: u32) -> Result<bool, ShelfError> {
+    let metadata = fs::metadata(rt, path).map_err(refusal)?;
+    Ok(u64::from(size) <= metadata.len())
+}
+
+fn refusal(error: io::Error) -> ShelfError {
+    if error.kind() == ErrorKind::NotFound {
+        ShelfError::Absent
+    } else {
+        ShelfError::Failed
     }
 }
 
