@@ -1,10 +1,12 @@
 -- What stands of the calls stays as it has to be, and is what contracts see, under each thing that is done.
-use Rattle.std.proofs.Common.{◌≡◌, ◌-◌, ◌<◌, ◌≤◌, ℕ, ◌+◌, Bool, true, false, List, [], ◌∷◌, ◌++◌, length, take, drop, map, reverse, Some, slice_get, subst, refl, sym, ap, ◌∙◌, arith}
+use Rattle.std.proofs.Common.{◌≡◌, ◌-◌, ◌<◌, ◌≤◌, ℕ, ◌+◌, Bool, true, false, List, [], ◌∷◌, ◌++◌, length, suc, take, drop, map, reverse, Some, slice_get, subst, refl, sym, ap, ◌∙◌, arith}
 use Rattle.std.specs.Prelude.{None as Absent}
-use Rattle.std.specs.Prelude.{slice_set, not, Result, Ok, Err, IfErr}
+use Rattle.std.specs.Prelude.{nat_eq, ◌&&◌, slice_set, not, Result, Ok, Err, IfErr}
+use Rattle.std.specs.Option.{IsSomeAnd}
 use Rattle.std.specs.Result.{IsErrAnd}
+use Rattle.std.proofs.lemmas.Option.{none-some}
 use Rattle.std.specs.List.{All, filter}
-use Rattle.std.proofs.lemmas.List.{take-append-le, take-take, take-append-drop, length-append, length-take-le, reverse-append}
+use Rattle.std.proofs.lemmas.List.{length-map, length-reverse, take-append-le, take-take, take-append-drop, length-append, length-take-le, reverse-append}
 use Rattle.std.proofs.lemmas.List.Elements.{All-append, All-cons, All-head, All-tail, All-nil, All-map, All-filter, All-push, All-take, All-weaker, filter-append}
 use Rattle.std.proofs.lemmas.List.Quantifiers.{all_pairs_push}
 use Rattle.std.proofs.lemmas.List.Kept.{AllPairs-filter}
@@ -13,7 +15,7 @@ use Rattle.wy_steps.specs.Steps as steps
 use Rattle.wy_kernel.specs.Limits.{depth_limit}
 use Rattle.wy_steps.specs.Steps.{outlasting, same_frame, parent}
 use Rattle.wy_kernel.specs.View.{present}
-use Rattle.wy_calls.specs.Calls.{CallFrame, CallStack, IsUpTo, Refuses, event_of, activated, ended, closed, with_local, with_newest}
+use Rattle.wy_calls.specs.Calls.{CallFrame, CallStack, IsUpTo, MayEnd, Refuses, first_of, event_of, activated, ended, closed, with_local, with_newest}
 use Rattle.wy_calls.specs.declared.parts.Reach.{Reach}
 use Rattle.wy_calls.specs.declared.parts.Reach.TheVariants.{Around, Through}
 use Rattle.wy_calls.specs.declared.error.CallError.{CallError}
@@ -23,9 +25,9 @@ use Rattle.wy_calls.specs.declared.parts.Live.{Live}
 use Rattle.wy_value.specs.declared.value.Value.{Value}
 use Rattle.wy_calls.proofs.Frames.{written}
 use Rattle.wy_calls.specs.declared.parts.Begun.{Begun}
-use Rattle.wy_calls.specs.Layout.{Ascends, ends_with, outlasts, mark_in, without, Sits, IsAtMost, IsBelow, IsNext, IsUnder, IsStanding, active_of, active_in, framed, scopes_in, reach_seen, IsPlace}
+use Rattle.wy_calls.specs.Layout.{Ascends, ends_with, outlasts, mark_in, without, Sits, IsAtMost, IsBelow, IsNext, IsUnder, IsStanding, Falls, active_of, active_in, framed, scopes_in, reach_seen, IsPlace}
 use Rattle.wy_calls.proofs.Last.{split_at_last, last_is_first, none_is_last, is_present, nobody_is_absent}
-use Rattle.wy_calls.proofs.Entries.{All-both, all_below, filter_keeps, filter_passes, filter_of_reverse, sits_more, sits_without, outlasts_below, rises_without, ascends_taken, raised, under, scopes_stay}
+use Rattle.wy_calls.proofs.Entries.{All-both, all_below, same_both, filter_keeps, filter_passes, filter_of_reverse, sits_more, sits_without, outlasts_below, rises_without, ascends_taken, raised, under, scopes_stay}
 
 -- an entry sits among the statements that have begun
 abbrev pub Seated : List Begun → Entry → Type 0
@@ -57,16 +59,83 @@ stands_begun os o es ns none most h = record {
   falls = h.falls;
 }
 
-not_true : (b : Bool) → not b ≡ true → b ≡ false
+pub not_true : (b : Bool) → not b ≡ true → b ≡ false
 not_true true is = sym is
 not_true false is = refl
 
--- an end, by how many entries are below the mark of the statement
-module _ (os : List Begun) (es : List Entry) (ns : List ℕ) (f s mark from : ℕ) (h : IsStanding os es ns) (is : mark_in os f s ≡ Some mark) (inside : from ≤ length es) (low : All (λ e. IsBelow e mark) (take from es)) where
-  pub stay_below : filter (outlasts f s) (take from es) ≡ take from es
-  stay_below = filter_keeps (outlasts f s) (take from es)
-      (All-both (Seated os) (λ e. IsBelow e mark) (λ e. outlasts f s e ≡ true) (λ e sits lt. ap not (outlasts_below os f s mark e.number e.reach is lt sits)) (take from es) (All-take (Seated os) from es h.sits) low)
+-- ---- what outlasts a statement
 
+abbrev pub Outlast : ℕ → ℕ → List Entry → Type 0
+Outlast f s es = All (λ e. outlasts f s e ≡ true) es
+
+-- entries below its mark do
+pub below_outlast : (os : List Begun) (es : List Entry) (f s mark n : ℕ) → All (Seated os) es → mark_in os f s ≡ Some mark → All (λ e. IsBelow e mark) (take n es) → All (λ e. outlasts f s e ≡ true) (take n es)
+below_outlast os es f s mark n sits is low =
+    All-both (Seated os) (λ e. IsBelow e mark) (λ e. outlasts f s e ≡ true) (λ e seat lt. ap not (outlasts_below os f s mark e.number e.reach is lt seat)) (take n es) (All-take (Seated os) n es sits) low
+
+no_end : (os : List Begun) (f s n : ℕ) (r : Reach) → mark_in os f s ≡ Absent → Sits os n r → ends_with f s r ≡ false
+no_end os f s n Around none h = refl
+no_end os f s n (Through g t) none h = one (nat_eq f g && nat_eq s t) refl
+  where
+    one : (b : Bool) → (nat_eq f g && nat_eq s t) ≡ b → b ≡ false
+    one false at = refl
+    one true at =
+        let same = same_both f s g t at in
+        absurd (subst (λ x. IsSomeAnd x (λ m. m ≤ n)) (ap (λ x. mark_in os x t) (sym same.0) ∙ ap (λ x. mark_in os f x) (sym same.1) ∙ none) h)
+
+-- where it hasn't begun, all do
+pub all_outlast : (os : List Begun) (es : List Entry) (f s n : ℕ) → All (Seated os) es → mark_in os f s ≡ Absent → All (λ e. outlasts f s e ≡ true) (take n es)
+all_outlast os es f s n sits none = All-take (λ e. outlasts f s e ≡ true) n es (All-weaker (Seated os) (λ e. outlasts f s e ≡ true) (λ e seat. ap not (no_end os f s e.number e.reach none seat)) es sits)
+
+fewer_outlast : (es : List Entry) (f s m n : ℕ) → m ≤ n → Outlast f s (take n es) → Outlast f s (take m es)
+fewer_outlast es f s m n le h = subst (Outlast f s) (take-take m n es le) (All-take (λ e. outlasts f s e ≡ true) m (take n es) h)
+
+-- how many entries the newest scope brings back
+abbrev pub newest_mark : List ℕ → ℕ
+newest_mark [] = 0
+newest_mark (n ∷ ns) = n
+
+mark_is_under : (ns : List ℕ) → IsUnder ns (newest_mark ns)
+mark_is_under [] = tt
+mark_is_under (n ∷ ns) = omega arith
+
+mark_is_inside : (es : List Entry) (ns : List ℕ) → Falls ns (length es) → newest_mark ns ≤ length es
+mark_is_inside es [] h = omega arith
+mark_is_inside es (n ∷ ns) h = h.0
+
+under_bound : (ns : List ℕ) (k : ℕ) → IsUnder ns k → newest_mark ns ≤ k
+under_bound [] k h = omega arith
+under_bound (n ∷ ns) k h = h
+
+newest_back : (es : List Entry) (ns : List ℕ) → first_of (scopes_in es ns) ≡ active_in (take (newest_mark ns) es)
+newest_back es [] = refl
+newest_back es (n ∷ ns) = refl
+
+at_most_all : {X : Type 0} (p : X → Bool) (xs : List X) → length (filter p xs) ≤ length xs
+at_most_all p [] = omega arith
+at_most_all p (x ∷ xs) = one (p x) refl (at_most_all p xs)
+  where
+    one : (b : Bool) → p x ≡ b → length (filter p xs) ≤ length xs → length (filter p (x ∷ xs)) ≤ length (x ∷ xs)
+    one true is le = rw is (omega (arith, le))
+    one false is le = rw is (omega (arith, le))
+
+whole : (f s : ℕ) (es : List Entry) → length (filter (outlasts f s) es) ≡ length es → Outlast f s es
+whole f s [] same = All-nil (λ e. outlasts f s e ≡ true)
+whole f s (e ∷ es) same = one (outlasts f s e) refl (whole f s es)
+  where
+    one : (b : Bool) → outlasts f s e ≡ b → (length (filter (outlasts f s) es) ≡ length es → Outlast f s es) → Outlast f s (e ∷ es)
+    one true is rest =
+        let same_rest : suc (length (filter (outlasts f s) es)) ≡ suc (length es) = rw is at same in
+        All-cons (λ e. outlasts f s e ≡ true) e es is (rest (omega (arith, same_rest)))
+    one false is rest =
+        let same_rest : length (filter (outlasts f s) es) ≡ suc (length es) = rw is at same in
+        absurd (omega (arith, same_rest, at_most_all (outlasts f s) es))
+
+as_many_back : (xs ys : List Entry) → active_in xs ≡ active_in ys → length xs ≡ length ys
+as_many_back xs ys same = sym (length-reverse xs) ∙ sym (length-map (reverse xs) active_of) ∙ ap length same ∙ length-map (reverse ys) active_of ∙ length-reverse ys
+
+-- an end, by how many entries surely outlast the statement
+module _ (os : List Begun) (es : List Entry) (ns : List ℕ) (f s from : ℕ) (h : IsStanding os es ns) (inside : from ≤ length es) (stay_below : filter (outlasts f s) (take from es) ≡ take from es) where
   front_and_rest : filter (outlasts f s) es ≡ take from es ++ filter (outlasts f s) (drop from es)
   front_and_rest =
       ap (filter (outlasts f s)) (sym (take-append-drop from es)) ∙ filter-append (outlasts f s) (take from es) (drop from es)
@@ -108,6 +177,34 @@ outlasting_each f n (e ∷ es) = one (steps.ends_with (Some f) n (reach_seen e.r
 
 pub outlasting_in : (f n : ℕ) (es : List Entry) → active_in (filter (outlasts f n) es) ≡ outlasting (Some f) n (active_in es)
 outlasting_in f n es = ap (map active_of) (sym (filter_of_reverse (outlasts f n) es)) ∙ sym (outlasting_each f n (reverse es))
+
+-- ---- a statement that may end
+
+pub may_end_is : (fs : List CallFrame) (es : List Entry) (ns : List ℕ) (f s from : ℕ) → event_of fs ≡ Some f → IsUnder ns from → All (λ e. outlasts f s e ≡ true) (take from es)
+    → MayEnd s (record { frames = fs; active = active_in es; scopes = scopes_in es ns })
+may_end_is fs es ns f s from newest le out =
+    let kept : filter (outlasts f s) (take (newest_mark ns) es) ≡ take (newest_mark ns) es = filter_keeps (outlasts f s) (take (newest_mark ns) es) (fewer_outlast es f s (newest_mark ns) from (under_bound ns from le) out) in (
+      (λ none. absurd (none-some f (sym none ∙ newest))),
+      rw (newest, newest_back es ns) (sym (outlasting_in f s (take (newest_mark ns) es)) ∙ ap active_in kept),
+    )
+
+pub brought_back_outlast : (fs : List CallFrame) (es : List Entry) (ns : List ℕ) (f s : ℕ) → event_of fs ≡ Some f → MayEnd s (record { frames = fs; active = active_in es; scopes = scopes_in es ns })
+    → All (λ e. outlasts f s e ≡ true) (take (newest_mark ns) es)
+brought_back_outlast fs es ns f s newest may =
+    let back : List Entry = take (newest_mark ns) es in
+    whole f s back (as_many_back (filter (outlasts f s) back) back
+    (outlasting_in f s back ∙ ap (λ g. outlasting g s (active_in back)) (sym newest) ∙ ap (outlasting (event_of fs) s) (sym (newest_back es ns)) ∙ may.1 ∙ newest_back es ns))
+
+-- what stands after it, as the scopes bring back what they did
+module _ (fs : List CallFrame) (os : List Begun) (es : List Entry) (ns : List ℕ) (f s : ℕ) (h : IsStanding os es ns) (newest : event_of fs ≡ Some f) (may : MayEnd s (record { frames = fs; active = active_in es; scopes = scopes_in es ns })) where
+  kept_back : filter (outlasts f s) (take (newest_mark ns) es) ≡ take (newest_mark ns) es
+  kept_back = filter_keeps (outlasts f s) (take (newest_mark ns) es) (brought_back_outlast fs es ns f s newest may)
+
+  pub stands_after_end : (xs : List Entry) (rest : List Begun) → xs ≡ filter (outlasts f s) es → rest ≡ without os f s → IsStanding rest xs ns
+  stands_after_end xs rest same is_rest = stands_ended os es ns f s (newest_mark ns) h (mark_is_inside es ns h.falls) kept_back xs rest same is_rest (mark_is_under ns)
+
+  pub scopes_after_end : scopes_in (filter (outlasts f s) es) ns ≡ scopes_in es ns
+  scopes_after_end = scopes_ended os es ns f s (newest_mark ns) h (mark_is_inside es ns h.falls) kept_back (mark_is_under ns)
 
 -- ---- scopes
 

@@ -33,7 +33,7 @@ pub none_is_older : (os : List Begun) (frame statement : ℕ) → AreOlder os fr
 none_is_older [] frame statement lt h = refl
 none_is_older (o ∷ os) frame statement lt h = rw (other_frame o.frame frame lt) (none_is_older os frame statement (older os o.frame frame lt h.0) h.1)
 
-same_both : (f s g t : ℕ) → (nat_eq f g && nat_eq s t) ≡ true → (f ≡ g) × (s ≡ t)
+pub same_both : (f s g t : ℕ) → (nat_eq f g && nat_eq s t) ≡ true → (f ≡ g) × (s ≡ t)
 same_both f s g t is = elim (eqb_tells f g) as (λ _. (f ≡ g) × (s ≡ t)) [
   | inl a ↦ elim (eqb_tells s t) as (λ _. (f ≡ g) × (s ≡ t)) [
     | inl b ↦ (a.1, b.1)

@@ -1,6 +1,8 @@
 -- The methods of a program class by class: where the first of each class is, and where the next.
 use Rattle.std.proofs.Common.{◌≡◌, ◌<◌, ◌≤◌, ℕ, ◌+◌, true, false, List, [], ◌∷◌, length, get_or, drop, map, Some, refl, sym, ap, ◌∙◌, arith, inl, inr}
 use Rattle.std.specs.Prelude.{None as Absent, ◌⊎◌, nat_eq}
+use Rattle.std.specs.List.{All}
+use Rattle.std.proofs.lemmas.List.Elements.{All-head, All-tail}
 use Rattle.std.proofs.lemmas.Bool.Decides.{eqb_tells}
 use Rattle.std.proofs.lemmas.List.{drop-drop, drop_more, get_or-drop, get_or_default, length-drop}
 use Rattle.wy_kernel.specs.Program.{Method, runs_as, declared_in}
@@ -17,6 +19,14 @@ pub data Position (ms : List Row) (c : ℕ) (m : Method) (n : ℕ) : Type 0 wher
 not_of_the_class : (c : ℕ) (m : Method) (x : Row) → nat_eq x.class c ≡ false → runs_as c m (method_of x) ≡ false
 unfolding runs_as
 not_of_the_class c m x is = rw is refl
+
+-- none of them is of a class behind all theirs
+pub none_is_of : (c k n : ℕ) (m : Method) (xs : List Row) → All (λ x. x.class < k) xs → k ≤ c → declared_in c m n (map method_of xs) ≡ Absent
+none_is_of c k n m [] h le = none_is_left c n m
+none_is_of c k n m (x ∷ xs) h le =
+    let low : x.class < k = All-head (λ y. y.class < k) x xs h in
+    let other : nat_eq x.class c ≡ false = elim (eqb_tells x.class c) as (λ _. nat_eq x.class c ≡ false) [ inl a ↦ absurd (omega (arith, a.1, low, le)) | inr b ↦ b.0 ] in
+    is_passed c n m (method_of x) (map method_of xs) (not_of_the_class c m x other) ∙ none_is_of c k (n + 1) m xs (All-tail (λ y. y.class < k) x xs h) le
 
 module _ (ms : List Row) (c : ℕ) (m : Method) where
   begins_with : (k : ℕ) (x : Row) (xs : List Row) → drop k ms ≡ x ∷ xs → (k < length ms) × ((d : Row) → get_or ms k d ≡ x) × (drop (k + 1) ms ≡ xs)

@@ -1,5 +1,5 @@
 -- The bodies that run with their locals, and what is active, as contracts see them. The newest come first.
-use Rattle.std.specs.Prelude.{ℕ, ◌≡◌, ◌≤◌, ◌<◌, List, [], ◌∷◌, length, replicate, slice_get, slice_set, nat_eq, if◌then◌else◌, Option, Some}
+use Rattle.std.specs.Prelude.{ℕ, ◌≡◌, ◌≢◌, ◌≤◌, ◌<◌, List, [], ◌∷◌, length, replicate, slice_get, slice_set, nat_eq, if◌then◌else◌, Option, Some}
 use Rattle.std.specs.Prelude.{None as Absent}
 use Rattle.wy_value.specs.declared.value.Value.{Value}
 use Rattle.wy_value.specs.declared.value.Value.TheVariants.{None as Nothing}
@@ -93,3 +93,7 @@ first_of (x ∷ xs) = x
 -- what was active when the newest scope was opened is active again
 abbrev pub closed : CallStack → CallStack
 closed c = record c { active = first_of c.scopes; scopes = rest_of c.scopes }
+
+-- a statement of the newest body may end: a body runs, and nothing that comes back with the newest scope reaches through it
+abbrev pub MayEnd : ℕ → CallStack → Type 0
+MayEnd statement c = (frame_of c ≢ Absent) × (outlasting (frame_of c) statement (first_of c.scopes) ≡ first_of c.scopes)

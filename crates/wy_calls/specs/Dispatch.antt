@@ -1,5 +1,6 @@
 -- What a search for the method that runs goes by.
 use Rattle.std.specs.Prelude.{ℕ, ◌≡◌, ◌<◌, ◌≤◌, ◌+◌, nat_eq, if◌then◌else◌, List, [], ◌∷◌, length, drop, map, slice_index_or, Option}
+use Rattle.std.specs.List.{All}
 use Rattle.wy_kernel.specs.Program.{Program, class, declared_in}
 use Rattle.wy_kernel.specs.View.{method_of, NONE}
 use Rattle.wy_kernel.specs.declared.program.Program.{Program as Memory}
@@ -24,3 +25,7 @@ HasFirsts ms first from = (c : ℕ) → c < length first → slice_index_or firs
 -- of each method from a number on, the next one of its class
 abbrev pub HasNexts : List Method → List ℕ → ℕ → Type 0
 HasNexts ms next from = (n : ℕ) (m : Method) → from ≤ n → n < length ms → slice_index_or next n NONE ≡ first_in (slice_index_or ms n m).class (n + 1) (drop (n + 1) ms)
+
+-- each method from a number on is of one of so many classes
+abbrev pub AreOf : List Method → ℕ → ℕ → Type 0
+AreOf ms classes from = All (λ m. m.class < classes) (drop from ms)

@@ -1,15 +1,15 @@
 //! The bodies that run with their locals, and the events that are active.
 
-ghost use Rattle.std.specs.Prelude.{◌≡◌, ◌<◌, ◌+◌, IfErr, IfOk, OnOk, length, nat_le, slice_get};
+ghost use Rattle.std.specs.Prelude.{◌≡◌, ◌<◌, ◌+◌, IfErr, IfOk, OnOk, length, nat_le, slice_get, true};
 ghost use Rattle.std.specs.List.{All};
 ghost use Rattle.wy_kernel.specs.View.{present};
 ghost use Rattle.wy_steps.specs.State.{Around, Through};
 ghost use Rattle.wy_kernel.specs.Limits.{depth_limit};
 ghost use Rattle.wy_steps.specs.Steps.{parent};
-ghost use Rattle.wy_calls.specs.Calls.{IsUpTo, Refuses, activated, closed, ended, entered, frame_of, held, left, locals_of, nothing_runs, opened, with_local};
+ghost use Rattle.wy_calls.specs.Calls.{IsUpTo, MayEnd, Refuses, activated, closed, ended, entered, frame_of, held, left, locals_of, nothing_runs, opened, with_local};
 
 use crate::entry::{
-    close, count_below, end, is_innermost, is_next, is_sealed, mark_of, may_begin, next_mark,
+    close, end, is_innermost, is_next, is_sealed, mark_of, may_begin, next_mark, outlasting,
 };
 use crate::error::CallError;
 use crate::frame::{find, local, newest, place, running};
@@ -121,16 +121,15 @@ impl Calls {
         find(&self.frames, &self.locals, frame, index)
     }
 
-    /// A local of the newest body holds a value from now on. A local that it hasn't is refused.
-    pub fn set_local(&mut self, index: u32, value: Value) -> Result<(), AllocError>
-        ensures set { OnOk result (self.new ≡ with_local index value self.old) }
-        ensures inside { OnOk result (index < length (locals_of self.old.frames)) }
+    /// A local of the newest body holds a value from now on.
+    pub fn set_local(&mut self, index: u32, value: Value)
+        requires { index < length (locals_of self.old.frames) }
+        ensures { self.new ≡ with_local index value self.old }
     {
         let Some(at) = place(&self.frames, &self.locals, index) else {
-            return Err(AllocError);
+            return;
         };
         self.locals[at] = value;
-        Ok(())
     }
 
     /// The number of the newest active entry, which is the greatest, or NONE.
@@ -164,7 +163,9 @@ impl Calls {
         ensures { OnOk result
             (self.new ≡ activated event (Through (frame_of self.old) statement) self.old) }
     {
-        let frame = running(&self.frames)?;
+        let Some(frame) = running(&self.frames) else {
+            return Err(AllocError);
+        };
         let Some(mark) = mark_of(&self.begun, frame, statement) else {
             return Err(AllocError);
         };
@@ -183,7 +184,9 @@ impl Calls {
     pub fn begin(&mut self, statement: u32) -> Result<(), AllocError>
         ensures { OnOk result (self.new ≡ self.old) }
     {
-        let frame = running(&self.frames)?;
+        let Some(frame) = running(&self.frames) else {
+            return Err(AllocError);
+        };
         if is_innermost(&self.begun, frame, statement) {
             return Ok(());
         }
@@ -199,22 +202,29 @@ impl Calls {
         Ok(())
     }
 
-    /// A statement of the newest body that has begun ends, and with it what reaches through it. A statement that hasn't begun is
-    /// refused, and one that began before the newest scope was opened, if something around the scope reaches through it.
-    pub fn end(&mut self, statement: u32) -> Result<(), AllocError>
-        ensures { OnOk result (self.new ≡ ended statement self.old) }
+    /// Whether a statement of the newest body may end: a body runs, and nothing that comes back with the newest scope reaches through
+    /// the statement.
+    pub fn may_end(&self, statement: u32) -> bool
+        ensures { result ≡ true → MayEnd statement self.now }
     {
-        let frame = running(&self.frames)?;
-        let Some(mark) = mark_of(&self.begun, frame, statement) else {
-            return Err(AllocError);
+        let Some(frame) = running(&self.frames) else {
+            return false;
         };
-        let from = count_below(&self.active, mark);
-        if is_sealed(&self.scopes, from) {
-            return Err(AllocError);
-        }
+        let from = outlasting(&self.begun, &self.active, frame, statement);
+        !is_sealed(&self.scopes, from)
+    }
+
+    /// A statement of the newest body ends, and with it what reaches through it.
+    pub fn end(&mut self, statement: u32)
+        requires { MayEnd statement self.old }
+        ensures { self.new ≡ ended statement self.old }
+    {
+        let Some(frame) = running(&self.frames) else {
+            return;
+        };
+        let from = outlasting(&self.begun, &self.active, frame, statement);
         close(&mut self.begun, frame, statement);
         end(&mut self.active, from, frame, statement);
-        Ok(())
     }
 
     /// What is active now comes back when the scope is closed.

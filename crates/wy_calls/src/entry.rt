@@ -2,7 +2,7 @@
 
 ghost use Rattle.std.specs.Prelude.{◌≡◌, ◌≤◌, reverse, length, take, true, false};
 ghost use Rattle.std.specs.List.{All, filter};
-ghost use Rattle.wy_calls.specs.Layout.{ends_with, is_innermost, mark_in, outlasts, without, Ascends, IsAtMost, IsBelow, IsNext, IsUnder, MayBegin, Rises};
+ghost use Rattle.wy_calls.specs.Layout.{ends_with, is_innermost, mark_in, outlasts, without, Ascends, IsAtMost, IsBelow, IsNext, IsUnder, MayBegin, Rises, Sits};
 
 use crate::parts::{Begun, Entry, Reach};
 use wy_kernel::types::NONE;
@@ -81,7 +81,7 @@ pub fn next_mark(entries: &[Entry]) -> u32 {
 }
 
 /// How many entries are of events below a mark. It looks at the others alone.
-pub fn count_below(entries: &[Entry], mark: u32) -> usize
+fn count_below(entries: &[Entry], mark: u32) -> usize
     requires { Ascends entries.now }
     ensures inside { result ≤ length entries.now }
     ensures below { All (λ e. IsBelow e mark) (take result entries.now) }
@@ -94,6 +94,20 @@ pub fn count_below(entries: &[Entry], mark: u32) -> usize
         entries = older;
     }
     0
+}
+
+/// So many entries, from the oldest on, outlast a statement: those of events below its mark, and all where it hasn't begun.
+pub fn outlasting(begun: &[Begun], entries: &[Entry], frame: u32, statement: u32) -> usize
+    requires rises { Rises (reverse begun.now) }
+    requires ascends { Ascends entries.now }
+    requires sits { All (λ e. Sits (reverse begun.now) e.number e.reach) entries.now }
+    ensures inside { result ≤ length entries.now }
+    ensures outlast { All (λ e. outlasts frame statement e ≡ true) (take result entries.now) }
+{
+    match mark_of(begun, frame, statement) {
+        Some(mark) => count_below(entries, mark),
+        None => entries.len(),
+    }
 }
 
 /// Whether the newest scope has more entries than these.

@@ -1,12 +1,11 @@
 //! Frames with their locals. The locals of all frames lie behind one another.
 
-ghost use Rattle.std.specs.Prelude.{◌≡◌, IfOk, reverse, slice_get, Some};
+ghost use Rattle.std.specs.Prelude.{◌≡◌, reverse, slice_get};
 ghost use Rattle.wy_kernel.specs.View.{present};
 ghost use Rattle.wy_calls.specs.Calls.{held, locals_of};
 ghost use Rattle.wy_calls.specs.Layout.{framed, newest_of, IsPlaceOf};
 
 use crate::parts::Live;
-use std::alloc::AllocError;
 use wy_kernel::types::NONE;
 use wy_value::Value;
 
@@ -21,13 +20,11 @@ pub fn newest(frames: &[Live]) -> u32
 }
 
 /// The event of the newest frame, where there is one.
-pub fn running(frames: &[Live]) -> Result<u32, AllocError>
-    ensures { IfOk result (λ event. newest_of (reverse frames.now) ≡ Some event) }
+pub fn running(frames: &[Live]) -> Option<u32>
+    ensures { result ≡ newest_of (reverse frames.now) }
 {
-    match frames.last() {
-        Some(live) => Ok(live.event),
-        None => Err(AllocError),
-    }
+    let live = frames.last()?;
+    Some(live.event)
 }
 
 /// Where a local of the newest frame lies.

@@ -4,7 +4,7 @@ ghost use Rattle.std.specs.Prelude.{◌≡◌, ◌<◌, IfOk, length};
 ghost use Rattle.wy_kernel.specs.Parts.{program_of};
 ghost use Rattle.wy_kernel.specs.Program.{dispatch};
 ghost use Rattle.wy_kernel.specs.View.{present};
-ghost use Rattle.wy_calls.specs.Dispatch.{above, found_in, HasFirsts, HasNexts};
+ghost use Rattle.wy_calls.specs.Dispatch.{above, found_in, AreOf, HasFirsts, HasNexts};
 
 use crate::signature::runs_as;
 use std::alloc::{AllocError, Global};
@@ -20,6 +20,7 @@ pub struct Dispatcher<'a> {
     /// After each method the next one of its class, or NONE.
     next: Vec<u32>,
     ghost few: { length program.now.methods.items < 4294967295 },
+    ghost owned: { AreOf program.now.methods.items (length first.items) 0 },
     ghost all_next: { length next.items ≡ length program.now.methods.items },
     ghost firsts: { HasFirsts program.now.methods.items first.items 0 },
     ghost nexts: { HasNexts program.now.methods.items next.items 0 },
@@ -53,45 +54,43 @@ impl<'a> Dispatcher<'a> {
     }
 
     /// The method that a call of a method runs on an object of a class: that of the nearest class, from this one upward, that
-    /// declares it. A class or a method that the program hasn't is refused.
-    pub fn dispatch(&self, class: u32, method: u32) -> Result<u32, AllocError>
-        ensures { IfOk result (λ n. n ≡ dispatch (program_of self.now.program.now) method class) }
+    /// declares it.
+    pub fn dispatch(&self, class: u32, method: u32) -> u32
+        requires { method < length self.now.program.now.methods.items }
+        ensures { result ≡ dispatch (program_of self.now.program.now) method class }
     {
-        if method as usize >= self.program.methods.len() {
-            return Err(AllocError);
-        }
         let called = self.program.method(method);
         let mut class = class;
         let mut longest = self.program.classes.len() + 1;
         while longest > 0 {
-            if let Some(found) = self.declared_in(class, called)? {
-                return Ok(found);
+            if let Some(found) = self.declared_in(class, called) {
+                return found;
             }
             class = superclass(self.program, class);
             if class == NONE {
-                return Ok(method);
+                return method;
             }
             longest -= 1;
         }
-        Ok(method)
+        method
     }
 
     /// The first method of a class that a call of a method runs, by its number.
-    fn declared_in(&self, class: u32, called: &Method) -> Result<Option<u32>, AllocError>
-        ensures { IfOk result (λ n. n ≡ found_in self.now.program.now class called.now) }
+    fn declared_in(&self, class: u32, called: &Method) -> Option<u32>
+        ensures { result ≡ found_in self.now.program.now class called.now }
     {
         if class as usize >= self.first.len() {
-            return Err(AllocError);
+            return None;
         }
         let mut number = self.first[class as usize];
         while number != NONE {
             let at = number as usize;
             if runs_as(class, called, &self.program.methods[at]) {
-                return Ok(Some(number));
+                return Some(number);
             }
             number = self.next[at];
         }
-        Ok(None)
+        None
     }
 }
 

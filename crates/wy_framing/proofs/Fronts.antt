@@ -1,15 +1,18 @@
 -- What the mirrors have, and which count rose, where one of them refused.
-use Rattle.std.proofs.Common.{◌≡◌, ℕ, zero, suc, ◌+◌, ◌-◌, ◌^◌, ◌<◌, ◌≤◌, min, List, [], ◌∷◌, length, map, take, Option, Some, None, Err, MatchBool, refl, sym, ◌∙◌, ap, subst, append-nil, arith}
+use Rattle.std.proofs.Common.{◌≡◌, ℕ, zero, suc, ◌+◌, ◌-◌, ◌^◌, ◌<◌, ◌≤◌, min, List, [], ◌∷◌, length, map, take, Option, Some, None, Err, MatchBool, refl, sym, ◌∙◌, ap, ap₂, subst, append-nil, arith}
 use Rattle.std.proofs.lemmas.List.{length-map}
 use Rattle.std.proofs.Math.Seq.{take-length}
 use Rattle.wy_outside.specs.Counts.{Rose}
 use Rattle.wy_outside.specs.Sink.{appended, is_failed}
 use Rattle.wy_outside.specs.declared.sink.SinkError.{SinkError}
 use Rattle.wy_outside.specs.declared.sink.SinkError.TheVariants.{Failed}
-use Rattle.wy_record.specs.Recorders.{Mirrors, HavePrefix}
+use Rattle.wy_record.specs.Recorders.{ChangedOnlyAt, Mirrors, HavePrefix, opened, with_more}
 use Rattle.wy_record.specs.declared.recorder.RecordError.{RecordError}
 use Rattle.wy_record.specs.declared.recorder.RecordError.TheVariants.{SinkFault, Differs, NoMemory}
-use Rattle.wy_framing.specs.Served.{RoseOnlyAt, RoseIn, behind}
+use Rattle.wy_framing.specs.declared.serve.Act.{Act}
+use Rattle.wy_framing.specs.declared.serve.Act.TheVariants.{Open}
+use Rattle.wy_framing.specs.Served.{RoseIn, behind}
+use Rattle.wy_framing.specs.Told.{emptied}
 
 -- what is as it was has nothing of the piece
 pub same_has_front : (piece : List ℕ) (mirrors : Mirrors) → HavePrefix piece mirrors mirrors
@@ -34,9 +37,24 @@ refused_here f piece xs rest x new is (n, most, grown) = joined f piece n xs res
 pub refused_later : {X : Type 0} (f : X → Option (List ℕ)) (piece : List ℕ) (xs rest : List X) (x : X) (new : Option (List ℕ)) (news : Mirrors) → xs ≡ x ∷ rest → new ≡ appended (f x) piece → HavePrefix piece (map f rest) news → HavePrefix piece (map f xs) (new ∷ news)
 refused_later f piece xs rest x new news is grown fronts = joined f piece (length piece) xs rest x new news is (grown ∙ ap (λ t. appended (f x) t) (sym (take-length piece))) fronts
 
+-- the piece stands behind what the first one held, and behind what those behind it held
+pub taken_each : {X : Type 0} (f : X → Option (List ℕ)) (piece : List ℕ) (xs rest : List X) (x : X) (new : Option (List ℕ)) (news : Mirrors) → xs ≡ x ∷ rest → new ≡ appended (f x) piece → news ≡ with_more piece (map f rest) → new ∷ news ≡ with_more piece (map f xs)
+taken_each f piece xs rest x new news is first others = ap₂ (λ m ms. m ∷ ms) first others ∙ ap (λ ys. with_more piece (map f ys)) (sym is)
+
+-- where mirrors that are opened hold nothing, so does the first, and so do those behind it
+pub blank_first : {X : Type 0} (f : X → Option (List ℕ)) (act : Act) (xs rest : List X) (x : X) → xs ≡ x ∷ rest → (act ≡ Open → opened (map f xs) ≡ map f xs) → act ≡ Open → emptied (f x) ≡ f x
+blank_first f act xs rest x is blank opens =
+    let both : opened (map f (x ∷ rest)) ≡ map f (x ∷ rest) = subst (λ ys. opened (map f ys) ≡ map f ys) is (blank opens) in
+    cc
+
+pub blank_rest : {X : Type 0} (f : X → Option (List ℕ)) (act : Act) (xs rest : List X) (x : X) → xs ≡ x ∷ rest → (act ≡ Open → opened (map f xs) ≡ map f xs) → act ≡ Open → opened (map f rest) ≡ map f rest
+blank_rest f act xs rest x is blank opens =
+    let both : opened (map f (x ∷ rest)) ≡ map f (x ∷ rest) = subst (λ ys. opened (map f ys) ≡ map f ys) is (blank opens) in
+    cc
+
 -- ---- counts
 
-rose_within : (n : ℕ) (olds news : List ℕ) → RoseOnlyAt n olds news → n < length olds
+rose_within : (n : ℕ) (olds news : List ℕ) → ChangedOnlyAt Rose n olds news → n < length olds
 rose_within zero [] news rose = absurd rose
 rose_within (suc n) [] news rose = absurd rose
 rose_within zero (old ∷ olds) [] rose = absurd rose
@@ -44,9 +62,9 @@ rose_within (suc n) (old ∷ olds) [] rose = absurd rose
 rose_within zero (old ∷ olds) (new ∷ news) rose = omega arith
 rose_within (suc n) (old ∷ olds) (new ∷ news) rose = omega (arith, rose_within n olds news rose.1)
 
-next : (n old new : ℕ) (olds news : List ℕ) → length olds + 1 < 2 ^ 32 → new ≡ old → RoseOnlyAt n olds news → RoseOnlyAt (min (n + 1) (2 ^ 32 - 1)) (old ∷ olds) (new ∷ news)
+next : (n old new : ℕ) (olds news : List ℕ) → length olds + 1 < 2 ^ 32 → new ≡ old → ChangedOnlyAt Rose n olds news → ChangedOnlyAt Rose (min (n + 1) (2 ^ 32 - 1)) (old ∷ olds) (new ∷ news)
 next n old new olds news few kept rose =
-    let P : ℕ → Type 0 = λ k. RoseOnlyAt k (old ∷ olds) (new ∷ news) in
+    let P : ℕ → Type 0 = λ k. ChangedOnlyAt Rose k (old ∷ olds) (new ∷ news) in
     let is_next : suc n ≡ min (n + 1) (2 ^ 32 - 1) = omega (arith, few, rose_within n olds news rose) in
     subst P is_next (kept, rose)
 
@@ -62,9 +80,9 @@ rose_later {X} f error answer xs rest x new news few is named kept rose =
     let at_cons : length (x ∷ rest) < 2 ^ 32 → RoseIn (Err (behind error)) (f x ∷ map f rest) (new ∷ news) = λ short. one_behind error (f x) new (map f rest) news (omega (arith, short, length-map rest f)) kept rose in
     subst A (sym named) (subst Q (sym is) at_cons few)
 
-pub rose_here : {X : Type 0} (f : X → ℕ) (error : SinkError) (xs rest : List X) (x : X) (new : ℕ) → xs ≡ x ∷ rest → error ≡ Failed → MatchBool (is_failed error) (Rose (f x) new) (new ≡ f x) → RoseOnlyAt 0 (map f xs) (new ∷ map f rest)
+pub rose_here : {X : Type 0} (f : X → ℕ) (error : SinkError) (xs rest : List X) (x : X) (new : ℕ) → xs ≡ x ∷ rest → error ≡ Failed → MatchBool (is_failed error) (Rose (f x) new) (new ≡ f x) → ChangedOnlyAt Rose 0 (map f xs) (new ∷ map f rest)
 rose_here {X} f error xs rest x new is named counted =
-    let Q : List X → Type 0 = λ ys. RoseOnlyAt 0 (map f ys) (new ∷ map f rest) in
+    let Q : List X → Type 0 = λ ys. ChangedOnlyAt Rose 0 (map f ys) (new ∷ map f rest) in
     let E : SinkError → Type 0 = λ e. MatchBool (is_failed e) (Rose (f x) new) (new ≡ f x) in
     let rose : Rose (f x) new = subst E named counted in
     subst Q (sym is) (rose, refl)

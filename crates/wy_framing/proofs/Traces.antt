@@ -1,21 +1,22 @@
 -- What the mirrors of a recorder have after each of its calls, and what their counts sum to.
-use Rattle.std.proofs.Common.{◌≡◌, ℕ, zero, suc, ◌<◌, List, [], ◌∷◌, ◌++◌, map, take, Some, None, option_map, Result, Ok, Err, refl, sym, ◌∙◌, ap, subst, append-nil, arith}
-use Rattle.std.proofs.Math.Logic.{∥∥₁_elim, ∥∥₁_map}
-use Rattle.std.proofs.Props.{props}
+use Rattle.std.proofs.Common.{◌≡◌, ◌≢◌, ℕ, zero, suc, ◌<◌, List, [], ◌∷◌, ◌++◌, map, take, Some, None, option_map, Result, Ok, Err, refl, sym, ◌∙◌, ap, subst, append-nil, arith}
+use Rattle.sha2.specs.Hashers.{Holds256}
 use Rattle.sha2.specs.Sha256.{sha256}
+use Rattle.sha2.specs.declared.Sha256.{Sha256}
 use Rattle.wy_event.specs.declared.record.Tail.{Tail}
-use Rattle.wy_record.specs.Recorders.{Mirrors, FaultsAs, HavePrefix, HaveClosing, MirrorsTake, MirrorsClose, with_more, opened}
+use Rattle.wy_outside.specs.Counts.{Rose}
+use Rattle.wy_record.specs.Recorders.{ChangedOnlyAt, CountsAs, Mirrors, FaultsAs, HavePrefix, HaveClosing, MirrorsTake, MirrorsClose, with_more, opened}
 use Rattle.wy_record.specs.declared.recorder.RecordError.{RecordError}
 use Rattle.wy_record.specs.declared.recorder.RecordError.TheVariants.{SinkFault, Differs, NoMemory}
 use Rattle.wy_record.specs.declared.recorder.Phase.{Phase}
 use Rattle.wy_record.specs.declared.recorder.Phase.TheVariants as phases
 use Rattle.wy_spelling.specs.Spelling.{closing, seal_frame, tail_frames}
-use Rattle.wy_framing.specs.Served.{AreHeld, AreLow, RoseIn, RoseOnlyAt, total}
+use Rattle.wy_framing.specs.Served.{AreHeld, AreLow, Keeps, RoseIn, total}
 use Rattle.wy_framing.proofs.Fronts.{same_has_front}
 
 -- ---- the sum of the counts
 
-total_rose : (n : ℕ) (olds news : List ℕ) → RoseOnlyAt n olds news → AreLow olds → total olds < total news
+total_rose : (n : ℕ) (olds news : List ℕ) → ChangedOnlyAt Rose n olds news → AreLow olds → total olds < total news
 total_rose zero [] news rose low = absurd rose
 total_rose (suc n) [] news rose low = absurd rose
 total_rose zero (old ∷ olds) [] rose low = absurd rose
@@ -28,6 +29,22 @@ faults_as (Ok x) olds news rose low = ap total rose
 faults_as (Err (SinkFault n)) olds news rose low = total_rose n olds news rose low
 faults_as (Err (Differs n)) olds news rose low = absurd rose
 faults_as (Err NoMemory) olds news rose low = ap total rose
+
+-- ---- the count that a fault names
+
+rose_alone : (n : ℕ) (olds news : List ℕ) → ChangedOnlyAt Rose n olds news → AreLow olds → ChangedOnlyAt (λ old new. old < new) n olds news
+rose_alone zero [] news rose low = absurd rose
+rose_alone (suc n) [] news rose low = absurd rose
+rose_alone zero (old ∷ olds) [] rose low = absurd rose
+rose_alone (suc n) (old ∷ olds) [] rose low = absurd rose
+rose_alone zero (old ∷ olds) (new ∷ news) rose low = (omega (arith, rose.0, low 0 old refl), rose.1)
+rose_alone (suc n) (old ∷ olds) (new ∷ news) rose low = (rose.0, rose_alone n olds news rose.1 (λ k count at. low (suc k) count at))
+
+pub counts_as : (r : Result Unit RecordError) (olds news : List ℕ) → RoseIn r olds news → AreLow olds → CountsAs r olds news
+counts_as (Ok x) olds news rose low = rose
+counts_as (Err (SinkFault n)) olds news rose low = rose_alone n olds news rose low
+counts_as (Err (Differs n)) olds news rose low = absurd rose
+counts_as (Err NoMemory) olds news rose low = rose
 
 -- ---- what the hasher holds
 
@@ -42,16 +59,13 @@ more_held H G piece (None ∷ rest) more held = more_held H G piece rest more he
 more_held H G piece (Some bytes ∷ rest) more held = (more bytes held.0, more_held H G piece rest more held.1)
 
 -- after more was put, and fed to the hasher
-pub still_held : (H G : List ℕ → Type 0) (piece : List ℕ) (olds news : Mirrors) → news ≡ with_more piece olds → ((bytes : List ℕ) → H bytes → G (bytes ++ piece)) → ∥ AreHeld H olds ∥₁ → ∥ AreHeld G news ∥₁
-still_held H G piece olds news grown more held =
-    let P : Mirrors → Type 0 = λ m. ∥ AreHeld G m ∥₁ in
-    subst P (sym grown) (∥∥₁_map held (λ h. more_held H G piece olds more h))
+pub still_held : (H G : List ℕ → Type 0) (piece : List ℕ) (olds news : Mirrors) → news ≡ with_more piece olds → ((bytes : List ℕ) → H bytes → G (bytes ++ piece)) → AreHeld H olds → AreHeld G news
+still_held H G piece olds news grown more held = subst (λ (m : Mirrors). AreHeld G m) (sym grown) (more_held H G piece olds more held)
 
 -- after the opening was put to mirrors without a byte
-pub first_held : (H G : List ℕ → Type 0) (piece : List ℕ) (olds news : Mirrors) → opened olds ≡ olds → news ≡ with_more piece olds → H [] → ((bytes : List ℕ) → H bytes → G (bytes ++ piece)) → ∥ AreHeld G news ∥₁
+pub first_held : (H G : List ℕ → Type 0) (piece : List ℕ) (olds news : Mirrors) → opened olds ≡ olds → news ≡ with_more piece olds → H [] → ((bytes : List ℕ) → H bytes → G (bytes ++ piece)) → AreHeld G news
 first_held H G piece olds news empty grown begun more =
-    let P : Mirrors → Type 0 = λ m. AreHeld H m in
-    still_held H G piece olds news grown more ∣ subst P empty (opened_held H olds begun) ∣₁
+    still_held H G piece olds news grown more (subst (λ (m : Mirrors). AreHeld H m) empty (opened_held H olds begun))
 
 -- ---- the refusals before anything is put
 
@@ -78,11 +92,11 @@ AllClosed piece close [] = Unit {0}
 AllClosed piece close (None ∷ rest) = AllClosed piece close rest
 AllClosed piece close (Some bytes ∷ rest) = (piece ≡ close bytes) × AllClosed piece close rest
 
-all_closed : (H : List ℕ → Type 0) (piece : List ℕ) (close : List ℕ → List ℕ) (mirrors : Mirrors) → ((bytes : List ℕ) → H bytes → piece ≡ close bytes) → ∥ AreHeld H mirrors ∥₁ → AllClosed piece close mirrors
+all_closed : (H : List ℕ → Type 0) (piece : List ℕ) (close : List ℕ → List ℕ) (mirrors : Mirrors) → ((bytes : List ℕ) → H bytes → piece ≡ close bytes) → AreHeld H mirrors → AllClosed piece close mirrors
 unfolding AllClosed
 all_closed H piece close [] closes held = tt
 all_closed H piece close (None ∷ rest) closes held = all_closed H piece close rest closes held
-all_closed H piece close (Some bytes ∷ rest) closes held = (∥∥₁_elim held (Prim.hlevel props) (λ h. closes bytes h.0), all_closed H piece close rest closes (∥∥₁_map held (λ h. h.1)))
+all_closed H piece close (Some bytes ∷ rest) closes held = (closes bytes held.0, all_closed H piece close rest closes held.1)
 
 closed_more : (piece : List ℕ) (close : List ℕ → List ℕ) (mirrors : Mirrors) → AllClosed piece close mirrors → with_more piece mirrors ≡ map (option_map (λ bytes. bytes ++ close bytes)) mirrors
 unfolding AllClosed
@@ -110,26 +124,59 @@ sealing : (tail : Tail) (frames piece seal bytes : List ℕ) → frames ≡ tail
 unfolding closing
 sealing tail frames piece seal bytes framed put sealed = put ∙ ap (λ d. frames ++ seal_frame d) sealed ∙ ap (λ f. f ++ seal_frame (sha256 (bytes ++ f))) framed
 
-pub sealed_each : (r : Result Unit RecordError) (H G : List ℕ → Type 0) (tail : Tail) (frames piece seal : List ℕ) (olds news : Mirrors) → frames ≡ tail_frames tail → piece ≡ frames ++ seal_frame seal → ((bytes : List ℕ) → H bytes → G (bytes ++ frames)) → ((bytes : List ℕ) → G bytes → seal ≡ sha256 bytes) → ∥ AreHeld H olds ∥₁ → MirrorsTake r piece olds news → MirrorsClose r (closing tail) olds news
+pub sealed_each : (r : Result Unit RecordError) (H G : List ℕ → Type 0) (tail : Tail) (frames piece seal : List ℕ) (olds news : Mirrors) → frames ≡ tail_frames tail → piece ≡ frames ++ seal_frame seal → ((bytes : List ℕ) → H bytes → G (bytes ++ frames)) → ((bytes : List ℕ) → G bytes → seal ≡ sha256 bytes) → AreHeld H olds → MirrorsTake r piece olds news → MirrorsClose r (closing tail) olds news
 sealed_each r H G tail frames piece seal olds news framed put fed ended held taken =
     closes r piece (closing tail) olds news (all_closed H piece (closing tail) olds (λ bytes h. sealing tail frames piece seal bytes framed put (ended (bytes ++ frames) (fed bytes h))) held) taken
 
--- ---- what a recorder that goes on knows
+-- ---- what the recorder keeps
 
+abbrev IsReady : Phase → Type 0
+IsReady phases.Ready = Unit {0}
+IsReady _ = ⊥
+
+abbrev IsRecording : Phase → Type 0
+IsRecording phases.Recording = Unit {0}
+IsRecording _ = ⊥
+
+-- a recorder that has failed keeps nothing
+pub failed_keeps : (h : Sha256) (mirrors : Mirrors) (counts : List ℕ) → Keeps phases.Failed h mirrors counts
+failed_keeps h mirrors counts = record {
+  empty = λ ready. absurd (subst IsReady (sym ready) tt);
+  low = λ awake. absurd (awake refl);
+  held = λ recording. absurd (subst IsRecording (sym recording) tt);
+}
+
+pub ready_keeps : (h : Sha256) (mirrors : Mirrors) (counts : List ℕ) → opened mirrors ≡ mirrors → AreLow counts → Keeps phases.Ready h mirrors counts
+ready_keeps h mirrors counts empty low = record {
+  empty = λ ready. empty;
+  low = λ awake. low;
+  held = λ recording. absurd (subst IsRecording (sym recording) tt);
+}
+
+pub recording_keeps : (h : Sha256) (mirrors : Mirrors) (counts : List ℕ) → AreLow counts → AreHeld (Holds256 h) mirrors → Keeps phases.Recording h mirrors counts
+recording_keeps h mirrors counts low held = record {
+  empty = λ ready. absurd (subst IsReady (sym ready) tt);
+  low = λ awake. low;
+  held = λ recording. held;
+}
+
+pub done_keeps : (h : Sha256) (mirrors : Mirrors) (counts : List ℕ) → AreLow counts → Keeps phases.Done h mirrors counts
+done_keeps h mirrors counts low = record {
+  empty = λ ready. absurd (subst IsReady (sym ready) tt);
+  low = λ awake. low;
+  held = λ recording. absurd (subst IsRecording (sym recording) tt);
+}
+
+-- the counts are low before a call that is taken
 abbrev IsAwake : Phase → Type 0
-IsAwake phases.Ready = Unit {0}
-IsAwake phases.Recording = Unit {0}
-IsAwake phases.Done = Unit {0}
 IsAwake phases.Failed = ⊥
+IsAwake _ = Unit {0}
 
-awake : (phase now : Phase) → IsAwake now → phase ≡ now → phase ≡ phases.Failed → ⊥
-awake phase now is_awake is failed = subst IsAwake failed (subst IsAwake (sym is) is_awake)
+pub low_ready : (phase : Phase) (h : Sha256) (mirrors : Mirrors) (counts : List ℕ) → phase ≡ phases.Ready → Keeps phase h mirrors counts → AreLow counts
+low_ready phase h mirrors counts is keeps = keeps.low (λ failed. subst IsAwake failed (subst IsAwake (sym is) tt))
 
-pub ready_awake : (phase : Phase) → phase ≡ phases.Ready → phase ≡ phases.Failed → ⊥
-ready_awake phase is failed = awake phase phases.Ready tt is failed
-
-pub recording_awake : (phase : Phase) → phase ≡ phases.Recording → phase ≡ phases.Failed → ⊥
-recording_awake phase is failed = awake phase phases.Recording tt is failed
+pub low_recording : (phase : Phase) (h : Sha256) (mirrors : Mirrors) (counts : List ℕ) → phase ≡ phases.Recording → Keeps phase h mirrors counts → AreLow counts
+low_recording phase h mirrors counts is keeps = keeps.low (λ failed. subst IsAwake failed (subst IsAwake (sym is) tt))
 
 pub low_kept : (olds news : List ℕ) → news ≡ olds → AreLow olds → AreLow news
 low_kept olds news kept low = subst AreLow (sym kept) low

@@ -1,21 +1,19 @@
--- Which mirror's count of faults a refusal names.
-use Rattle.std.specs.Prelude.{◌≡◌, ℕ, zero, suc, ◌+◌, ◌-◌, ◌^◌, ◌<◌, min, List, [], ◌∷◌, slice_get, Some, Result, Ok, Err}
+-- Which mirror's count of faults a refusal names, and what a recorder that writes keeps.
+use Rattle.std.specs.Prelude.{◌≡◌, ◌≢◌, ℕ, ◌+◌, ◌-◌, ◌^◌, ◌<◌, min, List, [], ◌∷◌, slice_get, Some, Result, Ok, Err}
 use Rattle.std.specs.Prelude.{None as Absent}
+use Rattle.sha2.specs.Hashers.{Holds256}
+use Rattle.sha2.specs.declared.Sha256.{Sha256}
 use Rattle.wy_outside.specs.Counts.{Rose, last_count}
-use Rattle.wy_record.specs.Recorders.{Mirrors}
+use Rattle.wy_record.specs.Recorders.{ChangedOnlyAt, Mirrors, opened}
+use Rattle.wy_record.specs.declared.recorder.Phase.{Phase}
+use Rattle.wy_record.specs.declared.recorder.Phase.TheVariants.{Failed, Ready, Recording}
 use Rattle.wy_record.specs.declared.recorder.RecordError.{RecordError}
 use Rattle.wy_record.specs.declared.recorder.RecordError.TheVariants.{SinkFault, Differs, NoMemory}
-
--- the count at this place rose, and the others stayed
-abbrev pub RoseOnlyAt : ℕ → List ℕ → List ℕ → Type 0
-RoseOnlyAt zero (old ∷ olds) (new ∷ news) = Rose old new × (news ≡ olds)
-RoseOnlyAt (suc n) (old ∷ olds) (new ∷ news) = (new ≡ old) × RoseOnlyAt n olds news
-RoseOnlyAt n _ _ = ⊥
 
 -- a fault is that of the mirror that it names, and at every other answer the counts stay
 abbrev pub RoseIn : Result Unit RecordError → List ℕ → List ℕ → Type 0
 RoseIn (Ok _) olds news = news ≡ olds
-RoseIn (Err (SinkFault mirror)) olds news = RoseOnlyAt mirror olds news
+RoseIn (Err (SinkFault mirror)) olds news = ChangedOnlyAt Rose mirror olds news
 RoseIn (Err NoMemory) olds news = news ≡ olds
 RoseIn (Err (Differs event)) olds news = ⊥
 
@@ -39,3 +37,9 @@ abbrev pub AreHeld : (List ℕ → Type 0) → Mirrors → Type 0
 AreHeld Holds [] = Unit {0}
 AreHeld Holds (Absent ∷ rest) = AreHeld Holds rest
 AreHeld Holds (Some bytes ∷ rest) = Holds bytes × AreHeld Holds rest
+
+-- the mirrors hold nothing before the recorder starts; until it has failed no count stands at its last value; and while it records the hasher has the bytes of each mirror that tells them
+pub record Keeps (phase : Phase) (hasher : Sha256) (mirrors : Mirrors) (counts : List ℕ) : Type 0 where
+  pub empty : phase ≡ Ready → opened mirrors ≡ mirrors
+  pub low : phase ≢ Failed → AreLow counts
+  pub held : phase ≡ Recording → AreHeld (Holds256 hasher) mirrors

@@ -1,10 +1,9 @@
 //! The recorder.
-ghost use Rattle.std.specs.Prelude.{◌≡◌, ◌≢◌, ◌<◌, ◌^◌, [], ℕ, List, Option, Some, false, map, vec_len};
-ghost use Rattle.sha2.specs.Hashers.{Holds256};
+ghost use Rattle.std.specs.Prelude.{◌≡◌, ◌<◌, ◌^◌, [], false, map, vec_len};
 ghost use Rattle.wy_record.specs.declared.recorder.Phase.{Phase};
 ghost use Rattle.wy_record.specs.Recorders.{opened};
 ghost use Rattle.wy_spelling.specs.Spelling.{closing, event_frame, opening};
-ghost use Rattle.wy_framing.specs.Served.{AreHeld, AreLow, total};
+ghost use Rattle.wy_framing.specs.Served.{AreLow, Keeps, total};
 
 use crate::TraceSink;
 use crate::piece::{frame_of, opening_of, tail_of, with_seal};
@@ -14,42 +13,42 @@ use std::alloc::{AllocError, Global};
 use wy_event::record::{Event, Head, Tail};
 use wy_record::{Phase, RecordError, Recorder};
 
-/// Writes the trace of a run to each of its mirrors. What it wrote is hashed as it is written, and
-/// never read back.
+/// Writes the trace of a run to each of its mirrors, which are of any kinds. What it wrote is hashed
+/// as it is written, and never read back.
 #[derive(Drop)]
-pub struct FrameRecorder<S: TraceSink + Drop> {
+pub struct FrameRecorder {
     alloc: Global,
     phase: Phase,
-    sinks: Vec<S>,
+    mirrors: Vec<Box<dyn TraceSink>>,
     hasher: Sha256,
-    ghost few: { vec_len sinks < 2 ^ 32 },
-    ghost empty: { phase ≡ Phase.Ready
-        → opened (map S.bytes sinks.items) ≡ map S.bytes sinks.items },
-    ghost low: { phase ≢ Phase.Failed → AreLow (map S.faults sinks.items) },
-    ghost held: { phase ≡ Phase.Recording
-        → ∥ AreHeld (Holds256 hasher) (map S.bytes sinks.items) ∥₁ },
+    ghost few: { vec_len mirrors < 2 ^ 32 },
 }
 
-impl<S: TraceSink + Drop> FrameRecorder<S> {
+impl FrameRecorder {
     /// A recorder over these mirrors. One that tells its bytes has none yet, and no count of faults
     /// stands at its last value.
-    pub fn new(alloc: Global, sinks: Vec<S>) -> Self
-        requires few { vec_len sinks < 2 ^ 32 }
-        requires empty { opened (map S.bytes sinks.items) ≡ map S.bytes sinks.items }
-        requires low { AreLow (map S.faults sinks.items) }
-        ensures phase { result.phase ≡ Phase.Ready }
-        ensures sinks { result.sinks ≡ sinks }
+    pub fn new(alloc: Global, mirrors: Vec<Box<dyn TraceSink>>) -> Self
+        requires few { vec_len mirrors < 2 ^ 32 }
+        requires empty { opened (map ⟦<Box<dyn TraceSink> as TraceSink>⟧.bytes mirrors.items)
+            ≡ map ⟦<Box<dyn TraceSink> as TraceSink>⟧.bytes mirrors.items }
+        requires low { AreLow (map ⟦<Box<dyn TraceSink> as TraceSink>⟧.faults mirrors.items) }
+        ensures sound { ⟦<FrameRecorder as Recorder>⟧.Sound result }
+        ensures phase { ⟦<FrameRecorder as Recorder>⟧.phase result ≡ Phase.Ready }
+        ensures mirrors { ⟦<FrameRecorder as Recorder>⟧.mirrors result
+            ≡ map ⟦<Box<dyn TraceSink> as TraceSink>⟧.bytes mirrors.items }
+        ensures counts { ⟦<FrameRecorder as Recorder>⟧.counts result
+            ≡ map ⟦<Box<dyn TraceSink> as TraceSink>⟧.faults mirrors.items }
     {
         FrameRecorder {
             alloc,
             phase: Phase::Ready,
-            sinks,
+            mirrors,
             hasher: Sha256::new(),
         }
     }
 }
 
-impl<S: TraceSink + Drop> Recorder for FrameRecorder<S> {
+impl Recorder for FrameRecorder {
     ghost keeps = { false };
 
     ghost kept = { λ r. [] };
@@ -62,9 +61,15 @@ impl<S: TraceSink + Drop> Recorder for FrameRecorder<S> {
 
     ghost phase = { λ r. r.phase };
 
-    ghost faults = { λ r. total (map S.faults r.sinks.items) };
+    ghost Sound = { λ r. Keeps r.phase r.hasher
+        (map (λ b. (TraceSink-box b).bytes b.value) r.mirrors.items)
+        (map (λ b. (TraceSink-box b).faults b.value) r.mirrors.items) };
 
-    ghost mirrors = { λ r. map S.bytes r.sinks.items };
+    ghost faults = { λ r. total (map (λ b. (TraceSink-box b).faults b.value) r.mirrors.items) };
+
+    ghost counts = { λ r. map (λ b. (TraceSink-box b).faults b.value) r.mirrors.items };
+
+    ghost mirrors = { λ r. map (λ b. (TraceSink-box b).bytes b.value) r.mirrors.items };
 
     ghost opening = { λ head. opening head };
 
@@ -81,7 +86,7 @@ impl<S: TraceSink + Drop> Recorder for FrameRecorder<S> {
         let Ok(piece) = opening_of(self.alloc, head) else {
             return Err(RecordError::NoMemory);
         };
-        if let Err(error) = serve_all(&mut self.sinks, Act::Open, name, piece.as_slice()) {
+        if let Err(error) = serve_all(&mut self.mirrors, Act::Open, name, piece.as_slice()) {
             return Err(error);
         }
         self.hasher = Sha256::new();
@@ -95,7 +100,7 @@ impl<S: TraceSink + Drop> Recorder for FrameRecorder<S> {
         let Ok(piece) = frame_of(self.alloc, event) else {
             return Err(RecordError::NoMemory);
         };
-        if let Err(error) = serve_all(&mut self.sinks, Act::Put, "", piece.as_slice()) {
+        if let Err(error) = serve_all(&mut self.mirrors, Act::Put, "", piece.as_slice()) {
             return Err(error);
         }
         self.hasher.update(piece.as_slice());
@@ -113,7 +118,7 @@ impl<S: TraceSink + Drop> Recorder for FrameRecorder<S> {
         let Ok(piece) = with_seal(self.alloc, frames, &seal) else {
             return Err(RecordError::NoMemory);
         };
-        if let Err(error) = serve_all(&mut self.sinks, Act::Close, "", piece.as_slice()) {
+        if let Err(error) = serve_all(&mut self.mirrors, Act::Close, "", piece.as_slice()) {
             return Err(error);
         }
         self.phase = Phase::Done;
@@ -125,7 +130,7 @@ impl<S: TraceSink + Drop> Recorder for FrameRecorder<S> {
     }
 
     fn mirror(&self, n: u32) -> Result<Option<Vec<u8>>, AllocError> {
-        match self.sinks.get(n as usize) {
+        match self.mirrors.get(n as usize) {
             Some(sink) => sink.told(),
             None => Ok(None),
         }

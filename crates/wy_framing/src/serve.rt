@@ -20,10 +20,10 @@ pub enum Act {
     Close,
 }
 
-/// Opens a mirror that holds nothing, if it is to be opened.
+/// Opens a mirror, if it is to be opened. One that holds nothing stays so.
 fn begin<S: TraceSink>(sink: &mut S, act: Act, name: &str) -> Result<(), SinkError>
-    requires { act ≡ Act.Open → emptied (S.bytes sink.old) ≡ S.bytes sink.old }
-    ensures content { S.bytes sink.new ≡ S.bytes sink.old }
+    ensures content { (act ≡ Act.Open → emptied (S.bytes sink.old) ≡ S.bytes sink.old)
+        → S.bytes sink.new ≡ S.bytes sink.old }
     ensures failed { RoseAt is_failed result (S.faults sink.old) (S.faults sink.new) }
 {
     match act {
@@ -45,8 +45,8 @@ fn end<S: TraceSink>(sink: &mut S, act: Act) -> Result<(), SinkError>
 
 /// Puts the bytes to one mirror.
 fn serve<S: TraceSink>(sink: &mut S, act: Act, name: &str, piece: &[u8]) -> Result<(), SinkError>
-    requires { act ≡ Act.Open → emptied (S.bytes sink.old) ≡ S.bytes sink.old }
-    ensures content { Appends (S.bytes sink.old) (S.bytes sink.new) piece.now result }
+    ensures content { (act ≡ Act.Open → emptied (S.bytes sink.old) ≡ S.bytes sink.old)
+        → Appends (S.bytes sink.old) (S.bytes sink.new) piece.now result }
     ensures failed { RoseAt is_failed result (S.faults sink.old) (S.faults sink.new) }
 {
     begin(sink, act, name)?;
@@ -62,8 +62,8 @@ fn serve_each<S: TraceSink>(
     piece: &[u8],
 ) -> Result<(), RecordError>
     requires few { length sinks.old < 2 ^ 32 }
-    requires empty { act ≡ Act.Open → opened (map S.bytes sinks.old) ≡ map S.bytes sinks.old }
-    ensures mirrors { MirrorsTake result piece.now (map S.bytes sinks.old) (map S.bytes sinks.new) }
+    ensures mirrors { (act ≡ Act.Open → opened (map S.bytes sinks.old) ≡ map S.bytes sinks.old)
+        → MirrorsTake result piece.now (map S.bytes sinks.old) (map S.bytes sinks.new) }
     ensures faults { RoseIn result (map S.faults sinks.old) (map S.faults sinks.new) }
     ensures number { length sinks.new ≡ length sinks.old }
 {
@@ -88,9 +88,9 @@ pub fn serve_all<S: TraceSink>(
     piece: &[u8],
 ) -> Result<(), RecordError>
     requires few { vec_len sinks.old < 2 ^ 32 }
-    requires empty { act ≡ Act.Open
-        → opened (map S.bytes sinks.old.items) ≡ map S.bytes sinks.old.items }
-    ensures mirrors { MirrorsTake result piece.now
+    ensures mirrors { (act ≡ Act.Open
+        → opened (map S.bytes sinks.old.items) ≡ map S.bytes sinks.old.items)
+        → MirrorsTake result piece.now
         (map S.bytes sinks.old.items) (map S.bytes sinks.new.items) }
     ensures faults { RoseIn result
         (map S.faults sinks.old.items) (map S.faults sinks.new.items) }

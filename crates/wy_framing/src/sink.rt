@@ -8,7 +8,7 @@ use wy_outside::sink::SinkError;
 /// Where one trace is written. Opened by a name, it takes bytes until it is closed.
 ///
 /// A count never falls; where it is raised at its last value it stays, and counts as having risen.
-pub trait TraceSink {
+pub trait TraceSink: Drop {
     ghost use Rattle.wy_outside.specs.Sink.{is_failed, Appends};
     ghost use Rattle.wy_framing.specs.Told.{emptied};
 

@@ -66,9 +66,6 @@ module _ (p : Program) (m : Shape) (vs : Values) (x : Signal) (o : Outcome nothi
   pub at_end : meaning.end o ≡ c.state
   at_end = ap meaning.end (sym c.is) ∙ end_at c.state vs x
 
-  pub events_kept : m.keeps ≡ true → m.kept ≡ events_of o
-  events_kept keeps = c.agrees.kept keeps ∙ ap (λ (s : State nothing). map (λ e. e.event) (reverse s.noted)) (sym at_end)
-
   pub kept_of : (steps : ℕ) (e : Ended) → length m.covers ≡ p.statements → e.output.items ≡ m.output → e.tail.coverage.statements ≡ m.covers → e.tail.stop ≡ stop_at x → present e.tail.last ≡ last_at x →
       e.tail.steps ≡ steps - m.left → e.tail.events ≡ m.events → e.tail.uses ≡ m.uses → e.tail.output ≡ length m.output → kept_thrown e.thrown ≡ last_thrown c.state (last_at x) → IsEndFor p steps o e
   unfolding meaning.tail_of kept_tail kept.covered_of

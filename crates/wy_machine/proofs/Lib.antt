@@ -5,3 +5,7 @@ pub mod Ends
 pub mod Mirrors
 pub mod Agreeing
 pub mod Tails
+pub mod Handing
+pub mod Taking
+pub mod Turns
+pub mod Runs

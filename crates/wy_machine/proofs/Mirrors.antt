@@ -26,15 +26,6 @@ closed_is closing x [] = refl
 closed_is closing x (Absent ∷ ms) = ap (λ xs. Absent ∷ xs) (closed_is closing x ms)
 closed_is closing x (Some b ∷ ms) = ap (λ xs. Some (x ++ closing x) ∷ xs) (closed_is closing x ms)
 
--- one event more is spelled
-module _ {E : Type 0} (seen : E → Recorded) (frame : Recorded → List ℕ) where
-  pub one_more : (es : List E) (i : ℕ) (e : E) → i < length es → get_or es i e ≡ e → concat (map frame (map seen (take (i + 1) es))) ≡ concat (map frame (map seen (take i es))) ++ frame (seen e)
-  one_more es i e below is =
-      let next : i + 1 ≡ suc i = omega arith in
-      let more : take (i + 1) es ≡ take i es ++ e ∷ [] = ap (λ k. take k es) next ∙ take-suc es i e below ∙ ap (λ x. take i es ++ x ∷ []) is in
-      ap (λ xs. concat (map frame (map seen xs))) more ∙ ap (λ xs. concat (map frame xs)) (map-append seen (take i es) (e ∷ [])) ∙ ap concat (map-append frame (map seen (take i es)) (seen e ∷ []))
-      ∙ concat-append (map frame (map seen (take i es))) (frame (seen e) ∷ []) ∙ ap (λ x. concat (map frame (map seen (take i es))) ++ x) (append-nil (frame (seen e)))
-
 -- a trace from its opening to what closes it
 pub whole : (closing : List ℕ → List ℕ) (x y : List ℕ) (old started noted finished : Mirrors) → started ≡ with_more x (opened old) → noted ≡ with_more y started →
     finished ≡ map (option_map (λ b. b ++ closing b)) noted → finished ≡ closed closing (x ++ y) old
@@ -95,21 +86,6 @@ front_closing closing x (Absent ∷ old) (Some c ∷ new) has = absurd has
 front_closing closing x (Some b ∷ old) (Absent ∷ new) has = absurd has
 front_closing closing x (Some b ∷ old) (Some c ∷ new) ((k, is), rest) =
     ((length x + k, is ∙ sym (take-append-add x (closing x) k)), front_closing closing x old new rest)
-
--- a front up to some event is one of all events
-module _ {E : Type 0} (seen : E → Recorded) (frame : Recorded → List ℕ) where
-  abbrev spelled : List E → List ℕ
-  spelled es = concat (map frame (map seen es))
-
-  joined : (xs ys : List E) → spelled (xs ++ ys) ≡ spelled xs ++ spelled ys
-  joined xs ys =
-      ap (λ rs. concat (map frame rs)) (map-append seen xs ys) ∙ ap concat (map-append frame (map seen xs) (map seen ys)) ∙ concat-append (map frame (map seen xs)) (map frame (map seen ys))
-
-  pub front_of_events : (es : List E) (i : ℕ) (e : E) (old noted new : Mirrors) → i < length es → get_or es i e ≡ e → noted ≡ with_more (spelled (take i es)) old → HavePrefix (frame (seen e)) noted new → HavePrefix (spelled es) old new
-  front_of_events es i e old noted new below is so_far has =
-      let more : HavePrefix (spelled (take i es) ++ frame (seen e)) old new = front_behind (spelled (take i es)) (frame (seen e)) old new (subst (λ (ms : Mirrors). HavePrefix (frame (seen e)) ms new) so_far has) in
-      let first : HavePrefix (spelled (take (i + 1) es)) old new = subst (λ (bytes : List ℕ). HavePrefix bytes old new) (sym (one_more seen frame es i e below is)) more in
-      subst (λ (bytes : List ℕ). HavePrefix bytes old new) (sym (joined (take (i + 1) es) (drop (i + 1) es)) ∙ ap spelled (take-append-drop (i + 1) es)) (front_more (spelled (take (i + 1) es)) (spelled (drop (i + 1) es)) old new first)
 
 -- ---- where a recording is refused
 

@@ -1,5 +1,5 @@
 -- What stands before the first step is the start of the definition, and the whole run is before it.
-use Rattle.std.proofs.Common.{◌≡◌, ◌∙◌, ◌<◌, ℕ, List, [], ◌∷◌, length, replicate, get_or, Bool, true, Some, refl, sym, ap, subst, arith}
+use Rattle.std.proofs.Common.{◌≡◌, ◌∙◌, ◌<◌, ℕ, List, [], ◌∷◌, length, replicate, get_or, Some, refl, sym, ap, subst, arith}
 use Rattle.std.specs.Prelude.{None as Absent}
 use Rattle.std.proofs.lemmas.List.{get_or-replicate, length-replicate}
 use Rattle.wy_kernel.specs.Program.{Program, class, method}
@@ -28,12 +28,12 @@ use Rattle.wy_work.proofs.Runs.{world_program}
 use Rattle.wy_machine.specs.Start.{untouched}
 use Rattle.wy_machine.specs.Ended.{whole}
 
-pub starts : (p : Program) (input : List ℕ) (budget : ℕ) (h : Heap) → IsNew p h → (cs : List Cover) (n : ℕ) → cs ≡ replicate n untouched → (keeps : Bool) (kept : List Recorded) → (keeps ≡ true → kept ≡ []) →
+pub starts : (p : Program) (input : List ℕ) (budget : ℕ) (h : Heap) → IsNew p h → (cs : List Cover) (n : ℕ) → cs ≡ replicate n untouched → (keeps : ℕ) (kept : List Recorded) → keeps ≡ 0 → kept ≡ [] →
     Agrees p (record { calls = nothing_runs; heap = h; entered = 0; events = 0; uses = 0; left = budget; elements = 0; units = 0; output = []; input = input; covers = cs; throws = []; keeps = keeps; kept = kept }) (start input budget)
 unfolding start held_of has_init present
-starts p input budget h new cs n same keeps kept none = record {
+starts p input budget h new cs n same keeps kept first none = record {
   events = refl;
-  kept = none;
+  kept = ([], sym first, sym none);
   uses = refl;
   left = refl;
   elements = refl;

@@ -1,7 +1,6 @@
 -- How a machine goes on until nothing is left to do.
 use Rattle.std.specs.Prelude.{◌≡◌, ℕ, Option, Some, Result, Ok, Err, IfOk}
 use Rattle.std.specs.Prelude.{None as Absent}
-use Rattle.std.specs.declared.alloc.AllocError.{AllocError}
 use Rattle.wy_kernel.specs.Program.{Program}
 use Rattle.wy_steps.specs.Sets.{nothing}
 use Rattle.wy_steps.specs.State.{Outcome}
@@ -16,18 +15,23 @@ use Rattle.wy_state.specs.Seen.{stop_of}
 use Rattle.wy_work.specs.declared.turn.Signal.{Signal}
 use Rattle.wy_work.specs.declared.turn.Signal.TheVariants as signal
 use Rattle.wy_work.specs.Tasks.{MachineState, goes, outcome_at}
+use Rattle.wy_machine.specs.declared.refusal.RunError.{RunError}
+use Rattle.wy_machine.specs.declared.refusal.RunError.TheVariants.{NoMemory}
+
+-- the run that the machine has before it comes to this
+abbrev pub ComesTo : Program → MachineState → Outcome nothing Values → Type 0
+ComesTo p m o = Comes p m.state (goes p m) o
 
 -- the run that the machine had before it is the one that ended so
-abbrev pub GoesOn : Program → MachineState → Result Signal AllocError → MachineState → Type 0
-GoesOn p m result n = (o : Outcome nothing Values) → Comes p m.state (goes p m) o → IfOk result (λ signal. Comes p n.state (outcome_at signal n.values) o)
+abbrev pub GoesOn : Program → MachineState → Result Signal RunError → MachineState → Type 0
+GoesOn p m result n = (o : Outcome nothing Values) → ComesTo p m o → IfOk result (λ signal. Comes p n.state (outcome_at signal n.values) o)
 
 -- what a turn came to
-abbrev pub Reaches : Result (Unit {0}) Halt → Result Signal AllocError → Type 0
-Reaches (Ok x) result = IfOk result (λ s. s ≡ signal.Going)
-Reaches (Err (halt.Left why)) result = IfOk result (λ s. s ≡ signal.Left why)
-Reaches (Err (halt.Stopped why)) result = IfOk result (λ s. s ≡ signal.Stopped why)
-Reaches (Err (halt.Recorder e)) result = IfOk result (λ s. ⊥)
-Reaches (Err halt.Memory) result = IfOk result (λ s. ⊥)
+abbrev pub signal_after : Result (Unit {0}) Halt → Result Signal RunError
+signal_after (Ok x) = Ok signal.Going
+signal_after (Err (halt.Left why)) = Ok (signal.Left why)
+signal_after (Err (halt.Stopped why)) = Ok (signal.Stopped why)
+signal_after (Err halt.Memory) = Err NoMemory
 
 -- the number of what ended a run, and the Throw that did
 abbrev pub stop_at : Signal → ℕ

@@ -2,5 +2,8 @@ pub mod Audits
 pub mod Differences
 pub mod Ended
 pub mod Going
+pub mod Handed
+pub mod Refusals
+pub mod Shown
 pub mod Start
 pub mod Traces

@@ -1,9 +1,9 @@
 //! How a run ended, and what is kept of it.
 
-ghost use Rattle.std.specs.Prelude.{◌≡◌, ℕ, List, IfOk, true};
+ghost use Rattle.std.specs.Prelude.{◌≡◌, IfOk};
 ghost use Rattle.wy_kernel.specs.View.{present};
 ghost use Rattle.wy_kernel.specs.Program as kernel;
-ghost use Rattle.wy_machine.specs.Ended.{IsEndFor, events_of};
+ghost use Rattle.wy_machine.specs.Ended.{IsEndFor};
 ghost use Rattle.wy_machine.specs.Going.{last_at, stop_at};
 ghost use Rattle.wy_meaning.specs.Run as meaning;
 ghost use Rattle.wy_operands.specs.Values.{Values};
@@ -19,24 +19,21 @@ use std::alloc::AllocError;
 use wy_event::record::{Coverage, Tail};
 use wy_event::sequence::Sequence;
 use wy_kernel::types::NONE;
-use wy_record::Recorder;
 use wy_state::parts::{Limit, Reason};
+use wy_state::register::Register;
 use wy_state::state::State;
 use wy_work::turn::Signal;
 
-/// What is kept of a run that left this state, and its recorder.
-pub fn finish<'a, R: Recorder + Drop>(
+/// What is kept of a run that left this state.
+pub fn finish<'a, R: Register + Drop>(
     state: State<'a, R>,
     statements: u32,
     steps: u32,
     signal: Signal,
-) -> Result<(Ended, R), AllocError>
-    ensures ended { (p : kernel.Program) (vs : Values) (o : Outcome nothing Values)
+) -> Result<Ended, AllocError>
+    ensures { (p : kernel.Program) (vs : Values) (o : Outcome nothing Values)
         → Comes p (shape R.keeps R.kept state.entry) (outcome_at signal vs) o
-        → p.statements ≡ statements → IfOk result (λ r. IsEndFor p steps o r.0) }
-    ensures kept { (p : kernel.Program) (vs : Values) (o : Outcome nothing Values)
-        → Comes p (shape R.keeps R.kept state.entry) (outcome_at signal vs) o
-        → R.keeps ≡ true → IfOk result (λ r. R.kept r.1 ≡ events_of o) }
+        → p.statements ≡ statements → IfOk result (λ ended. IsEndFor p steps o ended) }
 {
     if state.covers.len() != statements as usize {
         return Err(AllocError);
@@ -57,12 +54,11 @@ pub fn finish<'a, R: Recorder + Drop>(
         uses: state.uses,
         output,
     };
-    let ended = Ended {
+    Ok(Ended {
         output: state.output,
         tail,
         thrown,
-    };
-    Ok((ended, state.recorder))
+    })
 }
 
 /// A number, or NONE.

@@ -5,7 +5,9 @@
 mod auditing;
 mod ended;
 mod finish;
+mod made;
 mod recording;
+mod refusal;
 mod start;
 mod thrown;
 mod whole;
@@ -13,4 +15,5 @@ mod whole;
 pub use auditing::{Verdict, audit, one_audit_is_due};
 pub use ended::Ended;
 pub use recording::record;
+pub use refusal::RunError;
 pub use whole::run;

@@ -1,6 +1,6 @@
 //! How a run begins: the class of main is initialized, and then main is called (JLS 12.1.3, 12.1.4).
 
-ghost use Rattle.std.specs.Prelude.{◌≡◌, true, IfOk, [], replicate};
+ghost use Rattle.std.specs.Prelude.{◌≡◌, IfOk, [], replicate};
 ghost use Rattle.wy_kernel.specs.Parts.{program_of};
 ghost use Rattle.wy_machine.specs.Ended.{whole};
 ghost use Rattle.wy_machine.specs.Start.{untouched};
@@ -17,21 +17,25 @@ use wy_kernel::limit::DEPTH_LIMIT;
 use wy_kernel::program::Program;
 use wy_kernel::types::NONE;
 use wy_operands::Operands;
-use wy_record::Recorder;
+use wy_state::register::Register;
 use wy_state::state::State;
 use wy_work::machine::Machine;
 use wy_work::task::Step;
 
 /// A machine that has all of a run before it.
-pub fn start<'a, R: Recorder + Drop>(
+pub fn start<'a, R: Register + Drop>(
     alloc: Global,
     program: &'a Program,
     input: &'a [u8],
     steps: u32,
-    recorder: R,
+    register: R,
 ) -> Result<Machine<'a, R>, AllocError>
-    requires { R.keeps ≡ true → R.kept recorder ≡ [] }
-    ensures { IfOk result (λ m. Comes (program_of program.now) (standing R.keeps R.kept m).state
+    requires first { R.keeps register ≡ 0 }
+    requires none { R.kept register ≡ [] }
+    ensures first { IfOk result (λ m. R.keeps m.state.register ≡ 0) }
+    ensures none { IfOk result (λ m. R.kept m.state.register ≡ []) }
+    ensures comes { IfOk result (λ m. Comes (program_of program.now)
+        (standing R.keeps R.kept m).state
         (goes (program_of program.now) (standing R.keeps R.kept m))
         (whole (program_of program.now) input.now steps)) }
 {
@@ -44,7 +48,7 @@ pub fn start<'a, R: Recorder + Drop>(
     }
     let site = program.class(class).site;
     let mut machine = Machine {
-        state: state(alloc, program, input, steps, recorder)?,
+        state: state(alloc, program, input, steps, register)?,
         depth: DEPTH_LIMIT as u32,
         work: Vec::new(alloc),
         stack: Operands::new(alloc),
@@ -56,15 +60,18 @@ pub fn start<'a, R: Recorder + Drop>(
 }
 
 /// The state before the first step.
-fn state<'a, R: Recorder + Drop>(
+fn state<'a, R: Register + Drop>(
     alloc: Global,
     program: &'a Program,
     input: &'a [u8],
     steps: u32,
-    recorder: R,
+    register: R,
 ) -> Result<State<'a, R>, AllocError>
-    requires { R.keeps ≡ true → R.kept recorder ≡ [] }
-    ensures { IfOk result
+    requires first { R.keeps register ≡ 0 }
+    requires none { R.kept register ≡ [] }
+    ensures first { IfOk result (λ s. R.keeps s.register ≡ 0) }
+    ensures none { IfOk result (λ s. R.kept s.register ≡ []) }
+    ensures agrees { IfOk result
         (λ s. Agrees (program_of program.now) (shape R.keeps R.kept s) (start input.now steps)) }
 {
     Ok(State {
@@ -80,7 +87,7 @@ fn state<'a, R: Recorder + Drop>(
         input,
         covers: covers(alloc, program.statements)?,
         throws: Vec::new(alloc),
-        recorder,
+        register,
         spare: Vec::new(alloc),
         alloc,
     })

@@ -12,13 +12,13 @@ use std::alloc::AllocError;
 use wy_event::record::Thrown;
 use wy_kernel::code::{class_of_type, type_of_code};
 use wy_kernel::types::NONE;
-use wy_record::Recorder;
 use wy_state::parts::Throw;
+use wy_state::register::Register;
 use wy_state::state::State;
 use wy_value::Value;
 
 /// The class of the object of a Throw and its site, and neither where there is no Throw.
-pub fn thrown<'a, R: Recorder + Drop>(
+pub fn thrown<'a, R: Register + Drop>(
     state: &State<'a, R>,
     last: Option<u32>,
 ) -> Result<Thrown, AllocError>

@@ -44,7 +44,7 @@ module _ (p : Program) (m : Shape) (x : Slot) (v : Value) (found : Onward p m (v
       record { state = s; agrees = a; is = rw (← a.events, value) refl }
 
   pub read_goes : Onward p m (read x) m (return seen)
-  read_goes = record { from = read_comes }
+  read_goes = record { from = read_comes; same = refl }
 
   module _ (parts : Carried nothing) where
     abbrev pub fetched : Carried nothing → Run nothing (Carried nothing)

@@ -11,7 +11,7 @@ use Rattle.wy_state.specs.Agrees.{Shape, Onward, StepGives}
 use Rattle.wy_state.specs.Seen.{draft_of, given, made_of}
 use Rattle.wy_state.specs.declared.parts.Draft.{Draft as Drafted}
 use Rattle.wy_state.specs.declared.parts.Halt.{Halt}
-use Rattle.wy_state.specs.declared.parts.Halt.TheVariants.{Left, Stopped, Recorder, Memory}
+use Rattle.wy_state.specs.declared.parts.Halt.TheVariants.{Left, Stopped, Memory}
 use Rattle.wy_state.proofs.Onward.{onward_as, onward_bind, onward_then, answers_then}
 
 module _ {X Y : Type 0} {p : Program} {m n : Shape} where
@@ -25,7 +25,6 @@ pub answers_as : {X Y : Type 0} (p : Program) (view : X → Y) (r : Result X Hal
 answers_as p view (Ok x) m n f g same a = onward_as same a
 answers_as p view (Err (Left why)) m n f g same a = onward_as same a
 answers_as p view (Err (Stopped why)) m n f g same a = onward_as same a
-answers_as p view (Err (Recorder e)) m n f g same a = tt
 answers_as p view (Err Memory) m n f g same a = tt
 
 -- a run before one that answers

@@ -6,18 +6,17 @@ use Rattle.wy_steps.specs.Sets.{nothing}
 use Rattle.wy_steps.specs.State.{Run}
 use Rattle.wy_state.specs.Agrees.{Shape, StepGives, itself}
 use Rattle.wy_state.specs.declared.parts.Halt.{Halt}
-use Rattle.wy_state.specs.declared.parts.Halt.TheVariants.{Left, Stopped, Recorder, Memory}
+use Rattle.wy_state.specs.declared.parts.Halt.TheVariants.{Left, Stopped, Memory}
 
 -- the same bodies run, and the same scopes are open; locals and active entries may differ
 pub record IsSameAround (old new : CallStack) : Type 0 where
   pub frames : map (λ (f : CallFrame). f.event) new.frames ≡ map (λ (f : CallFrame). f.event) old.frames
   pub scopes : new.scopes ≡ old.scopes
 
--- so it is where a run was left or stopped; the recorder or memory may refuse in the middle
+-- so it is where a run was left or stopped; memory may be wanting in the middle
 abbrev pub KeepsAt : Halt → CallStack → CallStack → Type 0
 KeepsAt (Left why) old new = IsSameAround old new
 KeepsAt (Stopped why) old new = IsSameAround old new
-KeepsAt (Recorder e) old new = Unit {0}
 KeepsAt Memory old new = Unit {0}
 
 abbrev pub Keeps : {X : Type 0} → Result X Halt → CallStack → CallStack → Type 0

@@ -18,8 +18,8 @@ use crate::operand::{Part, is_negative, natural_of};
 use wy_event::record::{Kind, Slot, Use};
 use wy_kernel::code::{element_type, short_code};
 use wy_kernel::types::Ty;
-use wy_record::Recorder;
 use wy_state::parts::{Draft, Halt};
+use wy_state::register::Register;
 use wy_state::state::State;
 use wy_value::Value;
 
@@ -27,7 +27,7 @@ use wy_value::Value;
 const MOST_DIMENSIONS: usize = 255;
 
 /// Makes an array of a type with so many elements, and gives the number of its New.
-pub fn make_array<R: Recorder>(
+pub fn make_array<R: Register>(
     state: &mut State<'_, R>,
     site: u32,
     ty: Ty,
@@ -46,7 +46,7 @@ pub fn make_array<R: Recorder>(
 }
 
 /// Makes an array with its subarrays by the lengths of its dimensions, of which none may be negative, and gives the number of its New.
-pub fn create_array<R: Recorder>(
+pub fn create_array<R: Register>(
     state: &mut State<'_, R>,
     ty: Ty,
     dims: &[Part<'_>],
@@ -89,7 +89,7 @@ fn any_negative(dims: &[Part<'_>]) -> bool
 
 /// Makes the subarrays of an array, in the order of its elements.
 #[cycle(subarrays)]
-fn subarrays<R: Recorder>(
+fn subarrays<R: Register>(
     state: &mut State<'_, R>,
     site: u32,
     ty: Ty,
@@ -113,7 +113,7 @@ fn subarrays<R: Recorder>(
 
 /// Makes a subarray, stores it at its index, and fills it in the same way.
 #[cycle(subarrays)]
-fn subarray<R: Recorder>(
+fn subarray<R: Register>(
     state: &mut State<'_, R>,
     site: u32,
     ty: Ty,
@@ -140,7 +140,7 @@ fn subarray<R: Recorder>(
 }
 
 /// Records the Set of an element of an array initializer, and gives its number.
-pub fn set_element<R: Recorder>(
+pub fn set_element<R: Register>(
     state: &mut State<'_, R>,
     array: u32,
     index: u32,

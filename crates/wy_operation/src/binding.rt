@@ -13,12 +13,12 @@ ghost use Rattle.wy_state.specs.Seen.{made_of};
 use crate::operand::Part;
 use wy_event::record::{Kind, Slot};
 use wy_kernel::form::Body;
-use wy_record::Recorder;
 use wy_state::parts::{Draft, Halt};
+use wy_state::register::Register;
 use wy_state::state::State;
 
 /// Records a Bind for each value, in the frame of the call.
-pub fn bind_all<R: Recorder>(
+pub fn bind_all<R: Register>(
     state: &mut State<'_, R>,
     body: &Body,
     frame: u32,
@@ -39,7 +39,7 @@ pub fn bind_all<R: Recorder>(
 }
 
 /// Records the Bind of a local.
-fn bind<R: Recorder>(
+fn bind<R: Register>(
     state: &mut State<'_, R>,
     body: &Body,
     frame: u32,

@@ -14,12 +14,12 @@ ghost use Rattle.wy_steps.specs.State.{return};
 use crate::exception::{NULL_POINTER, fail, throwing};
 use crate::operand::is_null;
 use wy_event::record::{Kind, Use};
-use wy_record::Recorder;
 use wy_state::parts::{Draft, Halt, Limit, Reason};
+use wy_state::register::Register;
 use wy_state::state::State;
 use wy_value::Value;
 
-pub fn jump<R: Recorder>(state: &mut State<'_, R>, site: u32, target: u32) -> Halt
+pub fn jump<R: Register>(state: &mut State<'_, R>, site: u32, target: u32) -> Halt
     ensures step { (p : Program) → Leaves p result (shape R.keeps R.kept state.old)
         (jump site target) (shape R.keeps R.kept state.new) }
     ensures around { KeepsAt result state.old.calls state.new.calls }
@@ -31,7 +31,7 @@ pub fn jump<R: Recorder>(state: &mut State<'_, R>, site: u32, target: u32) -> Ha
 }
 
 /// The Return comes before `finally` blocks run.
-pub fn return_value<R: Recorder>(
+pub fn return_value<R: Register>(
     state: &mut State<'_, R>,
     site: u32,
     value: Value,
@@ -48,7 +48,7 @@ pub fn return_value<R: Recorder>(
 }
 
 /// A throw of null is a NullPointerException.
-pub fn throw_value<R: Recorder>(
+pub fn throw_value<R: Register>(
     state: &mut State<'_, R>,
     site: u32,
     value: Value,
@@ -66,7 +66,7 @@ pub fn throw_value<R: Recorder>(
 }
 
 /// Records the Return at the end of a body, and gives its number; a method with a result has none there.
-pub fn end_body<R: Recorder>(
+pub fn end_body<R: Register>(
     state: &mut State<'_, R>,
     returns_none: bool,
     site: u32,

@@ -10,8 +10,8 @@ ghost use Rattle.wy_steps.specs.Sets.{nothing};
 ghost use Rattle.wy_value.specs.declared.value.Value.{Value};
 
 use wy_event::record::{Kind, Use};
-use wy_record::Recorder;
 use wy_state::parts::{Draft, Halt, Reason};
+use wy_state::register::Register;
 use wy_state::state::State;
 use wy_value::Value;
 
@@ -33,7 +33,7 @@ pub const NEGATIVE_SIZE: u32 = 15;
 pub const NULL_POINTER: u32 = 16;
 
 /// Throws an exception of a class, of the operands of the form that failed.
-pub fn fail<R: Recorder>(state: &mut State<'_, R>, class: u32, site: u32, uses: &[Use]) -> Halt
+pub fn fail<R: Register>(state: &mut State<'_, R>, class: u32, site: u32, uses: &[Use]) -> Halt
     ensures step { (p : Program) (w : World nothing) (v : Value) → w.program ≡ p
         → Ends p result (shape R.keeps R.kept state.old) (fail w class site (given v uses.now))
         (shape R.keeps R.kept state.new) }
@@ -46,7 +46,7 @@ pub fn fail<R: Recorder>(state: &mut State<'_, R>, class: u32, site: u32, uses: 
 }
 
 /// Throws an object at a site.
-pub fn throwing<R: Recorder>(
+pub fn throwing<R: Register>(
     state: &mut State<'_, R>,
     site: u32,
     value: Value,

@@ -18,8 +18,8 @@ use crate::exception::{ARITHMETIC, fail};
 use crate::operand::is_reference;
 use wy_event::record::Use;
 use wy_kernel::operator::{BinOp, Primitive, UnOp};
-use wy_record::Recorder;
 use wy_state::parts::Halt;
+use wy_state::register::Register;
 use wy_state::state::State;
 use wy_value::Value;
 
@@ -31,7 +31,7 @@ pub enum Operated {
 }
 
 /// The value of a binary operator on two operands; a zero divisor is an exception.
-pub fn binary<R: Recorder>(
+pub fn binary<R: Register>(
     state: &mut State<'_, R>,
     op: BinOp,
     left: Value,

@@ -20,14 +20,14 @@ use wy_event::record::{Kind, Slot, Use};
 use wy_kernel::code::element_type;
 use wy_kernel::program::Program;
 use wy_kernel::types::{Base, Ty};
-use wy_record::Recorder;
 use wy_state::below::is_below;
 use wy_state::parts::{Draft, Halt, Limit};
+use wy_state::register::Register;
 use wy_state::state::State;
 use wy_value::Value;
 
 /// The value in a slot, and the slot as its use; a local that has no value stops the run.
-pub fn fetch<R: Recorder>(state: &State<'_, R>, slot: Slot) -> Result<(Value, Use), Halt>
+pub fn fetch<R: Register>(state: &State<'_, R>, slot: Slot) -> Result<(Value, Use), Halt>
     ensures { (p : kernel.Program) (parts : Carried nothing)
         → StepGives p (λ r. given r.0 (parts.uses ++ r.1 ∷ [])) result
         (shape R.keeps R.kept state.now) (fetch (spot_of slot parts))
@@ -53,7 +53,7 @@ fn lacks_value(slot: Slot, value: Value) -> bool
 }
 
 /// The slot of a field of the object that a value refers to.
-pub fn field_slot<R: Recorder>(
+pub fn field_slot<R: Register>(
     state: &mut State<'_, R>,
     field: u32,
     value: Value,
@@ -73,7 +73,7 @@ pub fn field_slot<R: Recorder>(
 }
 
 /// The slot of an element by an array and an index: first null, then the index.
-pub fn element_slot<R: Recorder>(
+pub fn element_slot<R: Register>(
     state: &mut State<'_, R>,
     array: Value,
     index: Value,
@@ -111,7 +111,7 @@ fn index_in(length: u32, value: Value) -> Option<u32>
 }
 
 /// Records the Set of a slot to a value, and gives its number.
-pub fn assign<R: Recorder>(
+pub fn assign<R: Register>(
     state: &mut State<'_, R>,
     slot: Slot,
     value: Value,
@@ -127,7 +127,7 @@ pub fn assign<R: Recorder>(
 }
 
 /// Sets a slot to a value, after the check of what an array may hold.
-pub fn store<R: Recorder>(
+pub fn store<R: Register>(
     state: &mut State<'_, R>,
     program: &Program,
     slot: Slot,
@@ -147,7 +147,7 @@ pub fn store<R: Recorder>(
 }
 
 /// What an array of references may not hold is an exception (JLS 10.5).
-fn check_store<R: Recorder>(
+fn check_store<R: Register>(
     state: &mut State<'_, R>,
     program: &Program,
     slot: Slot,

@@ -13,13 +13,13 @@ ghost use Rattle.wy_steps.specs.Steps.{activating, note};
 
 use crate::operand::is_true;
 use wy_event::record::{Kind, Use};
-use wy_record::Recorder;
 use wy_state::parts::{Draft, Halt};
+use wy_state::register::Register;
 use wy_state::state::State;
 use wy_value::Value;
 
 /// Records the Test of a statement's condition, which is active until the statement that it reaches through ends.
-pub fn test<R: Recorder>(
+pub fn test<R: Register>(
     state: &mut State<'_, R>,
     site: u32,
     reach: u32,
@@ -36,7 +36,7 @@ pub fn test<R: Recorder>(
 }
 
 /// Records the Test of an expression, which is active until the scope that is open is closed.
-pub fn test_around<R: Recorder>(
+pub fn test_around<R: Register>(
     state: &mut State<'_, R>,
     site: u32,
     value: Value,

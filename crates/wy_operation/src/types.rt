@@ -17,14 +17,14 @@ use std::alloc::AllocError;
 use wy_event::record::Use;
 use wy_kernel::program::Program;
 use wy_kernel::types::Ty;
-use wy_record::Recorder;
 use wy_state::below::is_below;
 use wy_state::parts::Halt;
+use wy_state::register::Register;
 use wy_state::state::State;
 use wy_value::Value;
 
 /// Null may be cast to each reference type, and an object to what its class is below.
-pub fn cast<R: Recorder>(
+pub fn cast<R: Register>(
     state: &mut State<'_, R>,
     program: &Program,
     ty: Ty,
@@ -49,7 +49,7 @@ pub fn cast<R: Recorder>(
 }
 
 /// Null is an instance of nothing.
-pub fn instance_of<R: Recorder>(
+pub fn instance_of<R: Register>(
     state: &State<'_, R>,
     program: &Program,
     ty: Ty,

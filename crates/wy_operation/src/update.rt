@@ -17,8 +17,8 @@ use crate::place::assign;
 use wy_event::record::{Slot, Use};
 use wy_kernel::operator::{BinOp, Primitive};
 use wy_kernel::types::{Base, Ty};
-use wy_record::Recorder;
 use wy_state::parts::Halt;
+use wy_state::register::Register;
 use wy_state::state::State;
 use wy_value::Value;
 
@@ -33,7 +33,7 @@ pub struct Compound {
 
 /// Sets a slot to what the operation gives of its old value and the right side, and gives that with the number of the Set.
 /// The operands are the uses of these two, and the uses those of the place's parts before them.
-pub fn update<R: Recorder>(
+pub fn update<R: Register>(
     state: &mut State<'_, R>,
     slot: Slot,
     form: Compound,

@@ -1,5 +1,5 @@
 -- What the answers of a recorder say of its faults, its mirrors and what it compares.
-use Rattle.std.specs.Prelude.{◌≡◌, ◌<◌, ℕ, Bool, true, List, [], ◌∷◌, ◌++◌, map, take, Option, Some, option_map, Result, Ok, Err}
+use Rattle.std.specs.Prelude.{◌≡◌, ◌<◌, ℕ, zero, suc, Bool, true, List, [], ◌∷◌, ◌++◌, map, take, Option, Some, option_map, Result, Ok, Err}
 use Rattle.std.specs.Prelude.{None as Absent}
 use Rattle.wy_record.specs.declared.recorder.RecordError.{RecordError}
 use Rattle.wy_record.specs.declared.recorder.RecordError.TheVariants.{SinkFault, Differs, NoMemory}
@@ -14,6 +14,17 @@ FaultsAs (Ok x) old new = new ≡ old
 FaultsAs (Err (SinkFault mirror)) old new = old < new
 FaultsAs (Err (Differs event)) old new = new ≡ old
 FaultsAs (Err NoMemory) old new = new ≡ old
+
+-- the count at this place changed so, and the others stayed
+abbrev pub ChangedOnlyAt : (ℕ → ℕ → Type 0) → ℕ → List ℕ → List ℕ → Type 0
+ChangedOnlyAt So zero (old ∷ olds) (new ∷ news) = So old new × (news ≡ olds)
+ChangedOnlyAt So (suc n) (old ∷ olds) (new ∷ news) = (new ≡ old) × ChangedOnlyAt So n olds news
+ChangedOnlyAt So n _ _ = ⊥
+
+-- a fault names a mirror whose own count rose, and every other answer leaves the counts of all mirrors
+abbrev pub CountsAs : {X : Type 0} → Result X RecordError → List ℕ → List ℕ → Type 0
+CountsAs (Err (SinkFault mirror)) olds news = ChangedOnlyAt (λ old new. old < new) mirror olds news
+CountsAs _ olds news = news ≡ olds
 
 -- a difference is answered only by one that compares, at its position, for this reason
 abbrev pub DiffersFor : {X : Type 0} → Result X RecordError → Bool → ℕ → Type 0 → Type 0

@@ -55,7 +55,11 @@ impl Recorder for CompareRecorder {
 
     ghost phase = { λ r. r.phase };
 
+    ghost Sound = { λ r. Unit {0} };
+
     ghost faults = { λ r. 0 };
+
+    ghost counts = { λ r. [] };
 
     ghost mirrors = { λ r. [] };
 

@@ -9,7 +9,7 @@ mod recorder;
 mod same;
 
 pub use compare::CompareRecorder;
-pub use memory::MemoryRecorder;
+pub use memory::{MemoryRecorder, keep};
 pub use quiet::QuietRecorder;
 pub use recorder::{Phase, RecordError, Recorder};
 pub use same::same_event;

@@ -46,7 +46,7 @@ fn copied(alloc: Global, event: &Event) -> Result<Event, AllocError>
 }
 
 /// Puts a copy of an event behind those that are kept.
-fn keep(alloc: Global, events: &mut Vec<Event>, event: &Event) -> Result<(), AllocError>
+pub fn keep(alloc: Global, events: &mut Vec<Event>, event: &Event) -> Result<(), AllocError>
     ensures { map recorded events.new.items ≡ (if is_ok result
         then map recorded events.old.items ++ recorded event.now ∷ []
         else map recorded events.old.items) }
@@ -69,7 +69,11 @@ impl Recorder for MemoryRecorder {
 
     ghost phase = { λ r. r.phase };
 
+    ghost Sound = { λ r. Unit {0} };
+
     ghost faults = { λ r. 0 };
+
+    ghost counts = { λ r. [] };
 
     ghost mirrors = { λ r. [] };
 

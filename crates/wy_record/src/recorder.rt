@@ -5,7 +5,7 @@ ghost use Rattle.wy_event.specs.Record.{Recorded, recorded};
 ghost use Rattle.wy_event.specs.declared.record.Head.{Head};
 ghost use Rattle.wy_event.specs.declared.record.Tail.{Tail};
 ghost use Rattle.wy_record.specs.declared.recorder.Phase.{Phase};
-ghost use Rattle.wy_record.specs.Recorders.{DiffersFor, FaultsAs, Mirrors, MirrorsClose, MirrorsTake, opened};
+ghost use Rattle.wy_record.specs.Recorders.{CountsAs, DiffersFor, FaultsAs, Mirrors, MirrorsClose, MirrorsTake, opened};
 
 use std::alloc::AllocError;
 use wy_event::record::{Event, Head, Tail};
@@ -46,8 +46,13 @@ pub trait Recorder {
 
     ghost phase: { Self → Phase };
 
-    /// How often a mirror failed.
+    /// What it keeps from call to call, and what the clauses on its mirrors and faults rest on.
+    ghost Sound: { Self → Type 0 };
+
+    /// How often a mirror failed, and how often each did.
     ghost faults: { Self → ℕ };
+
+    ghost counts: { Self → List ℕ };
 
     /// The bytes of each mirror; and how a trace is spelled there: its opening, an event, and what closes the bytes before it.
     ghost mirrors: { Self → Mirrors };
@@ -70,9 +75,11 @@ pub trait Recorder {
         ensures expected { compares ≡ true
             → OnOk result ((expected self.new ≡ map recorded events.items)
             × (position self.new ≡ 0)) }
-        ensures faults { FaultsAs result (faults self.old) (faults self.new) }
-        ensures mirrors { MirrorsTake result (opening head.now) (opened (mirrors self.old))
-            (mirrors self.new) }
+        ensures sound { Sound self.old → Sound self.new }
+        ensures faults { Sound self.old → FaultsAs result (faults self.old) (faults self.new) }
+        ensures counts { Sound self.old → CountsAs result (counts self.old) (counts self.new) }
+        ensures mirrors { Sound self.old → MirrorsTake result (opening head.now)
+            (opened (mirrors self.old)) (mirrors self.new) }
         ensures differs { DiffersFor result compares (position self.old) ⊥ };
 
     /// Takes the next event.
@@ -84,8 +91,10 @@ pub trait Recorder {
         ensures expected { expected self.new ≡ expected self.old }
         ensures position { position self.new ≡ (if is_ok result && compares
             then suc (position self.old) else position self.old) }
-        ensures faults { FaultsAs result (faults self.old) (faults self.new) }
-        ensures mirrors { MirrorsTake result
+        ensures sound { Sound self.old → Sound self.new }
+        ensures faults { Sound self.old → FaultsAs result (faults self.old) (faults self.new) }
+        ensures counts { Sound self.old → CountsAs result (counts self.old) (counts self.new) }
+        ensures mirrors { Sound self.old → MirrorsTake result
             (frame (recorded event.now)) (mirrors self.old) (mirrors self.new) }
         ensures as_expected { compares ≡ true → OnOk result
             (slice_get (expected self.old) (position self.old) ≡ Some (recorded event.now)) }
@@ -102,9 +111,11 @@ pub trait Recorder {
         ensures kept { kept self.new ≡ kept self.old }
         ensures expected { expected self.new ≡ expected self.old }
         ensures position { position self.new ≡ position self.old }
-        ensures faults { FaultsAs result (faults self.old) (faults self.new) }
-        ensures mirrors { MirrorsClose result (closing tail.now) (mirrors self.old)
-            (mirrors self.new) }
+        ensures sound { Sound self.old → Sound self.new }
+        ensures faults { Sound self.old → FaultsAs result (faults self.old) (faults self.new) }
+        ensures counts { Sound self.old → CountsAs result (counts self.old) (counts self.new) }
+        ensures mirrors { Sound self.old → MirrorsClose result (closing tail.now)
+            (mirrors self.old) (mirrors self.new) }
         ensures as_expected { compares ≡ true
             → OnOk result (slice_get (expected self.old) (position self.old) ≡ None) }
         ensures differs { DiffersFor result compares (position self.old)
@@ -120,7 +131,9 @@ pub trait Recorder {
         ensures phase { phase self.new ≡ phase self.old }
         ensures expected { expected self.new ≡ expected self.old }
         ensures position { position self.new ≡ position self.old }
+        ensures sound { Sound self.old → Sound self.new }
         ensures faults { faults self.new ≡ faults self.old }
+        ensures counts { counts self.new ≡ counts self.old }
         ensures mirrors { mirrors self.new ≡ mirrors self.old };
 
     /// A copy of the bytes of a mirror, and None where there is no such mirror or it doesn't tell them.

@@ -20,7 +20,7 @@ use Rattle.wy_state.proofs.Agreement.{with_entries, with_frames}
 module _ (p : Program) (m : Shape) where
   pub activate_goes : (e : ℕ) (new : CallStack) → new ≡ activated e Around m.calls → Onward p m (activate Around e) (record m { calls = new }) (return (itself tt))
   unfolding return with_active
-  activate_goes e new is = rw is (record { from = λ s a. record { state = with_active (record { number = e; from_all = tt; reach = Around }) s; agrees = with_entries p m s _ _ m.calls.scopes (ap (λ es. record { number = e; from_all = tt; reach = Around } ∷ es) a.active) a; is = refl } })
+  activate_goes e new is = rw is (record { from = λ s a. record { state = with_active (record { number = e; from_all = tt; reach = Around }) s; agrees = with_entries p m s _ _ m.calls.scopes (ap (λ es. record { number = e; from_all = tt; reach = Around } ∷ es) a.active) a; is = refl }; same = refl })
 
   pub activate_through_goes : (e statement : ℕ) (new : CallStack) → new ≡ activated e (Through (frame_of m.calls) statement) m.calls → Onward p m (activate_through e statement) (record m { calls = new }) (return (itself tt))
   unfolding return with_active
@@ -30,19 +30,20 @@ module _ (p : Program) (m : Shape) where
       agrees = with_entries p m s _ _ m.calls.scopes (rw (a.frame, a.active) refl) a;
       is = refl;
     };
+    same = refl;
   })
 
   pub open_goes : {X : Type 0} (x : X) (new : CallStack) → new ≡ opened m.calls → Onward p m do_nothing (record m { calls = new }) (return (nothing_of x))
   unfolding return
-  open_goes x new is = rw is (record { from = λ s a. record { state = s; agrees = with_entries p m s _ _ (m.calls.active ∷ m.calls.scopes) a.active a; is = refl } })
+  open_goes x new is = rw is (record { from = λ s a. record { state = s; agrees = with_entries p m s _ _ (m.calls.active ∷ m.calls.scopes) a.active a; is = refl }; same = refl })
 
   pub close_goes : (new : CallStack) → new ≡ closed m.calls → Onward p m (active_be (first_of m.calls.scopes)) (record m { calls = new }) (return (itself tt))
   unfolding return
-  close_goes new is = rw is (record { from = λ s a. record { state = record s { active = first_of m.calls.scopes }; agrees = with_entries p m s _ _ (rest_of m.calls.scopes) refl a; is = refl } })
+  close_goes new is = rw is (record { from = λ s a. record { state = record s { active = first_of m.calls.scopes }; agrees = with_entries p m s _ _ (rest_of m.calls.scopes) refl a; is = refl }; same = refl })
 
   pub same_goes : (new : CallStack) → new ≡ m.calls → Onward p m do_nothing (record m { calls = new }) (return (itself tt))
   unfolding return
-  same_goes new is = rw is (record { from = λ s a. record { state = s; agrees = a; is = refl } })
+  same_goes new is = rw is (record { from = λ s a. record { state = s; agrees = a; is = refl }; same = refl })
 
 -- ---- frames
 
@@ -90,6 +91,7 @@ module _ (p : Program) (m : Shape) where
           (λ f i above. a.fresh_locals f i (omega arith)) a;
       is = refl;
     };
+    same = refl;
   })
     where
       begins : (store : Store nothing) → HasLocals store m.calls.frames → HasFreshLocals store m.entered → HasLocals store (record { event = e; locals = replicate count Nothing } ∷ m.calls.frames)
@@ -106,4 +108,5 @@ module _ (p : Program) (m : Shape) where
       agrees = with_frames p m s (rest_of m.calls.frames) m.entered (event_of (rest_of m.calls.frames)) refl (falls m.entered m.calls.frames a.fall) (keeps m.entered s.store m.calls.frames a.fall a.locals) a.fresh_locals a;
       is = refl;
     };
+    same = refl;
   })

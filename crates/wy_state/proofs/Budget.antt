@@ -16,7 +16,7 @@ use Rattle.wy_state.proofs.Agreement.{with_left, with_input, with_covers, with_e
 module _ (p : Program) (m : Shape) where
   pub tick_goes : (m.left ≡ 0 → ⊥) → Onward p m tick (record m { left = m.left - 1 }) (return (itself tt))
   unfolding tick return pay
-  tick_goes some = record { from = λ s a. paid s a s.left refl }
+  tick_goes some = record { from = λ s a. paid s a s.left refl; same = refl }
     where
       paid : (s : State nothing) → Agrees p m s → (n : ℕ) → s.left ≡ n → Comes p (record m { left = m.left - 1 }) (return (itself tt)) (pay n s)
       paid s a zero e = absurd (some (sym a.left ∙ e))
@@ -24,11 +24,11 @@ module _ (p : Program) (m : Shape) where
 
   pub tick_stops : m.left ≡ 0 → Onward p m tick m (stop StepLimit)
   unfolding tick stop pay
-  tick_stops spent = record { from = λ s a. record { state = s; agrees = a; is = sym (ap (λ n. pay n s) (a.left ∙ spent)) } }
+  tick_stops spent = record { from = λ s a. record { state = s; agrees = a; is = sym (ap (λ n. pay n s) (a.left ∙ spent)) }; same = refl }
 
   pub left_goes : Onward p m steps_left m (return m.left)
   unfolding steps_left return
-  left_goes = record { from = λ s a. record { state = s; agrees = a; is = ap (λ n. Done n s) (sym a.left) } }
+  left_goes = record { from = λ s a. record { state = s; agrees = a; is = ap (λ n. Done n s) (sym a.left) }; same = refl }
 
   none_left : (xs : List ℕ) → length xs ≡ 0 → xs ≡ []
   none_left [] is = refl
@@ -36,16 +36,16 @@ module _ (p : Program) (m : Shape) where
 
   pub input_ends : length m.input ≡ 0 → Onward p m next_byte m (return Absent)
   unfolding next_byte return take_byte
-  input_ends empty = record { from = λ s a. record { state = s; agrees = a; is = sym (ap (λ bs. take_byte bs s) (a.input ∙ none_left m.input empty)) } }
+  input_ends empty = record { from = λ s a. record { state = s; agrees = a; is = sym (ap (λ bs. take_byte bs s) (a.input ∙ none_left m.input empty)) }; same = refl }
 
   pub byte_goes : (b : ℕ) (rest : List ℕ) → m.input ≡ b ∷ rest → Onward p m next_byte (record m { input = rest }) (return (Some b))
   unfolding next_byte return take_byte
-  byte_goes b rest is = record { from = λ s a. record { state = record s { input = rest }; agrees = with_input p m s rest rest refl a; is = sym (ap (λ bs. take_byte bs s) (a.input ∙ is)) } }
+  byte_goes b rest is = record { from = λ s a. record { state = record s { input = rest }; agrees = with_input p m s rest rest refl a; is = sym (ap (λ bs. take_byte bs s) (a.input ∙ is)) }; same = refl }
 
 module _ (p : Program) (m : Shape) (n : ℕ) (c : Cover) (lt : n < length m.covers) where
   pub begin_goes : covered_of c ≡ begun m.events (covered_of (get_or m.covers n blank)) → Onward p m (begin n) (record m { covers = set m.covers n c }) (return (itself tt))
   unfolding covering return
-  begin_goes is = record { from = λ s a. record { state = covering n (begun (length s.noted)) s; agrees = with_covers p m s _ _ (covers_changed m.covers n c s.coverage (begun (length s.noted)) lt (rw a.events is) a.covers) a; is = refl } }
+  begin_goes is = record { from = λ s a. record { state = covering n (begun (length s.noted)) s; agrees = with_covers p m s _ _ (covers_changed m.covers n c s.coverage (begun (length s.noted)) lt (rw a.events is) a.covers) a; is = refl }; same = refl }
 
   -- the same frames, and what outlasts the statement
   outlasts : (s : State nothing) (f : Covered → Covered) → HasCovers (cover_with n f s.coverage) (set m.covers n c) → Agrees p m s →
@@ -57,8 +57,8 @@ module _ (p : Program) (m : Shape) (n : ℕ) (c : Cover) (lt : n < length m.cove
 
   pub finish_goes : (new : CallStack) → new ≡ calls.ended n m.calls → covered_of c ≡ ended (covered_of (get_or m.covers n blank)) → Onward p m (finish n) (record m { covers = set m.covers n c; calls = new }) (return (itself tt))
   unfolding return
-  finish_goes new cut is = rw cut (record { from = λ s a. record { state = without s.frame n (covering n ended s); agrees = outlasts s ended (covers_changed m.covers n c s.coverage ended lt is a.covers) a; is = refl } })
+  finish_goes new cut is = rw cut (record { from = λ s a. record { state = without s.frame n (covering n ended s); agrees = outlasts s ended (covers_changed m.covers n c s.coverage ended lt is a.covers) a; is = refl }; same = refl })
 
   pub leave_goes : (e : ℕ) (new : CallStack) → new ≡ calls.ended n m.calls → covered_of c ≡ left_by e (covered_of (get_or m.covers n blank)) → Onward p m (leave_by n e) (record m { covers = set m.covers n c; calls = new }) (return (itself tt))
   unfolding return
-  leave_goes e new cut is = rw cut (record { from = λ s a. record { state = without s.frame n (covering n (left_by e) s); agrees = outlasts s (left_by e) (covers_changed m.covers n c s.coverage (left_by e) lt is a.covers) a; is = refl } })
+  leave_goes e new cut is = rw cut (record { from = λ s a. record { state = without s.frame n (covering n (left_by e) s); agrees = outlasts s (left_by e) (covers_changed m.covers n c s.coverage (left_by e) lt is a.covers) a; is = refl }; same = refl })

@@ -167,6 +167,7 @@ module _ (p : Program) (m n : Shape) (site c k : ℕ) (d : Drafted) (units : Lis
       agrees = class_made p m s a site c h new (subst (λ g. MakesClass c g h) same_heap w);
       is = rw (in_room p m (about kinds.Init site c Nothing) Nothing [] s a (creating p (about kinds.Init site c Nothing) (given Nothing [])) r.1 r.2, r.0, ← a.events) refl;
     };
+    same = refl;
   })
 
 -- the draft of an Init of a class

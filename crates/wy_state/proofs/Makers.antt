@@ -183,6 +183,7 @@ module _ (p : Program) (m : Shape) (site : ℕ) (us : List Use) (k : ℕ) (numbe
       agrees = agreed s a;
       is = rw (in_room p m (about kinds.New site entity v) w us s a (creating p (about kinds.New site entity v) (given w us)) few fits, number, ← a.events) refl;
     };
+    same = refl;
   })
 
   pub object_goes : (c : ℕ) (n : Shape) → MakesObject k c m.heap h → n ≡ record (with_record (about kinds.New site (class_code c) Nothing) us m) { heap = h } →
@@ -239,6 +240,7 @@ module _ (p : Program) (m : Shape) (site code many : ℕ) (us : List Use) where
     from = λ s a.
         let above : nat_le (s.elements + many) element_limit ≡ false = rw a.elements (lt-leb (m.elements + many) element_limit full) in
         record { state = s; agrees = a; is = rw above refl };
+    same = refl;
   }
 
   pub elements_taken : m.elements + many ≤ element_limit → (x : ℕ) → x ≡ m.elements + many → Onward p m (make_array p site code many us) (record m { elements = x }) (note_new p (about kinds.New site code (Int (pos many))) (given Nothing us))
@@ -247,6 +249,7 @@ module _ (p : Program) (m : Shape) (site code many : ℕ) (us : List Use) where
     from = λ s a.
         let has : nat_le (s.elements + many) element_limit ≡ true = rw a.elements (le-leb (m.elements + many) element_limit fits) in
         record { state = record s { elements = s.elements + many }; agrees = with_more_elements p m s x (s.elements + many) (ap (λ k. k + many) a.elements ∙ sym is) a; is = rw has refl };
+    same = refl;
   }
 
 -- the draft of a New of an array

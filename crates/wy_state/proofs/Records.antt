@@ -1,5 +1,5 @@
 -- Records: what agrees still agrees with one event more.
-use Rattle.std.proofs.Common.{◌≡◌, ◌≢◌, ◌≤◌, ◌<◌, ◌∙◌, ℕ, suc, ◌+◌, List, [], ◌∷◌, ◌++◌, length, map, reverse, Bool, true, false, Option, Some, Err, refl, sym, ap, subst, arith, add-one, inl, inr}
+use Rattle.std.proofs.Common.{◌≡◌, ◌≢◌, ◌≤◌, ◌<◌, ◌∙◌, ℕ, suc, ◌+◌, List, [], ◌∷◌, ◌++◌, length, map, reverse, Bool, true, false, Option, Some, Err, refl, sym, ap, subst, arith, add-one, append_assoc, inl, inr}
 use Rattle.std.specs.Prelude.{nat_lt, nat_le, if◌then◌else◌}
 use Rattle.std.proofs.lemmas.Bool.Decides.{eqb_tells}
 use Rattle.std.proofs.lemmas.Bool.{le-leb, lt-leb}
@@ -9,7 +9,7 @@ use Rattle.wy_value.specs.declared.value.Value.{Value}
 use Rattle.wy_event.specs.declared.record.Kind.{Kind}
 use Rattle.wy_event.specs.declared.record.Kind.TheVariants as kinds
 use Rattle.wy_state.specs.declared.parts.Halt.{Halt}
-use Rattle.wy_state.specs.declared.parts.Halt.TheVariants.{Left, Stopped, Recorder, Memory}
+use Rattle.wy_state.specs.declared.parts.Halt.TheVariants.{Left, Stopped, Memory}
 use Rattle.wy_state.specs.declared.parts.Limit.TheVariants as limit
 use Rattle.wy_event.specs.declared.record.Use.{Use}
 use Rattle.wy_steps.specs.Sets.{nothing}
@@ -24,7 +24,7 @@ use Rattle.wy_state.proofs.Onward.{answers_after, answers_then, onward_bind, onw
 use Rattle.wy_heap.specs.declared.heap.Heap.{Heap}
 use Rattle.wy_heap.specs.Heap.{plan, is_made}
 use Rattle.wy_heap.specs.Plan.{plan_of}
-use Rattle.wy_state.specs.Agrees.{Shape, Agrees, StepGives, Onward, HasLocals, HasFreshLocals, HasSlots, HasFreshStatics, HasCodes, HasSizes, HasTexts, IsUnmade, Refusing, event_of, itself, throw_at, with_record}
+use Rattle.wy_state.specs.Agrees.{Shape, Agrees, AreFrom, StepGives, Onward, HasLocals, HasFreshLocals, HasSlots, HasFreshStatics, HasCodes, HasSizes, HasTexts, IsUnmade, Refusing, event_of, itself, throw_at, with_record}
 use Rattle.wy_state.specs.declared.parts.Draft.{Draft as Drafted}
 use Rattle.wy_state.specs.Seen.{draft_of, given, made_of}
 
@@ -54,12 +54,16 @@ module _ (p : Program) (m : Shape) (s : State nothing) (a : Agrees p m s) (d : D
   unfolding next_event
   next_is = rw (a.frame, a.active) refl
 
-  kept_more : m.keeps ≡ true → (if m.keeps then m.kept ++ event_of d c.uses m ∷ [] else m.kept) ≡ map (λ e. e.event) (reverse (next_event d c s ∷ s.noted))
-  kept_more keeps =
-      ap (λ b. if b then m.kept ++ event_of d c.uses m ∷ [] else m.kept) keeps ∙ ap (λ xs. xs ++ event_of d c.uses m ∷ []) (a.kept keeps) ∙
-      ap (λ x. map (λ e. e.event) (reverse s.noted) ++ x ∷ []) (sym next_is) ∙
-      sym (map-append (λ e. e.event) (reverse s.noted) (next_event d c s ∷ [])) ∙
-      ap (map (λ e. e.event)) (sym (reverse-cons (next_event d c s) s.noted))
+  kept_more : AreFrom m.keeps (map (λ e. e.event) (reverse (next_event d c s ∷ s.noted))) (m.kept ++ event_of d c.uses m ∷ [])
+  kept_more = (
+    a.kept.0,
+    a.kept.1,
+    ap (map (λ e. e.event)) (reverse-cons (next_event d c s) s.noted) ∙
+        map-append (λ e. e.event) (reverse s.noted) (next_event d c s ∷ []) ∙
+        ap (λ x. map (λ e. e.event) (reverse s.noted) ++ x ∷ []) next_is ∙
+        ap (λ xs. xs ++ event_of d c.uses m ∷ []) a.kept.2 ∙
+        append_assoc a.kept.0 m.kept (event_of d c.uses m ∷ []),
+  )
 
   -- with another heap and another store, of which all that a state needs is known
   pub one_more : (h : Heap) (store : Store nothing) → HasLocals store m.calls.frames → HasFreshLocals store m.entered → plan h ≡ plan_of p → HasSlots store h → HasFreshStatics p store h →
@@ -144,15 +148,16 @@ module _ (p : Program) (m : Shape) (d : Draft) (v : Value) (us : List Use) where
       agrees = plain_more p m s a d (given v us) plain;
       is = rw (in_room s a (noting d (given v us)) few fits, ← a.events) refl;
     };
+    same = refl;
   })
 
   pub full_goes : {X : Type 0} (f : Run nothing X) (n : Shape) → n ≡ m → event_limit ≤ m.events → Onward p m (room_for (given v us) f) n (stop EventLimit)
   unfolding stop
-  full_goes f n is full = rw is (record { from = λ s a. record { state = s; agrees = a; is = sym (past_events s a f full) } })
+  full_goes f n is full = rw is (record { from = λ s a. record { state = s; agrees = a; is = sym (past_events s a f full) }; same = refl })
 
   pub full_of_uses_goes : {X : Type 0} (f : Run nothing X) (n : Shape) → n ≡ m → m.events < event_limit → use_limit < m.uses + length us → Onward p m (room_for (given v us) f) n (stop UseLimit)
   unfolding stop
-  full_of_uses_goes f n is few full = rw is (record { from = λ s a. record { state = s; agrees = a; is = sym (past_uses s a f few full) } })
+  full_of_uses_goes f n is few full = rw is (record { from = λ s a. record { state = s; agrees = a; is = sym (past_uses s a f few full) }; same = refl })
 
   -- what was refused, whatever the room was for
   pub refused : {X Z : Type 0} (f : Run nothing Z) (view : X → Z) (n : Shape) (e : Halt) → Refusing us e m n → StepGives p view (Err e) m (room_for (given v us) f) n
@@ -167,7 +172,6 @@ module _ (p : Program) (m : Shape) (d : Draft) (v : Value) (us : List Use) where
   refused f view n (Stopped limit.FellOff) h = absurd h
   refused f view n (Stopped (limit.InitFailed last)) h = absurd h
   refused f view n (Left why) h = absurd h
-  refused f view n (Recorder e) h = tt
   refused f view n Memory h = tt
 
   pub note_refused : {X : Type 0} (view : X → Made nothing) (n : Shape) (e : Halt) → Refusing us e m n → StepGives p view (Err e) m (note d (given v us)) n
@@ -221,7 +225,7 @@ module _ (p : Program) (m : Shape) (site : ℕ) (bytes : List ℕ) (v : Value) (
       rw has refl
 
   pub print_starts : length m.output + length bytes ≤ output_limit → Onward p m (print site bytes (given v us)) m (note (plain kinds.Print site v) (given v us) >>= (λ e. write_out bytes))
-  print_starts fits = record { from = λ s a. record { state = s; agrees = a; is = sym (room s a fits) } }
+  print_starts fits = record { from = λ s a. record { state = s; agrees = a; is = sym (room s a fits) }; same = refl }
 
   pub no_output_left : output_limit < length m.output + length bytes → Onward p m (print site bytes (given v us)) m (stop OutputLimit)
   unfolding print room_for_output ◌>>=◌ ◌>>◌ go_on choose stop
@@ -229,11 +233,12 @@ module _ (p : Program) (m : Shape) (site : ℕ) (bytes : List ℕ) (v : Value) (
     from = λ s a.
         let above : nat_le (length s.output + length bytes) output_limit ≡ false = rw a.output (lt-leb (length m.output + length bytes) output_limit full) in
         record { state = s; agrees = a; is = rw above refl };
+    same = refl;
   }
 
 pub written_out : (p : Program) (m : Shape) (bytes out : List ℕ) → out ≡ m.output ++ bytes → Onward p m (write_out bytes) (record m { output = out }) (return (itself tt))
 unfolding write_out return
-written_out p m bytes out is = record { from = λ s a. record { state = record s { output = s.output ++ bytes }; agrees = with_output p m s out (s.output ++ bytes) (ap (λ xs. xs ++ bytes) a.output ∙ sym is) a; is = refl } }
+written_out p m bytes out is = record { from = λ s a. record { state = record s { output = s.output ++ bytes }; agrees = with_output p m s out (s.output ++ bytes) (ap (λ xs. xs ++ bytes) a.output ∙ sym is) a; is = refl }; same = refl }
 
 -- a print by its record
 module _ (p : Program) (m : Shape) (site : ℕ) (bytes : List ℕ) (v : Value) (us : List Use) (fits : length m.output + length bytes ≤ output_limit) (d : Draft) (drafted : d ≡ plain kinds.Print site v) (w : Value) (same : w ≡ v) (n : Shape) where

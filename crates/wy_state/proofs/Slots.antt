@@ -34,27 +34,27 @@ use Rattle.wy_state.proofs.Agreement.{with_locals}
 module _ (p : Program) (m : Shape) where
   pub local_goes : (i k : ℕ) → code_of (frame_of m.calls) ≡ k → Onward p m (local_slot i) m (return (Local k i))
   unfolding return frame ◌>>=◌ go_on
-  local_goes i k is = record { from = λ s a. record { state = s; agrees = a; is = ap (λ j. Done (Local j i) s) (sym is ∙ ap code_of (sym a.frame)) } }
+  local_goes i k is = record { from = λ s a. record { state = s; agrees = a; is = ap (λ j. Done (Local j i) s) (sym is ∙ ap code_of (sym a.frame)) }; same = refl }
 
   pub read_local : (f i : ℕ) (v : Value) → Some v ≡ calls.held m.calls.frames f i → Onward p m (value_of_slot (Local f i)) m (return (itself v))
   unfolding return
-  read_local f i v is = record { from = λ s a. record { state = s; agrees = a; is = ap (λ u. Done u s) (sym (a.locals f i v (sym is))) } }
+  read_local f i v is = record { from = λ s a. record { state = s; agrees = a; is = ap (λ u. Done u s) (sym (a.locals f i v (sym is))) }; same = refl }
 
   pub read_made : (x : Slot) (v : Value) → Some v ≡ held m.heap x → Onward p m (value_of_slot x) m (return (itself v))
   unfolding return
-  read_made x v is = record { from = λ s a. record { state = s; agrees = a; is = ap (λ u. Done u s) (sym (a.slots x v (sym is))) } }
+  read_made x v is = record { from = λ s a. record { state = s; agrees = a; is = ap (λ u. Done u s) (sym (a.slots x v (sym is))) }; same = refl }
 
   pub type_goes : (n c : ℕ) (ty : Ty) → Some c ≡ code m.heap n → ty ≡ type_of_code c → Onward p m (type_of (Object n)) m (return (itself ty))
   unfolding return type_of event_at ◌>>=◌ go_on
-  type_goes n c ty is typed = record { from = λ s a. record { state = s; agrees = a; is = ap (λ t. Done t s) (typed ∙ sym (a.codes n c (sym is))) } }
+  type_goes n c ty is typed = record { from = λ s a. record { state = s; agrees = a; is = ap (λ t. Done t s) (typed ∙ sym (a.codes n c (sym is))) }; same = refl }
 
   pub length_goes : (n k : ℕ) → Some k ≡ size m.heap n → Onward p m (length_of n) m (return (itself k))
   unfolding return length_of event_at ◌>>=◌ go_on
-  length_goes n k is = record { from = λ s a. record { state = s; agrees = a; is = ap (λ t. Done t s) (sym (a.sizes n k (sym is))) } }
+  length_goes n k is = record { from = λ s a. record { state = s; agrees = a; is = ap (λ t. Done t s) (sym (a.sizes n k (sym is))) }; same = refl }
 
   pub begun_goes : (c : ℕ) (b : Bool) → b ≡ is_made m.heap c → Onward p m (is_begun c) m (return b)
   unfolding return is_begun
-  begun_goes c b is = record { from = λ s a. record { state = s; agrees = a; is = ap (λ t. Done t s) (is ∙ sym (a.begun c)) } }
+  begun_goes c b is = record { from = λ s a. record { state = s; agrees = a; is = ap (λ t. Done t s) (is ∙ sym (a.begun c)) }; same = refl }
 
 -- ---- stores
 
@@ -182,6 +182,7 @@ module _ (p : Program) (m : Shape) (i : ℕ) (v : Value) (new : CallStack) (is :
       agrees = local_put p m s f i v _ (sym framed ∙ known) lt (stored s.store f i v) a;
       is = refl;
     };
+    same = refl;
   })
 
 module _ (p : Program) (m : Shape) (i : ℕ) (new : CallStack) (is : new ≡ with_local i Nothing m.calls) (lt : i < length (locals_of m.calls.frames)) where
@@ -200,6 +201,7 @@ module _ (p : Program) (m : Shape) (i : ℕ) (new : CallStack) (is : new ≡ wit
           agrees = local_put p m s newest.0 i Nothing _ newest.1 lt (declared s.store newest.0 i) a;
           is = rw named refl;
         };
+    same = refl;
   })
 
 -- ---- static fields, and the slots of objects and arrays
@@ -338,18 +340,18 @@ module _ (p : Program) (m : Shape) (s : State nothing) (x : Slot) (v u : Value) 
 
 pub put_made_goes : (p : Program) (m : Shape) (x : Slot) (v u : Value) (h : Heap) → Some u ≡ held m.heap x → Writes x v m.heap h → Onward p m (put x v) (record m { heap = h }) (return (itself tt))
 unfolding return with_stored
-put_made_goes p m x v u h was w = record { from = λ s a. record { state = with_stored x (record { value = v; from_data = tt; from_all = tt }) s; agrees = heap_put p m s x v u h was w a; is = refl } }
+put_made_goes p m x v u h was w = record { from = λ s a. record { state = with_stored x (record { value = v; from_data = tt; from_all = tt }) s; agrees = heap_put p m s x v u h was w a; is = refl }; same = refl }
 
 -- ---- texts
 
 module _ (p : Program) (m : Shape) (w : World nothing) where
   pub text_goes : (n : ℕ) (us : List ℕ) → Some us ≡ text m.heap n → Onward p m (units_of w (TextOf n)) m (return us)
   unfolding return units_of event_at ◌>>=◌ go_on
-  text_goes n us is = record { from = λ s a. record { state = s; agrees = a; is = ap (λ t. Done t s) (sym (a.texts n us (sym is))) } }
+  text_goes n us is = record { from = λ s a. record { state = s; agrees = a; is = ap (λ t. Done t s) (sym (a.texts n us (sym is))) }; same = refl }
 
   pub fixed_goes : (n : ℕ) (us : List ℕ) → us ≡ fixed_text w.program n → Onward p m (units_of w (FixedOf n)) m (return us)
   unfolding return units_of
-  fixed_goes n us is = record { from = λ s a. record { state = s; agrees = a; is = ap (λ t. Done t s) is } }
+  fixed_goes n us is = record { from = λ s a. record { state = s; agrees = a; is = ap (λ t. Done t s) is }; same = refl }
 
   nothing_in : (v : Value) → ((n : ℕ) → v ≡ TextOf n → ⊥) → ((n : ℕ) → v ≡ FixedOf n → ⊥) → (s : State nothing) → units_of w v s ≡ Done [] s
   unfolding units_of return
@@ -367,16 +369,16 @@ module _ (p : Program) (m : Shape) (w : World nothing) where
 
   pub nothing_goes : (v : Value) → ((n : ℕ) → v ≡ TextOf n → ⊥) → ((n : ℕ) → v ≡ FixedOf n → ⊥) → Onward p m (units_of w v) m (return [])
   unfolding return
-  nothing_goes v one two = record { from = λ s a. record { state = s; agrees = a; is = sym (nothing_in v one two s) } }
+  nothing_goes v one two = record { from = λ s a. record { state = s; agrees = a; is = sym (nothing_in v one two s) }; same = refl }
 
 module _ (p : Program) (m : Shape) where
   pub text_type_goes : (n : ℕ) → Onward p m (type_of (TextOf n)) m (return (Of (Named 1) 0))
   unfolding return type_of
-  text_type_goes n = record { from = λ s a. record { state = s; agrees = a; is = refl } }
+  text_type_goes n = record { from = λ s a. record { state = s; agrees = a; is = refl }; same = refl }
 
   pub fixed_type_goes : (n : ℕ) → Onward p m (type_of (FixedOf n)) m (return (Of (Named 1) 0))
   unfolding return type_of
-  fixed_type_goes n = record { from = λ s a. record { state = s; agrees = a; is = refl } }
+  fixed_type_goes n = record { from = λ s a. record { state = s; agrees = a; is = refl }; same = refl }
 
   no_type : (v : Value) → ((n : ℕ) → v ≡ Object n → ⊥) → ((n : ℕ) → v ≡ TextOf n → ⊥) → ((n : ℕ) → v ≡ FixedOf n → ⊥) → (s : State nothing) → type_of v s ≡ Done OfNull s
   unfolding type_of return
@@ -394,4 +396,4 @@ module _ (p : Program) (m : Shape) where
 
   pub other_type_goes : (v : Value) → ((n : ℕ) → v ≡ Object n → ⊥) → ((n : ℕ) → v ≡ TextOf n → ⊥) → ((n : ℕ) → v ≡ FixedOf n → ⊥) → Onward p m (type_of v) m (return OfNull)
   unfolding return
-  other_type_goes v none one two = record { from = λ s a. record { state = s; agrees = a; is = sym (no_type v none one two s) } }
+  other_type_goes v none one two = record { from = λ s a. record { state = s; agrees = a; is = sym (no_type v none one two s) }; same = refl }

@@ -104,6 +104,7 @@ module _ (p : Program) (m : Shape) (site : ℕ) (xs : List ℕ) (us : List Use) 
     from = λ s a.
         let above : nat_le (s.units + length xs) unit_limit ≡ false = rw a.units (lt-leb (m.units + length xs) unit_limit full) in
         record { state = s; agrees = a; is = rw above refl };
+    same = refl;
   }
 
   module _ (fits : m.units + length xs ≤ unit_limit) (x : ℕ) (taken : x ≡ m.units + length xs) where
@@ -113,6 +114,7 @@ module _ (p : Program) (m : Shape) (site : ℕ) (xs : List ℕ) (us : List Use) 
       from = λ s a.
           let has : nat_le (s.units + length xs) unit_limit ≡ true = rw a.units (le-leb (m.units + length xs) unit_limit fits) in
           record { state = record s { units = s.units + length xs }; agrees = with_more_units p m s x (s.units + length xs) (ap (λ k. k + length xs) a.units ∙ sym taken) a; is = rw has refl };
+      same = refl;
     }
 
     pub text_refused : (n : Shape) (e : Halt) → Refusing us e (record m { units = x }) n → StepGives p made_of (Err e) m (make_text site xs us) n
@@ -127,6 +129,7 @@ module _ (p : Program) (m : Shape) (site : ℕ) (xs : List ℕ) (us : List Use) 
         agrees = text_made p (record m { units = x }) s a site xs us k number h w;
         is = rw (in_room p (record m { units = x }) (spelling site xs) Nothing us s a (noting (spelling site xs) (given Nothing us)) few room, number, ← a.events) refl;
       };
+      same = refl;
     })
 
     pub text_noted : (n : Shape) (k : ℕ) (h : Heap) (d : Drafted) → draft_of d xs ≡ spelling site xs → (k ≡ m.events) × (m.events < event_limit) × (m.uses + length us ≤ use_limit) × (n ≡ with_record (draft_of d xs) us (record m { units = x })) →

@@ -1,5 +1,5 @@
 -- When the state in memory agrees with a state of the definition, and what it is that the one does what the other does.
-use Rattle.std.specs.Prelude.{◌≡◌, ◌<◌, ◌≤◌, ◌+◌, ◌++◌, if◌then◌else◌, ℕ, Bool, true, false, List, [], ◌∷◌, map, reverse, length, slice_index_or, slice_set, Some, Result, Ok, Err}
+use Rattle.std.specs.Prelude.{◌≡◌, ◌<◌, ◌≤◌, ◌+◌, ◌++◌, ℕ, false, List, [], ◌∷◌, map, reverse, length, slice_index_or, slice_set, Some, Result, Ok, Err}
 use Rattle.std.specs.Prelude.{None as Absent}
 use Rattle.std.specs.declared.alloc.AllocError.{AllocError}
 use Rattle.wy_kernel.specs.Program.{Program, type_of_code}
@@ -22,13 +22,13 @@ use Rattle.wy_heap.specs.declared.heap.Heap.{Heap}
 use Rattle.wy_heap.specs.Plan.{plan_of}
 use Rattle.wy_heap.specs.Heap.{plan, held, code, size, text, is_made}
 use Rattle.wy_state.specs.declared.parts.Halt.{Halt}
-use Rattle.wy_state.specs.declared.parts.Halt.TheVariants.{Left, Stopped, Recorder, Memory}
+use Rattle.wy_state.specs.declared.parts.Halt.TheVariants.{Left, Stopped, Memory}
 use Rattle.wy_state.specs.declared.parts.Limit.TheVariants as limit
 use Rattle.wy_state.specs.declared.parts.Throw.{Throw}
 use Rattle.wy_state.specs.declared.state.State.{State as Present}
 use Rattle.wy_state.specs.Seen.{blank, covered_of, reason_of, stop_of}
 
--- what contracts see of the state in memory; no frame from `entered` on was entered
+-- what contracts see of the state in memory; no frame from `entered` on was entered, and the events from number `keeps` on are kept
 pub record Shape : Type 0 where
   pub calls : CallStack
   pub heap : Heap
@@ -42,10 +42,10 @@ pub record Shape : Type 0 where
   pub input : List ℕ
   pub covers : List Cover
   pub throws : List Throw
-  pub keeps : Bool
+  pub keeps : ℕ
   pub kept : List Recorded
 
-abbrev pub shape : {R : Type 0} → Bool → (R → List Recorded) → Present R → Shape
+abbrev pub shape : {R : Type 0} → (R → ℕ) → (R → List Recorded) → Present R → Shape
 shape keeps kept p = record {
   calls = p.calls;
   heap = p.heap;
@@ -59,8 +59,8 @@ shape keeps kept p = record {
   input = p.input.now;
   covers = p.covers.items;
   throws = reverse p.throws.items;
-  keeps = keeps;
-  kept = kept p.recorder;
+  keeps = keeps p.register;
+  kept = kept p.register;
 }
 
 -- the event that comes next, by its draft and what it uses
@@ -136,9 +136,13 @@ HasTexts noted h = (n : ℕ) (us : List ℕ) → text h n ≡ Some us → units_
 abbrev pub HasCovers : (ℕ → Covered) → List Cover → Type 0
 HasCovers coverage cs = (n : ℕ) → n < length cs → coverage n ≡ covered_of (slice_index_or cs n blank)
 
+-- they are those of a list from this number on
+abbrev pub AreFrom : ℕ → List Recorded → List Recorded → Type 0
+AreFrom n events kept = (before : List Recorded) × (length before ≡ n) × (events ≡ before ++ kept)
+
 pub record Agrees (p : Program) (m : Shape) (s : State nothing) : Type 0 where
   pub events : length s.noted ≡ m.events
-  pub kept : m.keeps ≡ true → m.kept ≡ map (λ e. e.event) (reverse s.noted)
+  pub kept : AreFrom m.keeps (map (λ e. e.event) (reverse s.noted)) m.kept
   pub uses : s.uses ≡ m.uses
   pub left : s.left ≡ m.left
   pub elements : s.elements ≡ m.elements
@@ -167,16 +171,17 @@ pub record Comes {X : Type 0} (p : Program) (m : Shape) (g : Run nothing X) (o :
   pub agrees : Agrees p m state
   pub is : g state ≡ o
 
--- to run f from any state that agrees with the one is to run g from some state that agrees with the other
+-- to run f from any state that agrees with the one is to run g from some state that agrees with the other; and the events are kept from
+-- the same number on
 pub record Onward {X : Type 0} (p : Program) (m : Shape) (f : Run nothing X) (n : Shape) (g : Run nothing X) : Type 0 where
   pub from : (s : State nothing) → Agrees p m s → Comes p n g (f s)
+  pub same : n.keeps ≡ m.keeps
 
--- the step was done with this result, or was left, or the run stopped; the recorder or memory may refuse
+-- the step was done with this result, or was left, or the run stopped; or memory is wanting
 abbrev pub StepGives : {X Y : Type 0} → Program → (X → Y) → Result X Halt → Shape → Run nothing Y → Shape → Type 0
 StepGives p view (Ok x) m f n = Onward p m f n (return (view x))
 StepGives p view (Err (Left why)) m f n = Onward p m f n (leave (reason_of why))
 StepGives p view (Err (Stopped why)) m f n = Onward p m f n (stop (stop_of why))
-StepGives p view (Err (Recorder e)) m f n = Unit {0}
 StepGives p view (Err Memory) m f n = Unit {0}
 
 -- the step was done with this result, or memory is wanting
@@ -193,27 +198,25 @@ pub record IsSameButLocals (old new : CallStack) : Type 0 where
   pub active : new.active ≡ old.active
   pub scopes : new.scopes ≡ old.scopes
 
--- so it is after what was done, was left or stopped; the recorder or memory may refuse in the middle
+-- so it is after what was done, was left or stopped; memory may be wanting in the middle
 abbrev pub KeepsFrames : {X : Type 0} → Result X Halt → CallStack → CallStack → Type 0
 KeepsFrames (Ok x) old new = IsSameButLocals old new
 KeepsFrames (Err (Left why)) old new = IsSameButLocals old new
 KeepsFrames (Err (Stopped why)) old new = IsSameButLocals old new
-KeepsFrames (Err (Recorder e)) old new = Unit {0}
 KeepsFrames (Err Memory) old new = Unit {0}
 
 -- the statement was left by the event, and the covers of the others stay
 abbrev pub IsCaused : ℕ → ℕ → List Cover → List Cover → Type 0
 IsCaused n e old new = (n < length old) × (new ≡ slice_set old n (record (slice_index_or old n blank) { cause = e }))
 
--- the state with one event more, handed to the recorder
+-- the state with one event more
 abbrev pub with_record : Draft → List Use → Shape → Shape
-with_record d us m = record m { events = m.events + 1; uses = m.uses + length us; kept = if m.keeps then m.kept ++ event_of d us m ∷ [] else m.kept; throws = throw_at m.events d.kind d.site d.value m.throws }
+with_record d us m = record m { events = m.events + 1; uses = m.uses + length us; kept = m.kept ++ event_of d us m ∷ []; throws = throw_at m.events d.kind d.site d.value m.throws }
 
--- there was no room for an event or for its uses, or the recorder or memory refused
+-- there was no room for an event or for its uses, or memory is wanting
 abbrev pub Refusing : List Use → Halt → Shape → Shape → Type 0
 Refusing us (Stopped limit.Events) m n = (event_limit ≤ m.events) × (n ≡ m)
 Refusing us (Stopped limit.Uses) m n = (m.events < event_limit) × (use_limit < m.uses + length us) × (n ≡ m)
-Refusing us (Recorder e) m n = Unit {0}
 Refusing us Memory m n = Unit {0}
 Refusing us e m n = ⊥
 

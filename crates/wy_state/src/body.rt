@@ -12,14 +12,14 @@ ghost use Rattle.wy_state.specs.Agrees.{IsCaused};
 ghost use Rattle.wy_state.specs.Steps.{activate, activate_through, active_be, do_nothing, nothing_of, back_to, begin, enter_frame, finish, leave_by};
 
 use crate::cover::{begun_at, ended, left_by};
+use crate::register::Register;
 use crate::state::State;
 use std::alloc::AllocError;
 use wy_calls::Scope;
 use wy_event::record::Cover;
 use wy_kernel::types::NONE;
-use wy_record::Recorder;
 
-impl<'a, R: Recorder> State<'a, R> {
+impl<'a, R: Register> State<'a, R> {
     fn cover(&self, statement: u32) -> Option<Cover>
         ensures inside { IfSome result (λ c. statement < length self.now.covers.items) }
         ensures found { IfSome result (λ c.
@@ -61,8 +61,11 @@ impl<'a, R: Recorder> State<'a, R> {
         let Some(cover) = ended(old) else {
             return Err(AllocError);
         };
+        if !self.calls.may_end(statement) {
+            return Err(AllocError);
+        }
         self.covers[statement as usize] = cover;
-        self.calls.end(statement)?;
+        self.calls.end(statement);
         Ok(())
     }
 
@@ -77,8 +80,11 @@ impl<'a, R: Recorder> State<'a, R> {
         let Some(old) = self.cover(statement) else {
             return Err(AllocError);
         };
+        if !self.calls.may_end(statement) {
+            return Err(AllocError);
+        }
         self.covers[statement as usize] = left_by(old, event);
-        self.calls.end(statement)?;
+        self.calls.end(statement);
         Ok(())
     }
 

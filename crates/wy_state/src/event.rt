@@ -1,4 +1,4 @@
-//! Records: each is handed to the recorder, and a write is stored.
+//! Records: each is entered in the register, and a write is stored.
 
 ghost use Rattle.std.specs.Prelude.{◌≡◌, ◌≢◌, ◌+◌, [], false, reverse, IfOk, OnOk};
 ghost use Rattle.wy_event.specs.declared.record.Kind.{Kind};
@@ -9,15 +9,15 @@ ghost use Rattle.wy_state.specs.Agrees.{shape, StepGives, KeepsFrames, Recording
 ghost use Rattle.wy_state.specs.Seen.{draft_of, given, made_of};
 
 use crate::parts::{Draft, Halt, Limit, Throw};
+use crate::register::Register;
 use crate::state::State;
 use std::alloc::AllocError;
 use std::mem;
 use wy_event::record::{Event, Kind, Use};
 use wy_event::sequence::Sequence;
 use wy_kernel::limit::{EVENT_LIMIT, USE_LIMIT};
-use wy_record::{Phase, RecordError, Recorder};
 
-impl<'a, R: Recorder> State<'a, R> {
+impl<'a, R: Register> State<'a, R> {
     /// Records an event with these units and uses, and gives its number and the units back. The state then has one event more.
     pub fn record(
         &mut self,
@@ -41,14 +41,7 @@ impl<'a, R: Recorder> State<'a, R> {
             return Err(Halt::Stopped(Limit::Uses));
         }
         let event = self.event(draft, units, uses)?;
-        let Phase::Recording = self.recorder.phase() else {
-            return Err(Halt::Memory);
-        };
-        match self.recorder.note(&event) {
-            Ok(()) => {}
-            Err(RecordError::NoMemory) => return Err(Halt::Memory),
-            Err(error) => return Err(Halt::Recorder(error)),
-        }
+        self.register.note(&event)?;
         remember(&mut self.throws, draft, number)?;
         self.spare = event.uses.into_vec();
         self.events = number + 1;

@@ -9,5 +9,6 @@ mod event;
 mod make;
 pub mod name;
 pub mod parts;
+pub mod register;
 mod slot;
 pub mod state;

@@ -12,15 +12,15 @@ ghost use Rattle.wy_state.specs.Seen.{given, made_of};
 ghost use Rattle.wy_state.specs.Steps.{make_array, make_text};
 
 use crate::parts::{Draft, Halt, Limit};
+use crate::register::Register;
 use crate::state::State;
 use wy_event::record::{Kind, Slot, Use};
 use wy_kernel::code::FIRST_CLASS_CODE;
 use wy_kernel::limit::{ELEMENT_LIMIT, UNIT_LIMIT};
 use wy_kernel::types::NONE;
-use wy_record::Recorder;
 use wy_value::Value;
 
-impl<'a, R: Recorder> State<'a, R> {
+impl<'a, R: Register> State<'a, R> {
     /// Records the New of an object, whose fields then hold their defaults.
     pub fn note_object(&mut self, site: u32, class: u32, uses: &[Use]) -> Result<u32, Halt>
         ensures step { (p : Program) → StepGives p made_of result (shape R.keeps R.kept self.old)

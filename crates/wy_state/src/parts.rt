@@ -7,7 +7,6 @@ use std::alloc::{AllocError, AllocFailed};
 use wy_event::record::{Kind, Slot};
 use wy_heap::HeapError;
 use wy_kernel::types::NONE;
-use wy_record::RecordError;
 use wy_value::Value;
 
 /// What stops a run where it is; no `finally` runs.
@@ -34,12 +33,11 @@ pub enum Reason {
     Threw { event: u32, value: Value },
 }
 
-/// Why what was begun isn't done: it is left early, the run stops, the recorder refused, or memory is wanting.
+/// Why what was begun isn't done: it is left early, the run stops, or memory is wanting.
 #[derive(Drop)]
 pub enum Halt {
     Left(Reason),
     Stopped(Limit),
-    Recorder(RecordError),
     Memory,
 }
 

@@ -12,13 +12,13 @@ ghost use Rattle.wy_kernel.specs.Parts.{program_of};
 ghost use Rattle.wy_state.specs.Agrees.{shape, IsSameButLocals, Meets, Onward, itself};
 ghost use Rattle.wy_state.specs.Steps.{local_slot, put, value_of_slot};
 
+use crate::register::Register;
 use crate::state::State;
 use std::alloc::AllocError;
 use wy_event::record::Slot;
 use wy_kernel::code::type_of_code;
 use wy_kernel::program::Program;
 use wy_kernel::types::{Base, NONE, Ty};
-use wy_record::Recorder;
 use wy_value::Value;
 
 /// The type of a text.
@@ -27,7 +27,7 @@ const STRING: Ty = Ty::Of {
     brackets: 0,
 };
 
-impl<'a, R: Recorder> State<'a, R> {
+impl<'a, R: Register> State<'a, R> {
     /// The slot of a local of the running body.
     pub fn local(&self, index: u32) -> Slot
         ensures step { (p : kernel.Program)
@@ -84,7 +84,10 @@ impl<'a, R: Recorder> State<'a, R> {
         if frame == NONE || frame != self.calls.frame() {
             return Err(AllocError);
         }
-        self.calls.set_local(index, value)?;
+        let Some(_) = self.calls.local(index) else {
+            return Err(AllocError);
+        };
+        self.calls.set_local(index, value);
         Ok(())
     }
 
@@ -111,7 +114,10 @@ impl<'a, R: Recorder> State<'a, R> {
         ensures left { self.new.left ≡ self.old.left }
         ensures events { self.new.events ≡ self.old.events }
     {
-        self.calls.set_local(index, Value::None)?;
+        let Some(_) = self.calls.local(index) else {
+            return Err(AllocError);
+        };
+        self.calls.set_local(index, Value::None);
         Ok(())
     }
 

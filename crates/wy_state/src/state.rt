@@ -9,12 +9,12 @@ ghost use Rattle.wy_state.specs.Agrees.{shape, StepGives, Onward, itself};
 ghost use Rattle.wy_state.specs.Seen.{given};
 
 use crate::parts::{Draft, Halt, Limit, Throw};
+use crate::register::Register;
 use std::alloc::{AllocError, Global};
 use wy_calls::Calls;
 use wy_event::record::{Cover, Kind, Use};
 use wy_heap::Heap;
 use wy_kernel::limit::OUTPUT_LIMIT;
-use wy_record::Recorder;
 use wy_value::Value;
 
 /// What stands of a run.
@@ -37,13 +37,14 @@ pub struct State<'a, R> {
     pub covers: Vec<Cover>,
     /// The Throws among the events, the newest last.
     pub throws: Vec<Throw>,
-    pub recorder: R,
+    /// Where the events are entered.
+    pub register: R,
     /// Room for the uses of the event that is noted.
     pub spare: Vec<Use>,
     pub alloc: Global,
 }
 
-impl<'a, R: Recorder> State<'a, R> {
+impl<'a, R: Register> State<'a, R> {
     /// One step of the budget.
     pub fn tick(&mut self) -> Result<(), Halt>
         ensures step { (p : Program) → StepGives p itself result

@@ -127,9 +127,12 @@ fn runs(
     ensures { IfOk result (λ ns. (n : ℕ) → Contains ns.items n
         ↔ Contains (map (dispatch (seen_by dispatcher.now) method) receivers.now) n) }
 {
+    if method as usize >= dispatcher.program.methods.len() {
+        return Err(AllocError);
+    }
     let mut methods = Vec::new(alloc);
     for receiver in receivers {
-        methods.push(dispatcher.dispatch(*receiver, method)?)?;
+        methods.push(dispatcher.dispatch(*receiver, method))?;
     }
     methods.sort_unstable();
     methods.dedup();

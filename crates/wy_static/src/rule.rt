@@ -229,7 +229,10 @@ fn put_choosing(
             out.push(call_at(owner, site, Goal::Chosen { method, class }))?;
             Ok(())
         }
-        Decides::Object => put_calling(out, owner, dispatcher.dispatch(OBJECT, method)?, site),
+        Decides::Object if (method as usize) < dispatcher.program.methods.len() => {
+            put_calling(out, owner, dispatcher.dispatch(OBJECT, method), site)
+        }
+        Decides::Object => Err(AllocError),
         Decides::Nothing => Ok(()),
     }
 }

@@ -31,7 +31,7 @@ newest_is (f ∷ fs) = refl
 -- the frame of a run is that of the newest body in memory
 pub reaching_here : {X : Type 0} (p : Program) (m : Shape) (n : ℕ) (f : Run nothing X) → Onward p m (reaching n f) m (λ s. end_reaches (frame_of m.calls) n (f s))
 unfolding reaching
-reaching_here p m n f = record { from = λ s a. record { state = s; agrees = a; is = ap (λ z. end_reaches z n (f s)) (sym a.frame) } }
+reaching_here p m n f = record { from = λ s a. record { state = s; agrees = a; is = ap (λ z. end_reaches z n (f s)) (sym a.frame) }; same = refl }
 
 pub forgotten_emptied : (o : Outcome nothing (Unit {0})) → o ≡ forgotten (go_on o (λ u. return []))
 unfolding go_on return

@@ -22,7 +22,7 @@ use Rattle.wy_meaning.specs.Statement.{exec}
 use Rattle.wy_calls.specs.Calls.{first_of}
 use Rattle.wy_state.specs.Agrees.{Shape, Onward, StepGives, itself}
 use Rattle.wy_state.specs.declared.parts.Halt.{Halt}
-use Rattle.wy_state.specs.declared.parts.Halt.TheVariants.{Left, Stopped, Recorder, Memory}
+use Rattle.wy_state.specs.declared.parts.Halt.TheVariants.{Left, Stopped, Memory}
 use Rattle.wy_operation.specs.Around.{Keeps}
 use Rattle.wy_state.proofs.Onward.{onward_as, onward_then, onward_same}
 use Rattle.wy_operands.specs.Values.{Values, at, under_many, last_many}
@@ -131,7 +131,6 @@ module _ (p : Program) (m : MachineState) (site number count : ℕ) (r : Option 
       Turned p (then_all p m (put_on (under_many count m.values) (begun (note (about kind.Call site number val.None) (call_uses (method p number).form r)) (in_call p site number d b r args)))) m.state (Err e) l after_it → Turned p calling m.state (Err e) l next
   call_refused b d l (Left why) after_it next is has a = onward_as (λ s. ap (λ z. after p (around m) m.work (go_on z (λ v. return (v ∷ under_many count m.values)))) (call_is p site number d b r args m.depth is has s)) a
   call_refused b d l (Stopped why) after_it next is has a = onward_as (λ s. ap (λ z. after p (around m) m.work (go_on z (λ v. return (v ∷ under_many count m.values)))) (call_is p site number d b r args m.depth is has s)) a
-  call_refused b d l (Recorder e) after_it next is has a = tt
   call_refused b d l Memory after_it next is has a = tt
 
 pub pushes_body : (x : Bor Written) (q u n : MachineState) (v w : Bool) (site : ℕ) → q ≡ pushed (task.Stmt x doing.Do) u → u ≡ pushed (task.Plain (step.BodyEnd v site)) n → v ≡ w → q ≡ pushed (task.Stmt x doing.Do) (pushed (task.Plain (step.BodyEnd w site)) n)

@@ -16,7 +16,7 @@ use Rattle.wy_meaning.specs.World.{about}
 use Rattle.wy_calls.specs.declared.calls.Scope.{Scope}
 use Rattle.wy_calls.specs.Calls.{CallFrame as Body, CallStack as Calls, opened, activated, frame_of}
 use Rattle.wy_state.specs.declared.parts.Halt.{Halt}
-use Rattle.wy_state.specs.declared.parts.Halt.TheVariants.{Left, Stopped, Recorder, Memory}
+use Rattle.wy_state.specs.declared.parts.Halt.TheVariants.{Left, Stopped, Memory}
 use Rattle.wy_state.specs.Agrees.{Shape, Onward, StepGives}
 use Rattle.wy_state.specs.Seen.{given, made_of, reason_of, stop_of}
 use Rattle.wy_state.specs.Steps.{activate, do_nothing, enter_frame}
@@ -37,7 +37,6 @@ pub settles : {X : Type 0} (p : Program) (f : Run nothing Values) (s : Shape) (m
 settles p f s m (Ok x) n us is same a = subst (λ vs. Onward p s f n.state (then_all p n (return vs))) (is ∙ sym same.values) a
 settles p f s m (Err (Left why)) n us is same a = a
 settles p f s m (Err (Stopped why)) n us is same a = a
-settles p f s m (Err (Recorder e)) n us is same a = tt
 settles p f s m (Err Memory) n us is same a = tt
 
 -- ---- a scope
@@ -45,7 +44,7 @@ settles p f s m (Err Memory) n us is same a = tt
 -- what is active of a run is what is active in memory
 pub active_here : {X : Type 0} (p : Program) (m : Shape) (f : Run nothing X) → Onward p m (scoped f) m (λ s. active_again m.calls.active (f s))
 unfolding scoped
-active_here p m f = record { from = λ s a. record { state = s; agrees = a; is = ap (λ z. active_again z (f s)) (sym a.active) } }
+active_here p m f = record { from = λ s a. record { state = s; agrees = a; is = ap (λ z. active_again z (f s)) (sym a.active) }; same = refl }
 
 pub closes : {X : Type 0} (entries : List (Active nothing)) (put : X → Values) (o : Outcome nothing X) → go_on (active_again entries o) (λ x. return (put x)) ≡ active_again entries (go_on o (λ x. return (put x)))
 unfolding go_on active_again return
@@ -106,14 +105,13 @@ module _ {X : Type 0} (p : Program) (m : MachineState) (l : Shape) (scope : Scop
         let start = within (λ o. after p (around m) m.work (go_on o (λ x. return (put x)))) within_scope in
         let noted = within (λ o. after p (around m) m.work (go_on (active_again m.state.calls.active (go_on (go_in Within o) (λ z. next z.number))) (λ x. return (put x)))) (subst (λ (z : Shape). Onward p z noting n (stop (stop_of why))) (ap (λ (z : MachineState). z.state) o_is) a) in
         onward_then start (onward_then noted (onward_as (closed_is (stop (stop_of why)) (record o { state = n }) (work_is n) (around_is n (opened m.state.calls) (ca ∙ ap (λ (z : MachineState). z.state.calls) o_is ∙ c) refl)) (onward_same p n _)))
-    scope_refused c (Recorder e) n after_it a ca = tt
     scope_refused c Memory n after_it a ca = tt
 
 -- ---- a frame
 
 pub frame_here : {X : Type 0} (p : Program) (m : Shape) (n : ℕ) (f : Run nothing X) → Onward p m (in_frame n f) m (λ s. frame_again (frame_of m.calls) (go_on (enter_frame n s) (λ u. f)))
 unfolding in_frame go_on
-frame_here p m n f = record { from = λ s a. record { state = s; agrees = a; is = ap (λ z. frame_again z (f (record s { frame = Some n }))) (sym a.frame) } }
+frame_here p m n f = record { from = λ s a. record { state = s; agrees = a; is = ap (λ z. frame_again z (f (record s { frame = Some n }))) (sym a.frame) }; same = refl }
 
 -- the value of a body goes to the body that called it
 pub handed_over : (n : Option ℕ) (under : Values) (o : Outcome nothing (Carried nothing)) → go_on (frame_again n o) (λ v. return (v ∷ under)) ≡ go_on (frame_again n (go_on o (λ v. return (v ∷ [])))) (λ vs. return (top vs ∷ under))

@@ -13,7 +13,7 @@ use Rattle.wy_meaning.specs.Run.{world}
 use Rattle.wy_meaning.specs.Text.{call_chosen}
 use Rattle.wy_meaning.specs.Call.{call_form, call_on, call_on_text, equals}
 use Rattle.wy_state.specs.declared.parts.Halt.{Halt}
-use Rattle.wy_state.specs.declared.parts.Halt.TheVariants.{Left, Stopped, Recorder, Memory}
+use Rattle.wy_state.specs.declared.parts.Halt.TheVariants.{Left, Stopped, Memory}
 use Rattle.wy_state.specs.Agrees.{Onward}
 use Rattle.wy_state.proofs.Onward.{within, onward_as, onward_then, onward_same}
 use Rattle.wy_operands.specs.Values.{Values}
@@ -27,7 +27,6 @@ pub resumed_as : (p : Program) (m q : MachineState) (r : Result (Unit {0}) Halt)
 resumed_as p m q (Ok x) us f g same a = onward_as (λ s. ap (λ z. after p (around m) m.work (go_on z (λ v. return (v ∷ us)))) (same s)) a
 resumed_as p m q (Err (Left why)) us f g same a = onward_as (λ s. ap (λ z. after p (around m) m.work (go_on z (λ v. return (v ∷ us)))) (same s)) a
 resumed_as p m q (Err (Stopped why)) us f g same a = onward_as (λ s. ap (λ z. after p (around m) m.work (go_on z (λ v. return (v ∷ us)))) (same s)) a
-resumed_as p m q (Err (Recorder e)) us f g same a = tt
 resumed_as p m q (Err Memory) us f g same a = tt
 
 pub all_there : (vs : Values) (s : State nothing) → all_of (map return vs) s ≡ return vs s

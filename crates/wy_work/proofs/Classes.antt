@@ -21,7 +21,7 @@ use Rattle.wy_work.specs.Tasks.{MachineState, Turned, after, around, goes, pushe
 use Rattle.wy_work.specs.Calls.{IsSameStack, Enters, begun}
 use Rattle.wy_work.proofs.Runs.{world_program}
 use Rattle.wy_state.specs.declared.parts.Halt.{Halt}
-use Rattle.wy_state.specs.declared.parts.Halt.TheVariants.{Left, Stopped, Recorder, Memory}
+use Rattle.wy_state.specs.declared.parts.Halt.TheVariants.{Left, Stopped, Memory}
 use Rattle.wy_state.specs.Seen.{given}
 use Rattle.wy_work.specs.Expressions.{leaving}
 use Rattle.wy_work.specs.Statements.{emptied, forgotten}
@@ -194,7 +194,6 @@ module _ (p : Program) (site c depth : ℕ) where
       Turned p (then_all p m (leaving m.values (begun (note_new p (about kind.Init site c val.None) (constant val.None)) in_class))) m.state (Err e) l after_it → Turned p (then_all p m (leaving m.values ((world p m.depth).enter site c))) m.state (Err e) l next
   class_refused m l (Left why) after_it next is a = onward_as (λ s. ap (λ z. after p (around m) m.work (go_on z (λ u. return m.values))) (class_is m.depth is s)) a
   class_refused m l (Stopped why) after_it next is a = onward_as (λ s. ap (λ z. after p (around m) m.work (go_on z (λ u. return m.values))) (class_is m.depth is s)) a
-  class_refused m l (Recorder e) after_it next is a = tt
   class_refused m l Memory after_it next is a = tt
 
 -- ---- the tasks of an initialization

@@ -1,5 +1,5 @@
 -- How a statement or a scope ends, whatever came before: normally, left or stopped.
-use Rattle.std.proofs.Common.{◌≡◌, ◌∙◌, ℕ, true, false, [], map, ap, sym, subst, Result}
+use Rattle.std.proofs.Common.{◌≡◌, ◌∙◌, ℕ, true, false, [], map, ap, refl, sym, subst, Result}
 use Rattle.wy_kernel.specs.Program.{Program}
 use Rattle.wy_steps.specs.Sets.{nothing}
 use Rattle.wy_steps.specs.State as run
@@ -29,7 +29,7 @@ module _ (p : Program) (m : MachineState) (n : ℕ) where
   -- the frame that ends is that of the newest body in memory
   finishing : Onward p m.state (then_all p (pushed (task.Plain (step.End n)) m) (return m.values)) m.state (then_all p m (followed (finish n) (λ u. return [])))
   unfolding cover_end end_normally end_reaches go_on return
-  finishing = record { from = λ s a. record { state = s; agrees = a; is = ap (λ z. after p (around m) m.work (run.Done [] (without z n (covering n steps.ended s)))) (a.frame ∙ newest_is m.state.calls.frames) } }
+  finishing = record { from = λ s a. record { state = s; agrees = a; is = ap (λ z. after p (around m) m.work (run.Done [] (without z n (covering n steps.ended s)))) (a.frame ∙ newest_is m.state.calls.frames) }; same = refl }
 
   leaving : (why : Reason nothing) → arrives n why ≡ false → Onward p m.state (then_all p (pushed (task.Plain (step.End n)) m) (leave why)) m.state (then_all p m (followed (leave_by n (event_of why)) (λ u. leave why)))
   unfolding cover_end be_left end_reaches choose go_on leave
@@ -41,11 +41,12 @@ module _ (p : Program) (m : MachineState) (n : ℕ) where
           ap (λ z. after p (around m) m.work (run.Left why (without z n (covering n (left_by (event_of why)) s)))) (a.frame ∙ newest_is m.state.calls.frames)
           ∙ ap (λ b. after p (around m) m.work (without_values (end_reaches (newest (around m).bodies) n (choose b (end_normally n) (be_left n why) s)))) (sym over);
     };
+    same = refl;
   }
 
   stopping : (why : Stop) → Onward p m.state (then_all p (pushed (task.Plain (step.End n)) m) (stop why)) m.state (then_all p m (followed (leave_by n (stop_cause why)) (λ u. stop why)))
   unfolding cover_end end_reaches go_on stop
-  stopping why = record { from = λ s a. record { state = s; agrees = a; is = ap (λ z. after p (around m) m.work (run.Stopped why (without z n (covering n (left_by (stop_cause why)) s)))) (a.frame ∙ newest_is m.state.calls.frames) } }
+  stopping why = record { from = λ s a. record { state = s; agrees = a; is = ap (λ z. after p (around m) m.work (run.Stopped why (without z n (covering n (left_by (stop_cause why)) s)))) (a.frame ∙ newest_is m.state.calls.frames) }; same = refl }
 
   -- at its target a jump ends
   arriving : (why : Reason nothing) → arrives n why ≡ true → (s : State nothing) → then_all p (pushed (task.Plain (step.End n)) m) (leave why) s ≡ then_all p (pushed (task.Plain (step.End n)) m) (return m.values) s

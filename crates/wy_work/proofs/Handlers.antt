@@ -124,7 +124,6 @@ module _ (p : Program) (m : MachineState) (k : Shape) (c : Catch) (event : ℕ) 
 pub refused_around : (e : Halt) (old k new : Calls) → k ≡ old → KeepsFrames {X = ℕ} (Err e) k new → KeepsAt e old new
 refused_around (halt.Left why) old k new same a = record { frames = a.frames ∙ ap (λ (z : Calls). map (λ (f : Body). f.event) z.frames) same; scopes = a.scopes ∙ ap (λ (z : Calls). z.scopes) same }
 refused_around (halt.Stopped why) old k new same a = record { frames = a.frames ∙ ap (λ (z : Calls). map (λ (f : Body). f.event) z.frames) same; scopes = a.scopes ∙ ap (λ (z : Calls). z.scopes) same }
-refused_around (halt.Recorder e) old k new same a = tt
 refused_around halt.Memory old k new same a = tt
 
 -- ---- what is thrown

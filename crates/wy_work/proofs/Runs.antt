@@ -6,7 +6,7 @@ use Rattle.wy_steps.specs.State as run
 use Rattle.wy_steps.specs.State.{State, Carried, Run, Outcome, go_on, ◌>>=◌, ◌>>◌, return, stop, leave}
 use Rattle.wy_calls.specs.Calls.{CallFrame as Body, CallStack as Calls}
 use Rattle.wy_state.specs.declared.parts.Halt.{Halt}
-use Rattle.wy_state.specs.declared.parts.Halt.TheVariants.{Left, Stopped, Recorder, Memory}
+use Rattle.wy_state.specs.declared.parts.Halt.TheVariants.{Left, Stopped, Memory}
 use Rattle.wy_state.specs.Agrees.{Shape, Onward, StepGives}
 use Rattle.wy_state.specs.Seen.{reason_of, stop_of}
 use Rattle.wy_state.proofs.Onward.{within, onward_as, onward_then, onward_same}
@@ -52,7 +52,6 @@ pub turned_after : {X : Type 0} (p : Program) (m : Shape) (n q : MachineState) (
 turned_after p m n q f g (Ok x) next a b = onward_then a b
 turned_after p m n q f g (Err (Left why)) next a b = onward_then a b
 turned_after p m n q f g (Err (Stopped why)) next a b = onward_then a b
-turned_after p m n q f g (Err (Recorder e)) next a b = tt
 turned_after p m n q f g (Err Memory) next a b = tt
 
 module _ {X : Type 0} (p : Program) (m n : MachineState) (f : Run nothing X) (k : X → Run nothing Values) where
@@ -66,7 +65,6 @@ module _ {X : Type 0} (p : Program) (m n : MachineState) (f : Run nothing X) (k 
   unfolding go_on leave stop
   failed view (Left why) next a settled = subst (λ g. Onward p m.state (then_all p m (followed f k)) n.state g) (then_settled p (leave (reason_of why)) settled) (within (λ o. after p (around m) m.work (go_on o k)) a)
   failed view (Stopped why) next a settled = subst (λ g. Onward p m.state (then_all p m (followed f k)) n.state g) (then_settled p (stop (stop_of why)) settled) (within (λ o. after p (around m) m.work (go_on o k)) a)
-  failed view (Recorder e) next a settled = tt
   failed view Memory next a settled = tt
 
 -- a value of an operation comes on the stack
@@ -83,7 +81,6 @@ module _ (p : Program) (m : MachineState) (s : Shape) (us : Values) where
       Turned p (then_all p m (followed f k)) m.state (Err e) (record m { state = s; values = us }) next
   failed_at f k view (Left why) next a same = failed p m (record m { state = s; values = us }) f k view (Left why) next a (kept_after same)
   failed_at f k view (Stopped why) next a same = failed p m (record m { state = s; values = us }) f k view (Stopped why) next a (kept_after same)
-  failed_at f k view (Recorder e) next a same = tt
   failed_at f k view Memory next a same = tt
 
   -- what an operation gave, on the stack in place of its operands
@@ -104,7 +101,6 @@ same_around c = record { frames = refl; scopes = refl }
 pub keeps_calls : (e : Halt) (old new : Calls) → new ≡ old → KeepsAt e old new
 keeps_calls (Left why) old new same = record { frames = ap (λ (c : Calls). map (λ (f : Body). f.event) c.frames) same; scopes = ap (λ (c : Calls). c.scopes) same }
 keeps_calls (Stopped why) old new same = record { frames = ap (λ (c : Calls). map (λ (f : Body). f.event) c.frames) same; scopes = ap (λ (c : Calls). c.scopes) same }
-keeps_calls (Recorder e) old new same = tt
 keeps_calls Memory old new same = tt
 
 -- the same run, said in another way
@@ -115,5 +111,4 @@ turned_as p m q f g r next same a = turned_after p m.state m q (then_all p m f) 
 pub refused : {X Y : Type 0} (p : Program) (f : Run nothing Values) (m : Shape) (q : MachineState) (e : Halt) (before : X → Run nothing Values) (next : Y → Run nothing Values) → Turned p f m (Err e) q before → Turned p f m (Err e) q next
 refused p f m q (Left why) before next a = a
 refused p f m q (Stopped why) before next a = a
-refused p f m q (Recorder e) before next a = tt
 refused p f m q Memory before next a = tt

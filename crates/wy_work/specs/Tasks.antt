@@ -15,7 +15,7 @@ use Rattle.wy_meaning.specs.Statement.{exec_all}
 use Rattle.wy_meaning.specs.Run.{strings, world}
 use Rattle.wy_calls.specs.Calls.{CallFrame as Body, rest_of, first_of}
 use Rattle.wy_state.specs.declared.parts.Halt.{Halt}
-use Rattle.wy_state.specs.declared.parts.Halt.TheVariants.{Left, Stopped, Recorder, Memory}
+use Rattle.wy_state.specs.declared.parts.Halt.TheVariants.{Left, Stopped, Memory}
 use Rattle.wy_state.specs.Seen.{reason_of, stop_of}
 use Rattle.wy_state.specs.Agrees.{Shape, Onward}
 use Rattle.wy_operands.specs.Values.{Values, top, under, at, under_many}
@@ -123,7 +123,6 @@ abbrev pub Turned : {X : Type 0} → Program → Run nothing Values → Shape �
 Turned p before m (Ok x) n next = Onward p m before n.state (then_all p n (next x))
 Turned p before m (Err (Left why)) n next = Onward p m before n.state (then_all p n (leave (reason_of why)))
 Turned p before m (Err (Stopped why)) n next = Onward p m before n.state (then_all p n (stop (stop_of why)))
-Turned p before m (Err (Recorder e)) n next = Unit {0}
 Turned p before m (Err Memory) n next = Unit {0}
 
 -- it went through, and the values on the stack are what the rest goes on with

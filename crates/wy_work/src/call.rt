@@ -40,8 +40,8 @@ use wy_operation::binding::bind_all;
 use wy_operation::exception::{NULL_POINTER, fail};
 use wy_operation::operand::{Part, is_null};
 use wy_operation::texts::text_equals;
-use wy_record::Recorder;
 use wy_state::parts::{Draft, Halt, Limit};
+use wy_state::register::Register;
 use wy_value::Value;
 
 /// On a text at run time `equals` and `toString` are operations of the library.
@@ -53,7 +53,7 @@ const STRINGS: Ty = Ty::Of {
     brackets: 1,
 };
 
-impl<'a, R: Recorder> Machine<'a, R> {
+impl<'a, R: Register> Machine<'a, R> {
     /// A call whose receiver, if it has one, and arguments are there.
     pub fn call_form(&mut self, on: &Dispatcher<'a>, expr: &'a Expr) -> Result<(), Halt>
         ensures goes { Does (program_of on.now.program.now)
@@ -184,7 +184,10 @@ impl<'a, R: Recorder> Machine<'a, R> {
             (standing R.keeps R.kept self.old) result (standing R.keeps R.kept self.new) }
     {
         let class = class_of_type(self.state.type_of(self.stack.value_at(count))?);
-        let chosen = on.dispatch(class, method)?;
+        if method as usize >= on.program.methods.len() {
+            return Err(Halt::Memory);
+        }
+        let chosen = on.dispatch(class, method);
         self.call_on(on, chosen, count, site)
     }
 

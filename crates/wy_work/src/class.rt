@@ -21,10 +21,10 @@ use crate::task::{Step, StmtStep, Task};
 use wy_calls::Dispatcher;
 use wy_kernel::builtin::FIRST_SOURCE_CLASS;
 use wy_kernel::types::NONE;
-use wy_record::Recorder;
 use wy_state::parts::{Halt, Limit};
+use wy_state::register::Register;
 
-impl<'a, R: Recorder> Machine<'a, R> {
+impl<'a, R: Register> Machine<'a, R> {
     /// Initializes a source class, unless that is going on or done.
     pub fn initialize(&mut self, on: &Dispatcher<'a>, class: u32, site: u32) -> Result<(), Halt>
         ensures goes { Does (program_of on.now.program.now)

@@ -15,11 +15,11 @@ use wy_event::record::Use;
 use wy_kernel::form::Expr;
 use wy_operation::operand::is_true;
 use wy_operation::test_event::test_around;
-use wy_record::Recorder;
 use wy_state::parts::Halt;
+use wy_state::register::Register;
 use wy_value::Value;
 
-impl<'a, R: Recorder> Machine<'a, R> {
+impl<'a, R: Register> Machine<'a, R> {
     /// What is active now is active again once the expression is done.
     pub fn conditional(&mut self, expr: &'a Expr, test: &'a Expr) -> Result<(), Halt>
         ensures goes { (p : kernel.Program) → IsTestOf (expression expr.now) (expression test.now)

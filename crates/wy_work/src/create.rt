@@ -23,11 +23,11 @@ use wy_event::record::Use;
 use wy_kernel::form::Expr;
 use wy_kernel::types::{NONE, Ty};
 use wy_operation::array::{create_array, make_array, set_element};
-use wy_record::Recorder;
 use wy_state::parts::Halt;
+use wy_state::register::Register;
 use wy_value::Value;
 
-impl<'a, R: Recorder> Machine<'a, R> {
+impl<'a, R: Register> Machine<'a, R> {
     /// The class is initialized before the object is made.
     pub fn create(
         &mut self,

@@ -19,11 +19,11 @@ use crate::task::{ExprStep, Task};
 use std::alloc::AllocError;
 use wy_calls::Dispatcher;
 use wy_kernel::form::{Const, Expr};
-use wy_record::Recorder;
 use wy_state::parts::Halt;
+use wy_state::register::Register;
 use wy_value::Value;
 
-impl<'a, R: Recorder> Machine<'a, R> {
+impl<'a, R: Register> Machine<'a, R> {
     /// Begins an expression, which takes a step.
     pub fn find(&mut self, on: &Dispatcher<'a>, expr: &'a Expr) -> Result<(), Halt>
         ensures goes { Does (program_of on.now.program.now)

@@ -19,11 +19,11 @@ use wy_event::record::{Kind, Use};
 use wy_kernel::code::class_of_type;
 use wy_kernel::form::{Catch, Stmt, StmtForm};
 use wy_operation::clause::find_clause;
-use wy_record::Recorder;
 use wy_state::parts::{Draft, Halt, Reason};
+use wy_state::register::Register;
 use wy_value::Value;
 
-impl<'a, R: Recorder> Machine<'a, R> {
+impl<'a, R: Register> Machine<'a, R> {
     /// The first block and the clauses ended normally, and the last block runs.
     pub fn finish_last(&mut self, stmt: &'a Stmt) -> Result<(), Halt>
         ensures goes { (p : kernel.Program) → Ends p (tasks.Stmt stmt.entry step.Finally)

@@ -19,10 +19,10 @@ use crate::machine::Machine;
 use crate::task::{ExprStep, StmtStep, Task};
 use std::alloc::AllocError;
 use wy_kernel::form::{Expr, Stmt, StmtForm};
-use wy_record::Recorder;
 use wy_state::parts::{Halt, Limit};
+use wy_state::register::Register;
 
-impl<'a, R: Recorder> Machine<'a, R> {
+impl<'a, R: Register> Machine<'a, R> {
     pub fn act_loop(&mut self, stmt: &'a Stmt) -> Result<(), Halt>
         ensures goes { (p : kernel.Program)
             → Does p (λ w vs. emptied (exec_act w stmt.now.site stmt.now.reach (act stmt.now.form)))

@@ -9,7 +9,7 @@ use crate::task::{ExprStep, Step, StmtStep, Task};
 use std::alloc::AllocError;
 use wy_kernel::form::{Expr, Stmt};
 use wy_operands::Operands;
-use wy_record::Recorder;
+use wy_state::register::Register;
 use wy_state::state::State;
 
 /// What stands of a run, and what is left to do: the next last.
@@ -24,7 +24,7 @@ pub struct Machine<'a, R> {
     pub saved: Vec<Operands>,
 }
 
-impl<'a, R: Recorder> Machine<'a, R> {
+impl<'a, R: Register> Machine<'a, R> {
     pub fn push(&mut self, frame: Task<'a>) -> Result<(), AllocError>
         ensures { OnOk result (standing R.keeps R.kept self.new
             ≡ pushed frame.entry (standing R.keeps R.kept self.old)) }

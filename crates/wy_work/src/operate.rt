@@ -24,11 +24,11 @@ use wy_kernel::types::Ty;
 use wy_operation::operator::{binary, convert_to, unary_of};
 use wy_operation::texts::{Found, library};
 use wy_operation::types::{cast, instance_of};
-use wy_record::Recorder;
 use wy_state::parts::Halt;
+use wy_state::register::Register;
 use wy_value::Value;
 
-impl<'a, R: Recorder> Machine<'a, R> {
+impl<'a, R: Register> Machine<'a, R> {
     /// The operands of an expression are there.
     pub fn operate(&mut self, on: &Dispatcher<'a>, expr: &'a Expr) -> Result<(), Halt>
         ensures goes { Does (program_of on.now.program.now)

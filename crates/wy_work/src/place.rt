@@ -21,10 +21,10 @@ use wy_calls::Dispatcher;
 use wy_event::record::Slot;
 use wy_kernel::form::{Expr, Place};
 use wy_operation::place::{element_slot, fetch, field_slot, store};
-use wy_record::Recorder;
 use wy_state::parts::Halt;
+use wy_state::register::Register;
 
-impl<'a, R: Recorder> Machine<'a, R> {
+impl<'a, R: Register> Machine<'a, R> {
     /// Reads the place of an expression.
     pub fn read(&mut self, on: &Dispatcher<'a>, expr: &'a Expr, at: &'a Place) -> Result<(), Halt>
         ensures goes { expression expr.now ≡ form.Read (place at.now)

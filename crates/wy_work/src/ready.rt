@@ -16,10 +16,10 @@ use crate::task::ExprStep;
 use wy_calls::Dispatcher;
 use wy_event::record::Slot;
 use wy_kernel::form::{CallForm, Expr, Place};
-use wy_record::Recorder;
 use wy_state::parts::Halt;
+use wy_state::register::Register;
 
-impl<'a, R: Recorder> Machine<'a, R> {
+impl<'a, R: Register> Machine<'a, R> {
     /// The class that the expression needs is initialized.
     pub fn ready(&mut self, on: &Dispatcher<'a>, expr: &'a Expr) -> Result<(), Halt>
         ensures goes { Does (program_of on.now.program.now)

@@ -25,11 +25,11 @@ use wy_kernel::form::{Expr, Stmt, StmtForm};
 use wy_operation::ending::{jump, return_value, throw_value};
 use wy_operation::test_event::test;
 use wy_operation::texts::{print_nothing, print_text};
-use wy_record::Recorder;
 use wy_state::parts::Halt;
+use wy_state::register::Register;
 use wy_value::Value;
 
-impl<'a, R: Recorder> Machine<'a, R> {
+impl<'a, R: Register> Machine<'a, R> {
     /// Begins a statement, which takes a step.
     pub fn begin(&mut self, stmt: &'a Stmt) -> Result<(), Halt>
         ensures goes { (p : kernel.Program)

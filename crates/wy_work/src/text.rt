@@ -13,14 +13,14 @@ use crate::machine::Machine;
 use crate::task::Step;
 use wy_calls::Dispatcher;
 use wy_operation::texts::join_texts;
-use wy_record::Recorder;
 use wy_state::parts::Halt;
+use wy_state::register::Register;
 use wy_value::Value;
 
 /// Object's `toString`.
 const TO_STRING: u32 = 0;
 
-impl<'a, R: Recorder> Machine<'a, R> {
+impl<'a, R: Register> Machine<'a, R> {
     /// The text of the last two values: the left is converted, then the right.
     pub fn concatenate(&mut self, on: &Dispatcher<'a>, site: u32) -> Result<(), Halt>
         ensures goes { Does (program_of on.now.program.now)

@@ -21,8 +21,8 @@ use wy_calls::{Dispatcher, Scope};
 use wy_event::record::{GOING_ON, Use};
 use wy_kernel::form::{Expr, Stmt};
 use wy_operation::ending::end_body;
-use wy_record::Recorder;
 use wy_state::parts::{Halt, Limit, Reason};
+use wy_state::register::Register;
 use wy_value::Value;
 
 /// How what was done so far ended.
@@ -33,7 +33,7 @@ pub enum Signal {
     Stopped(Limit),
 }
 
-impl<'a, R: Recorder> Machine<'a, R> {
+impl<'a, R: Register> Machine<'a, R> {
     /// A task at how what was before it ended.
     pub fn turn(&mut self, on: &Dispatcher<'a>, task: Task<'a>, signal: Signal) -> Result<(), Halt>
         ensures goes { Ends (program_of on.now.program.now) task.entry

@@ -24,11 +24,11 @@ use wy_event::record::Slot;
 use wy_kernel::form::{Expr, Place};
 use wy_operation::place::{element_slot, fetch, field_slot};
 use wy_operation::update::{Compound, update};
-use wy_record::Recorder;
 use wy_state::parts::Halt;
+use wy_state::register::Register;
 use wy_value::Value;
 
-impl<'a, R: Recorder> Machine<'a, R> {
+impl<'a, R: Register> Machine<'a, R> {
     /// Finds the place of an update.
     pub fn update(&mut self, on: &Dispatcher<'a>, expr: &'a Expr, at: &'a Place) -> Result<(), Halt>
         ensures goes { IsUpdate (expression expr.now) (place at.now)

@@ -22,14 +22,14 @@ use crate::texts::text::{is_text, made_text, plain_text};
 use wy_event::record::Use;
 use wy_kernel::form::LibOp;
 use wy_kernel::program::Program;
-use wy_record::Recorder;
 use wy_state::name::{object_text, type_text};
 use wy_state::parts::Halt;
+use wy_state::register::Register;
 use wy_state::state::State;
 use wy_value::{Value, parse_int};
 
 /// What an operation gives of its argument.
-pub fn library_one<R: Recorder>(
+pub fn library_one<R: Register>(
     state: &mut State<'_, R>,
     program: &Program,
     op: LibOp,
@@ -52,7 +52,7 @@ pub fn library_one<R: Recorder>(
     }
 }
 
-fn array_length<R: Recorder>(
+fn array_length<R: Register>(
     state: &mut State<'_, R>,
     array: Value,
     uses: &[Use],
@@ -75,7 +75,7 @@ fn array_length<R: Recorder>(
 }
 
 /// What an operation gives of its argument, where it is a text.
-fn of_text<R: Recorder>(
+fn of_text<R: Register>(
     state: &mut State<'_, R>,
     program: &Program,
     op: LibOp,
@@ -96,7 +96,7 @@ fn of_text<R: Recorder>(
     }
 }
 
-fn text_length<R: Recorder>(
+fn text_length<R: Register>(
     state: &mut State<'_, R>,
     program: &Program,
     text: Value,
@@ -116,7 +116,7 @@ fn text_length<R: Recorder>(
     Ok(Found::Same(Value::Int(length)))
 }
 
-fn is_empty<R: Recorder>(
+fn is_empty<R: Register>(
     state: &mut State<'_, R>,
     program: &Program,
     text: Value,
@@ -134,7 +134,7 @@ fn is_empty<R: Recorder>(
     Ok(Found::Same(Value::Bool(is_empty)))
 }
 
-fn itself<R: Recorder>(
+fn itself<R: Register>(
     state: &mut State<'_, R>,
     program: &Program,
     text: Value,
@@ -153,7 +153,7 @@ fn itself<R: Recorder>(
 }
 
 /// The number that a text spells; null spells none.
-fn parse<R: Recorder>(
+fn parse<R: Register>(
     state: &mut State<'_, R>,
     program: &Program,
     text: Value,
@@ -174,7 +174,7 @@ fn parse<R: Recorder>(
 }
 
 /// The text of a primitive value.
-fn value_text<R: Recorder>(
+fn value_text<R: Register>(
     state: &mut State<'_, R>,
     value: Value,
     uses: &[Use],
@@ -191,7 +191,7 @@ fn value_text<R: Recorder>(
 }
 
 /// The name of an object's type.
-fn class_text<R: Recorder>(
+fn class_text<R: Register>(
     state: &mut State<'_, R>,
     program: &Program,
     object: Value,
@@ -208,7 +208,7 @@ fn class_text<R: Recorder>(
 }
 
 /// The name of an object's type, and the object's number behind it.
-fn text_of_object<R: Recorder>(
+fn text_of_object<R: Register>(
     state: &mut State<'_, R>,
     program: &Program,
     object: Value,

@@ -22,13 +22,13 @@ use crate::texts::two::library_two;
 use wy_event::record::{Kind, Use};
 use wy_kernel::form::LibOp;
 use wy_kernel::program::Program;
-use wy_record::Recorder;
 use wy_state::parts::{Draft, Halt};
+use wy_state::register::Register;
 use wy_state::state::State;
 use wy_value::Value;
 
 /// What an operation gives; `all` has the uses of the arguments, joined in order.
-pub fn library<R: Recorder>(
+pub fn library<R: Register>(
     state: &mut State<'_, R>,
     program: &Program,
     op: LibOp,
@@ -64,7 +64,7 @@ pub fn library<R: Recorder>(
 }
 
 /// The next byte of the input, or -1 at its end.
-fn read_byte<R: Recorder>(state: &mut State<'_, R>, site: u32) -> Result<Found, Halt>
+fn read_byte<R: Register>(state: &mut State<'_, R>, site: u32) -> Result<Found, Halt>
     ensures step { (p : kernel.Program) (us : List Use) → StepGives p (found_of us) result
         (shape R.keeps R.kept state.old) (read_byte site) (shape R.keeps R.kept state.new) }
     ensures around { Keeps result state.old.calls state.new.calls }

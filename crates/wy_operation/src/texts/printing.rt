@@ -16,15 +16,15 @@ use crate::texts::text::spelling_units;
 use std::alloc::{AllocError, Global};
 use wy_event::record::Use;
 use wy_kernel::program::Program;
-use wy_record::Recorder;
 use wy_state::parts::Halt;
+use wy_state::register::Register;
 use wy_state::state::State;
 use wy_value::{Value, to_utf8};
 
 const LINE_FEED: u8 = 10;
 
 /// Prints a value that is shown.
-pub fn print_text<R: Recorder>(
+pub fn print_text<R: Register>(
     state: &mut State<'_, R>,
     program: &Program,
     value: Value,
@@ -43,7 +43,7 @@ pub fn print_text<R: Recorder>(
 }
 
 /// Prints nothing, or the end of a line.
-pub fn print_nothing<R: Recorder>(
+pub fn print_nothing<R: Register>(
     state: &mut State<'_, R>,
     ends_line: bool,
     site: u32,

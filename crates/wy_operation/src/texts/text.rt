@@ -21,8 +21,8 @@ use crate::texts::found::Found;
 use std::alloc::{AllocError, Global};
 use wy_event::record::Use;
 use wy_kernel::program::Program;
-use wy_record::Recorder;
 use wy_state::parts::Halt;
+use wy_state::register::Register;
 use wy_state::state::State;
 use wy_value::{Value, digits, same};
 
@@ -47,7 +47,7 @@ pub fn plain_text(alloc: Global, value: Value) -> Result<Vec<u16>, AllocError>
 }
 
 /// The units that a value is spelled by; what is spelled is never an object.
-pub fn spelling_units<R: Recorder>(
+pub fn spelling_units<R: Register>(
     state: &State<'_, R>,
     program: &Program,
     value: Value,
@@ -64,7 +64,7 @@ pub fn spelling_units<R: Recorder>(
 }
 
 /// A text that the run makes, and its event.
-pub fn make_text<R: Recorder>(
+pub fn make_text<R: Register>(
     state: &mut State<'_, R>,
     site: u32,
     units: Vec<u16>,
@@ -79,7 +79,7 @@ pub fn make_text<R: Recorder>(
 }
 
 /// The same, as what an operation of the library gives.
-pub fn made_text<R: Recorder>(
+pub fn made_text<R: Register>(
     state: &mut State<'_, R>,
     site: u32,
     units: Vec<u16>,
@@ -95,7 +95,7 @@ pub fn made_text<R: Recorder>(
 }
 
 /// The text of two operands that are shown.
-pub fn join_texts<R: Recorder>(
+pub fn join_texts<R: Register>(
     state: &mut State<'_, R>,
     program: &Program,
     site: u32,
@@ -116,7 +116,7 @@ pub fn join_texts<R: Recorder>(
 }
 
 /// Whether the second is a text too, of the units of the first.
-pub fn are_same<R: Recorder>(
+pub fn are_same<R: Register>(
     state: &State<'_, R>,
     program: &Program,
     left: Value,
@@ -132,7 +132,7 @@ pub fn are_same<R: Recorder>(
 }
 
 /// `equals` of a text.
-pub fn text_equals<R: Recorder>(
+pub fn text_equals<R: Register>(
     state: &State<'_, R>,
     program: &Program,
     left: Part<'_>,

@@ -20,13 +20,13 @@ use std::alloc::{AllocError, Global};
 use wy_event::record::Use;
 use wy_kernel::form::LibOp;
 use wy_kernel::program::Program;
-use wy_record::Recorder;
 use wy_state::parts::Halt;
+use wy_state::register::Register;
 use wy_state::state::State;
 use wy_value::{PartError, Value, part};
 
 /// What an operation gives of its three arguments.
-pub fn library_three<R: Recorder>(
+pub fn library_three<R: Register>(
     state: &mut State<'_, R>,
     program: &Program,
     op: LibOp,
@@ -46,7 +46,7 @@ pub fn library_three<R: Recorder>(
     }
 }
 
-fn part_between<R: Recorder>(
+fn part_between<R: Register>(
     state: &mut State<'_, R>,
     program: &Program,
     text: Value,
@@ -89,7 +89,7 @@ pub fn find_part(
 }
 
 /// The text of a part that was found.
-pub fn part_or_fail<R: Recorder>(
+pub fn part_or_fail<R: Register>(
     state: &mut State<'_, R>,
     found: Option<Vec<u16>>,
     uses: &[Use],

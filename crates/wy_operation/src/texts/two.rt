@@ -13,13 +13,13 @@ use crate::texts::three::{find_part, part_or_fail};
 use wy_event::record::Use;
 use wy_kernel::form::LibOp;
 use wy_kernel::program::Program;
-use wy_record::Recorder;
 use wy_state::parts::Halt;
+use wy_state::register::Register;
 use wy_state::state::State;
 use wy_value::{Value, compare, unit_at};
 
 /// What an operation gives of its two arguments.
-pub fn library_two<R: Recorder>(
+pub fn library_two<R: Register>(
     state: &mut State<'_, R>,
     program: &Program,
     op: LibOp,
@@ -43,7 +43,7 @@ pub fn library_two<R: Recorder>(
     }
 }
 
-fn char_at<R: Recorder>(
+fn char_at<R: Register>(
     state: &mut State<'_, R>,
     program: &Program,
     text: Value,
@@ -67,7 +67,7 @@ fn char_at<R: Recorder>(
     }
 }
 
-fn part_from<R: Recorder>(
+fn part_from<R: Register>(
     state: &mut State<'_, R>,
     program: &Program,
     text: Value,
@@ -93,7 +93,7 @@ fn part_from<R: Recorder>(
     part_or_fail(state, found, uses, site)
 }
 
-fn same_text<R: Recorder>(
+fn same_text<R: Register>(
     state: &mut State<'_, R>,
     program: &Program,
     left: Value,
@@ -112,7 +112,7 @@ fn same_text<R: Recorder>(
     Ok(Found::Same(Value::Bool(is_same)))
 }
 
-fn compare_texts<R: Recorder>(
+fn compare_texts<R: Register>(
     state: &mut State<'_, R>,
     program: &Program,
     left: Value,

@@ -1,29 +1,38 @@
-use Rattle.std.proofs.Common.{◌≡◌, ◌∙◌, ap, refl}
+use Rattle.std.proofs.Common.{List}
+use Rattle.wy_event.specs.Record.{Recorded}
 use Rattle.wy_kernel.specs.Parts.{program_of}
 use Rattle.wy_meaning.specs.Run.{events}
 use Rattle.wy_steps.specs.Sets.{nothing}
-use Rattle.wy_state.specs.Agrees.{Comes}
-use Rattle.wy_work.specs.Tasks.{outcome_at}
-use Rattle.wy_work.specs.Machines.{standing}
-use Rattle.wy_machine.specs.Ended.{IsEndFor, IsEndOf, events_of, whole}
-use Rattle.wy_machine.proofs.Ends.{all_events, run_left}
-use Rattle.wy_machine.proofs.Going.{also, came}
+use Rattle.wy_machine.specs.Shown.{Shown, shown}
+use Rattle.wy_machine.proofs.Runs.{begun_so, counts_so, differs_so, expected_so, faults_so, phase_so, recorded_so}
 use Rattle.wy_machine.proofs.whole.run.Given as given
 use Rattle.wy_machine.proofs.whole.run.Goals as goal
 
--- the run that the machine came to
-came_to : (g : given.Over) (c : goal.After-drop-on-3 g) → Comes (program_of c.args.program.now) (standing g.R.Recorder.keeps g.R.Recorder.kept c.go_on.new.machine).state
-    (outcome_at c.in_ok-signal.signal (standing g.R.Recorder.keeps g.R.Recorder.kept c.go_on.new.machine).values) (whole (program_of c.args.program.now) c.args.input.now c.args.steps)
-came_to g c = came _ _ (standing g.R.Recorder.keeps g.R.Recorder.kept c.in_ok-machine.machine) (standing g.R.Recorder.keeps g.R.Recorder.kept c.go_on.new.machine) _ _ _ (ap program_of c.in_ok-on.ensures) c.in_ok-signal.was c.go_on.ensures c.in_ok-machine.ensures
+module _ (g : given.Over) where
+  abbrev see : g.row.R.Denot → Shown
+  see = shown g.R.Recorder.phase g.R.Recorder.kept g.R.Recorder.expected g.R.Recorder.position g.R.Recorder.faults g.R.Recorder.counts g.R.Recorder.mirrors
 
-pub returns-clause-kept : goal.returns-clause-kept
-returns-clause-kept g c keeps =
-    let p = program_of c.args.program.now in
-    also (λ r. g.R.Recorder.kept r.1 ≡ events_of (whole p c.args.input.now c.args.steps)) (λ r. g.R.Recorder.kept r.1 ≡ events nothing p c.args.input.now c.args.steps) c.finish.result
-    (λ r is. is ∙ all_events p c.args.input.now c.args.steps) (c.finish.ensures.kept p _ _ (came_to g c) keeps)
+  module _ (c : goal.After-run_with g) where
+    abbrev all : List Recorded
+    all = events nothing (program_of c.args.program.now) c.args.input.now c.args.steps
 
-pub returns-clause-ended : goal.returns-clause-ended
-returns-clause-ended g c =
-    let p = program_of c.args.program.now in
-    also (λ r. IsEndFor p c.args.steps (whole p c.args.input.now c.args.steps) r.0) (λ r. IsEndOf p c.args.input.now c.args.steps r.0) c.finish.result
-    (λ r is. run_left p c.args.input.now c.args.steps r.0 is) (c.finish.ensures.ended p _ _ (came_to g c) refl)
+pub returns-clause-recorded : goal.returns-clause-recorded
+returns-clause-recorded g c = recorded_so g.R.Recorder.keeps g.R.Recorder.compares g.R.Recorder.frame (see g c.args.recorder.now) (see g c.run_with.new.recorder) (program_of c.args.program.now) c.args.input.now c.args.steps c.run_with.result c.run_with.ensures.ended c.run_with.ensures.takes
+
+pub returns-clause-begun : goal.returns-clause-begun
+returns-clause-begun g c = begun_so g.R.Recorder.keeps g.R.Recorder.compares g.R.Recorder.frame (all g c) (see g c.args.recorder.now) (see g c.run_with.new.recorder) c.run_with.result c.run_with.ensures.takes
+
+pub returns-clause-phase : goal.returns-clause-phase
+returns-clause-phase g c = phase_so g.R.Recorder.keeps g.R.Recorder.compares g.R.Recorder.frame (all g c) (see g c.args.recorder.now) (see g c.run_with.new.recorder) c.run_with.result c.run_with.ensures.takes
+
+pub returns-clause-expected : goal.returns-clause-expected
+returns-clause-expected g c = expected_so g.R.Recorder.keeps g.R.Recorder.compares g.R.Recorder.frame (all g c) (see g c.args.recorder.now) (see g c.run_with.new.recorder) c.run_with.result c.run_with.ensures.takes
+
+pub returns-clause-faults : goal.returns-clause-faults
+returns-clause-faults g c = faults_so g.R.Recorder.keeps g.R.Recorder.compares g.R.Recorder.frame (all g c) (see g c.args.recorder.now) (see g c.run_with.new.recorder) c.run_with.result c.run_with.ensures.takes
+
+pub returns-clause-counts : goal.returns-clause-counts
+returns-clause-counts g c = counts_so g.R.Recorder.keeps g.R.Recorder.compares g.R.Recorder.frame (all g c) (see g c.args.recorder.now) (see g c.run_with.new.recorder) c.run_with.result c.run_with.ensures.takes
+
+pub returns-clause-differs : goal.returns-clause-differs
+returns-clause-differs g c = differs_so g.R.Recorder.keeps g.R.Recorder.compares g.R.Recorder.frame (all g c) (see g c.args.recorder.now) (see g c.run_with.new.recorder) c.run_with.result c.run_with.ensures.takes

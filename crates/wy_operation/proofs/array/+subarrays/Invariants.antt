@@ -18,7 +18,7 @@ decreases-subarray g l = 2 * length l.rest.now + 1
 abbrev pub invariant-subarrays-loop-index : goal.invariant-subarrays-loop-index
 invariant-subarrays-loop-index g l = record {
   step : (p : Program) (w : World nothing) → w.program ≡ p →
-      Onward p (shape g.R.Recorder.keeps g.R.Recorder.kept l.initial.state) (for_each 0 l.count (subarray w l.site l.ty (carried l.first) (map carried l.rest) l.parent))
-      (shape g.R.Recorder.keeps g.R.Recorder.kept l.state) (for_each l.index (l.count - l.index) (subarray w l.site l.ty (carried l.first) (map carried l.rest) l.parent));
+      Onward p (shape g.R.Register.keeps g.R.Register.kept l.initial.state) (for_each 0 l.count (subarray w l.site l.ty (carried l.first) (map carried l.rest) l.parent))
+      (shape g.R.Register.keeps g.R.Register.kept l.state) (for_each l.index (l.count - l.index) (subarray w l.site l.ty (carried l.first) (map carried l.rest) l.parent));
   around : IsSameAround l.initial.state.calls l.state.calls;
 }

@@ -10,7 +10,7 @@ use Rattle.wy_operation.proofs.binding.bind_all.Given as goal
 abbrev pub invariant-loop-index : goal.invariant-loop-index
 invariant-loop-index g l = record {
   step : (p : Program) →
-      Onward p (shape g.R.Recorder.keeps g.R.Recorder.kept l.initial.state) (bind_all (body_of l.body) l.frame 0 (map carried l.parts))
-      (shape g.R.Recorder.keeps g.R.Recorder.kept l.state) (bind_all (body_of l.body) l.frame l.index (map carried (drop l.index l.parts)));
+      Onward p (shape g.R.Register.keeps g.R.Register.kept l.initial.state) (bind_all (body_of l.body) l.frame 0 (map carried l.parts))
+      (shape g.R.Register.keeps g.R.Register.kept l.state) (bind_all (body_of l.body) l.frame l.index (map carried (drop l.index l.parts)));
   around : IsSameAround l.initial.state.calls l.state.calls;
 }

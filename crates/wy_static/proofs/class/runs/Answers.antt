@@ -12,8 +12,8 @@ loop-receiver-preserved c =
     let receivers = c.args.receivers.now in
     let i = c.loop-receiver.receiver-index in
     c.in_ok-push.ensures.items
-    ∙ ap (λ (l : List ℕ). l ++ c.in_ok-dispatch.field-0 ∷ []) c.loop-receiver.invariant
-    ∙ ap (λ (n : ℕ). map f (take i receivers) ++ n ∷ []) c.in_ok-dispatch.ensures
+    ∙ ap (λ (l : List ℕ). l ++ c.dispatch.result ∷ []) c.loop-receiver.invariant
+    ∙ ap (λ (n : ℕ). map f (take i receivers) ++ n ∷ []) c.dispatch.ensures
     ∙ sym (map-append f (take i receivers) (get_or receivers i 0 ∷ []))
     ∙ ap (λ (ns : List ℕ). map f ns) (sym (take_more receivers i 0 c.loop-receiver-test.true))
 

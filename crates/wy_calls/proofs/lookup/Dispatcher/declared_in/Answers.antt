@@ -2,7 +2,7 @@ use Rattle.std.proofs.Common.{◌≡◌, ◌<◌, ◌≤◌, ◌+◌, ◌∙◌,
 use Rattle.std.proofs.lemmas.List.{get_or_default, length-drop}
 use Rattle.wy_kernel.specs.View.{method_of}
 use Rattle.wy_calls.specs.Dispatch.{first_in}
-use Rattle.wy_calls.proofs.Rows.{Position, starts, passes, found_at, is_inside, next_is, later}
+use Rattle.wy_calls.proofs.Rows.{Position, none_is_of, starts, passes, found_at, is_inside, next_is, later}
 use Rattle.wy_calls.proofs.lookup.Dispatcher.declared_in.Goals as goal
 
 pub loop-number-init : goal.loop-number-init
@@ -11,6 +11,10 @@ loop-number-init c =
     let is : c.index-number.result.now ≡ first_in c.args.class 0 c.args.self.now.program.now.methods.items =
     c.index-number.ensures ∙ get_or_default c.args.self.now.first.items c.args.class c.index-number.result.now 4294967295 inside ∙ c.args.self.now.firsts c.args.class inside in
     subst (Position c.args.self.now.program.now.methods.items c.args.class (method_of c.args.called.now)) (sym is) (starts c.args.self.now.program.now.methods.items c.args.class (method_of c.args.called.now))
+
+pub returns-then-class-len : goal.returns-then-class-len
+returns-then-class-len c =
+    sym (none_is_of c.args.class (length c.args.self.now.first.items) 0 (method_of c.args.called.now) c.args.self.now.program.now.methods.items c.args.self.now.owned (omega arith))
 
 pub returns-then-runs_as : goal.returns-then-runs_as
 returns-then-runs_as c =

@@ -12,18 +12,18 @@ loop-longest-init c = begins c.args.self.now.program.now c.len-longest.result c.
 
 pub returns-in-Some : goal.returns-in-Some
 returns-in-Some c =
-    let found = searched c.args.self.now.program.now c.loop-longest.class c.args.method c.in_ok-found.field-0 c.method-called.result.now c.in_ok-found.ensures c.method-called.ensures ∙ c.in-Some.is in
+    let found = searched c.args.self.now.program.now c.loop-longest.class c.args.method c.declared_in.result c.method-called.result.now c.declared_in.ensures c.method-called.ensures ∙ c.in-Some.is in
     sym (ends_here (program_of c.args.self.now.program.now) c.loop-longest.longest (c.loop-longest.longest - 1) c.args.method c.loop-longest.class c.in-Some.found (omega arith) found) ∙ c.loop-longest.invariant
 
 pub returns-then-class : goal.returns-then-class
 returns-then-class c =
-    let none = searched c.args.self.now.program.now c.loop-longest.class c.args.method c.in_ok-found.field-0 c.method-called.result.now c.in_ok-found.ensures c.method-called.ensures ∙ c.in_default.is in
+    let none = searched c.args.self.now.program.now c.loop-longest.class c.args.method c.declared_in.result c.method-called.result.now c.declared_in.ensures c.method-called.ensures ∙ c.in_default.is in
     let top : above (program_of c.args.self.now.program.now) c.loop-longest.class ≡ Absent = sym c.superclass-class.ensures ∙ ap present c.if-class.true ∙ nobody in
     sym (ends_at_top (program_of c.args.self.now.program.now) c.loop-longest.longest (c.loop-longest.longest - 1) c.args.method c.loop-longest.class (omega arith) none top) ∙ c.loop-longest.invariant
 
 pub loop-longest-preserved : goal.loop-longest-preserved
 loop-longest-preserved c =
-    let none = searched c.args.self.now.program.now c.loop-longest.class c.args.method c.in_ok-found.field-0 c.method-called.result.now c.in_ok-found.ensures c.method-called.ensures ∙ c.in_default.is in
+    let none = searched c.args.self.now.program.now c.loop-longest.class c.args.method c.declared_in.result c.method-called.result.now c.declared_in.ensures c.method-called.ensures ∙ c.in_default.is in
     let up : above (program_of c.args.self.now.program.now) c.loop-longest.class ≡ Some c.superclass-class.result = sym c.superclass-class.ensures ∙ somebody c.superclass-class.result c.if-class.false in
     sym (goes_on (program_of c.args.self.now.program.now) c.loop-longest.longest (c.loop-longest.longest - 1) c.args.method c.loop-longest.class c.superclass-class.result (omega arith) none up) ∙ c.loop-longest.invariant
 

@@ -6,4 +6,4 @@ use Rattle.wy_state.proofs.state.State.finish.Goals as goal
 
 pub returns-clause-step : goal.returns-clause-step
 returns-clause-step g c p =
-    finish_goes p _ _ _ c.in-Some.ensures.inside _ (c.in_ok-end.ensures {u = tt}) (c.in-Some-ended.ensures ∙ ap (λ x. ended (covered_of x)) (sym c.in-Some.ensures.found))
+    finish_goes p _ _ _ c.in-Some.ensures.inside _ c.end.ensures (c.in-Some-ended.ensures ∙ ap (λ x. ended (covered_of x)) (sym c.in-Some.ensures.found))

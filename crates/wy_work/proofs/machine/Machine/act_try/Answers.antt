@@ -7,10 +7,10 @@ use Rattle.wy_work.proofs.machine.Machine.act_try.Goals as goal
 
 pub returns-in_ok-push_stmt-in-None-2 : goal.returns-in_ok-push_stmt-in-None-2
 returns-in_ok-push_stmt-in-None-2 g c = record {
-  goes = λ p is. try_goes p (standing g.R.Recorder.keeps g.R.Recorder.kept c.args.self.now) (standing g.R.Recorder.keeps g.R.Recorder.kept c.push_stmt-in-None.new.self) c.args.stmt is.main is.catches c.args.first is.same (is.is ∙ ap (form.Try is.main is.catches) c.in-None.is) (c.in_ok-push_stmt-in-None-2.ensures ∙ ap (pushed _) c.in_ok-push_stmt-in-None.ensures);
+  goes = λ p is. try_goes p (standing g.R.Register.keeps g.R.Register.kept c.args.self.now) (standing g.R.Register.keeps g.R.Register.kept c.push_stmt-in-None.new.self) c.args.stmt is.main is.catches c.args.first is.same (is.is ∙ ap (form.Try is.main is.catches) c.in-None.is) (c.in_ok-push_stmt-in-None-2.ensures ∙ ap (pushed _) c.in_ok-push_stmt-in-None.ensures);
 }
 
 pub returns-in_ok-push_stmt-in-Some-3 : goal.returns-in_ok-push_stmt-in-Some-3
 returns-in_ok-push_stmt-in-Some-3 g c = record {
-  goes = λ p is. finally_goes p (standing g.R.Recorder.keeps g.R.Recorder.kept c.args.self.now) (standing g.R.Recorder.keeps g.R.Recorder.kept c.push_stmt-in-Some-3.new.self) c.args.stmt is.main is.catches c.args.first is.same _ (is.is ∙ ap (form.Try is.main is.catches) c.in-Some.is) (c.in_ok-push_stmt-in-Some-3.ensures ∙ ap (pushed _) (c.in_ok-push_stmt-in-Some-2.ensures ∙ ap (pushed _) c.in_ok-push_stmt-in-Some.ensures));
+  goes = λ p is. finally_goes p (standing g.R.Register.keeps g.R.Register.kept c.args.self.now) (standing g.R.Register.keeps g.R.Register.kept c.push_stmt-in-Some-3.new.self) c.args.stmt is.main is.catches c.args.first is.same _ (is.is ∙ ap (form.Try is.main is.catches) c.in-Some.is) (c.in_ok-push_stmt-in-Some-3.ensures ∙ ap (pushed _) (c.in_ok-push_stmt-in-Some-2.ensures ∙ ap (pushed _) c.in_ok-push_stmt-in-Some.ensures));
 }

@@ -10,12 +10,12 @@ use Rattle.wy_work.proofs.machine.Machine.begin_call.Goals as goal
 pub returns-in_err-event-clause-goes : goal.returns-in_err-event-clause-goes
 returns-in_err-event-clause-goes g c p x next under used =
     let h = err_from_is_err_and c.from_residual-in_err-event.result c.from_residual-in_err-event.ensures.1 in
-    let m = standing g.R.Recorder.keeps g.R.Recorder.kept c.args.self.now in
+    let m = standing g.R.Register.keeps g.R.Register.kept c.args.self.now in
     rw (h.1, h.2) (scope_refused p m _ c.in_ok-scope.scope _ next (λ v. v ∷ under) (c.in_ok-scope.ensures.step p) _ c.in_ok-push.ensures c.in_ok-scope.ensures.calls _ _ _
     (answers_as {X = ℕ} p made_of (Err c.in_err-event.field-0.0) _ _ _ _ (call_noted c.args.site c.args.method x _ m _ c.args.receiver used c.in_ok-push.ensures c.used_by-uses.ensures c.if-method-eq-NONE.false) (c.in_err-event.ensures.step p)) c.in_err-event.ensures.calls)
 
 pub returns-clause-goes : goal.returns-clause-goes
 returns-clause-goes g c p x next under used =
-    let m = standing g.R.Recorder.keeps g.R.Recorder.kept c.args.self.now in
+    let m = standing g.R.Register.keeps g.R.Register.kept c.args.self.now in
     scope_begins p m _ c.in_ok-scope.scope _ next (λ v. v ∷ under) (c.in_ok-scope.ensures.step p) _ c.in_ok-push.ensures c.in_ok-scope.ensures.calls c.in_ok-event.event _ _
     (onward_as (call_noted c.args.site c.args.method x _ m _ c.args.receiver used c.in_ok-push.ensures c.used_by-uses.ensures c.if-method-eq-NONE.false) (c.in_ok-event.ensures.step p)) c.in_ok-event.ensures.calls (c.in_ok-activate.ensures.step p) c.in_ok-activate.ensures.calls

@@ -5,4 +5,4 @@ use Rattle.wy_work.proofs.Turns.{do_goes}
 use Rattle.wy_work.proofs.machine.Machine.begin_do.Goals as goal
 
 pub returns : goal.returns
-returns g c = record { goes = λ p is. do_goes p (standing g.R.Recorder.keeps g.R.Recorder.kept c.args.self.now) (standing g.R.Recorder.keeps g.R.Recorder.kept c.push_stmt-2.new.self) c.args.stmt c.args.body _ is (λ next. c.in_ok-turns.ensures p next) (c.in_ok-push_stmt-2.ensures ∙ ap (pushed _) c.in_ok-push_stmt.ensures) }
+returns g c = record { goes = λ p is. do_goes p (standing g.R.Register.keeps g.R.Register.kept c.args.self.now) (standing g.R.Register.keeps g.R.Register.kept c.push_stmt-2.new.self) c.args.stmt c.args.body _ is (λ next. c.in_ok-turns.ensures p next) (c.in_ok-push_stmt-2.ensures ∙ ap (pushed _) c.in_ok-push_stmt.ensures) }

@@ -19,8 +19,8 @@ pub returns : goal.returns
 returns g c = record {
   goes =
       let p = program_of c.args.on.now.program.now in
-      let m = standing g.R.Recorder.keeps g.R.Recorder.kept c.args.self.now in
-      let q = standing g.R.Recorder.keeps g.R.Recorder.kept c.call_on.new.self in
+      let m = standing g.R.Register.keeps g.R.Register.kept c.args.self.now in
+      let q = standing g.R.Register.keeps g.R.Register.kept c.call_on.new.self in
       resumed_as p m q c.call_on.result (under_many (suc c.args.count) m.values) _ _
       (direct_called (world p m.depth) c.args.method (at c.args.count m.values) (last_many c.args.count m.values) c.args.site (ap is_null (sym c.value_at.ensures) ∙ sym c.is_null.ensures ∙ c.if-is_null.false))
       c.call_on.ensures.goes;
@@ -30,12 +30,12 @@ pub returns-then-is_null : goal.returns-then-is_null
 returns-then-is_null g c = record {
   goes =
       let p = program_of c.args.on.now.program.now in
-      let m = standing g.R.Recorder.keeps g.R.Recorder.kept c.args.self.now in
+      let m = standing g.R.Register.keeps g.R.Register.kept c.args.self.now in
       let r = at c.args.count m.values in
       let w = world p m.depth in
       failed_at p m _ m.values _ (λ v. return (v ∷ under_many (suc c.args.count) m.values)) (itself {X = Carried nothing}) c.fail.result (λ u. return m.values)
       (answers_as p (itself {X = Carried nothing}) (Err c.fail.result) m.state _ _ _
       (direct_fails w c.args.method r (last_many c.args.count m.values) c.args.site (ap is_null (sym c.value_at.ensures) ∙ sym c.is_null.ensures ∙ c.if-is_null.true))
-      (fails w null_pointer c.args.site (Carried nothing) p c.fail.result m.state _ r (subst (λ us. Ends p c.fail.result m.state (fail w null_pointer c.args.site (given r.value us)) (shape g.R.Recorder.keeps g.R.Recorder.kept c.fail.new.state)) c.uses_at.ensures (c.fail.ensures.step p w r.value (world_program p m.depth)))))
+      (fails w null_pointer c.args.site (Carried nothing) p c.fail.result m.state _ r (subst (λ us. Ends p c.fail.result m.state (fail w null_pointer c.args.site (given r.value us)) (shape g.R.Register.keeps g.R.Register.kept c.fail.new.state)) c.uses_at.ensures (c.fail.ensures.step p w r.value (world_program p m.depth)))))
       c.fail.ensures.around;
 }

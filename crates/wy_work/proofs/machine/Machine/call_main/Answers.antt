@@ -16,7 +16,7 @@ returns-in_err-array g c = record {
   goes =
       let h = err_from_is_err_and c.from_residual.result c.from_residual.ensures.1 in
       let p = program_of c.args.on.now.program.now in
-      let m = standing g.R.Recorder.keeps g.R.Recorder.kept c.args.self.now in
+      let m = standing g.R.Register.keeps g.R.Register.kept c.args.self.now in
       rw (h.1, h.2) (main_refused p m _ (ap (λ (z : kernel.Method). z.site) c.method.ensures) _ refl _ _ (c.in_err-array.ensures.step p (world p m.depth) (val.Int (pos 0)) (world_program p m.depth)) c.in_err-array.ensures.around);
 }
 
@@ -24,7 +24,7 @@ pub returns : goal.returns
 returns g c = record {
   goes =
       let p = program_of c.args.on.now.program.now in
-      let m = standing g.R.Recorder.keeps g.R.Recorder.kept c.args.self.now in
-      main_goes p m _ (ap (λ (z : kernel.Method). z.site) c.method.ensures) _ refl _ (values_of c.push_with.new.self) c.in_ok-array.array c.call_static.result (standing g.R.Recorder.keeps g.R.Recorder.kept c.call_static.new.self)
+      let m = standing g.R.Register.keeps g.R.Register.kept c.args.self.now in
+      main_goes p m _ (ap (λ (z : kernel.Method). z.site) c.method.ensures) _ refl _ (values_of c.push_with.new.self) c.in_ok-array.array c.call_static.result (standing g.R.Register.keeps g.R.Register.kept c.call_static.new.self)
       (c.in_ok-array.ensures.step p (world p m.depth) (val.Int (pos 0)) (world_program p m.depth)) c.in_ok-array.ensures.around c.in_ok-push_with.ensures c.call_static.ensures.goes;
 }

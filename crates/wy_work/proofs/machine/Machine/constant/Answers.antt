@@ -3,4 +3,4 @@ use Rattle.wy_work.proofs.Single.{constant_gave}
 use Rattle.wy_work.proofs.machine.Machine.constant.Goals as goal
 
 pub returns : goal.returns
-returns g c = record { goes = λ p. constant_gave p (standing g.R.Recorder.keeps g.R.Recorder.kept c.args.self.now) _ _ _ c.in-Some.ensures c.in_ok-push.ensures }
+returns g c = record { goes = λ p. constant_gave p (standing g.R.Register.keeps g.R.Register.kept c.args.self.now) _ _ _ c.in-Some.ensures c.in_ok-push.ensures }

@@ -4,5 +4,5 @@ use Rattle.wy_work.proofs.machine.Machine.create.Goals as goal
 
 pub returns : goal.returns
 returns g c = record {
-  goes = λ is_new. new_begins _ (standing g.R.Recorder.keeps g.R.Recorder.kept c.args.self.now) (standing g.R.Recorder.keeps g.R.Recorder.kept c.push_expr.new.self) c.initialize.result (standing g.R.Recorder.keeps g.R.Recorder.kept c.initialize.new.self) c.args.expr c.args.class c.args.site c.in_ok-push_expr.ensures is_new c.initialize.ensures.goes;
+  goes = λ is_new. new_begins _ (standing g.R.Register.keeps g.R.Register.kept c.args.self.now) (standing g.R.Register.keeps g.R.Register.kept c.push_expr.new.self) c.initialize.result (standing g.R.Register.keeps g.R.Register.kept c.initialize.new.self) c.args.expr c.args.class c.args.site c.in_ok-push_expr.ensures is_new c.initialize.ensures.goes;
 }

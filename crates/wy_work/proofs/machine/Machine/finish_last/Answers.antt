@@ -6,6 +6,6 @@ use Rattle.wy_work.proofs.machine.Machine.finish_last.Goals as goal
 pub returns : goal.returns
 returns g c = record {
   goes = λ p.
-      let m = standing g.R.Recorder.keeps g.R.Recorder.kept c.args.self.now in
-      last_begins p m c.args.stmt c.deref.result _ _ _ _ c.in-Try.is c.in-Some.is c.deref.ensures _ (standing g.R.Recorder.keeps g.R.Recorder.kept c.push_stmt.new.self) (ap (λ vs. record m { values = vs }) c.clear.ensures) c.in_ok-push_stmt.ensures;
+      let m = standing g.R.Register.keeps g.R.Register.kept c.args.self.now in
+      last_begins p m c.args.stmt c.deref.result _ _ _ _ c.in-Try.is c.in-Some.is c.deref.ensures _ (standing g.R.Register.keeps g.R.Register.kept c.push_stmt.new.self) (ap (λ vs. record m { values = vs }) c.clear.ensures) c.in_ok-push_stmt.ensures;
 }

@@ -13,8 +13,8 @@ pub returns : goal.returns
 returns g c = record {
   goes =
       let p = program_of c.args.on.now.program.now in
-      let m = standing g.R.Recorder.keeps g.R.Recorder.kept c.args.self.now in
-      let n = standing g.R.Recorder.keeps g.R.Recorder.kept c.initialize.new.self in
+      let m = standing g.R.Register.keeps g.R.Register.kept c.args.self.now in
+      let n = standing g.R.Register.keeps g.R.Register.kept c.initialize.new.self in
       subst (λ k. Resumed p (then_all p m (leaving m.values (initialize (world p m.depth) c.args.site k))) m.state c.initialize.result n)
       (ap (λ (z : kernel.Field). z.class) c.field.ensures ∙ ap (λ q. (kernel.field q c.args.field).class) (sym (world_program p m.depth))) c.initialize.ensures.goes;
 }

@@ -14,12 +14,12 @@ pub returns-in_err-event : goal.returns-in_err-event
 returns-in_err-event g c = record {
   goes = λ p.
       let h = err_from_is_err_and c.from_residual.result c.from_residual.ensures.1 in
-      rw (h.1, h.2) (object_failed p (standing g.R.Recorder.keeps g.R.Recorder.kept c.args.self.now) c.args.expr _ _ c.in-New.args.items c.in-New.site (ap expression c.in-New.is ∙ view_new _ _ _ _) _ c.in_err-event.ensures.calls _ (c.in_err-event.ensures.step p));
+      rw (h.1, h.2) (object_failed p (standing g.R.Register.keeps g.R.Register.kept c.args.self.now) c.args.expr _ _ c.in-New.args.items c.in-New.site (ap expression c.in-New.is ∙ view_new _ _ _ _) _ c.in_err-event.ensures.calls _ (c.in_err-event.ensures.step p));
 }
 
 pub returns : goal.returns
 returns g c = record {
   goes = λ p.
-      object_made p (standing g.R.Recorder.keeps g.R.Recorder.kept c.args.self.now) c.args.expr _ _ c.in-New.args.items c.in-New.site (ap expression c.in-New.is ∙ view_new _ _ _ _) _ c.in_ok-event.ensures.calls c.in_ok-event.event _ _ (standing g.R.Recorder.keeps g.R.Recorder.kept c.push.new.self) (c.in_ok-event.ensures.step p)
+      object_made p (standing g.R.Register.keeps g.R.Register.kept c.args.self.now) c.args.expr _ _ c.in-New.args.items c.in-New.site (ap expression c.in-New.is ∙ view_new _ _ _ _) _ c.in_ok-event.ensures.calls c.in_ok-event.event _ _ (standing g.R.Register.keeps g.R.Register.kept c.push.new.self) (c.in_ok-event.ensures.step p)
       (c.in_ok-push_with-2.ensures ∙ ap (λ (vs : Values). valued c.in_ok-event.event (val.Object c.in_ok-event.event) ∷ vs) c.in_ok-push_with.ensures) c.as_slice.ensures.value (c.in_ok-push.ensures ∙ ap (pushed _) c.in_ok-push_expr.ensures);
 }

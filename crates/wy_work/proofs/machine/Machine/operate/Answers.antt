@@ -6,10 +6,10 @@ use Rattle.wy_kernel.proofs.ExpressionViews.{view_cond, view_const, view_new, vi
 use Rattle.wy_work.proofs.machine.Machine.operate.Goals as goal
 
 pub returns-in-Const : goal.returns-in-Const
-returns-in-Const g c = record { goes = operating_by _ (standing g.R.Recorder.keeps g.R.Recorder.kept c.args.self.now) (standing g.R.Recorder.keeps g.R.Recorder.kept c.constant.new.self) c.constant.result (expression c.args.expr.now) _ (ap expression c.in-Const.is ∙ view_const _) (c.constant.ensures.goes _) }
+returns-in-Const g c = record { goes = operating_by _ (standing g.R.Register.keeps g.R.Register.kept c.args.self.now) (standing g.R.Register.keeps g.R.Register.kept c.constant.new.self) c.constant.result (expression c.args.expr.now) _ (ap expression c.in-Const.is ∙ view_const _) (c.constant.ensures.goes _) }
 
 pub returns-in-Str : goal.returns-in-Str
-returns-in-Str g c = record { goes = operating_by _ (standing g.R.Recorder.keeps g.R.Recorder.kept c.args.self.now) (standing g.R.Recorder.keeps g.R.Recorder.kept c.text.new.self) c.text.result (expression c.args.expr.now) _ (ap expression c.in-Str.is ∙ view_str _) (c.text.ensures.goes _) }
+returns-in-Str g c = record { goes = operating_by _ (standing g.R.Register.keeps g.R.Register.kept c.args.self.now) (standing g.R.Register.keeps g.R.Register.kept c.text.new.self) c.text.result (expression c.args.expr.now) _ (ap expression c.in-Str.is ∙ view_str _) (c.text.ensures.goes _) }
 
 pub returns-in-Read : goal.returns-in-Read
 returns-in-Read g c = record { goes = c.read.ensures.goes (ap expression c.in-Read.is ∙ view_read _) }

@@ -3,4 +3,4 @@ use Rattle.wy_work.proofs.Single.{text_gave}
 use Rattle.wy_work.proofs.machine.Machine.text.Goals as goal
 
 pub returns : goal.returns
-returns g c = record { goes = λ p. text_gave p (standing g.R.Recorder.keeps g.R.Recorder.kept c.args.self.now) _ c.args.text c.in_ok-push.ensures }
+returns g c = record { goes = λ p. text_gave p (standing g.R.Register.keeps g.R.Register.kept c.args.self.now) _ c.args.text c.in_ok-push.ensures }
