@@ -1,15 +1,14 @@
 //! One call of the whole program over what stands in memory, and what it leaves.
 
-ghost use Rattle.std.specs.Prelude.{◌≡◌, IfOk};
+ghost use Rattle.std.specs.Prelude.{◌≡◌, [], IfOk, Some};
 ghost use Rattle.wy_outside.specs.Shelf.{AreDistinct};
-ghost use Rattle.wy_record.specs.declared.recorder.Phase.{Phase};
 
 use crate::programs::Program;
 use std::alloc::{AllocError, Global};
-use wy_framing::{FrameRecorder, MemoryTraceSink};
+use wy_framing::{FrameRecorder, MemoryTraceSink, TraceSink};
 use wy_outside::memory::{MemoryShelf, MemorySink, MemorySource};
-use wy_record::Recorder;
-use wy_top::whyline;
+use wy_record::{CompareRecorder, MemoryRecorder, QuietRecorder, Recorder};
+use wy_top::{Recorders, whyline};
 
 /// Which call of each fails, counted from 1. None fails where it is 0.
 #[derive(Clone, Copy, Debug)]
@@ -59,17 +58,12 @@ fn files(
     Ok(vec![in alloc; source, input, trace]?)
 }
 
-fn recorder(
-    alloc: Global,
-    first: Vec<u32>,
-    second: Vec<u32>,
-) -> Result<FrameRecorder<MemoryTraceSink>, AllocError>
-    ensures { IfOk result (λ recorder. recorder.phase ≡ Phase.Ready) }
+fn sink(alloc: Global, fails: u32) -> Result<MemoryTraceSink, AllocError>
+    ensures bytes { IfOk result (λ sink.
+        ⟦<MemoryTraceSink as TraceSink>⟧.bytes sink ≡ Some []) }
+    ensures faults { IfOk result (λ sink. ⟦<MemoryTraceSink as TraceSink>⟧.faults sink ≡ 0) }
 {
-    let mut sinks = Vec::new(alloc);
-    sinks.push(MemoryTraceSink::new(alloc, first))?;
-    sinks.push(MemoryTraceSink::new(alloc, second))?;
-    Ok(FrameRecorder::new(alloc, sinks))
+    Ok(MemoryTraceSink::new(alloc, Vec::from_slice(alloc, &[fails])?))
 }
 
 /// Calls the program by the words of a line.
@@ -90,23 +84,27 @@ pub fn call(
     );
     let mut keys = MemorySource::new(Vec::new(alloc), Vec::new(alloc));
     let mut out = MemorySink::new(alloc, Vec::from_slice(alloc, &[fails.out])?);
-    let mut recorder = recorder(
-        alloc,
-        Vec::from_slice(alloc, &[fails.first])?,
-        Vec::from_slice(alloc, &[fails.second])?,
-    )?;
+    let mut mirrors: Vec<Box<dyn TraceSink>> = Vec::new(alloc);
+    mirrors.push(Box::new(alloc, sink(alloc, fails.first)?)?)?;
+    mirrors.push(Box::new(alloc, sink(alloc, fails.second)?)?)?;
+    let mut recorders = Recorders {
+        write: FrameRecorder::new(alloc, mirrors),
+        compare: CompareRecorder::new(alloc),
+        memory: MemoryRecorder::new(alloc),
+        quiet: QuietRecorder::new(alloc),
+    };
     let status = whyline(
         alloc,
         words.as_slice(),
         &mut shelf,
         &mut keys,
         &mut out,
-        &mut recorder,
+        &mut recorders,
     );
     Ok(Left {
         status,
         written: Vec::from_slice(alloc, out.bytes())?,
-        first: recorder.mirror(0)?.unwrap_or(Vec::new(alloc)),
-        second: recorder.mirror(1)?.unwrap_or(Vec::new(alloc)),
+        first: recorders.write.mirror(0)?.unwrap_or(Vec::new(alloc)),
+        second: recorders.write.mirror(1)?.unwrap_or(Vec::new(alloc)),
     })
 }

@@ -1,11 +1,11 @@
 //! A run without an event, written to two mirrors.
-ghost use Rattle.std.specs.Prelude.{◌≡◌, IfOk};
+ghost use Rattle.std.specs.Prelude.{◌≡◌};
 
 use std::alloc::{AllocError, Global};
 use std::test::Fail;
 use wy_event::record::{Coverage, Head, Tail};
 use wy_event::sequence::Sequence;
-use wy_framing::{FrameRecorder, MemoryTraceSink};
+use wy_framing::{FrameRecorder, MemoryTraceSink, TraceSink};
 use wy_record::{Phase, RecordError, Recorder};
 
 fn record<R: Recorder>(alloc: Global, recorder: &mut R) -> Result<(), RecordError>
@@ -30,31 +30,43 @@ fn record<R: Recorder>(alloc: Global, recorder: &mut R) -> Result<(), RecordErro
     })
 }
 
-fn over(
-    alloc: Global,
-    first: Vec<u32>,
-    second: Vec<u32>,
-) -> Result<FrameRecorder<MemoryTraceSink>, AllocError>
-    ensures { IfOk result (λ recorder. recorder.phase ≡ Phase.Ready) }
-{
-    let mut sinks = Vec::new(alloc);
-    sinks.push(MemoryTraceSink::new(alloc, first))?;
-    sinks.push(MemoryTraceSink::new(alloc, second))?;
-    Ok(FrameRecorder::new(alloc, sinks))
+/// What a recording left: its answer, how far its recorder is, and what two mirrors and a third hold.
+#[derive(Drop)]
+struct Left {
+    answer: Result<(), RecordError>,
+    phase: Phase,
+    first: Option<Vec<u8>>,
+    second: Option<Vec<u8>>,
+    third: Option<Vec<u8>>,
+}
+
+/// Records into two mirrors, which fail at the listed calls.
+fn recorded(alloc: Global, first: Vec<u32>, second: Vec<u32>) -> Result<Left, AllocError> {
+    let mut mirrors: Vec<Box<dyn TraceSink>> = Vec::new(alloc);
+    mirrors.push(Box::new(alloc, MemoryTraceSink::new(alloc, first))?)?;
+    mirrors.push(Box::new(alloc, MemoryTraceSink::new(alloc, second))?)?;
+    let mut recorder = FrameRecorder::new(alloc, mirrors);
+    let answer = record(alloc, &mut recorder);
+    Ok(Left {
+        answer,
+        phase: recorder.phase(),
+        first: recorder.mirror(0)?,
+        second: recorder.mirror(1)?,
+        third: recorder.mirror(2)?,
+    })
 }
 
 #[test]
 fn both_mirrors_have_the_trace(rt: HostRuntime) -> Result<(), Fail> {
     let alloc = rt.alloc();
-    let mut recorder = over(alloc, Vec::new(alloc), Vec::new(alloc))?;
-    let _ = record(alloc, &mut recorder);
-    assert!(rt; recorder.phase() == Phase::Done, "it is done");
-    let first = recorder.mirror(0)?.expect(&rt, "the first");
-    let second = recorder.mirror(1)?.expect(&rt, "the second");
+    let left = recorded(alloc, Vec::new(alloc), Vec::new(alloc))?;
+    assert!(rt; left.phase == Phase::Done, "it is done");
+    let first = left.first.expect(&rt, "the first");
+    let second = left.second.expect(&rt, "the second");
     assert!(rt; first.starts_with(b"WHYTRAC1H"), "it begins so");
     assert_eq!(rt; first.len(), 97, "8, and frames of 17, 9, 26 and 37");
     assert!(rt; first.as_slice() == second.as_slice(), "they are alike");
-    assert!(rt; recorder.mirror(2)?.is_none(), "there is no third");
+    assert!(rt; left.third.is_none(), "there is no third");
     Ok(())
 }
 
@@ -62,13 +74,22 @@ fn both_mirrors_have_the_trace(rt: HostRuntime) -> Result<(), Fail> {
 fn each_call_of_the_second_fails_in_turn(rt: HostRuntime) -> Result<(), Fail> {
     let alloc = rt.alloc();
     for call in 1..5u32 {
-        let mut recorder = over(alloc, Vec::new(alloc), Vec::from_slice(alloc, &[call])?)?;
-        let answer = record(alloc, &mut recorder);
+        let left = recorded(alloc, Vec::new(alloc), Vec::from_slice(alloc, &[call])?)?;
         assert!(rt;
-            answer == Err(RecordError::SinkFault { mirror: 1 }),
+            left.answer == Err(RecordError::SinkFault { mirror: 1 }),
             "it is named"
         );
-        assert!(rt; recorder.phase() == Phase::Failed, "it takes no more");
+        assert!(rt; left.phase == Phase::Failed, "it takes no more");
     }
+    Ok(())
+}
+
+#[test]
+fn a_recorder_of_no_mirror_finishes(rt: HostRuntime) -> Result<(), Fail> {
+    let alloc = rt.alloc();
+    let mut recorder = FrameRecorder::new(alloc, Vec::new(alloc));
+    assert!(rt; record(alloc, &mut recorder).is_ok(), "nothing refuses");
+    assert!(rt; recorder.phase() == Phase::Done, "it is done");
+    assert!(rt; recorder.mirror(0)?.is_none(), "it has none");
     Ok(())
 }

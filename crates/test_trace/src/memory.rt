@@ -5,7 +5,7 @@ ghost use Rattle.wy_outside.specs.Shelf.{AreDistinct};
 
 use std::alloc::{AllocError, Global};
 use std::test::Fail;
-use wy_outside::memory::{MemoryShelf, MemorySink, MemorySource};
+use wy_outside::memory::{MemoryShelf, MemorySink, MemorySource, SwapShelf};
 use wy_outside::shelf::{Shelf, ShelfError};
 use wy_outside::sink::{Sink, SinkError};
 use wy_outside::source::{Source, SourceError};
@@ -48,6 +48,70 @@ fn a_shelf_answers_by_its_files_but_at_the_listed_calls(rt: HostRuntime) -> Resu
             Err(given) => assert!(rt; error == Some(given), "{name} {max}"),
         }
     }
+    Ok(())
+}
+
+/// A name, a place, how many bytes are asked for from there, and the answer: the bytes or the error.
+static PARTS: [(&str, u32, u32, &[u8], Option<ShelfError>); 8] = [
+    ("Five.java", 0, 9, b"12345", None),
+    ("Five.java", 1, 3, b"234", None),
+    ("Five.java", 4, 2, b"", Some(ShelfError::Failed)),
+    ("Five.java", 4, 2, b"5", None),
+    ("Five.java", 5, 1, b"", None),
+    ("Five.java", 4_294_967_295, 4_294_967_295, b"", None),
+    ("None.java", 0, 1, b"", None),
+    ("Absent.java", 0, 1, b"", Some(ShelfError::Absent)),
+];
+
+#[test]
+fn a_part_of_a_file_is_what_stands_there(rt: HostRuntime) -> Result<(), Fail> {
+    let alloc = rt.alloc();
+    let mut shelf = MemoryShelf::new(two_files(alloc)?, Vec::from_slice(alloc, &[3])?);
+    for &(name, from, len, bytes, error) in &PARTS {
+        match shelf.read_at(alloc, name, from, len) {
+            Ok(given) => assert!(rt;
+                error.is_none() && given.as_slice() == bytes,
+                "{name} {from} {len}"
+            ),
+            Err(given) => assert!(rt; error == Some(given), "{name} {from} {len}"),
+        }
+    }
+    Ok(())
+}
+
+/// A name, a size, and whether the file has as many bytes.
+static SIZES: [(&str, u32, Result<bool, ShelfError>); 6] = [
+    ("Five.java", 0, Ok(true)),
+    ("Five.java", 5, Ok(true)),
+    ("Five.java", 5, Err(ShelfError::Failed)),
+    ("Five.java", 6, Ok(false)),
+    ("None.java", 1, Ok(false)),
+    ("Absent.java", 0, Err(ShelfError::Absent)),
+];
+
+#[test]
+fn a_file_reaches_as_far_as_it_has_bytes(rt: HostRuntime) -> Result<(), Fail> {
+    let alloc = rt.alloc();
+    let mut shelf = MemoryShelf::new(two_files(alloc)?, Vec::from_slice(alloc, &[3])?);
+    for &(name, size, want) in &SIZES {
+        assert!(rt; shelf.reaches(name, size) == want, "{name} {size}");
+    }
+    Ok(())
+}
+
+#[test]
+fn a_file_changes_before_the_call_that_is_named(rt: HostRuntime) -> Result<(), Fail> {
+    let alloc = rt.alloc();
+    let changed = (
+        String::from_str(alloc, "Five.java")?,
+        Vec::from_slice(alloc, b"abc")?,
+    );
+    let mut shelf = SwapShelf::new(two_files(alloc)?, changed, 3);
+    assert!(rt; shelf.reaches("Five.java", 5) == Ok(true));
+    assert!(rt; shelf.read(alloc, "Five.java", 2)?.as_slice() == b"12".as_slice());
+    assert!(rt; shelf.read_at(alloc, "Five.java", 1, 9)?.as_slice() == b"bc".as_slice());
+    assert!(rt; shelf.reaches("Five.java", 5) == Ok(false));
+    assert!(rt; shelf.read(alloc, "None.java", 2)?.is_empty());
     Ok(())
 }
 

@@ -8,7 +8,7 @@ use wy_outside::sink::SinkError;
 const PATH: &str = "a_trace_sink_wrote_this.bin";
 
 /// Puts three pieces: below a block, beyond one, and a byte.
-fn put_three(alloc: Global, sink: &mut Box<dyn TraceSink + Drop>) -> Result<(), SinkError> {
+fn put_three(alloc: Global, sink: &mut Box<dyn TraceSink>) -> Result<(), SinkError> {
     sink.open(PATH)?;
     sink.put(b"first")?;
     let long = Vec::from_elem(alloc, 7u8, 70_000).map_err(|_| SinkError::NoMemory)?;
@@ -20,7 +20,7 @@ fn put_three(alloc: Global, sink: &mut Box<dyn TraceSink + Drop>) -> Result<(), 
 #[test]
 fn a_file_has_what_was_put(rt: HostRuntime) -> Result<(), Fail> {
     let alloc = rt.alloc();
-    let mut sink: Box<dyn TraceSink + Drop> = Box::new(alloc, FileTraceSink::new(rt, alloc))?;
+    let mut sink: Box<dyn TraceSink> = Box::new(alloc, FileTraceSink::new(rt, alloc))?;
     assert!(rt; put_three(alloc, &mut sink).is_ok(), "it is written");
     let bytes = fs::read(&rt, PATH).expect(&rt, "the file");
     fs::remove_file(&rt, PATH).expect(&rt, "it is there");
@@ -38,10 +38,7 @@ fn each_call_fails_in_turn(rt: HostRuntime) -> Result<(), Fail> {
     let alloc = rt.alloc();
     for call in 1..6u32 {
         let fails = Vec::from_slice(alloc, &[call])?;
-        let mut sink: Box<dyn TraceSink + Drop> = Box::new(
-            alloc,
-            MemoryTraceSink::new(alloc, fails),
-        )?;
+        let mut sink: Box<dyn TraceSink> = Box::new(alloc, MemoryTraceSink::new(alloc, fails))?;
         assert!(rt;
             put_three(alloc, &mut sink) == Err(SinkError::Failed),
             "it fails"

@@ -2,45 +2,46 @@
 //! proved, and ends with its status.
 #![tactic(auto)]
 
-ghost use Rattle.std.specs.Prelude.{◌≡◌, IfOk};
-ghost use Rattle.wy_record.specs.declared.recorder.Phase.TheVariants.{Ready};
-
 use std::alloc::AllocError;
 use std::env;
 use std::io::ErrorKind;
 use std::process::ExitCode;
-use wy_framing::{FileTraceSink, FrameRecorder};
+use wy_framing::{FileTraceSink, FrameRecorder, TraceSink};
 use wy_outside::real::{FileShelf, StdinSource, StdoutSink};
+use wy_record::{CompareRecorder, MemoryRecorder, QuietRecorder, Recorder};
 use wy_reply::Status;
-use wy_top::whyline;
+use wy_top::{Recorders, whyline};
 
 fn main(rt: HostRuntime) -> ExitCode {
     let words = match words(&rt) {
         Ok(words) => words,
         Err(status) => return ExitCode::from(status.code()),
     };
-    let Ok(mut recorder) = recorder(&rt) else {
-        return ExitCode::from(Status::NoMemory.code());
-    };
-    let status = whyline(
-        rt.alloc(),
-        words.as_slice(),
-        &mut FileShelf::new(&rt),
-        &mut StdinSource::new(&rt),
-        &mut StdoutSink::new(&rt),
-        &mut recorder,
-    );
-    ExitCode::from(status)
+    match call(&rt, words.as_slice()) {
+        Ok(status) => ExitCode::from(status),
+        Err(_) => ExitCode::from(Status::NoMemory.code()),
+    }
 }
 
-/// A recorder whose one mirror is a file.
-fn recorder(rt: &HostRuntime) -> Result<FrameRecorder<FileTraceSink<HostRuntime>>, AllocError>
-    ensures { IfOk result (λ recorder. recorder.phase ≡ Ready) }
-{
+/// Calls the program over the real files and streams. A trace is written to one file.
+fn call(rt: &HostRuntime, words: &[String]) -> Result<u8, AllocError> {
     let alloc = rt.alloc();
-    let mut sinks = Vec::new(alloc);
-    sinks.push(FileTraceSink::new(*rt, alloc))?;
-    Ok(FrameRecorder::new(alloc, sinks))
+    let mut mirrors: Vec<Box<dyn TraceSink>> = Vec::new(alloc);
+    mirrors.push(Box::new(alloc, FileTraceSink::new(*rt, alloc))?)?;
+    let mut recorders = Recorders {
+        write: FrameRecorder::new(alloc, mirrors),
+        compare: CompareRecorder::new(alloc),
+        memory: MemoryRecorder::new(alloc),
+        quiet: QuietRecorder::new(alloc),
+    };
+    Ok(whyline(
+        alloc,
+        words,
+        &mut FileShelf::new(rt),
+        &mut StdinSource::new(rt),
+        &mut StdoutSink::new(rt),
+        &mut recorders,
+    ))
 }
 
 /// The words behind the program's own name, and none where one of them isn't UTF-8, so that they are

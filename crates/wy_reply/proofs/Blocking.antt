@@ -13,7 +13,7 @@ use Rattle.wy_meaning.specs.Run.{events}
 use Rattle.wy_meaning.specs.Kept.{covered_of, kept_tail}
 use Rattle.wy_telling.specs.Whynot.{WhynotIs, Denied, NotRead, NoSuch, Ran, answered, ran, not_there, not_read}
 use Rattle.wy_reply.specs.Blocked.{BlockedAnswer}
-use Rattle.wy_reply.specs.Tellings.{Wanted, WhyNot, Tells, covers_of, affects, why, whynot, questions, explore, audit, output}
+use Rattle.wy_reply.specs.Tellings.{Wanted, WhyNot, Tells, covers_of, affects, certify, check, lacking, why, whynot, questions, explore, audit, output}
 
 abbrev ok_text : List ℕ → Result (List ℕ) Denied
 ok_text x = Ok x
@@ -47,6 +47,9 @@ tells_whynot p t _ _ _ (whynot asked (Err (NoSuch n)) is) word same zero_is = ab
 tells_whynot p t _ _ _ (whynot asked (Err (Ran line place count first)) is) word same zero_is = absurd (omega (arith, zero_is))
 tells_whynot p t _ _ _ (explore input status text is) word same zero_is = absurd (cc)
 tells_whynot p t _ _ _ (audit v is) word same zero_is = absurd (cc)
+tells_whynot p t _ _ _ (certify question answer is) word same zero_is = absurd (cc)
+tells_whynot p t _ _ _ (check bytes r is judged) word same zero_is = absurd (cc)
+tells_whynot p t _ _ _ (lacking status text) word same zero_is = absurd (cc)
 
 pub told_blocked : (p : memory.Program) (t : Trace) (s : ℕ) (x : List ℕ) (input : List ℕ) (steps : ℕ) → map recorded t.events ≡ events nothing (program_of p) input steps → AreCovers (program_of p) input steps (covers_of t) →
     (word : List ℕ) → Tells p t (WhyNot word) s x → s ≡ 0 → BlockedAnswer (program_of p) p.lines.items input steps word x

@@ -30,7 +30,7 @@ use Rattle.wy_ask.specs.Questions as question
 use Rattle.wy_ask.proofs.Stores.{print_below}
 use Rattle.wy_telling.specs.Answers.{Refused, NotRead, NoSuch, answered, not_there, not_read, marked_lines}
 use Rattle.wy_telling.specs.Why.{WhyIs, why_text}
-use Rattle.wy_reply.specs.Tellings.{Wanted, Why, Tells, affects, why, whynot, questions, explore, audit, output}
+use Rattle.wy_reply.specs.Tellings.{Wanted, Why, Tells, affects, certify, check, lacking, why, whynot, questions, explore, audit, output}
 use Rattle.wy_reply.specs.Carried.{CarriedAnswer, Means, SameSets, static, field, element, local}
 
 -- ---- bytes tell all of a run's records
@@ -271,6 +271,9 @@ tells_why p t _ _ _ questions asks same zero_is = absurd (cc)
 tells_why p t _ _ _ (whynot word answer is) asks same zero_is = absurd (cc)
 tells_why p t _ _ _ (explore input status text is) asks same zero_is = absurd (cc)
 tells_why p t _ _ _ (audit v is) asks same zero_is = absurd (cc)
+tells_why p t _ _ _ (certify question answer is) asks same zero_is = absurd (cc)
+tells_why p t _ _ _ (check bytes r is judged) asks same zero_is = absurd (cc)
+tells_why p t _ _ _ (lacking status text) asks same zero_is = absurd (cc)
 
 pub told_carried : (p : memory.Program) (t : Trace) (w : Wanted) (s : ℕ) (x : List ℕ) (input : List ℕ) (steps : ℕ) → Runs (program_of p) input steps → map recorded t.events ≡ events nothing (program_of p) input steps →
     Tells p t w s x → s ≡ 0 → (asks : List ℕ) → w ≡ Why asks → CarriedAnswer (program_of p) p.lines.items input steps asks x

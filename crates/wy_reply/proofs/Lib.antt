@@ -8,3 +8,5 @@ mod SizesLine
 pub mod Referring
 pub mod Answering
 pub mod Opening
+pub mod Certifying
+mod Seals

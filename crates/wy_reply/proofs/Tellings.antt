@@ -1,5 +1,5 @@
 -- What a trace tells is due.
-use Rattle.std.proofs.Common.{◌≡◌, sym, subst, ℕ, List, map, Result, Ok, Err, IfOk, Vec, Global}
+use Rattle.std.proofs.Common.{◌≡◌, sym, subst, ℕ, List, map, Some, Result, Ok, Err, IfOk, Vec, Global}
 use Rattle.std.specs.declared.alloc.AllocError.{AllocError}
 use Rattle.wy_kernel.specs.declared.program.Program.{Program}
 use Rattle.wy_kernel.specs.Parts.{program_of}
@@ -21,7 +21,13 @@ use Rattle.wy_telling.specs.Whynot.{WhynotIs, Denied, TellsWhynot}
 use Rattle.wy_telling.specs.Whynot as denied_as
 use Rattle.wy_telling.specs.declared.whynot.Unanswered.{Unanswered}
 use Rattle.wy_telling.specs.declared.whynot.Unanswered.TheVariants as unanswered
-use Rattle.wy_reply.specs.Tellings.{IsTraceLine, RefusesTrace, SaysAsTold, Wanted, WhyNot, Audit, Tells, DeniesAs, DueUnder, covers_of, answer_status, answer_text, audit_status, audit_line, whynot, audit, told}
+use Rattle.wy_check.specs.Checks.{Judges}
+use Rattle.wy_check.specs.declared.error.CertError.{CertError}
+use Rattle.wy_check.specs.declared.error.CertError.TheVariants as cert
+use Rattle.wy_why.specs.declared.answer.Answer as found
+use Rattle.wy_ask.specs.Asked.{owners}
+use Rattle.wy_reply.specs.Certificates.{Certified, seal_of}
+use Rattle.wy_reply.specs.Tellings.{IsTraceLine, RefusesTrace, SaysAsTold, SaysVerdict, Wanted, Bytes, Certify, Check, certify, check, WhyNot, Audit, Tells, DeniesAs, DueUnder, covers_of, answer_status, answer_text, audit_status, audit_line, whynot, audit, told}
 
 -- the status and the text of a refusal, where it was made
 abbrev pub Refuses : Status → List ℕ → Result Answer AllocError → Type 0
@@ -45,6 +51,26 @@ told_answer telling p t question w row (Ok text) (Ok answer) is h = rw (h.0, h.1
 told_answer telling p t question w row (Err errors.BadQuestion) (Ok answer) is h = rw (h.0, h.1) (row (Err NotRead) is)
 told_answer telling p t question w row (Err (errors.NoSuch n)) (Ok answer) is h = rw (h.0, h.1) (row (Err (NoSuch n)) is)
 told_answer telling p t question w row (Err errors.NoMemory) (Ok answer) is h = absurd h
+
+-- the certificate of the event that a question asks about
+pub told_certificate : (p : Program) (t : Trace) (question : List ℕ) (outcome : Result (Vec ℕ Global) AskError) (r : Result Answer AllocError)
+    → Certified (program_of p) p.lines.items (map recorded t.events) (seal_of t) question outcome → IfOk r (SaysAsTold outcome) → IfOk r (Told p t (Certify question))
+told_certificate p t question outcome (Err x) is h = tt
+told_certificate p t question (Ok bytes) (Ok answer) is h = rw (h.0, h.1) (certify question (Ok bytes.items) is)
+told_certificate p t question (Err errors.BadQuestion) (Ok answer) is h = rw (h.0, h.1) (certify question (Err NotRead) is)
+told_certificate p t question (Err (errors.NoSuch n)) (Ok answer) is h = rw (h.0, h.1) (certify question (Err (NoSuch n)) is)
+told_certificate p t question (Err errors.NoMemory) (Ok answer) is h = absurd h
+
+-- the verdict on a certificate
+pub told_verdict : (p : Program) (t : Trace) (bytes : List ℕ) (v : Result found.Answer CertError) (r : Result Answer AllocError)
+    → Judges (owners (program_of p)) (Some (map recorded t.events)) (seal_of t) bytes v → IfOk r (SaysVerdict v) → IfOk r (Told p t (Check (Bytes bytes)))
+told_verdict p t bytes v (Err x) is h = tt
+told_verdict p t bytes (Ok verdict) (Ok answer) is h = rw (h.0, h.1) (check bytes (Ok verdict) tt is)
+told_verdict p t bytes (Err cert.NotRead) (Ok answer) is h = rw (h.0, h.1) (check bytes (Err cert.NotRead) tt is)
+told_verdict p t bytes (Err cert.OtherTrace) (Ok answer) is h = rw (h.0, h.1) (check bytes (Err cert.OtherTrace) tt is)
+told_verdict p t bytes (Err (cert.BadEvent n)) (Ok answer) is h = rw (h.0, h.1) (check bytes (Err (cert.BadEvent n)) tt is)
+told_verdict p t bytes (Err (cert.View e)) (Ok answer) is h = absurd h
+told_verdict p t bytes (Err cert.NoMemory) (Ok answer) is h = absurd h
 
 -- what is denied of a word is told
 pub denied : (p : Program) (t : Trace) (word : List ℕ) (e : Unanswered) (r : Result Answer AllocError)

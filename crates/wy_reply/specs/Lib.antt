@@ -3,6 +3,7 @@ pub mod Lines
 pub mod Sources
 pub mod Refusals
 pub mod Report
+pub mod Certificates
 pub mod Tellings
 pub mod Recordings
 pub mod Carried

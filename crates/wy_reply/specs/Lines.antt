@@ -84,6 +84,22 @@ differs_line event = line_of (codes "audit: differs at event " ++ decimal event)
 abbrev pub tail_differs_line : List ℕ
 tail_differs_line = line_of (codes "audit: differs in the tail")
 
+-- ---- certificates
+
+abbrev pub certificate_not_read_line : List ℕ
+certificate_not_read_line = line_of (codes "certificate: not read")
+
+abbrev pub other_trace_line : List ℕ
+other_trace_line = line_of (codes "certificate: other trace")
+
+abbrev pub certificate_event_line : ℕ → List ℕ
+certificate_event_line event = line_of (codes "certificate: event " ++ decimal event)
+
+-- of how many events a good one is, and how many of them are in the data
+abbrev pub good_line : ℕ → ℕ → List ℕ
+good_line events by_data =
+    line_of (codes "certificate: " ++ (decimal events ++ (codes " events, " ++ (decimal by_data ++ codes " in the data"))))
+
 -- ---- recordings
 
 abbrev pub recorded_line : ℕ → List ℕ

@@ -1,8 +1,8 @@
 -- The status and the line of each refusal.
 use Rattle.std.specs.Prelude.{ℕ, List}
-use Rattle.wy_reply.specs.Lines.{usage_line, absent_line, of_trace, cut_line, damaged_line, bad_seal_line, not_read_line, no_such_line, ran_line, shelf_fault_line, recorder_fault_line, too_long_line, differs_line, tail_differs_line}
+use Rattle.wy_reply.specs.Lines.{usage_line, absent_line, of_trace, cut_line, damaged_line, bad_seal_line, not_read_line, no_such_line, ran_line, shelf_fault_line, recorder_fault_line, too_long_line, differs_line, tail_differs_line, certificate_not_read_line, other_trace_line, certificate_event_line}
 use Rattle.wy_reply.specs.declared.lines.Refusal.{Refusal}
-use Rattle.wy_reply.specs.declared.lines.Refusal.TheVariants.{Usage, Absent, Program, Cut, Damaged, BadSeal, TraceProgram, NotRead, NoSuch, Ran, FaultShelf, FaultRecorder, LongFile, AuditEvent, AuditTail}
+use Rattle.wy_reply.specs.declared.lines.Refusal.TheVariants.{Usage, Absent, Program, Cut, Damaged, BadSeal, TraceProgram, NotRead, NoSuch, Ran, FaultShelf, FaultRecorder, LongFile, AuditEvent, AuditTail, CertificateNotRead, CertificateOfOther, CertificateEvent}
 use Rattle.wy_reply.specs.declared.status.Status.{Status}
 use Rattle.wy_reply.specs.declared.status.Status.TheVariants as status
 use Rattle.wy_reply.specs.Sources.{source_refusal_text}
@@ -23,6 +23,9 @@ refusal_status FaultRecorder = status.Fault
 refusal_status (LongFile name) = status.TooLong
 refusal_status (AuditEvent event) = status.Audit
 refusal_status AuditTail = status.Audit
+refusal_status CertificateNotRead = status.Certificate
+refusal_status CertificateOfOther = status.Certificate
+refusal_status (CertificateEvent event) = status.Certificate
 
 abbrev pub refusal_text : Refusal → List ℕ
 refusal_text Usage = usage_line
@@ -40,3 +43,6 @@ refusal_text FaultRecorder = recorder_fault_line
 refusal_text (LongFile name) = too_long_line name.now
 refusal_text (AuditEvent event) = differs_line event
 refusal_text AuditTail = tail_differs_line
+refusal_text CertificateNotRead = certificate_not_read_line
+refusal_text CertificateOfOther = other_trace_line
+refusal_text (CertificateEvent event) = certificate_event_line event

@@ -1,7 +1,7 @@
 -- The number of each status.
 use Rattle.std.specs.Prelude.{◌≡◌, ℕ, Bool, true, false}
 use Rattle.wy_reply.specs.declared.status.Status.{Status}
-use Rattle.wy_reply.specs.declared.status.Status.TheVariants.{Done, Usage, Absent, Program, Trace, Question, Fault, TooLong, NoMemory, Audit}
+use Rattle.wy_reply.specs.declared.status.Status.TheVariants.{Done, Usage, Absent, Program, Trace, Question, Fault, TooLong, NoMemory, Audit, Certificate}
 
 abbrev pub code_of : Status → ℕ
 code_of Done = 0
@@ -14,6 +14,7 @@ code_of Fault = 7
 code_of TooLong = 8
 code_of NoMemory = 9
 code_of Audit = 10
+code_of Certificate = 11
 
 -- it is the number of a status
 abbrev pub IsStatus : ℕ → Type 0

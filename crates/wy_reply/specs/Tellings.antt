@@ -1,5 +1,5 @@
 -- What is due for the bytes of a trace, under the program of its head.
-use Rattle.std.specs.Prelude.{◌≡◌, ℕ, List, map, Result, Ok, Err, Vec}
+use Rattle.std.specs.Prelude.{◌≡◌, ℕ, List, map, Some, Result, Ok, Err, Vec}
 use Rattle.std.specs.declared.alloc.Global.{Global}
 use Rattle.wy_kernel.specs.declared.program.Program.{Program}
 use Rattle.wy_kernel.specs.Parts.{program_of}
@@ -25,8 +25,15 @@ use Rattle.wy_telling.specs.declared.whynot.Unanswered.{Unanswered}
 use Rattle.wy_telling.specs.declared.whynot.Unanswered.TheVariants as unanswered
 use Rattle.wy_ask.specs.declared.question.AskError.{AskError}
 use Rattle.wy_ask.specs.declared.question.AskError.TheVariants as errors
+use Rattle.wy_ask.specs.Asked.{owners}
+use Rattle.wy_check.specs.Checks.{Judges}
+use Rattle.wy_check.specs.Laws.{IsVerdict}
+use Rattle.wy_check.specs.declared.error.CertError.{CertError}
+use Rattle.wy_check.specs.declared.error.CertError.TheVariants as cert
+use Rattle.wy_why.specs.declared.answer.Answer as found
 use Rattle.wy_session.specs.Desk.{scene_of}
 use Rattle.wy_session.specs.Talk.{Talks}
+use Rattle.wy_reply.specs.Certificates.{CertifyIs, seal_of, verdict_line, verdict_status}
 use Rattle.wy_reply.specs.Lines.{cut_line, damaged_line, bad_seal_line, not_read_line, no_such_line, ran_line, equal_line, differs_line, tail_differs_line}
 use Rattle.wy_reply.specs.declared.answer.Answer.{Answer}
 use Rattle.wy_reply.specs.declared.status.Status.TheVariants as status
@@ -49,16 +56,24 @@ RefusesTrace error answer = (answer.status ≡ status.Trace) × IsTraceLine erro
 abbrev pub Refuses : List ℕ → Answer → Type 0
 Refuses line answer = (answer.status ≡ status.Question) × (answer.text.items ≡ line)
 
--- what a trace is to tell: what its run wrote, what can be asked, what a question's event comes from, what comes from it,
--- why a statement never began, whether it is the trace of that run, or what a session over it answers
+-- what is given as a certificate: these bytes, or a file that is lacking, for which this status and this text are due
+pub data Given : Type 0 where
+  Bytes : List ℕ → Given
+  Lacking : (status : ℕ) (text : List ℕ) → Given
+
+-- what a trace is to tell: what its run wrote, what can be asked, what a question's event comes from, the certificate of that, what
+-- comes from it, why a statement never began, whether it is the trace of that run, whether a certificate is good for it, or what a
+-- session over it answers
 pub data Wanted : Type 0 where
   Output : Wanted
   Explore : (input : List ℕ) → Wanted
   Questions : Wanted
   Why : List ℕ → Wanted
   Affects : List ℕ → Wanted
+  Certify : List ℕ → Wanted
   WhyNot : List ℕ → Wanted
   Audit : Wanted
+  Check : Given → Wanted
 
 -- the status and the text of the answer to a question
 abbrev pub answer_status : Result (List ℕ) Refused → ℕ
@@ -101,6 +116,9 @@ pub data Tells (p : Program) (t : Trace) : Wanted → ℕ → List ℕ → Type 
       → Tells p t (Why question) (answer_status answer) (answer_text answer)
   affects : (question : List ℕ) (answer : Result (List ℕ) Refused) → AffectsIs (program_of p) p.lines.items (map recorded t.events) question answer
       → Tells p t (Affects question) (answer_status answer) (answer_text answer)
+  certify : (question : List ℕ) (answer : Result (List ℕ) Refused)
+      → CertifyIs (program_of p) p.lines.items (map recorded t.events) (seal_of t) question answer
+      → Tells p t (Certify question) (answer_status answer) (answer_text answer)
   questions : Tells p t Questions 0
       (questions_text (program_of p) p.lines.items (map recorded t.events) (covers_of t))
   whynot : (word : List ℕ) (answer : Result (List ℕ) Denied)
@@ -109,6 +127,10 @@ pub data Tells (p : Program) (t : Trace) : Wanted → ℕ → List ℕ → Type 
   explore : (input : List ℕ) (status : ℕ) (text : List ℕ)
       → Talks (scene_of p t.events (covers_of t)) input status text → Tells p t (Explore input) status text
   audit : (v : Verdict) → AuditIs (program_of p) t.head (map recorded t.events) (kept_tail t.tail) v → Tells p t Audit (audit_status v) (audit_line v)
+  check : (bytes : List ℕ) (r : Result found.Answer CertError) → IsVerdict r
+      → Judges (owners (program_of p)) (Some (map recorded t.events)) (seal_of t) bytes r
+      → Tells p t (Check (Bytes bytes)) (verdict_status r) (verdict_line r)
+  lacking : (status : ℕ) (text : List ℕ) → Tells p t (Check (Lacking status text)) status text
 
 -- the status and the text that are due for bytes: what is wrong with them first, or what the trace tells that they are read as
 pub data DueUnder (p : Program) (bytes : List ℕ) (w : Wanted) : ℕ → List ℕ → Type 0 where
@@ -120,6 +142,7 @@ pub data DueUnder (p : Program) (bytes : List ℕ) (w : Wanted) : ℕ → List �
 abbrev pub inquiry_of : Inquiry → Wanted
 inquiry_of (inquiry.Why question) = Why question.now
 inquiry_of (inquiry.Affects question) = Affects question.now
+inquiry_of (inquiry.Certify question) = Certify question.now
 inquiry_of inquiry.Questions = Questions
 inquiry_of (inquiry.WhyNot statement) = WhyNot statement.now
 
@@ -127,6 +150,7 @@ abbrev pub wanted_of : Asked → Wanted
 wanted_of asked.Output = Output
 wanted_of (asked.Inquiry i) = inquiry_of i
 wanted_of asked.Audit = Audit
+wanted_of (asked.Check certificate) = Check (Bytes certificate.now)
 
 -- ---- what is told of a question, in memory
 
@@ -146,3 +170,12 @@ DeniesAs (unanswered.NoSuch line) answer = Refuses (no_such_line line) answer
 DeniesAs (unanswered.Ran line place count first) answer =
     Refuses (ran_line line place count first) answer
 DeniesAs unanswered.NoMemory answer = ⊥
+
+-- ---- a verdict on a certificate, in memory
+
+-- what is due for it
+abbrev pub SaysVerdict : Result found.Answer CertError → Answer → Type 0
+SaysVerdict (Err (cert.View error)) answer = ⊥
+SaysVerdict (Err cert.NoMemory) answer = ⊥
+SaysVerdict (Ok verdict) answer = (answer.status ≡ status.Done) × (answer.text.items ≡ verdict_line (Ok verdict))
+SaysVerdict (Err e) answer = (answer.status ≡ status.Certificate) × (answer.text.items ≡ verdict_line (Err e))

@@ -2,6 +2,7 @@
 #![tactic(auto)]
 
 pub mod answer;
+mod certified;
 pub mod generating;
 pub mod lines;
 pub mod recording;

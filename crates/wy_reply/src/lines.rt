@@ -1,7 +1,7 @@
 //! The lines of refusals.
 ghost use Rattle.std.specs.Prelude.{◌≡◌, ◌++◌, IfOk};
 ghost use Rattle.std.specs.Fmt.{decimal};
-ghost use Rattle.wy_reply.specs.Lines.{line_of, damage_name, damaged_as, ran_line, recorded_line};
+ghost use Rattle.wy_reply.specs.Lines.{line_of, damage_name, damaged_as, good_line, ran_line, recorded_line};
 ghost use Rattle.wy_reply.specs.Refusals.{refusal_status, refusal_text};
 
 use crate::source::source_refusal_line;
@@ -54,6 +54,14 @@ pub enum Refusal<'a> {
         event: u32,
     },
     AuditTail,
+    /// The bytes are no certificate.
+    CertificateNotRead,
+    /// The certificate is of a trace with another seal.
+    CertificateOfOther,
+    /// The least event at fault of the certificate.
+    CertificateEvent {
+        event: u32,
+    },
 }
 
 impl Refusal<'_> {
@@ -73,6 +81,9 @@ impl Refusal<'_> {
             Refusal::FaultShelf | Refusal::FaultRecorder => Status::Fault,
             Refusal::LongFile { .. } => Status::TooLong,
             Refusal::AuditEvent { .. } | Refusal::AuditTail => Status::Audit,
+            Refusal::CertificateNotRead
+            | Refusal::CertificateOfOther
+            | Refusal::CertificateEvent { .. } => Status::Certificate,
         }
     }
 }
@@ -102,6 +113,9 @@ pub fn refusal_line(alloc: Global, refusal: Refusal<'_>) -> Result<Vec<u8>, Allo
         Refusal::LongFile { name } => line(alloc, "too long: ", name),
         Refusal::AuditEvent { event } => numbered(alloc, "audit: differs at event ", event),
         Refusal::AuditTail => line(alloc, "audit: differs in the tail", ""),
+        Refusal::CertificateNotRead => line(alloc, "certificate: not read", ""),
+        Refusal::CertificateOfOther => line(alloc, "certificate: other trace", ""),
+        Refusal::CertificateEvent { event } => numbered(alloc, "certificate: event ", event),
     }
 }
 
@@ -158,5 +172,13 @@ pub fn recorded_line(alloc: Global, events: u32) -> Result<Vec<u8>, AllocError>
     ensures { IfOk result (λ line. line.items ≡ recorded_line events) }
 {
     let line = format!(in alloc; "-- recorded {events} events\n")?;
+    Ok(line.into_bytes())
+}
+
+/// The line that is written of a good certificate of so many events, so many of them in the data.
+pub fn good_line(alloc: Global, events: usize, by_data: usize) -> Result<Vec<u8>, AllocError>
+    ensures { IfOk result (λ line. line.items ≡ good_line events by_data) }
+{
+    let line = format!(in alloc; "certificate: {events} events, {by_data} in the data\n")?;
     Ok(line.into_bytes())
 }

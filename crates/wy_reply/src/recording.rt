@@ -37,8 +37,10 @@ pub fn answer_to_recording<R: Recorder>(
     head: &Head,
     recorder: &mut R,
 ) -> Result<Answer, AllocError>
+    requires sound { R.Sound recorder.old }
     requires ready { R.phase recorder.old ≡ Ready }
     requires steps { head.now.steps < 2 ^ 32 }
+    ensures sound { R.Sound recorder.new }
     ensures records { IfOk result (λ answer. RecordsAs (spelling R.opening R.frame R.closing)
         program.now head.now (R.mirrors recorder.old) (R.mirrors recorder.new)
         (R.faults recorder.old) (R.faults recorder.new) answer) }

@@ -1,6 +1,7 @@
 //! What is answered for a run.
 ghost use Rattle.std.specs.Prelude.{◌≡◌, IfOk};
 ghost use Rattle.wy_kernel.specs.Parts.{program_of};
+ghost use Rattle.wy_record.specs.declared.recorder.Phase.TheVariants.{Recording};
 ghost use Rattle.wy_reply.specs.declared.status.Status.TheVariants.{Done};
 ghost use Rattle.wy_reply.specs.Report.{report, report_of_end};
 
@@ -14,7 +15,9 @@ use wy_record::{QuietRecorder, Recorder};
 use wy_telling::whole_report;
 
 /// A recorder that keeps nothing, ready for the events of a run.
-fn quiet(alloc: Global) -> Result<QuietRecorder, AllocError> {
+fn quiet(alloc: Global) -> Result<QuietRecorder, AllocError>
+    ensures { IfOk result (λ recorder. recorder.phase ≡ Recording) }
+{
     let head = Head {
         steps: 0,
         input: Sequence::new(Vec::new(alloc)),
@@ -51,7 +54,11 @@ pub fn answer_to_program(
     ensures text { IfOk result (λ answer. answer.text.items
         ≡ report (program_of program.now) program.now.lines.items input.now steps) }
 {
-    let (ended, _) = run(alloc, program, input, steps, quiet(alloc)?)?;
+    let mut recorder = quiet(alloc)?;
+    let ended = match run(alloc, program, input, steps, &mut recorder) {
+        Ok(ended) => ended,
+        Err(_) => return Err(AllocError),
+    };
     let text = report(alloc, program, ended)?;
     Ok(Answer::done(text))
 }

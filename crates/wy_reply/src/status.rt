@@ -23,6 +23,8 @@ pub enum Status {
     NoMemory,
     /// The trace isn't that of the run of its head.
     Audit,
+    /// The certificate isn't read, or isn't good for the trace.
+    Certificate,
 }
 
 impl Status {
@@ -43,6 +45,7 @@ impl Status {
             Status::TooLong => 8,
             Status::NoMemory => 9,
             Status::Audit => 10,
+            Status::Certificate => 11,
         }
     }
 }

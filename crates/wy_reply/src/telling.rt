@@ -1,24 +1,28 @@
 //! What is answered from a trace.
-ghost use Rattle.std.specs.Prelude.{◌≡◌, ◌<◌, ◌^◌, ℕ, List, None, IfOk, false, length};
+ghost use Rattle.std.specs.Prelude.{◌≡◌, ◌<◌, ◌≤◌, ◌-◌, ◌^◌, None, IfOk, drop, false, length};
 ghost use Rattle.wy_ask.specs.Opened.{IsOpenedOf};
 ghost use Rattle.wy_event.specs.declared.record.Trace.{Trace};
 ghost use Rattle.wy_reply.specs.declared.status.Status.TheVariants.{Done};
 ghost use Rattle.wy_reply.specs.ByRun.{HasSource, TellsRun};
 ghost use Rattle.wy_reply.specs.Statuses.{code_of, is_of_files};
 ghost use Rattle.wy_reply.specs.Opening.{IsDecoded, IsOpenedTrace, IsViewable};
-ghost use Rattle.wy_reply.specs.Tellings.{DeniesAs, DueUnder, RefusesTrace, SaysAsTold, Tells, inquiry_of, wanted_of};
+ghost use Rattle.wy_reply.specs.Certificates.{seal_of};
+ghost use Rattle.wy_reply.specs.Tellings.{Bytes, DeniesAs, DueUnder, RefusesTrace, SaysAsTold, SaysVerdict, Tells, inquiry_of, wanted_of};
 ghost use Rattle.wy_reply.specs.Tellings as wanted;
 ghost use Rattle.wy_view.specs.Whole.{whole};
 
 use crate::answer::Answer;
-use crate::lines::{Refusal, line};
+use crate::certified::{certificate_text, verdict_on};
+use crate::lines::{Refusal, good_line, line};
 use law_carried::{backward_is_forward, carrying_changes_nothing};
 use law_reading::{
     recorded_ends_are_read_back, recorded_heads_are_read_back, recorded_traces_are_read_back,
+    traces_are_spelled,
 };
 use law_shaped::references_point_below;
 use std::alloc::{AllocError, Global};
 use wy_ask::{AskError, Opened};
+use wy_check::CertError;
 use wy_event::record::Trace;
 use wy_event::sequence::Sequence;
 use wy_fitting::end_fits;
@@ -27,6 +31,7 @@ use wy_kernel::program::Program;
 use wy_machine::{Verdict, audit};
 use wy_telling::{Unanswered, affects_text, output_text, questions_text, why_text, whynot_text};
 use wy_view::MemoryView;
+use wy_why::Answer as Found;
 
 /// What is looked up by where things stand in the records of a trace.
 #[derive(Clone, Copy)]
@@ -35,6 +40,8 @@ pub enum Inquiry<'a> {
     Why { question: &'a str },
     /// What comes from the event that a question asks about.
     Affects { question: &'a str },
+    /// The certificate of what the event comes from that a question asks about.
+    Certify { question: &'a str },
     /// What can be asked of it.
     Questions,
     /// Why the statement never began that a word names.
@@ -50,6 +57,8 @@ pub enum Wanted<'a> {
     Inquiry(Inquiry<'a>),
     /// Whether it is the trace of the run of its head.
     Audit,
+    /// Whether a certificate is good for it.
+    Check { certificate: &'a [u8] },
 }
 
 /// The answer to bytes that are no trace.
@@ -102,6 +111,22 @@ fn answer_to_affects(
     ensures settled { IfOk result (λ answer. is_of_files answer.status ≡ false) }
 {
     let told = affects_text(alloc, opened, question);
+    answer_to_question(alloc, told)
+}
+
+fn answer_to_certify(
+    alloc: Global,
+    opened: &mut Opened<'_, MemoryView>,
+    seal: &[u8; 32],
+    question: &str,
+) -> Result<Answer, AllocError>
+    requires { IsOpenedOf (whole opened.old.view.events.items None) opened.old }
+    ensures due { (t : Trace) → IsOpenedTrace t opened.old → seal.now ≡ seal_of t
+        → IfOk result (λ answer. Tells opened.old.program.now t (wanted.Certify question.now)
+        (code_of answer.status) answer.text.items) }
+    ensures settled { IfOk result (λ answer. is_of_files answer.status ≡ false) }
+{
+    let told = certificate_text(alloc, opened, seal, question);
     answer_to_question(alloc, told)
 }
 
@@ -185,14 +210,56 @@ fn answer_to_audit(alloc: Global, program: &Program, trace: Trace) -> Result<Ans
     }
 }
 
+/// The answer to the bytes of a certificate: whether they are one, and good for the trace with this seal.
+fn answer_to_check(
+    alloc: Global,
+    program: &Program,
+    trace: Trace,
+    seal: &[u8; 32],
+    certificate: &[u8],
+) -> Result<Answer, AllocError>
+    requires viewable { IsViewable trace }
+    requires seal { seal.now ≡ seal_of trace }
+    ensures due { IfOk result (λ answer. Tells program.now trace
+        (wanted.Check (Bytes certificate.now)) (code_of answer.status) answer.text.items) }
+    ensures settled { IfOk result (λ answer. is_of_files answer.status ≡ false) }
+{
+    let view = MemoryView {
+        events: trace.events.into_vec(),
+    };
+    let verdict = verdict_on(alloc, view, program, seal, certificate);
+    answer_to_verdict(alloc, verdict)
+}
+
+/// The answer to a certificate on which there is a verdict.
+fn answer_to_verdict(alloc: Global, verdict: Result<Found, CertError>) -> Result<Answer, AllocError>
+    ensures says { IfOk result (SaysVerdict verdict) }
+    ensures settled { IfOk result (λ answer. is_of_files answer.status ≡ false) }
+{
+    match verdict {
+        Ok(found) => {
+            let line = good_line(alloc, found.all.len(), found.flow.len())?;
+            Ok(Answer::done(line))
+        }
+        Err(CertError::NotRead) => Answer::refused(alloc, Refusal::CertificateNotRead),
+        Err(CertError::OtherTrace) => Answer::refused(alloc, Refusal::CertificateOfOther),
+        Err(CertError::BadEvent(event)) => {
+            Answer::refused(alloc, Refusal::CertificateEvent { event })
+        }
+        Err(CertError::View(_) | CertError::NoMemory) => Err(AllocError),
+    }
+}
+
 /// What is answered from a trace that is opened for it.
 fn answer_opened(
     alloc: Global,
     program: &Program,
     trace: Trace,
+    seal: &[u8; 32],
     inquiry: Inquiry<'_>,
 ) -> Result<Answer, AllocError>
     requires viewable { IsViewable trace }
+    requires seal { seal.now ≡ seal_of trace }
     requires few_fields { length program.now.fields.items < 2 ^ 32 }
     ensures due { IfOk result (λ answer. Tells program.now trace (inquiry_of inquiry.entry)
         (code_of answer.status) answer.text.items) }
@@ -209,6 +276,7 @@ fn answer_opened(
     match inquiry {
         Inquiry::Why { question } => answer_to_why(alloc, &mut opened, question),
         Inquiry::Affects { question } => answer_to_affects(alloc, &mut opened, question),
+        Inquiry::Certify { question } => answer_to_certify(alloc, &mut opened, seal, question),
         Inquiry::Questions => answer_to_questions(alloc, &mut opened),
         Inquiry::WhyNot { statement } => answer_to_statement(alloc, &opened, statement),
     }
@@ -219,9 +287,11 @@ fn tell(
     alloc: Global,
     program: &Program,
     trace: Trace,
+    seal: &[u8; 32],
     wanted: Wanted<'_>,
 ) -> Result<Answer, AllocError>
     requires viewable { IsViewable trace }
+    requires seal { seal.now ≡ seal_of trace }
     requires few_fields { length program.now.fields.items < 2 ^ 32 }
     ensures due { IfOk result (λ answer. Tells program.now trace (wanted_of wanted.entry)
         (code_of answer.status) answer.text.items) }
@@ -230,29 +300,39 @@ fn tell(
     match wanted {
         Wanted::Output => answer_to_output(alloc, program, &trace),
         Wanted::Audit => answer_to_audit(alloc, program, trace),
-        Wanted::Inquiry(inquiry) => answer_opened(alloc, program, trace, inquiry),
+        Wanted::Inquiry(inquiry) => answer_opened(alloc, program, trace, seal, inquiry),
+        Wanted::Check { certificate } => answer_to_check(alloc, program, trace, seal, certificate),
     }
 }
 
-/// The answer from a trace that was decoded, under the program of its head.
+/// The seal of a trace, with which its bytes end.
+fn seal_of(bytes: &[u8]) -> &[u8; 32]
+    requires { 32 ≤ length bytes.now }
+    ensures { result.now ≡ drop (length bytes.now - 32) bytes.now }
+{
+    let (_, seal) = bytes.split_last_chunk().unwrap();
+    seal
+}
+
+/// The answer from a trace that was decoded from these bytes, under the program of its head.
 pub fn answer_to_trace(
     alloc: Global,
     program: &Program,
     trace: Trace,
+    bytes: &[u8],
     wanted: Wanted<'_>,
 ) -> Result<Answer, AllocError>
     requires viewable { IsViewable trace }
     requires few_fields { length program.now.fields.items < 2 ^ 32 }
-    ensures due { (bytes : List ℕ) → IsDecoded program.now bytes trace
-        → IfOk result (λ answer. DueUnder program.now bytes (wanted_of wanted.entry)
-        (code_of answer.status) answer.text.items) }
+    requires decoded { IsDecoded program.now bytes.now trace }
+    ensures due { IfOk result (λ answer. DueUnder program.now bytes.now
+        (wanted_of wanted.entry) (code_of answer.status) answer.text.items) }
     ensures settled { IfOk result (λ answer. is_of_files answer.status ≡ false) }
-    ensures by_run { (bytes : List ℕ) → IsDecoded program.now bytes trace
-        → IfOk result (λ answer. answer.status ≡ Done
-        → TellsRun program.now bytes (wanted_of wanted.entry) answer.text.items) }
-    ensures source { (bytes : List ℕ) → IsDecoded program.now bytes trace
-        → IfOk result (λ answer. answer.status ≡ Done → HasSource bytes) }
+    ensures by_run { IfOk result (λ answer. answer.status ≡ Done
+        → TellsRun program.now bytes.now (wanted_of wanted.entry) answer.text.items) }
+    ensures source { IfOk result (λ answer. answer.status ≡ Done → HasSource bytes.now) }
 {
+    traces_are_spelled();
     recorded_traces_are_read_back();
     recorded_heads_are_read_back();
     recorded_ends_are_read_back();
@@ -260,5 +340,5 @@ pub fn answer_to_trace(
     carrying_changes_nothing();
     backward_is_forward();
     end_fits(&trace.tail);
-    tell(alloc, program, trace, wanted)
+    tell(alloc, program, trace, seal_of(bytes), wanted)
 }

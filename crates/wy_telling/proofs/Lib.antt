@@ -1,5 +1,5 @@
 pub mod Looks
-pub mod LineEnds
+pub mod EndSites
 pub mod Values
 pub mod Merging
 pub mod Answering

@@ -18,6 +18,7 @@ mod whynot;
 pub use affects::affects_text;
 pub use item::put_items;
 pub use listed::{listed_line, questions_text};
-pub use report::{output_text, whole_report};
+pub use print::{LineEnds, put_printed};
+pub use report::{ends_its_line, output_text, whole_report};
 pub use why::{answer_lines, why_text};
 pub use whynot::{Unanswered, whynot_lines, whynot_text};

@@ -20,7 +20,7 @@ use wy_value::{Value, digits, to_utf8};
 
 /// The sites of a program's prints that end a line.
 #[derive(Drop)]
-struct LineEnds {
+pub struct LineEnds {
     sites: Vec<u32>,
 }
 
@@ -36,7 +36,8 @@ impl Model for LineEnds {
 }
 
 impl LineEnds {
-    fn of(alloc: Global, program: &Program) -> Result<LineEnds, AllocError>
+    /// Those of this program.
+    pub fn of(alloc: Global, program: &Program) -> Result<LineEnds, AllocError>
         ensures { IfOk result (λ ends. AreLineEnds (program_of program.now) ends) }
     {
         let mut sites = newlines(alloc, program)?;
@@ -63,14 +64,14 @@ pub(crate) fn printed(
     let ends = LineEnds::of(alloc, program)?;
     let mut bytes = Vec::new(alloc);
     for event in events {
-        put_event(alloc, &mut bytes, program, &ends, events, event)?;
+        put_printed(alloc, &mut bytes, program, &ends, events, event)?;
     }
     Ok(bytes)
 }
 
 /// What an event printed, behind what was printed before.
 #[tactic(auto, unfolding(crate::specs::Printed::printed_by, wy_event::specs::Record::recorded))]
-fn put_event(
+pub fn put_printed(
     alloc: Global,
     bytes: &mut Vec<u8>,
     program: &Program,

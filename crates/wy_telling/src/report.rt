@@ -51,7 +51,8 @@ pub fn whole_report(
     Ok(text)
 }
 
-fn ends_its_line(output: &[u8]) -> bool
+/// Whether an output is nothing, or its last byte is a line feed.
+pub fn ends_its_line(output: &[u8]) -> bool
     ensures { result ≡ ends_line output.now }
 {
     match output {

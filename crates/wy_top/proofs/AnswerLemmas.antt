@@ -30,10 +30,10 @@ use Rattle.wy_top.specs.Replies.{AnswersBy, RecordsSource, TracesSource}
 use Rattle.wy_top.proofs.ErrorDues.{Refuses}
 
 -- what is due for the files that a shelf tells
-abbrev DueBy : Type 1
+abbrev pub DueBy : Type 1
 DueBy = Files → ℕ → List ℕ → Type 0
 
-no_fault : (s : Status) → is_of_files s ≡ false → s ≡ Fault → ⊥
+pub no_fault : (s : Status) → is_of_files s ≡ false → s ≡ Fault → ⊥
 no_fault s settled is = let x : true ≡ false = sym (ap is_of_files is) ∙ settled in cc
 
 -- ---- files that were read
@@ -100,7 +100,7 @@ abbrev pub Faulted : FileError → ℕ → ℕ → Type 0
 Faulted e n m = MatchBool (is_fault e) (Rose n m) (m ≡ n)
 
 -- what is due where a file is lacking is due for the command
-abbrev LackDue : DueBy → Option Files → FileError → Type 0
+abbrev pub LackDue : DueBy → Option Files → FileError → Type 0
 LackDue by None e = Unit {0}
 LackDue by (Some files) (error.Absent name) = (text : List ℕ) → text ≡ absent_line name.now → by files 3 text
 LackDue by (Some files) (error.TooLong name) = (text : List ℕ) → text ≡ too_long_line name.now → by files 8 text
@@ -118,7 +118,7 @@ lack_by by held (error.TooLong name) n m k answer lacks same tells = inr (ap (λ
 lack_by by held error.Fault n m k answer lacks rose tells = inl (tells.0, inl (tells.1, rose))
 lack_by by held error.NoMemory n m k answer lacks same tells = absurd tells
 
-lack_due : (by : DueBy) (held : Option Files) (e : FileError) (n m k : ℕ) (r : Result Answer AllocError) → LackDue by held e → Faulted e n m → IfOk r (λ answer. Tells e answer) →
+pub lack_due : (by : DueBy) (held : Option Files) (e : FileError) (n m k : ℕ) (r : Result Answer AllocError) → LackDue by held e → Faulted e n m → IfOk r (λ answer. Tells e answer) →
     IfOk r (λ answer. AnswersBy by held (counts n k) (counts m k) answer)
 lack_due by held e n m k (Ok answer) lacks rose tells = lack_by by held e n m k answer lacks rose tells
 lack_due by held e n m k (Err x) lacks rose tells = tt

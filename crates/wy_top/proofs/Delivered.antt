@@ -1,16 +1,17 @@
 -- What a call promises, from its answer and what came of writing it.
-use Rattle.std.proofs.Common.{◌≡◌, ◌≢◌, ◌∙◌, sym, ap, refl, inl, inr, ℕ, ◌<◌, ◌⊎◌, List, [], ◌++◌, length, take, drop, Option, arith}
+use Rattle.std.proofs.Common.{◌≡◌, ◌≢◌, ◌∙◌, sym, ap, refl, inl, inr, ℕ, ◌<◌, ◌⊎◌, List, [], ◌++◌, length, take, drop, Option, arith, subst}
 use Rattle.std.proofs.Math.Seq.{take-length}
 use Rattle.std.proofs.lemmas.List.{take-append-drop}
 use Rattle.wy_outside.specs.Counts.{Rose}
 use Rattle.wy_outside.specs.Shelf.{Files}
 use Rattle.wy_reply.specs.declared.answer.Answer.{Answer}
 use Rattle.wy_reply.specs.declared.status.Status.{Status}
-use Rattle.wy_reply.specs.declared.status.Status.TheVariants.{Done, Usage, Absent, Program, Trace, Question, Fault, TooLong, NoMemory, Audit}
+use Rattle.wy_reply.specs.declared.status.Status.TheVariants.{Done, Usage, Absent, Program, Trace, Question, Fault, TooLong, NoMemory, Audit, Certificate}
 use Rattle.wy_reply.specs.Statuses.{code_of}
 use Rattle.wy_session.specs.Talk.{IsPrefixOf}
 use Rattle.wy_top.specs.Answers.{Counts, IsAnswer, IsFault, Knows}
 use Rattle.wy_top.specs.Deliveries.{Delivers, WritesPart}
+use Rattle.wy_top.specs.Left.{StartsNone}
 use Rattle.wy_top.specs.Call.{BeginsDue, Failures, IsFaultBehind, WritesDue, WritesFaultLine, WritesPrefix, alone, whole}
 
 -- ---- statuses by their numbers
@@ -26,6 +27,7 @@ done_at Fault e = absurd cc
 done_at TooLong e = absurd cc
 done_at NoMemory e = absurd cc
 done_at Audit e = absurd cc
+done_at Certificate e = absurd cc
 
 pub fault_at : (s : Status) → code_of s ≡ 7 → s ≡ Fault
 fault_at Done e = absurd cc
@@ -38,6 +40,7 @@ fault_at Fault e = refl
 fault_at TooLong e = absurd cc
 fault_at NoMemory e = absurd cc
 fault_at Audit e = absurd cc
+fault_at Certificate e = absurd cc
 
 pub too_long_at : (s : Status) → code_of s ≡ 8 → s ≡ TooLong
 too_long_at Done e = absurd cc
@@ -50,6 +53,7 @@ too_long_at Fault e = absurd cc
 too_long_at TooLong e = refl
 too_long_at NoMemory e = absurd cc
 too_long_at Audit e = absurd cc
+too_long_at Certificate e = absurd cc
 
 usage_at : (s : Status) → code_of s ≡ 2 → s ≡ Usage
 usage_at Done e = absurd cc
@@ -62,6 +66,7 @@ usage_at Fault e = absurd cc
 usage_at TooLong e = absurd cc
 usage_at NoMemory e = absurd cc
 usage_at Audit e = absurd cc
+usage_at Certificate e = absurd cc
 
 -- ---- what is written
 
@@ -107,6 +112,17 @@ pub answered_usage : (n m : ℕ) (before after : Option (List ℕ)) (answer : An
 answered_usage n m before after answer status code (inl (same, kept, all)) is two = sym same ∙ usage_at status (sym is ∙ two)
 answered_usage n m before after answer status code (inr (inl (fault, rose, part))) is two = absurd (let x = sym (usage_at status (sym is ∙ two)) ∙ fault in cc)
 answered_usage n m before after answer status code (inr (inr (memory, kept, part))) is two = absurd (let x = sym (usage_at status (sym is ∙ two)) ∙ memory in cc)
+
+fault_starts : StartsNone 7 → ⊥
+fault_starts none = omega (arith, none)
+
+memory_starts : StartsNone 9 → ⊥
+memory_starts none = omega (arith, none)
+
+pub answered_starts_none : (n m : ℕ) (before after : Option (List ℕ)) (answer : Answer) (status : Status) (code : ℕ) → Delivers answer status n m before after → code ≡ code_of status → StartsNone code → StartsNone (code_of answer.status)
+answered_starts_none n m before after answer status code (inl (same, kept, all)) is none = subst StartsNone (is ∙ ap code_of same) none
+answered_starts_none n m before after answer status code (inr (inl (fault, rose, part))) is none = absurd (fault_starts (subst StartsNone (is ∙ ap code_of fault) none))
+answered_starts_none n m before after answer status code (inr (inr (memory, kept, part))) is none = absurd (memory_starts (subst StartsNone (is ∙ ap code_of memory) none))
 
 pub fault_cause : (X : Type 0) (old new : Counts) (n m : ℕ) (before after : Option (List ℕ)) (answer : Answer) (status : Status) (code : ℕ) → (answer.status ≡ Fault → IsFault old new answer) → Delivers answer status n m before after →
     code ≡ code_of status → code ≡ 7 → Rose old.shelf new.shelf ⊎ Rose old.recorder new.recorder ⊎ Rose n m ⊎ X

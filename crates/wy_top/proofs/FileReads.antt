@@ -5,7 +5,7 @@ use Rattle.std.proofs.lemmas.List.{length-take}
 use Rattle.wy_outside.specs.Shelf.{Files, ReadsFile}
 use Rattle.wy_outside.specs.declared.shelf.ShelfError.TheVariants.{Absent as Missing}
 use Rattle.wy_top.specs.declared.files.FileError.TheVariants as error
-use Rattle.wy_top.specs.Held.{absent, too_long}
+use Rattle.wy_top.specs.Held.{Holds, Lacks, absent, too_long}
 use Rattle.wy_top.specs.Reads.{GivesFile}
 
 -- the file that a read of at most so many bytes found
@@ -25,3 +25,16 @@ long_file (Some files) name limit bytes reads more =
 pub absent_file : (held : Option Files) (name : Bor (List ℕ)) (limit : ℕ) → ReadsFile held name.now (limit + 1) (Err Missing) → GivesFile held name.now limit (Err (error.Absent name))
 absent_file None name limit reads = tt
 absent_file (Some files) name limit reads = absent reads
+
+-- ---- what a shelf holds under one name
+
+pub one_file : (f : Files) (name : List ℕ) (t u : List ℕ) → f name ≡ Some t → f name ≡ Some u → u ≡ t
+one_file f name t u x y = let e : Some u ≡ Some t = sym y ∙ x in cc
+
+-- a file that is held within the limit is not lacking
+pub not_lacking : (f : Files) (name : List ℕ) (limit : ℕ) (t : List ℕ) (s : ℕ) (x : List ℕ) → Holds f name limit t → Lacks f name limit s x → ⊥
+not_lacking f name limit t _ _ h (absent none) = let e : Some t ≡ None = sym h.found ∙ none in cc
+not_lacking f name limit t _ _ h (too_long u found more) =
+    let e : length u ≡ length t = ap length (one_file f name t u h.found found) in
+    let within = h.within in
+    omega arith

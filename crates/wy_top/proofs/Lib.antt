@@ -12,3 +12,4 @@ pub mod Requests
 pub mod Generated
 pub mod LeftLemmas
 mod OwnTraces
+mod Certified

@@ -9,7 +9,7 @@ use Rattle.wy_kernel.specs.Program.{Program, Body, Field}
 use Rattle.wy_kernel.specs.Parts.{program_of}
 use Rattle.wy_kernel.specs.Statements.{statements_of}
 use Rattle.wy_kernel.specs.View.{class_of, method_of, field_of, body_of, local_of}
-use Rattle.wy_event.specs.Record.{recorded}
+use Rattle.wy_event.specs.Record.{Recorded, recorded}
 use Rattle.wy_event.specs.declared.record.Head.{Head}
 use Rattle.wy_event.specs.declared.record.Trace.{Trace}
 use Rattle.wy_value.specs.Encoding.{utf8_of}
@@ -24,19 +24,26 @@ use Rattle.wy_frames.specs.Progress.{Progress, start}
 use Rattle.wy_frames.specs.Traces.{AllStand, IsReadAs, IsReadBehind}
 use Rattle.law_reading.specs.OneReading.{ReadsInOneWay, SaysOfBytes}
 use Rattle.wy_machine.specs.Audits.{OneAuditIsDue}
+use Rattle.wy_why.specs.declared.answer.Answer.{Answer}
+use Rattle.wy_ask.specs.Asked.{owners}
+use Rattle.wy_cert.specs.Goodness.{Certifies}
+use Rattle.wy_check.specs.declared.error.CertError.{CertError}
+use Rattle.wy_check.specs.Checks.{Judges}
+use Rattle.wy_check.specs.Laws.{OneCertifies, OneVerdictIsDue, SayTheSame}
+use Rattle.wy_reply.specs.Certificates.{CertifyIs, itself, seal_of, verdict_line, verdict_status}
 use Rattle.wy_telling.specs.Output.{output_text}
 use Rattle.wy_telling.specs.Affects.{AffectsIs, affects_text}
-use Rattle.wy_telling.specs.Answers.{OneAnswerToQuestions}
+use Rattle.wy_telling.specs.Answers.{OneAnswerToQuestions, Refused as Refusal}
 use Rattle.wy_telling.specs.Why.{WhyIs, why_text}
 use Rattle.wy_tree.specs.Tokens.{SpannedToken, Tokens}
-use Rattle.wy_reply.specs.Lines.{of_trace}
+use Rattle.wy_reply.specs.Lines.{good_line, of_trace}
 use Rattle.wy_telling.specs.Questions.{questions_text}
 use Rattle.wy_telling.specs.Whynot.{OneAnswerToWhynot, WhynotIs}
 use Rattle.wy_session.specs.Desk.{scene_of}
 use Rattle.wy_session.specs.Laws.{OneTalk}
 use Rattle.wy_session.specs.Scene.{Scene}
 use Rattle.wy_session.specs.Talk.{Talks}
-use Rattle.wy_reply.specs.Tellings.{IsTraceLine, Wanted, Tells, DueUnder, covers_of, cut, damaged, bad_seal, output, questions, why, affects, whynot, audit, explore, refused, told, answer_status, answer_text, whynot_status, whynot_answer, audit_status, audit_line}
+use Rattle.wy_reply.specs.Tellings.{IsTraceLine, Wanted, Tells, DueUnder, covers_of, cut, damaged, bad_seal, output, questions, why, affects, certify, check, lacking, whynot, audit, explore, refused, told, answer_status, answer_text, whynot_status, whynot_answer, audit_status, audit_line}
 use Rattle.wy_top.specs.Causes.{IsNoProgram, IsSyntaxLine}
 use Rattle.wy_top.specs.Due.{DueForBytes, no_head, no_program, program}
 use Rattle.wy_program.specs.Programs.{IsProgramOf}
@@ -48,6 +55,8 @@ pub record Traces : Type 0 where
   pub answers : OneAnswerToQuestions
   pub statements : OneAnswerToWhynot
   pub audits : OneAuditIsDue
+  pub certificates : OneCertifies
+  pub verdicts : OneVerdictIsDue
   pub sessions : OneTalk
 
 -- ---- the ranges of a program are those of its parts and lines
@@ -144,6 +153,27 @@ failed e = Err e
 abbrev Same : ℕ → ℕ → List ℕ → List ℕ → Type 0
 Same s t x y = (s ≡ t) × (x ≡ y)
 
+abbrev certificate_at : List ℕ → Result (List ℕ) Refusal
+certificate_at x = Ok x
+
+abbrev no_certificate_at : Refusal → Result (List ℕ) Refusal
+no_certificate_at e = Err e
+
+one_certify : Traces → (p : Program) (lines : List ℕ) (rs : List Recorded) (seal question : List ℕ) (a b : Result (List ℕ) Refusal) → CertifyIs p lines rs seal question a → CertifyIs p lines rs seal question b → a ≡ b
+one_certify known p lines rs seal question (Ok x) (Ok y) (n, asks, is) (m, also, other) =
+    let same : certificate_at (n ∷ []) ≡ certificate_at (m ∷ []) = known.answers itself p lines rs question (Ok (n ∷ [])) (Ok (m ∷ [])) asks also in
+    let event : n ≡ m = cc in
+    ap certificate_at (known.certificates (owners p) rs seal n x y is (subst (λ k. Certifies (owners p) rs seal k y) (sym event) other))
+one_certify known p lines rs seal question (Ok x) (Err e) (n, asks, is) also = absurd (let same : certificate_at (n ∷ []) ≡ no_certificate_at e = known.answers itself p lines rs question (Ok (n ∷ [])) (Err e) asks also in cc)
+one_certify known p lines rs seal question (Err e) (Ok y) asks (m, also, other) = absurd (let same : no_certificate_at e ≡ certificate_at (m ∷ []) = known.answers itself p lines rs question (Err e) (Ok (m ∷ [])) asks also in cc)
+one_certify known p lines rs seal question (Err e) (Err f) asks also = known.answers itself p lines rs question (Err e) (Err f) asks also
+
+same_said : (r s : Result Answer CertError) → SayTheSame r s → Same (verdict_status r) (verdict_status s) (verdict_line r) (verdict_line s)
+same_said (Ok a) (Ok b) (all, flow) = (refl, λ i. good_line (length (all i)) (length (flow i)))
+same_said (Ok a) (Err f) same = absurd same
+same_said (Err e) (Ok b) same = absurd same
+same_said (Err e) (Err f) same = (refl, ap (λ (x : CertError). verdict_line (Err x)) same)
+
 one_telling : Traces → (p q : memory.Program) (t : Trace) (w : Wanted) (s u : ℕ) (x y : List ℕ) → program_of p ≡ program_of q → p.lines.items ≡ q.lines.items → Tells p t w s x → Tells q t w u y → Same s u x y
 one_telling known p q t _ _ _ _ _ parts lines output output = (refl, λ i. output_text (parts i) (lines i) (map recorded t.events) t.tail)
 one_telling known p q t _ _ _ _ _ parts lines (why question a first) (why asked b second) =
@@ -165,6 +195,14 @@ one_telling known p q t _ _ _ _ _ parts lines (explore input m a first) (explore
 one_telling known p q t _ _ _ _ _ parts lines (audit v first) (audit w second) =
     let e : v ≡ w = known.audits (program_of p) t.head (map recorded t.events) (kept_tail t.tail) v w first (rw (parts) second) in
     (ap audit_status e, ap audit_line e)
+one_telling known p q t _ _ _ _ _ parts lines (certify question a first) (certify asked b second) =
+    let e : a ≡ b = one_certify known (program_of p) p.lines.items (map recorded t.events) (seal_of t) question a b first
+    (subst (λ (l : List ℕ). CertifyIs (program_of p) l (map recorded t.events) (seal_of t) question b) (sym lines) (subst (λ (z : Program). CertifyIs z q.lines.items (map recorded t.events) (seal_of t) question b) (sym parts) second)) in
+    (ap answer_status e, ap answer_text e)
+one_telling known p q t _ _ _ _ _ parts lines (check bytes r is first) (check given s also second) =
+    same_said r s (known.verdicts (owners (program_of p)) (map recorded t.events) (seal_of t) bytes r s is also first
+    (subst (λ (z : Program). Judges (owners z) (Some (map recorded t.events)) (seal_of t) bytes s) (sym parts) second))
+one_telling known p q t _ _ _ _ _ parts lines (lacking s x) (lacking u y) = (refl, refl)
 
 one_under : Traces → (p q : memory.Program) (bytes : List ℕ) (w : Wanted) (s u : ℕ) (x y : List ℕ) → program_of p ≡ program_of q → p.lines.items ≡ q.lines.items → DueUnder p bytes w s x → DueUnder q bytes w u y → Same s u x y
 one_under known p q bytes w _ _ _ _ parts lines (refused e k reads line) (refused f l also other) =

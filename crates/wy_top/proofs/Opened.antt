@@ -86,7 +86,7 @@ opened_due bytes w typed t (Err x) opens h = tt
 not_of_files : (s t : Status) → is_of_files s ≡ false → is_of_files t ≡ true → s ≡ t → ⊥
 not_of_files s t settled of is = let x : true ≡ false = sym (ap is_of_files is ∙ of) ∙ settled in cc
 
-caused : (before after : ShelfCounts) (answer : Answer) → is_of_files answer.status ≡ false → HasCause before after answer
+pub caused : (before after : ShelfCounts) (answer : Answer) → is_of_files answer.status ≡ false → HasCause before after answer
 caused before after answer settled = record {
   absent = λ is. absurd (not_of_files answer.status Absent settled refl is);
   too_long = λ is. absurd (not_of_files answer.status TooLong settled refl is);

@@ -26,7 +26,7 @@ use Rattle.wy_record.specs.Recorders.{Mirrors}
 use Rattle.wy_record.specs.declared.recorder.Phase.{Phase}
 use Rattle.wy_reply.specs.Recordings.{Spelling}
 use Rattle.wy_top.specs.Answers.{AsksToExplore, IsAnswer, Knows, counts}
-use Rattle.wy_top.specs.Left.{Leaves}
+use Rattle.wy_top.specs.Left.{FinishesProgram, Leaves}
 use Rattle.wy_top.specs.Call.{BeginsDue, AnswersEach, Carries, Cuts, Failures, IsFaultBehind, IsOpened, Traces, WritesAll, WritesCarried, WritesCut, WritesDue, WritesFaultLine, WritesPrefix, failures, of_keys}
 use Rattle.wy_top.specs.Call as call
 use Rattle.wy_top.specs.Deliveries.{Delivers}
@@ -278,3 +278,6 @@ is_command words name x none = none (Explore name) x.asks
 
 pub is_session : (words : List (List ℕ)) (name : List ℕ) → Session words name → AsksToExplore words
 is_session words name x = (name, x.asks)
+
+pub explored_finishes : (words : List (List ℕ)) (name : List ℕ) (held : Option Files) (at : Phase) → Session words name → FinishesProgram words held at
+explored_finishes words name held at x = λ a trace also. absurd (let e = x.one words (Record a trace) (Explore name) also x.asks in cc)

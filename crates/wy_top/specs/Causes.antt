@@ -1,5 +1,6 @@
 -- Why a text is no program: the rule that it breaks first, and where it does.
 use Rattle.std.specs.Prelude.{◌≡◌, ℕ, List, codes, Err}
+use Rattle.wy_kernel.specs.declared.program.Program.{Program}
 use Rattle.wy_constant.specs.declared.rule.Rule.{Rule}
 use Rattle.wy_constant.specs.Refusal as typing
 use Rattle.wy_tree.specs.Lines.{line_of}
@@ -7,7 +8,7 @@ use Rattle.wy_tree.specs.Tokens.{SpannedToken, Refusal, Tokens, Refuses, IsNotUt
 use Rattle.wy_parser.specs.Causes.{AllowsSyntax}
 use Rattle.wy_reply.specs.Lines.{at_byte, at_token}
 use Rattle.wy_constant.specs.RefusalNames.{rule_name}
-use Rattle.wy_program.specs.Programs.{Becomes, HasTree, unplaced}
+use Rattle.wy_program.specs.Programs.{Becomes, HasTree, IsProgramOf, unplaced}
 
 abbrev pub not_utf8_line : ℕ → List ℕ
 not_utf8_line byte = at_byte (codes "NotUtf8") byte
@@ -32,3 +33,7 @@ pub data IsNoProgram (source : List ℕ) : List ℕ → Type 0 where
   refused : (fault : Refusal) → Refuses source fault → IsNoProgram source (fault_line fault)
   syntax : (spans : List SpannedToken) (line : List ℕ) → Tokens source spans → ¬ HasTree (unplaced spans) → IsSyntaxLine spans line → IsNoProgram source line
   broken : (spans : List SpannedToken) (e : typing.Refusal) → Tokens source spans → Becomes spans (Err e) → IsNoProgram source (rule_line e.rule (line_of spans e.token) e.token)
+
+-- a source that has a program is refused by no line
+abbrev pub ProgramsAreNotRefused : Type 0
+ProgramsAreNotRefused = (source line : List ℕ) (p : Program) → IsProgramOf source p → IsNoProgram source line → ⊥

@@ -7,17 +7,17 @@ use Rattle.wy_outside.specs.Shelf.{Files}
 use Rattle.wy_tree.specs.Tokens.{SpannedToken, Tokens}
 use Rattle.wy_frames.specs.Heads.{head_of}
 use Rattle.wy_frames.specs.declared.error.TraceError.{TraceError}
-use Rattle.wy_words.specs.Words.{Asked, Asks, Command, Run, Record, Output, Questions, Why, Affects, WhyNot, Audit, Explore, Gen, IsNoCommand}
+use Rattle.wy_words.specs.Words.{Asked, Asks, Command, Run, Record, Output, Questions, Why, Affects, Certify, Check, WhyNot, Audit, Explore, Gen, IsNoCommand}
 use Rattle.wy_reply.specs.Lines.{usage_line, of_trace}
 use Rattle.wy_gen.specs.Generated.{source}
 use Rattle.wy_reply.specs.Report.{report, recorded_report}
 use Rattle.wy_reply.specs.Generated.{generated_report}
-use Rattle.wy_reply.specs.Tellings.{DueUnder, IsTraceLine, Wanted}
+use Rattle.wy_reply.specs.Tellings.{DueUnder, Given, IsTraceLine, Wanted}
 use Rattle.wy_reply.specs.Tellings as wanted
 use Rattle.wy_top.specs.Causes.{IsNoProgram, IsSyntaxLine}
 use Rattle.wy_program.specs.Programs.{Becomes, IsProgramOf}
 use Rattle.wy_kernel.specs.Limits.{source_limit, input_limit, trace_limit}
-use Rattle.wy_top.specs.Held.{Holds, Lacks, IsInput}
+use Rattle.wy_top.specs.Held.{Gives, Holds, Lacks, IsInput}
 
 -- the status and the text that are due for a source: why it is no program, or this text of its program, whose tokens are on these lines
 pub data DueFor (source : List ℕ) (told : Program → List ℕ → List ℕ) : ℕ → List ℕ → Type 0 where
@@ -41,6 +41,13 @@ pub data DueForTrace (files : Files) (name : List ℕ) (w : Wanted) : ℕ → Li
   no_trace : (status : ℕ) (text : List ℕ) → Lacks files name trace_limit status text → DueForTrace files name w status text
   read : (bytes : List ℕ) (status : ℕ) (text : List ℕ) → Holds files name trace_limit bytes → DueForBytes bytes w status text → DueForTrace files name w status text
 
+-- what is due for the check of what is given as a certificate
+pub record WithCertificate (files : Files) (name : List ℕ) (due : Wanted → ℕ → List ℕ → Type 0)
+    (status : ℕ) (text : List ℕ) : Type 0 where
+  pub given : Given
+  pub gives : Gives files name given
+  pub is : due (wanted.Check given) status text
+
 -- what is due for a command over a shelf
 abbrev pub DueTo : Files → Command → ℕ → List ℕ → Type 0
 DueTo files (Run a) status text = DueForRun files a (λ input p lines. report p lines input a.steps) status text
@@ -48,6 +55,8 @@ DueTo files (Record a trace) status text = DueForRun files a (λ input p lines. 
 DueTo files (Output trace) status text = DueForTrace files trace wanted.Output status text
 DueTo files (Why trace question) status text = DueForTrace files trace (wanted.Why question) status text
 DueTo files (Affects trace question) status text = DueForTrace files trace (wanted.Affects question) status text
+DueTo files (Certify trace question) status text = DueForTrace files trace (wanted.Certify question) status text
+DueTo files (Check trace name) status text = WithCertificate files name (DueForTrace files trace) status text
 DueTo files (Questions trace) status text = DueForTrace files trace wanted.Questions status text
 DueTo files (WhyNot trace statement) status text =
     DueForTrace files trace (wanted.WhyNot statement) status text
@@ -75,6 +84,8 @@ abbrev pub trace_of : Command → Option (List ℕ)
 trace_of (Output trace) = Some trace
 trace_of (Why trace question) = Some trace
 trace_of (Affects trace question) = Some trace
+trace_of (Certify trace question) = Some trace
+trace_of (Check trace name) = Some trace
 trace_of (Questions trace) = Some trace
 trace_of (WhyNot trace statement) = Some trace
 trace_of (Audit trace) = Some trace

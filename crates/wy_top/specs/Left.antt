@@ -1,4 +1,4 @@
--- What a call leaves in the mirrors of its recorder, whatever it answers.
+-- What a call leaves in the mirrors of its recorder, whatever it answers, and when it starts and finishes it.
 use Rattle.std.specs.Prelude.{◌≡◌, ◌⊎◌, ℕ, List, Option, Some}
 use Rattle.wy_kernel.specs.declared.program.Program.{Program}
 use Rattle.wy_kernel.specs.Parts.{program_of}
@@ -41,3 +41,22 @@ Leaves s words held phase old new = (a : Asked) (trace : List ℕ) (files : File
 abbrev pub LeavesSource : Spelling → List ℕ → List ℕ → ℕ → Phase → Mirrors → Mirrors → Type 0
 LeavesSource s source input steps Ready old new = new ≡ old
 LeavesSource s source input steps phase old new = (p : Program) × IsProgramOf source p × HoldByPhase s (program_of p) source input steps phase old new
+
+-- so for some source, whatever the shelf tells
+abbrev pub LeavesSome : Spelling → Phase → Mirrors → Mirrors → Type 0
+LeavesSome s phase old new = (source : List ℕ) × (input : List ℕ) × (steps : ℕ) × LeavesSource s source input steps phase old new
+
+-- ---- whether the recorder was started
+
+-- at this status it was not: the words are no command, a file is lacking or has too many bytes, or the source is no program
+abbrev pub StartsNone : ℕ → Type 0
+StartsNone status = (status ≡ 2) ⊎ (status ≡ 3) ⊎ (status ≡ 4) ⊎ (status ≡ 8)
+
+-- it is done where the files that the run names are there and the source is a program
+abbrev pub FinishesRun : Asked → Option Files → Phase → Type 0
+FinishesRun a held phase =
+    (files : Files) (source input : List ℕ) (p : Program) → held ≡ Some files → Holds files a.source source_limit source → IsInput files a.input input → IsProgramOf source p → phase ≡ Done
+
+-- so for each run that the words ask to record
+abbrev pub FinishesProgram : List (List ℕ) → Option Files → Phase → Type 0
+FinishesProgram words held phase = (a : Asked) (trace : List ℕ) → Asks words (Record a trace) → FinishesRun a held phase

@@ -8,7 +8,7 @@ pub mod Call
 pub mod Cuts
 pub mod Deliveries
 pub mod Replies
-pub mod Recorder
+pub mod Recorders
 pub mod Openings
 pub mod Left
 pub mod OwnTraces

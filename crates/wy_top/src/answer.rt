@@ -10,11 +10,13 @@ ghost use Rattle.wy_top.specs.Call.{AnswersRunOf, Carries, Cuts, IsNoRecording, 
 ghost use Rattle.wy_top.specs.Reads.{Tells};
 ghost use Rattle.wy_top.specs.Replies.{AnswersBy, HasCause, at_shelf};
 ghost use Rattle.wy_top.specs.Due.{DueForRun, DueForTrace};
-ghost use Rattle.wy_top.specs.Left.{IsSettled, Leaves, LeftFor};
+ghost use Rattle.wy_top.specs.Left.{FinishesProgram, FinishesRun, IsSettled, Leaves, LeavesSome, LeftFor, StartsNone};
 ghost use Rattle.wy_reply.specs.Recordings.{spelling};
 ghost use Rattle.wy_reply.specs.Report.{report, recorded_report};
+ghost use Rattle.wy_reply.specs.Statuses.{code_of};
 ghost use Rattle.wy_words.specs.Views.{asked_of, request_of};
 
+use crate::checking::answer_to_check;
 use crate::files::{Contents, FileError, read_both, read_trace};
 use crate::source::{record_source, run_generated, run_source};
 use crate::trace::answer_to_bytes;
@@ -68,7 +70,9 @@ fn answer_to_record<S: Shelf, R: Recorder>(
     trace: &str,
     recorder: &mut R,
 ) -> Result<Answer, AllocError>
-    requires { R.phase recorder.old ≡ Ready }
+    requires sound { R.Sound recorder.old }
+    requires ready { R.phase recorder.old ≡ Ready }
+    ensures sound { R.Sound recorder.new }
     ensures due { IfOk result (λ answer. AnswersBy (λ files. DueForRun files (asked_of asked.entry)
         (λ input p lines. recorded_report p lines input asked.entry.steps)) (S.held shelf.old)
         (counts (S.faults shelf.old) (R.faults recorder.old))
@@ -80,8 +84,15 @@ fn answer_to_record<S: Shelf, R: Recorder>(
     ensures left { (files : Files) → S.held shelf.old ≡ Some files
         → LeftFor (spelling R.opening R.frame R.closing) files (asked_of asked.entry)
         (R.phase recorder.new) (R.mirrors recorder.old) (R.mirrors recorder.new) }
+    ensures left_some { LeavesSome (spelling R.opening R.frame R.closing)
+        (R.phase recorder.new) (R.mirrors recorder.old) (R.mirrors recorder.new) }
     ensures settled { IfOk result (λ answer.
         ¬ Rose (R.faults recorder.old) (R.faults recorder.new) → IsSettled (R.phase recorder.new)) }
+    ensures finishes { IfOk result (λ answer. ¬ Rose (S.faults shelf.old) (S.faults shelf.new)
+        → ¬ Rose (R.faults recorder.old) (R.faults recorder.new)
+        → FinishesRun (asked_of asked.entry) (S.held shelf.old) (R.phase recorder.new)) }
+    ensures unstarted { IfOk result (λ answer.
+        StartsNone (code_of answer.status) → recorder.new ≡ recorder.old) }
     ensures failed { R.faults recorder.old < R.faults recorder.new
         → R.phase recorder.new ≡ Failed }
     ensures causes { IfOk result (λ answer. HasCause
@@ -126,8 +137,10 @@ pub fn answer_to<S: Shelf, R: Recorder>(
     shelf: &mut S,
     recorder: &mut R,
 ) -> Result<Answer, AllocError>
+    requires sound { R.Sound recorder.old }
     requires ready { R.phase recorder.old ≡ Ready }
     requires methods { HasFewMethods (option_map request_of request) }
+    ensures sound { R.Sound recorder.new }
     ensures due { (words : List (List ℕ)) (keys : Option (List ℕ))
         → IsAsked words (option_map request_of request.entry)
         → IfOk result (λ answer. IsAnswer words (S.held shelf.old) keys
@@ -158,8 +171,16 @@ pub fn answer_to<S: Shelf, R: Recorder>(
     ensures left { (words : List (List ℕ)) → IsAsked words (option_map request_of request.entry)
         → Leaves (spelling R.opening R.frame R.closing) words (S.held shelf.old)
         (R.phase recorder.new) (R.mirrors recorder.old) (R.mirrors recorder.new) }
+    ensures left_some { LeavesSome (spelling R.opening R.frame R.closing)
+        (R.phase recorder.new) (R.mirrors recorder.old) (R.mirrors recorder.new) }
     ensures settled { IfOk result (λ answer.
         ¬ Rose (R.faults recorder.old) (R.faults recorder.new) → IsSettled (R.phase recorder.new)) }
+    ensures finishes { (words : List (List ℕ)) → IsAsked words (option_map request_of request.entry)
+        → IfOk result (λ answer. ¬ Rose (S.faults shelf.old) (S.faults shelf.new)
+        → ¬ Rose (R.faults recorder.old) (R.faults recorder.new)
+        → FinishesProgram words (S.held shelf.old) (R.phase recorder.new)) }
+    ensures unstarted { IfOk result (λ answer.
+        StartsNone (code_of answer.status) → recorder.new ≡ recorder.old) }
     ensures failed { R.faults recorder.old < R.faults recorder.new
         → R.phase recorder.new ≡ Failed }
 {
@@ -179,6 +200,11 @@ pub fn answer_to<S: Shelf, R: Recorder>(
             let inquiry = Inquiry::Affects { question };
             answer_from(alloc, shelf, trace, Wanted::Inquiry(inquiry))
         }
+        Request::Certify { trace, question } => {
+            let inquiry = Inquiry::Certify { question };
+            answer_from(alloc, shelf, trace, Wanted::Inquiry(inquiry))
+        }
+        Request::Check { trace, certificate } => answer_to_check(alloc, shelf, trace, certificate),
         Request::Questions { trace } => {
             answer_from(alloc, shelf, trace, Wanted::Inquiry(Inquiry::Questions))
         }

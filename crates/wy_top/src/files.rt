@@ -2,11 +2,15 @@
 ghost use Rattle.std.specs.Prelude.{◌≡◌, ◌≤◌, ◌<◌, ◌^◌, IfOk, length, option_map};
 ghost use Rattle.wy_outside.specs.Counts.{RoseAt};
 ghost use Rattle.wy_kernel.specs.Limits.{source_limit, trace_limit};
+ghost use Rattle.wy_top.specs.Held.{certificate_limit};
 ghost use Rattle.wy_top.specs.Reads.{GivesBoth, GivesFile, is_absent, is_fault, is_too_long};
 
 use std::alloc::Global;
 use wy_kernel::limit::{INPUT_LIMIT, SOURCE_LIMIT, TRACE_LIMIT};
 use wy_outside::shelf::{Shelf, ShelfError};
+
+/// Bytes of a certificate.
+const CERTIFICATE_LIMIT: u32 = 536_870_912;
 
 /// Why a file was not read.
 #[derive(Clone, Copy)]
@@ -86,4 +90,19 @@ pub fn read_trace<'a, S: Shelf>(
     ensures files_stay { S.held shelf.new ≡ S.held shelf.old }
 {
     read_file(alloc, shelf, name, TRACE_LIMIT)
+}
+
+/// The bytes of the certificate of a name.
+pub fn read_certificate<'a, S: Shelf>(
+    alloc: Global,
+    shelf: &mut S,
+    name: &'a str,
+) -> Result<Vec<u8>, FileError<'a>>
+    ensures content { GivesFile (S.held shelf.old) name.now certificate_limit result }
+    ensures fault { RoseAt is_fault result (S.faults shelf.old) (S.faults shelf.new) }
+    ensures absent { RoseAt is_absent result (S.misses shelf.old) (S.misses shelf.new) }
+    ensures too_long { RoseAt is_too_long result (S.fulls shelf.old) (S.fulls shelf.new) }
+    ensures files_stay { S.held shelf.new ≡ S.held shelf.old }
+{
+    read_file(alloc, shelf, name, CERTIFICATE_LIMIT)
 }

@@ -4,6 +4,7 @@ ghost use Rattle.std.specs.Prelude.{◌≡◌, ◌⊎◌, ℕ, List, Option};
 ghost use Rattle.wy_outside.specs.Shelf.{Files};
 ghost use Rattle.law_reached.specs.Laws.{CallsStandOnLinks, EachItemIsNeeded, ExecutedPointsAreReached};
 ghost use Rattle.wy_steps.specs.Sets.{nothing};
+ghost use Rattle.wy_top.specs.Causes.{ProgramsAreNotRefused};
 ghost use Rattle.wy_top.specs.Due.{Due, AreSyntaxLines};
 ghost use Rattle.wy_top.specs.OwnTraces.{RecordedTracesAreNotRefused, RecordedTracesAreRead};
 ghost use Rattle.wy_top.specs.Texts.{OfTexts};
@@ -19,6 +20,7 @@ use law_shaped::references_point_below;
 use law_sites::no_two_choices_share_a_site;
 use law_structure::{each_number_is_one_statement, tests_stand_apart};
 use law_typed_states::states_are_typed;
+use wy_check::laws::{one_certificate_is_made, one_verdict_is_due};
 use wy_elab_stmt::laws::a_text_has_one_program;
 use wy_machine::one_audit_is_due;
 use wy_parser::laws::a_token_list_has_one_tree;
@@ -45,8 +47,20 @@ pub fn one_answer_is_due()
     one_answer_to_questions();
     one_answer_to_whynot();
     one_audit_is_due();
+    one_certificate_is_made();
+    one_verdict_is_due();
     one_talk();
     words_ask_one_command();
+}
+
+/// A source that has a program is refused by no line.
+pub fn programs_are_not_refused()
+    ensures { ProgramsAreNotRefused }
+{
+    a_text_has_one_token_list();
+    a_refused_text_has_no_tokens();
+    a_token_list_has_one_tree();
+    a_text_has_one_program();
 }
 
 /// In every run of the program of a text of at most 1,048,576 tokens states are typed, each executed point is reached by links that

@@ -3,13 +3,16 @@
 #![tactic(auto)]
 
 mod answer;
+mod checking;
 mod delivery;
 mod exploring;
 mod files;
 pub mod laws;
 mod opening;
+mod recorders;
 mod source;
 pub mod top;
 mod trace;
 
+pub use recorders::Recorders;
 pub use top::whyline;

@@ -9,10 +9,14 @@ ghost use Rattle.wy_reply.specs.Recordings.{spelling};
 ghost use Rattle.wy_reply.specs.Statuses.{code_of, is_of_files};
 ghost use Rattle.wy_top.specs.Due.{DueFor};
 ghost use Rattle.wy_kernel.specs.Limits.{source_limit};
-ghost use Rattle.wy_top.specs.Left.{IsSettled, LeavesSource};
+ghost use Rattle.wy_kernel.specs.declared.program.Program.{Program};
+ghost use Rattle.wy_program.specs.Programs.{IsProgramOf};
+ghost use Rattle.wy_record.specs.declared.recorder.Phase.TheVariants.{Done as Finished};
+ghost use Rattle.wy_top.specs.Left.{IsSettled, LeavesSource, StartsNone};
 ghost use Rattle.wy_top.specs.Replies.{RecordsSource, RefusesSource};
 
 use crate::files::Contents;
+use crate::laws::programs_are_not_refused;
 use std::alloc::{AllocError, Global};
 use wy_event::record::Head;
 use wy_event::sequence::Sequence;
@@ -72,8 +76,10 @@ pub fn record_source<R: Recorder>(
     name: &str,
     recorder: &mut R,
 ) -> Result<Answer, AllocError>
+    requires sound { R.Sound recorder.old }
     requires ready { R.phase recorder.old ≡ Ready }
     requires bound { length contents.source.items ≤ source_limit }
+    ensures sound { R.Sound recorder.new }
     ensures records { IfOk result (λ answer. RecordsSource (spelling R.opening R.frame R.closing)
         contents.source.items contents.input.items steps
         (R.mirrors recorder.old) (R.mirrors recorder.new)
@@ -83,6 +89,10 @@ pub fn record_source<R: Recorder>(
         (R.mirrors recorder.old) (R.mirrors recorder.new) }
     ensures settled { IfOk result (λ answer.
         ¬ Rose (R.faults recorder.old) (R.faults recorder.new) → IsSettled (R.phase recorder.new)) }
+    ensures finishes { IfOk result (λ answer. ¬ Rose (R.faults recorder.old) (R.faults recorder.new)
+        → (p : Program) → IsProgramOf contents.source.items p → R.phase recorder.new ≡ Finished) }
+    ensures unstarted { IfOk result (λ answer.
+        StartsNone (code_of answer.status) → recorder.new ≡ recorder.old) }
     ensures failed { R.faults recorder.old < R.faults recorder.new
         → R.phase recorder.new ≡ Failed }
 {
@@ -96,6 +106,9 @@ pub fn record_source<R: Recorder>(
             };
             answer_to_recording(alloc, &typed.program, name, &head, recorder)
         }
-        Err(error) => answer_to_error(alloc, error),
+        Err(error) => {
+            programs_are_not_refused();
+            answer_to_error(alloc, error)
+        }
     }
 }

@@ -7,26 +7,27 @@ ghost use Rattle.wy_words.specs.Words.{IsNoCommand};
 ghost use Rattle.wy_top.specs.Answers.{AsksToExplore, Knows};
 ghost use Rattle.wy_session.specs.Closings.{TookMany};
 ghost use Rattle.wy_top.specs.Call.{RecordsNothing, Traces, WritesCarried, WritesCut, WritesDue, WritesFaultLine, WritesPrefix, failures};
-ghost use Rattle.wy_top.specs.Left.{IsSettled, Leaves};
-ghost use Rattle.wy_top.specs.Recorder.{faults_of, mirrors_of};
-ghost use Rattle.wy_reply.specs.Recordings.{trace_spelling};
+ghost use Rattle.wy_top.specs.Left.{FinishesProgram, IsSettled, Leaves, LeavesSome, StartsNone};
+ghost use Rattle.wy_top.specs.Recorders.{AreReady};
+ghost use Rattle.wy_reply.specs.Recordings.{spelling};
 
 use crate::answer::answer_to;
 use crate::delivery::deliver;
 use crate::exploring::explore_trace;
+use crate::recorders::Recorders;
 use std::alloc::Global;
-use wy_framing::{FrameRecorder, TraceSink};
 use wy_outside::shelf::Shelf;
 use wy_outside::sink::Sink;
 use wy_outside::source::Source;
+use wy_record::Recorder;
 use wy_reply::Status;
 use wy_words::laws::words_ask_one_command;
 use wy_words::{Command, command};
 
 /// Runs the command of the words, without the program's own name, over the files of `shelf`, writes
 /// its text to `out` and returns its status. `keys` is read by `explore` alone, whose lines are answered
-/// as they come, and `recorder` has the trace of a run that is recorded; where it failed, or memory ran
-/// out, it has a prefix of it.
+/// as they come, and `recorders.write` has the trace of a run that is recorded; where it failed, or
+/// memory ran out, it has a prefix of it.
 ///
 /// | Status | Comes |
 /// |---|---|
@@ -37,22 +38,24 @@ use wy_words::{Command, command};
 /// | 5 | the trace is cut or damaged, or its source is no program |
 /// | 6 | the question isn't read, asks about what isn't there, or the statement ran |
 /// | 7 | a read or a write failed |
-/// | 8 | the source has more than 1,048,576 bytes, the input more than 16,777,216, the trace more than 1,073,741,824, or a line of `keys` more than 4,096, or all of them more than 16,777,216 |
+/// | 8 | the source has more than 1,048,576 bytes, the input more than 16,777,216, the trace more than 1,073,741,824, the certificate more than 536,870,912, or a line of `keys` more than 4,096, or all of them more than 16,777,216 |
 /// | 9 | memory ran out |
 /// | 10 | the trace isn't that of the run of its head |
-pub fn whyline<S: Shelf, K: Source, O: Sink, T: TraceSink + Drop>(
+/// | 11 | the certificate isn't read, or isn't good for the trace |
+pub fn whyline<S: Shelf, K: Source, O: Sink, W: Recorder + Drop>(
     alloc: Global,
     words: &[String],
     shelf: &mut S,
     keys: &mut K,
     out: &mut O,
-    recorder: &mut FrameRecorder<T>,
+    recorders: &mut Recorders<W>,
 ) -> u8
-    requires { recorder.old.phase ≡ Phase.Ready }
+    requires sound { W.Sound recorders.old.write }
+    requires ready { AreReady (W.phase recorders.old.write) recorders.old.compare.phase
+        recorders.old.memory.phase recorders.old.quiet.phase }
     // what is written
     ensures due { ¬ Rose (S.faults shelf.old) (S.faults shelf.new)
-        → ¬ Rose (faults_of T.faults recorder.old.sinks.items)
-        (faults_of T.faults recorder.new.sinks.items)
+        → ¬ Rose (W.faults recorders.old.write) (W.faults recorders.new.write)
         → ¬ Rose (K.faults keys.old) (K.faults keys.new)
         → ¬ Rose (O.faults out.old) (O.faults out.new)
         → Knows (map string_bytes words.now) (S.held shelf.old) (K.left keys.old)
@@ -60,10 +63,8 @@ pub fn whyline<S: Shelf, K: Source, O: Sink, T: TraceSink + Drop>(
         → WritesDue (map string_bytes words.now) (S.held shelf.old) (K.left keys.old) result
         (O.written out.old) (O.written out.new) }
     ensures prefix { WritesPrefix (map string_bytes words.now) (S.held shelf.old) (K.left keys.old)
-        (failures (S.faults shelf.old) (faults_of T.faults recorder.old.sinks.items)
-        (K.faults keys.old))
-        (failures (S.faults shelf.new) (faults_of T.faults recorder.new.sinks.items)
-        (K.faults keys.new))
+        (failures (S.faults shelf.old) (W.faults recorders.old.write) (K.faults keys.old))
+        (failures (S.faults shelf.new) (W.faults recorders.new.write) (K.faults keys.new))
         (O.written out.old) (O.written out.new) }
     ensures carried { result ≡ 0 → WritesCarried (map string_bytes words.now)
         (S.held shelf.old) (O.written out.old) (O.written out.new) }
@@ -72,25 +73,33 @@ pub fn whyline<S: Shelf, K: Source, O: Sink, T: TraceSink + Drop>(
     ensures fault_line { result ≡ 7
         → ¬ Rose (O.faults out.old) (O.faults out.new)
         → WritesFaultLine (map string_bytes words.now) (S.held shelf.old) (K.left keys.old)
-        (failures (S.faults shelf.old) (faults_of T.faults recorder.old.sinks.items)
-        (K.faults keys.old))
-        (failures (S.faults shelf.new) (faults_of T.faults recorder.new.sinks.items)
-        (K.faults keys.new))
+        (failures (S.faults shelf.old) (W.faults recorders.old.write) (K.faults keys.old))
+        (failures (S.faults shelf.new) (W.faults recorders.new.write) (K.faults keys.new))
         (O.written out.old) (O.written out.new) }
     // what is recorded
-    ensures traces { result ≡ 0 → Traces trace_spelling (map string_bytes words.now)
-        (S.held shelf.old) (mirrors_of T.bytes recorder.old.sinks.items)
-        (mirrors_of T.bytes recorder.new.sinks.items) }
-    ensures leaves { Leaves trace_spelling (map string_bytes words.now) (S.held shelf.old)
-        recorder.new.phase (mirrors_of T.bytes recorder.old.sinks.items)
-        (mirrors_of T.bytes recorder.new.sinks.items) }
+    ensures sound { W.Sound recorders.new.write }
+    ensures traces { result ≡ 0 → Traces (spelling W.opening W.frame W.closing)
+        (map string_bytes words.now) (S.held shelf.old)
+        (W.mirrors recorders.old.write) (W.mirrors recorders.new.write) }
+    ensures leaves { Leaves (spelling W.opening W.frame W.closing)
+        (map string_bytes words.now) (S.held shelf.old) (W.phase recorders.new.write)
+        (W.mirrors recorders.old.write) (W.mirrors recorders.new.write) }
+    ensures leaves_some { LeavesSome (spelling W.opening W.frame W.closing)
+        (W.phase recorders.new.write)
+        (W.mirrors recorders.old.write) (W.mirrors recorders.new.write) }
+    ensures starts_none { StartsNone result → recorders.new.write ≡ recorders.old.write }
     ensures records_nothing { RecordsNothing (map string_bytes words.now)
-        → recorder.new ≡ recorder.old }
-    ensures fails { faults_of T.faults recorder.old.sinks.items
-        < faults_of T.faults recorder.new.sinks.items → recorder.new.phase ≡ Phase.Failed }
+        → recorders.new.write ≡ recorders.old.write }
+    ensures fails { W.faults recorders.old.write < W.faults recorders.new.write
+        → W.phase recorders.new.write ≡ Phase.Failed }
     ensures finishes_first { O.faults out.old < O.faults out.new
-        → ¬ Rose (faults_of T.faults recorder.old.sinks.items)
-        (faults_of T.faults recorder.new.sinks.items) → IsSettled recorder.new.phase }
+        → ¬ Rose (W.faults recorders.old.write) (W.faults recorders.new.write)
+        → IsSettled (W.phase recorders.new.write) }
+    ensures finishes_program { O.faults out.old < O.faults out.new
+        → ¬ Rose (S.faults shelf.old) (S.faults shelf.new)
+        → ¬ Rose (W.faults recorders.old.write) (W.faults recorders.new.write)
+        → FinishesProgram (map string_bytes words.now) (S.held shelf.old)
+        (W.phase recorders.new.write) }
     // statuses and their causes
     ensures status { IsStatus result }
     ensures usage { result ≡ 2 → IsNoCommand (map string_bytes words.now) }
@@ -100,20 +109,21 @@ pub fn whyline<S: Shelf, K: Source, O: Sink, T: TraceSink + Drop>(
         × TookMany (K.taken keys.old) (K.taken keys.new)) }
     ensures fault { result ≡ 7
         → Rose (S.faults shelf.old) (S.faults shelf.new)
-        ⊎ Rose (faults_of T.faults recorder.old.sinks.items)
-        (faults_of T.faults recorder.new.sinks.items)
+        ⊎ Rose (W.faults recorders.old.write) (W.faults recorders.new.write)
         ⊎ Rose (O.faults out.old) (O.faults out.new)
         ⊎ (AsksToExplore (map string_bytes words.now)
         × Rose (K.faults keys.old) (K.faults keys.new)) }
     ensures shelf_fault { S.faults shelf.old < S.faults shelf.new → (result ≡ 7) ⊎ (result ≡ 9) }
-    ensures recorder_fault { faults_of T.faults recorder.old.sinks.items
-        < faults_of T.faults recorder.new.sinks.items
+    ensures recorder_fault { W.faults recorders.old.write < W.faults recorders.new.write
         → (result ≡ 7) ⊎ (result ≡ 9) }
     ensures keys_fault { K.faults keys.old < K.faults keys.new → (result ≡ 7) ⊎ (result ≡ 9) }
     ensures out_fault { O.faults out.old < O.faults out.new → (result ≡ 7) ⊎ (result ≡ 9) }
     // what stays
     ensures files_stay { S.held shelf.new ≡ S.held shelf.old }
     ensures keys_stay { ¬ AsksToExplore (map string_bytes words.now) → keys.new ≡ keys.old }
+    ensures others_stay { (recorders.new.compare ≡ recorders.old.compare)
+        × (recorders.new.memory ≡ recorders.old.memory)
+        × (recorders.new.quiet ≡ recorders.old.quiet) }
     ensures reads_nothing { IsNoCommand (map string_bytes words.now)
         → S.gets shelf.new ≡ S.gets shelf.old }
 {
@@ -129,7 +139,7 @@ pub fn whyline<S: Shelf, K: Source, O: Sink, T: TraceSink + Drop>(
         Some(Command::Once(request)) => Some(request),
         None => None,
     };
-    match answer_to(alloc, request, shelf, recorder) {
+    match answer_to(alloc, request, shelf, &mut recorders.write) {
         Ok(answer) => deliver(out, &answer).code(),
         Err(_) => Status::NoMemory.code(),
     }

@@ -54,7 +54,9 @@ pub fn answer_to_bytes(
     runs_of_texts();
     heads_are_short();
     match open_bytes(alloc, bytes)? {
-        Opening::Open { typed, trace } => answer_to_trace(alloc, &typed.program, trace, wanted),
+        Opening::Open { typed, trace } => {
+            answer_to_trace(alloc, &typed.program, trace, bytes, wanted)
+        }
         Opening::Refused(answer) => Ok(answer),
     }
 }

@@ -7,9 +7,9 @@ use Rattle.wy_words.specs.Awaited.{Awaited}
 use Rattle.wy_words.specs.Awaited as awaited
 use Rattle.wy_words.specs.declared.commands.Command as memory
 use Rattle.wy_words.specs.Views.{command_of}
-use Rattle.wy_words.specs.Words.{Part, Spells, Holds, Command, Run, Record, Output, Why, WhyNot, Affects, Questions, Explore, Audit, Gen, number_up_to, asked, Asks, IsNoCommand, AskOneCommand}
+use Rattle.wy_words.specs.Words.{Part, Spells, Holds, Command, Run, Record, Output, Why, WhyNot, Affects, Certify, Check, Questions, Explore, Audit, Gen, number_up_to, asked, Asks, IsNoCommand, AskOneCommand}
 use Rattle.wy_words.specs.Words as words
-use Rattle.wy_words.specs.Reading.{Asking, nothing, named, named_in, ended, command_named, run, run_of, recording, is_bare, only_operand, two_operands, output, why, whynot, affects, questions, explore, audit, generated}
+use Rattle.wy_words.specs.Reading.{Asking, nothing, named, named_in, ended, command_named, over_trace, run, run_of, recording, is_bare, only_operand, two_operands, output, why, whynot, affects, certify, check, questions, explore, audit, generated}
 use Rattle.wy_words.proofs.Spelled.{spelled, named_spelled}
 use Rattle.wy_words.proofs.Held.{naming, held, holds}
 
@@ -36,31 +36,39 @@ unfolding command_named recording run_of
 recording_named source trace input steps = refl
 
 output_named : (trace : List ℕ) → command_named (codes "output") (naming (trace ∷ []) None None None) ≡ Some (Output trace)
-unfolding command_named output only_operand is_bare
+unfolding command_named over_trace output only_operand is_bare
 output_named trace = refl
 
 why_named : (trace question : List ℕ) → command_named (codes "why") (naming (trace ∷ (question ∷ [])) None None None) ≡ Some (Why trace question)
-unfolding command_named why two_operands is_bare
+unfolding command_named over_trace why two_operands is_bare
 why_named trace question = refl
 
 whynot_named : (trace statement : List ℕ) → command_named (codes "whynot") (naming (trace ∷ (statement ∷ [])) None None None) ≡ Some (WhyNot trace statement)
-unfolding command_named whynot two_operands is_bare
+unfolding command_named over_trace whynot two_operands is_bare
 whynot_named trace statement = refl
 
 affects_named : (trace question : List ℕ) → command_named (codes "affects") (naming (trace ∷ (question ∷ [])) None None None) ≡ Some (Affects trace question)
-unfolding command_named affects two_operands is_bare
+unfolding command_named over_trace affects two_operands is_bare
 affects_named trace question = refl
 
+certify_named : (trace question : List ℕ) → command_named (codes "certify") (naming (trace ∷ (question ∷ [])) None None None) ≡ Some (Certify trace question)
+unfolding command_named over_trace certify two_operands is_bare
+certify_named trace question = refl
+
+check_named : (trace certificate : List ℕ) → command_named (codes "check") (naming (trace ∷ (certificate ∷ [])) None None None) ≡ Some (Check trace certificate)
+unfolding command_named over_trace check two_operands is_bare
+check_named trace certificate = refl
+
 questions_named : (trace : List ℕ) → command_named (codes "questions") (naming (trace ∷ []) None None None) ≡ Some (Questions trace)
-unfolding command_named questions only_operand is_bare
+unfolding command_named over_trace questions only_operand is_bare
 questions_named trace = refl
 
 explore_named : (trace : List ℕ) → command_named (codes "explore") (naming (trace ∷ []) None None None) ≡ Some (Explore trace)
-unfolding command_named explore only_operand is_bare
+unfolding command_named over_trace explore only_operand is_bare
 explore_named trace = refl
 
 audit_named : (trace : List ℕ) → command_named (codes "audit") (naming (trace ∷ []) None None None) ≡ Some (Audit trace)
-unfolding command_named audit only_operand is_bare
+unfolding command_named over_trace audit only_operand is_bare
 audit_named trace = refl
 
 gen_named : (word : List ℕ) (n : ℕ) → number_up_to 2000 word ≡ Some n → command_named (codes "gen") (naming (word ∷ []) None None None) ≡ Some (Gen n)
@@ -80,6 +88,10 @@ asked_read _ _ (words.whynot {words = ws} {parts = ps} {trace = t} {statement = 
     ap (option_and_then (command_named (codes "whynot"))) (named_there ws ps (t ∷ (k ∷ [])) None None None (omega arith) s h) ∙ whynot_named t k
 asked_read _ _ (words.affects {words = ws} {parts = ps} {trace = t} {question = k} s h) =
     ap (option_and_then (command_named (codes "affects"))) (named_there ws ps (t ∷ (k ∷ [])) None None None (omega arith) s h) ∙ affects_named t k
+asked_read _ _ (words.certify {words = ws} {parts = ps} {trace = t} {question = k} s h) =
+    ap (option_and_then (command_named (codes "certify"))) (named_there ws ps (t ∷ (k ∷ [])) None None None (omega arith) s h) ∙ certify_named t k
+asked_read _ _ (words.check {words = ws} {parts = ps} {trace = t} {certificate = k} s h) =
+    ap (option_and_then (command_named (codes "check"))) (named_there ws ps (t ∷ (k ∷ [])) None None None (omega arith) s h) ∙ check_named t k
 asked_read _ _ (words.questions {words = ws} {parts = ps} {trace = t} s h) =
     ap (option_and_then (command_named (codes "questions"))) (named_there ws ps (t ∷ []) None None None (omega arith) s h) ∙ questions_named t
 asked_read _ _ (words.explore {words = ws} {parts = ps} {trace = t} s h) =
@@ -225,31 +237,43 @@ affects_meant : (behind : List (List ℕ)) (a : Asking) (c : Command) → Stands
 unfolding affects
 affects_meant behind a c s is = of_two (codes "affects") behind a Affects c (λ first second t. words.affects t.spells t.hold) s is
 
+certify_meant : (behind : List (List ℕ)) (a : Asking) (c : Command) → Stands behind a.operands a.input a.trace a.steps
+    → certify a ≡ Some c → Asks (codes "certify" ∷ behind) c
+unfolding certify
+certify_meant behind a c s is = of_two (codes "certify") behind a Certify c (λ first second t. words.certify t.spells t.hold) s is
+
+check_meant : (behind : List (List ℕ)) (a : Asking) (c : Command) → Stands behind a.operands a.input a.trace a.steps
+    → check a ≡ Some c → Asks (codes "check" ∷ behind) c
+unfolding check
+check_meant behind a c s is = of_two (codes "check") behind a Check c (λ first second t. words.check t.spells t.hold) s is
+
 -- a command by its name
 by_name : (name front : List ℕ) (behind : List (List ℕ)) (c : Command) → bytes_eq name front ≡ true → Asks (front ∷ behind) c → Asks (name ∷ behind) c
 by_name name front behind c same h = subst (λ n. Asks (n ∷ behind) c) (sym ((bytes_eq-Decides name front).0 same)) h
 
 command_meant : (name : List ℕ) (behind : List (List ℕ)) (a : Asking) (c : Command) → Stands behind a.operands a.input a.trace a.steps
     → command_named name a ≡ Some c → Asks (name ∷ behind) c
-unfolding command_named
+unfolding command_named over_trace
 command_meant name behind a c s is =
-    go (bytes_eq name (codes "run")) (bytes_eq name (codes "record")) (bytes_eq name (codes "output")) (bytes_eq name (codes "why")) (bytes_eq name (codes "whynot")) (bytes_eq name (codes "affects")) (bytes_eq name (codes "questions")) (bytes_eq name (codes "explore")) (bytes_eq name (codes "audit")) (bytes_eq name (codes "gen"))
-    refl refl refl refl refl refl refl refl refl refl is
+    go (bytes_eq name (codes "run")) (bytes_eq name (codes "record")) (bytes_eq name (codes "gen")) (bytes_eq name (codes "output")) (bytes_eq name (codes "why")) (bytes_eq name (codes "whynot")) (bytes_eq name (codes "affects")) (bytes_eq name (codes "certify")) (bytes_eq name (codes "check")) (bytes_eq name (codes "questions")) (bytes_eq name (codes "explore")) (bytes_eq name (codes "audit"))
+    refl refl refl refl refl refl refl refl refl refl refl refl is
   where
-    go : (b0 b1 b2 b3 b4 b5 b6 b7 b8 b9 : Bool) → bytes_eq name (codes "run") ≡ b0 → bytes_eq name (codes "record") ≡ b1 → bytes_eq name (codes "output") ≡ b2 → bytes_eq name (codes "why") ≡ b3 → bytes_eq name (codes "whynot") ≡ b4 → bytes_eq name (codes "affects") ≡ b5 → bytes_eq name (codes "questions") ≡ b6 → bytes_eq name (codes "explore") ≡ b7 → bytes_eq name (codes "audit") ≡ b8 → bytes_eq name (codes "gen") ≡ b9
-        → (if b0 then run a else (if b1 then recording a.trace a else (if b2 then output a else (if b3 then why a else (if b4 then whynot a else (if b5 then affects a else (if b6 then questions a else (if b7 then explore a else (if b8 then audit a else (if b9 then generated a else None)))))))))) ≡ Some c
+    go : (b0 b1 b2 b3 b4 b5 b6 b7 b8 b9 b10 b11 : Bool) → bytes_eq name (codes "run") ≡ b0 → bytes_eq name (codes "record") ≡ b1 → bytes_eq name (codes "gen") ≡ b2 → bytes_eq name (codes "output") ≡ b3 → bytes_eq name (codes "why") ≡ b4 → bytes_eq name (codes "whynot") ≡ b5 → bytes_eq name (codes "affects") ≡ b6 → bytes_eq name (codes "certify") ≡ b7 → bytes_eq name (codes "check") ≡ b8 → bytes_eq name (codes "questions") ≡ b9 → bytes_eq name (codes "explore") ≡ b10 → bytes_eq name (codes "audit") ≡ b11
+        → (if b0 then run a else (if b1 then recording a.trace a else (if b2 then generated a else (if b3 then output a else (if b4 then why a else (if b5 then whynot a else (if b6 then affects a else (if b7 then certify a else (if b8 then check a else (if b9 then questions a else (if b10 then explore a else (if b11 then audit a else None)))))))))))) ≡ Some c
         → Asks (name ∷ behind) c
-    go true b1 b2 b3 b4 b5 b6 b7 b8 b9 e0 e1 e2 e3 e4 e5 e6 e7 e8 e9 e = by_name name (codes "run") behind c e0 (run_meant behind a.operands a.awaited a.input a.trace a.steps c s e)
-    go false true b2 b3 b4 b5 b6 b7 b8 b9 e0 e1 e2 e3 e4 e5 e6 e7 e8 e9 e = by_name name (codes "record") behind c e1 (recording_meant behind a.operands a.awaited a.input a.trace a.steps c s e)
-    go false false true b3 b4 b5 b6 b7 b8 b9 e0 e1 e2 e3 e4 e5 e6 e7 e8 e9 e = by_name name (codes "output") behind c e2 (output_meant behind a c s e)
-    go false false false true b4 b5 b6 b7 b8 b9 e0 e1 e2 e3 e4 e5 e6 e7 e8 e9 e = by_name name (codes "why") behind c e3 (why_meant behind a c s e)
-    go false false false false true b5 b6 b7 b8 b9 e0 e1 e2 e3 e4 e5 e6 e7 e8 e9 e = by_name name (codes "whynot") behind c e4 (whynot_meant behind a c s e)
-    go false false false false false true b6 b7 b8 b9 e0 e1 e2 e3 e4 e5 e6 e7 e8 e9 e = by_name name (codes "affects") behind c e5 (affects_meant behind a c s e)
-    go false false false false false false true b7 b8 b9 e0 e1 e2 e3 e4 e5 e6 e7 e8 e9 e = by_name name (codes "questions") behind c e6 (questions_meant behind a c s e)
-    go false false false false false false false true b8 b9 e0 e1 e2 e3 e4 e5 e6 e7 e8 e9 e = by_name name (codes "explore") behind c e7 (explore_meant behind a c s e)
-    go false false false false false false false false true b9 e0 e1 e2 e3 e4 e5 e6 e7 e8 e9 e = by_name name (codes "audit") behind c e8 (audit_meant behind a c s e)
-    go false false false false false false false false false true e0 e1 e2 e3 e4 e5 e6 e7 e8 e9 e = by_name name (codes "gen") behind c e9 (gen_meant behind a c s e)
-    go false false false false false false false false false false e0 e1 e2 e3 e4 e5 e6 e7 e8 e9 e = absurd (none-some c e)
+    go true b1 b2 b3 b4 b5 b6 b7 b8 b9 b10 b11 e0 e1 e2 e3 e4 e5 e6 e7 e8 e9 e10 e11 e = by_name name (codes "run") behind c e0 (run_meant behind a.operands a.awaited a.input a.trace a.steps c s e)
+    go false true b2 b3 b4 b5 b6 b7 b8 b9 b10 b11 e0 e1 e2 e3 e4 e5 e6 e7 e8 e9 e10 e11 e = by_name name (codes "record") behind c e1 (recording_meant behind a.operands a.awaited a.input a.trace a.steps c s e)
+    go false false true b3 b4 b5 b6 b7 b8 b9 b10 b11 e0 e1 e2 e3 e4 e5 e6 e7 e8 e9 e10 e11 e = by_name name (codes "gen") behind c e2 (gen_meant behind a c s e)
+    go false false false true b4 b5 b6 b7 b8 b9 b10 b11 e0 e1 e2 e3 e4 e5 e6 e7 e8 e9 e10 e11 e = by_name name (codes "output") behind c e3 (output_meant behind a c s e)
+    go false false false false true b5 b6 b7 b8 b9 b10 b11 e0 e1 e2 e3 e4 e5 e6 e7 e8 e9 e10 e11 e = by_name name (codes "why") behind c e4 (why_meant behind a c s e)
+    go false false false false false true b6 b7 b8 b9 b10 b11 e0 e1 e2 e3 e4 e5 e6 e7 e8 e9 e10 e11 e = by_name name (codes "whynot") behind c e5 (whynot_meant behind a c s e)
+    go false false false false false false true b7 b8 b9 b10 b11 e0 e1 e2 e3 e4 e5 e6 e7 e8 e9 e10 e11 e = by_name name (codes "affects") behind c e6 (affects_meant behind a c s e)
+    go false false false false false false false true b8 b9 b10 b11 e0 e1 e2 e3 e4 e5 e6 e7 e8 e9 e10 e11 e = by_name name (codes "certify") behind c e7 (certify_meant behind a c s e)
+    go false false false false false false false false true b9 b10 b11 e0 e1 e2 e3 e4 e5 e6 e7 e8 e9 e10 e11 e = by_name name (codes "check") behind c e8 (check_meant behind a c s e)
+    go false false false false false false false false false true b10 b11 e0 e1 e2 e3 e4 e5 e6 e7 e8 e9 e10 e11 e = by_name name (codes "questions") behind c e9 (questions_meant behind a c s e)
+    go false false false false false false false false false false true b11 e0 e1 e2 e3 e4 e5 e6 e7 e8 e9 e10 e11 e = by_name name (codes "explore") behind c e10 (explore_meant behind a c s e)
+    go false false false false false false false false false false false true e0 e1 e2 e3 e4 e5 e6 e7 e8 e9 e10 e11 e = by_name name (codes "audit") behind c e11 (audit_meant behind a c s e)
+    go false false false false false false false false false false false false e0 e1 e2 e3 e4 e5 e6 e7 e8 e9 e10 e11 e = absurd (none-some c e)
 
 pub read_asked : (words : List (List ℕ)) (c : Command) → read_as words ≡ Some c → Asks words c
 read_asked [] c is = absurd (none-some c is)

@@ -1,7 +1,7 @@
 -- What stands in the words that are read so far, as the calls of this crate find it. No definition of a command rests on it.
 use Rattle.std.specs.Prelude.{ℕ, length, true, not, ◌||◌, is_some, List, [], ◌∷◌, ◌++◌, Bool, ◌&&◌, nat_eq, nat_lt, bytes_eq, if◌then◌else◌, Option, Some, None, is_none, option_and_then, option_map, codes, drop}
 use Rattle.std.specs.List.{starts_with}
-use Rattle.wy_words.specs.Words.{is_plain, number_up_to, Part, Operand, Input, Trace, Steps, Asked, Command, Run, Record, Output, Why, WhyNot, Affects, Questions, Explore, Audit, Gen, asked}
+use Rattle.wy_words.specs.Words.{is_plain, number_up_to, Part, Operand, Input, Trace, Steps, Asked, Command, Run, Record, Output, Why, WhyNot, Affects, Certify, Check, Questions, Explore, Audit, Gen, asked}
 use Rattle.wy_words.specs.Awaited.{Awaited}
 use Rattle.wy_words.specs.Awaited as awaited
 
@@ -119,6 +119,12 @@ whynot a = option_map (λ w. WhyNot w.0 w.1) (two_operands a.operands a)
 unfoldable pub affects : Asking → Option Command
 affects a = option_map (λ w. Affects w.0 w.1) (two_operands a.operands a)
 
+unfoldable pub certify : Asking → Option Command
+certify a = option_map (λ w. Certify w.0 w.1) (two_operands a.operands a)
+
+unfoldable pub check : Asking → Option Command
+check a = option_map (λ w. Check w.0 w.1) (two_operands a.operands a)
+
 unfoldable pub questions : Asking → Option Command
 questions a = option_map Questions (only_operand a.operands a)
 
@@ -131,16 +137,23 @@ audit a = option_map Audit (only_operand a.operands a)
 unfoldable pub generated : Asking → Option Command
 generated a = option_map Gen (option_and_then (number_up_to 2000) (only_operand a.operands a))
 
+-- the command of this name about a trace that is there, where it takes what is named
+unfoldable pub over_trace : List ℕ → Asking → Option Command
+over_trace name a =
+    if bytes_eq name (codes "output") then output a
+    else (if bytes_eq name (codes "why") then why a
+    else (if bytes_eq name (codes "whynot") then whynot a
+    else (if bytes_eq name (codes "affects") then affects a
+    else (if bytes_eq name (codes "certify") then certify a
+    else (if bytes_eq name (codes "check") then check a
+    else (if bytes_eq name (codes "questions") then questions a
+    else (if bytes_eq name (codes "explore") then explore a
+    else (if bytes_eq name (codes "audit") then audit a else None))))))))
+
 -- the command of this name, where it takes what is named
 unfoldable pub command_named : List ℕ → Asking → Option Command
 command_named name a =
     if bytes_eq name (codes "run") then run a
     else (if bytes_eq name (codes "record") then recording a.trace a
-    else (if bytes_eq name (codes "output") then output a
-    else (if bytes_eq name (codes "why") then why a
-    else (if bytes_eq name (codes "whynot") then whynot a
-    else (if bytes_eq name (codes "affects") then affects a
-    else (if bytes_eq name (codes "questions") then questions a
-    else (if bytes_eq name (codes "explore") then explore a
-    else (if bytes_eq name (codes "audit") then audit a
-    else (if bytes_eq name (codes "gen") then generated a else None)))))))))
+    else (if bytes_eq name (codes "gen") then generated a
+    else over_trace name a))

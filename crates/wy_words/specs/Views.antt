@@ -11,7 +11,7 @@ use Rattle.wy_words.specs.declared.commands.Asked.{Asked}
 use Rattle.wy_words.specs.declared.commands.Command.{Command}
 use Rattle.wy_words.specs.declared.commands.Command.TheVariants.{Once, Explore}
 use Rattle.wy_words.specs.declared.commands.Request.{Request}
-use Rattle.wy_words.specs.declared.commands.Request.TheVariants.{Run, Record, Output, Why, WhyNot, Affects, Questions, Audit, Gen}
+use Rattle.wy_words.specs.declared.commands.Request.TheVariants.{Run, Record, Output, Why, WhyNot, Affects, Certify, Check, Questions, Audit, Gen}
 
 abbrev pub operands_of : Operands → List (List ℕ)
 operands_of Nothing = []
@@ -40,6 +40,8 @@ request_of (Output trace) = words.Output trace.now
 request_of (Why trace question) = words.Why trace.now question.now
 request_of (WhyNot trace statement) = words.WhyNot trace.now statement.now
 request_of (Affects trace question) = words.Affects trace.now question.now
+request_of (Certify trace question) = words.Certify trace.now question.now
+request_of (Check trace certificate) = words.Check trace.now certificate.now
 request_of (Questions trace) = words.Questions trace.now
 request_of (Audit trace) = words.Audit trace.now
 request_of (Gen number) = words.Gen number

@@ -86,6 +86,8 @@ pub data Command : Type 0 where
   Why : (trace question : List ℕ) → Command
   WhyNot : (trace statement : List ℕ) → Command
   Affects : (trace question : List ℕ) → Command
+  Certify : (trace question : List ℕ) → Command
+  Check : (trace certificate : List ℕ) → Command
   Questions : (trace : List ℕ) → Command
   Explore : (trace : List ℕ) → Command
   Audit : (trace : List ℕ) → Command
@@ -112,6 +114,10 @@ pub data Asks : List (List ℕ) → Command → Type 0 where
       → Holds parts (trace ∷ (statement ∷ [])) None None None → Asks (codes "whynot" ∷ words) (WhyNot trace statement)
   affects : {words : List (List ℕ)} {parts : List Part} {trace question : List ℕ} → Spells words parts
       → Holds parts (trace ∷ (question ∷ [])) None None None → Asks (codes "affects" ∷ words) (Affects trace question)
+  certify : {words : List (List ℕ)} {parts : List Part} {trace question : List ℕ} → Spells words parts
+      → Holds parts (trace ∷ (question ∷ [])) None None None → Asks (codes "certify" ∷ words) (Certify trace question)
+  check : {words : List (List ℕ)} {parts : List Part} {trace certificate : List ℕ} → Spells words parts
+      → Holds parts (trace ∷ (certificate ∷ [])) None None None → Asks (codes "check" ∷ words) (Check trace certificate)
   questions : {words : List (List ℕ)} {parts : List Part} {trace : List ℕ} → Spells words parts
       → Holds parts (trace ∷ []) None None None → Asks (codes "questions" ∷ words) (Questions trace)
   explore : {words : List (List ℕ)} {parts : List Part} {trace : List ℕ} → Spells words parts

@@ -4,9 +4,11 @@ ghost use Rattle.wy_words.specs.Views.{asking_of, asked_of, command_of, pair_of}
 ghost use Rattle.wy_words.specs.Reading.{audit as audit_asked, command_named as named_so};
 ghost use Rattle.wy_words.specs.Reading.{explore as explore_asked, generated as gen_asked};
 ghost use Rattle.wy_words.specs.Reading.{is_bare as bare, only_operand as alone, output as output_asked};
+ghost use Rattle.wy_words.specs.Reading.{over_trace as over_trace_so};
 ghost use Rattle.wy_words.specs.Reading.{recording as recording_asked, run as run_asked, run_of};
 ghost use Rattle.wy_words.specs.Reading.{questions as questions_asked, two_operands as both};
 ghost use Rattle.wy_words.specs.Reading.{affects as affects_asked, why as why_asked, whynot as whynot_asked};
+ghost use Rattle.wy_words.specs.Reading.{certify as certify_asked, check as check_asked};
 
 use crate::asking::{Asking, Operands};
 use crate::number::number;
@@ -29,14 +31,42 @@ pub struct Asked<'a> {
 #[derive(Clone, Copy)]
 pub enum Request<'a> {
     Run(Asked<'a>),
-    Record { asked: Asked<'a>, trace: &'a str },
-    Output { trace: &'a str },
-    Why { trace: &'a str, question: &'a str },
-    WhyNot { trace: &'a str, statement: &'a str },
-    Affects { trace: &'a str, question: &'a str },
-    Questions { trace: &'a str },
-    Audit { trace: &'a str },
-    Gen { number: u32 },
+    Record {
+        asked: Asked<'a>,
+        trace: &'a str,
+    },
+    Output {
+        trace: &'a str,
+    },
+    Why {
+        trace: &'a str,
+        question: &'a str,
+    },
+    WhyNot {
+        trace: &'a str,
+        statement: &'a str,
+    },
+    Affects {
+        trace: &'a str,
+        question: &'a str,
+    },
+    Certify {
+        trace: &'a str,
+        question: &'a str,
+    },
+    Check {
+        trace: &'a str,
+        certificate: &'a str,
+    },
+    Questions {
+        trace: &'a str,
+    },
+    Audit {
+        trace: &'a str,
+    },
+    Gen {
+        number: u32,
+    },
 }
 
 /// What can be asked.
@@ -58,6 +88,17 @@ pub fn command_named<'a>(name: &str, asking: Asking<'a>) -> Option<Command<'a>>
     if name == "record" {
         return recording(asking);
     }
+    if name == "gen" {
+        return generated(asking);
+    }
+    over_trace(name, asking)
+}
+
+/// The same, where the command is about a trace that is there.
+#[tactic(auto, unfolding(crate::specs::Reading::over_trace))]
+fn over_trace<'a>(name: &str, asking: Asking<'a>) -> Option<Command<'a>>
+    ensures { option_map command_of result ≡ over_trace_so name.now (asking_of asking.entry) }
+{
     if name == "output" {
         return output(asking);
     }
@@ -70,6 +111,12 @@ pub fn command_named<'a>(name: &str, asking: Asking<'a>) -> Option<Command<'a>>
     if name == "affects" {
         return affects(asking);
     }
+    if name == "certify" {
+        return certify(asking);
+    }
+    if name == "check" {
+        return check(asking);
+    }
     if name == "questions" {
         return questions(asking);
     }
@@ -78,9 +125,6 @@ pub fn command_named<'a>(name: &str, asking: Asking<'a>) -> Option<Command<'a>>
     }
     if name == "audit" {
         return audit(asking);
-    }
-    if name == "gen" {
-        return generated(asking);
     }
     None
 }
@@ -148,6 +192,26 @@ fn affects(asking: Asking<'_>) -> Option<Command<'_>>
 {
     match two_operands(asking) {
         Some((trace, question)) => Some(Command::Once(Request::Affects { trace, question })),
+        None => None,
+    }
+}
+
+#[tactic(auto, unfolding(crate::specs::Reading::certify))]
+fn certify(asking: Asking<'_>) -> Option<Command<'_>>
+    ensures { option_map command_of result ≡ certify_asked (asking_of asking.entry) }
+{
+    match two_operands(asking) {
+        Some((trace, question)) => Some(Command::Once(Request::Certify { trace, question })),
+        None => None,
+    }
+}
+
+#[tactic(auto, unfolding(crate::specs::Reading::check))]
+fn check(asking: Asking<'_>) -> Option<Command<'_>>
+    ensures { option_map command_of result ≡ check_asked (asking_of asking.entry) }
+{
+    match two_operands(asking) {
+        Some((trace, certificate)) => Some(Command::Once(Request::Check { trace, certificate })),
         None => None,
     }
 }

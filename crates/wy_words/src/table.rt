@@ -19,13 +19,15 @@ pub const TRACE: &str = "trace";
 
 pub const STEPS: &str = "steps";
 
-static NAMES: [&str; 10] = [
+static NAMES: [&str; 12] = [
     "run",
     "record",
     "output",
     "why",
     "whynot",
     "affects",
+    "certify",
+    "check",
     "questions",
     "explore",
     "audit",

@@ -4,6 +4,7 @@ ghost use Rattle.std.specs.Prelude.{◌≡◌, ◌<◌, ◌^◌, IfOk, [], lengt
 ghost use Rattle.wy_event.specs.Record.{recorded};
 ghost use Rattle.wy_kernel.specs.Parts.{program_of};
 ghost use Rattle.wy_meaning.specs.Run.{events, tail};
+ghost use Rattle.wy_record.specs.declared.recorder.Phase.TheVariants.{Recording};
 ghost use Rattle.wy_steps.specs.Sets.{nothing};
 ghost use Rattle.wy_view.specs.References.{AllRefersBelow};
 
@@ -17,7 +18,8 @@ use wy_record::{MemoryRecorder, Recorder};
 
 /// A recorder that keeps the events of a run, ready for the first.
 fn empty_recorder(alloc: Global) -> Result<MemoryRecorder, AllocError>
-    ensures { IfOk result (λ recorder. map recorded recorder.events.items ≡ []) }
+    ensures none { IfOk result (λ recorder. map recorded recorder.events.items ≡ []) }
+    ensures recording { IfOk result (λ recorder. recorder.phase ≡ Recording) }
 {
     let head = Head {
         steps: 0,
@@ -44,7 +46,11 @@ pub(crate) fn events_of_run(
     ensures few { IfOk result (λ kept. length kept.items < 2 ^ 32) }
     ensures refer_below { IfOk result (λ kept. AllRefersBelow kept.items) }
 {
-    let (_, mut recorder) = run(alloc, program, &[], steps, empty_recorder(alloc)?)?;
+    let mut recorder = empty_recorder(alloc)?;
+    match run(alloc, program, &[], steps, &mut recorder) {
+        Ok(_) => {}
+        Err(_) => return Err(AllocError),
+    }
     references_point_below();
     Ok(recorder.take())
 }

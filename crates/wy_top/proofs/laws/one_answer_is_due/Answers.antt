@@ -1,32 +1,22 @@
 use Rattle.std.proofs.Common.{◌≡◌, ◌∙◌, sym, ap, subst, refl, inl, inr, ◌⊎◌, ℕ, List, length, Option, Some, None, arith}
 use Rattle.wy_kernel.specs.Program.{Program}
 use Rattle.wy_outside.specs.Shelf.{Files}
-use Rattle.wy_words.specs.Words.{Asked, Asks, Command, Run, Record, Output, Questions, Why, Affects, WhyNot, Audit, Explore, Gen, AskOneCommand}
+use Rattle.wy_words.specs.Words.{Asked, Asks, Command, Run, Record, Output, Questions, Why, Affects, Certify, Check, WhyNot, Audit, Explore, Gen, AskOneCommand}
 use Rattle.wy_gen.specs.Generated.{source}
 use Rattle.wy_reply.specs.Generated.{generated_report}
 use Rattle.wy_reply.specs.Report.{report, recorded_report}
-use Rattle.wy_reply.specs.Tellings.{Wanted}
+use Rattle.wy_reply.specs.Tellings.{Bytes, Given, Lacking, Wanted}
 use Rattle.wy_reply.specs.Tellings as wanted
 use Rattle.wy_kernel.specs.Limits.{source_limit, input_limit, trace_limit}
-use Rattle.wy_top.specs.Held.{Holds, Lacks, absent, too_long, IsInput}
+use Rattle.wy_top.specs.Held.{Gives, Holds, Lacks, absent, bytes, certificate_limit, lacking, too_long, IsInput}
 use Rattle.wy_top.specs.Due.{Due, DueFor, DueForBytes, DueForRun, DueForTrace, DueTo, usage, asked, explored, generated, AreSyntaxLines, of_source, of_head, of_generated, run_of, trace_of}
 use Rattle.wy_top.specs.Due as due
+use Rattle.wy_top.proofs.FileReads.{not_lacking, one_file}
 use Rattle.wy_top.proofs.OneText.{Known, SameLines, one_for}
 use Rattle.wy_top.proofs.OneTrace.{Traces, SameOfTrace, one_text, syntax_lines, one_of_bytes}
 use Rattle.wy_top.proofs.laws.one_answer_is_due.Goals as goal
 
 -- ---- files
-
-one_file : (f : Files) (name : List ℕ) (t u : List ℕ) → f name ≡ Some t → f name ≡ Some u → u ≡ t
-one_file f name t u x y = let e : Some u ≡ Some t = sym y ∙ x in cc
-
--- a file that is held within the limit is not lacking
-not_lacking : (f : Files) (name : List ℕ) (limit : ℕ) (t : List ℕ) (s : ℕ) (x : List ℕ) → Holds f name limit t → Lacks f name limit s x → ⊥
-not_lacking f name limit t _ _ h (absent none) = let e : Some t ≡ None = sym h.found ∙ none in cc
-not_lacking f name limit t _ _ h (too_long u found more) =
-    let e : length u ≡ length t = ap length (one_file f name t u h.found found) in
-    let within = h.within in
-    omega arith
 
 one_lack : (f : Files) (name : List ℕ) (limit : ℕ) (s t : ℕ) (x y : List ℕ) → Lacks f name limit s x → Lacks f name limit t y → (s ≡ t) × (x ≡ y)
 one_lack f name limit _ _ _ _ (absent none) (absent also) = (refl, refl)
@@ -37,6 +27,12 @@ one_lack f name limit _ _ _ _ (too_long u found more) (too_long v also greater) 
 one_input : (f : Files) (name : Option (List ℕ)) (i j : List ℕ) → IsInput f name i → IsInput f name j → j ≡ i
 one_input f None i j x y = y ∙ sym x
 one_input f (Some name) i j x y = one_file f name i j x.found y.found
+
+one_given : (f : Files) (name : List ℕ) (g h : Given) → Gives f name g → Gives f name h → h ≡ g
+one_given f name _ _ (bytes t holds) (bytes u also) = ap Bytes (one_file f name t u holds.found also.found)
+one_given f name _ _ (bytes t holds) (lacking s x lacks) = absurd (not_lacking f name certificate_limit t s x holds lacks)
+one_given f name _ _ (lacking s x lacks) (bytes u also) = absurd (not_lacking f name certificate_limit u s x also lacks)
+one_given f name _ _ (lacking s x lacks) (lacking t y more) = let e = one_lack f name certificate_limit t s y x more lacks in λ i. Lacking (e.0 i) (e.1 i)
 
 -- ---- a run of one shelf
 
@@ -62,7 +58,7 @@ one_run known f a told _ _ _ _ (due.read u i s x h is d) (due.read v j t y g als
 -- ---- a trace of one shelf
 
 one_trace : Known → Traces → (f : Files) (name : List ℕ) (w : Wanted) (s t : ℕ) (x y : List ℕ) → DueForTrace f name w s x → DueForTrace f name w t y →
-    (s ≡ t) × ((x ≡ y) ⊎ ((bytes : List ℕ) × Holds f name trace_limit bytes × SameOfTrace bytes x y))
+    (s ≡ t) × ((x ≡ y) ⊎ ((content : List ℕ) × Holds f name trace_limit content × SameOfTrace content x y))
 one_trace known traces f name w _ _ _ _ (due.no_trace s x l) (due.no_trace t y m) = let e = one_lack f name trace_limit s t x y l m in (e.0, inl e.1)
 one_trace known traces f name w _ _ _ _ (due.no_trace s x l) (due.read b t y h d) = absurd (not_lacking f name trace_limit b s x h l)
 one_trace known traces f name w _ _ _ _ (due.read b s x h d) (due.no_trace t y m) = absurd (not_lacking f name trace_limit b t y h m)
@@ -82,15 +78,15 @@ run_same words held c f a s t x y asks told is (e, inl same) = (e, inl same)
 run_same words held c f a s t x y asks told is (e, inr (source, holds, inl same)) = (e, inl same)
 run_same words held c f a s t x y asks told is (e, inr (source, holds, inr (spans, ts, first, second))) = (e, inr (of_source c f a source spans x y asks told is holds ts first second))
 
-lines_same : (words : List (List ℕ)) (held : Option Files) (c : Command) (f : Files) (name bytes : List ℕ) (x y : List ℕ) → Asks words c → held ≡ Some f → trace_of c ≡ Some name → Holds f name trace_limit bytes →
-    SameOfTrace bytes x y → (x ≡ y) ⊎ AreSyntaxLines words held x y
-lines_same words held c f name bytes _ _ asks told is holds (one_text x) = inl refl
-lines_same words held c f name bytes _ _ asks told is holds (syntax_lines head end spans x y at ts first second) = inr (of_head c f name bytes head end spans x y asks told is holds at ts first second)
+lines_same : (words : List (List ℕ)) (held : Option Files) (c : Command) (f : Files) (name content : List ℕ) (x y : List ℕ) → Asks words c → held ≡ Some f → trace_of c ≡ Some name → Holds f name trace_limit content →
+    SameOfTrace content x y → (x ≡ y) ⊎ AreSyntaxLines words held x y
+lines_same words held c f name content _ _ asks told is holds (one_text x) = inl refl
+lines_same words held c f name content _ _ asks told is holds (syntax_lines head end spans x y at ts first second) = inr (of_head c f name content head end spans x y asks told is holds at ts first second)
 
 trace_same : (words : List (List ℕ)) (held : Option Files) (c : Command) (f : Files) (name : List ℕ) (s t : ℕ) (x y : List ℕ) → Asks words c → held ≡ Some f → trace_of c ≡ Some name →
-    (s ≡ t) × ((x ≡ y) ⊎ ((bytes : List ℕ) × Holds f name trace_limit bytes × SameOfTrace bytes x y)) → Same words held s t x y
+    (s ≡ t) × ((x ≡ y) ⊎ ((content : List ℕ) × Holds f name trace_limit content × SameOfTrace content x y)) → Same words held s t x y
 trace_same words held c f name s t x y asks told is (e, inl same) = (e, inl same)
-trace_same words held c f name s t x y asks told is (e, inr (bytes, holds, lines)) = (e, lines_same words held c f name bytes x y asks told is holds lines)
+trace_same words held c f name s t x y asks told is (e, inr (content, holds, lines)) = (e, lines_same words held c f name content x y asks told is holds lines)
 
 one_command : Known → Traces → (words : List (List ℕ)) (held : Option Files) (c : Command) (f : Files) (s t : ℕ) (x y : List ℕ) → Asks words c → held ≡ Some f → DueTo f c s x → DueTo f c t y → Same words held s t x y
 one_command known traces words held (Run a) f s t x y asks told first second =
@@ -103,6 +99,12 @@ one_command known traces words held (Why trace question) f s t x y asks told fir
     trace_same words held (Why trace question) f trace s t x y asks told refl (one_trace known traces f trace (wanted.Why question) s t x y first second)
 one_command known traces words held (Affects trace question) f s t x y asks told first second =
     trace_same words held (Affects trace question) f trace s t x y asks told refl (one_trace known traces f trace (wanted.Affects question) s t x y first second)
+one_command known traces words held (Certify trace question) f s t x y asks told first second =
+    trace_same words held (Certify trace question) f trace s t x y asks told refl (one_trace known traces f trace (wanted.Certify question) s t x y first second)
+one_command known traces words held (Check trace name) f s t x y asks told first second =
+    let given = one_given f name first.given second.given first.gives second.gives in
+    trace_same words held (Check trace name) f trace s t x y asks told refl
+    (one_trace known traces f trace (wanted.Check first.given) s t x y first.is (subst (λ (g : Given). DueForTrace f trace (wanted.Check g) t y) given second.is))
 one_command known traces words held (Questions trace) f s t x y asks told first second =
     trace_same words held (Questions trace) f trace s t x y asks told refl (one_trace known traces f trace wanted.Questions s t x y first second)
 one_command known traces words held (WhyNot trace statement) f s t x y asks told first second =
@@ -165,4 +167,4 @@ returns c =
       utf8 = c.a_refused_text_has_no_tokens.ensures.utf8;
       trees = c.a_token_list_has_one_tree.ensures;
       programs = c.a_text_has_one_program.ensures;
-    }) (record { reading = c.bytes_are_read_in_one_way.ensures; answers = c.one_answer_to_questions.ensures; statements = c.one_answer_to_whynot.ensures; audits = c.one_audit_is_due.ensures; sessions = c.one_talk.ensures }) c.words_ask_one_command.ensures
+    }) (record { reading = c.bytes_are_read_in_one_way.ensures; answers = c.one_answer_to_questions.ensures; statements = c.one_answer_to_whynot.ensures; audits = c.one_audit_is_due.ensures; certificates = c.one_certificate_is_made.ensures; verdicts = c.one_verdict_is_due.ensures; sessions = c.one_talk.ensures }) c.words_ask_one_command.ensures

@@ -3,16 +3,19 @@ use Rattle.wy_top.proofs.Opened.{is_decoded, opened_due}
 use Rattle.wy_top.proofs.RunAnswers.{opened_answered}
 use Rattle.wy_top.proofs.trace.answer_to_bytes.Goals as goal
 
+pub answer_to_trace-requires-clause-decoded : goal.answer_to_trace-requires-clause-decoded
+answer_to_trace-requires-clause-decoded c =
+    is_decoded c.args.bytes.now c.in-Open.typed c.in-Open.trace (λ i. omega (arith, c.type_inv.bytes i)) c.requires (rw (c.in-Open.is) at c.in_ok-typed.ensures.opens)
+
 pub returns-in-Open-clause-due : goal.returns-in-Open-clause-due
 returns-in-Open-clause-due c =
     let opens = rw (c.in-Open.is) at c.in_ok-typed.ensures.opens in
     opened_due c.args.bytes.now _ c.in-Open.typed c.in-Open.trace c.answer_to_trace.result opens
-    (c.answer_to_trace.ensures.due c.args.bytes.now (is_decoded c.args.bytes.now c.in-Open.typed c.in-Open.trace (λ i. omega (arith, c.type_inv.bytes i)) c.requires opens))
+    c.answer_to_trace.ensures.due
 
 pub returns-in-Open-clause-by_run : goal.returns-in-Open-clause-by_run
 returns-in-Open-clause-by_run c =
     let opens = rw (c.in-Open.is) at c.in_ok-typed.ensures.opens in
-    let decoded = is_decoded c.args.bytes.now c.in-Open.typed c.in-Open.trace (λ i. omega (arith, c.type_inv.bytes i)) c.requires opens in
     opened_answered (record {
       lists = c.a_text_has_one_token_list.ensures;
       tokens = c.a_refused_text_has_no_tokens.ensures.tokens;
@@ -21,7 +24,7 @@ returns-in-Open-clause-by_run c =
       trees = c.a_token_list_has_one_tree.ensures;
       programs = c.a_text_has_one_program.ensures;
     }) (record { ordered = c.tokens_stand_in_order.ensures; cut = c.items_are_a_cut.ensures; needed = c.runs_of_texts.ensures.needed }) c.heads_are_short.ensures
-    c.args.bytes.now _ c.in-Open.typed c.in-Open.trace c.answer_to_trace.result opens (c.answer_to_trace.ensures.by_run c.args.bytes.now decoded) (c.answer_to_trace.ensures.source c.args.bytes.now decoded)
+    c.args.bytes.now _ c.in-Open.typed c.in-Open.trace c.answer_to_trace.result opens c.answer_to_trace.ensures.by_run c.answer_to_trace.ensures.source
 
 pub returns-in-Refused-clause-due : goal.returns-in-Refused-clause-due
 returns-in-Refused-clause-due c = (rw (c.in-Refused.is) at c.in_ok-typed.ensures.opens).1 _

@@ -2,7 +2,7 @@ use Rattle.std.proofs.Common.{◌∙◌, ap, subst}
 use Rattle.std.specs.List.Sorted.{IsBinarySearchResult}
 use Rattle.std.specs.Ordering.{nat_cmp}
 use Rattle.wy_telling.specs.Printed.{is_among}
-use Rattle.wy_telling.proofs.LineEnds.{has_site}
+use Rattle.wy_telling.proofs.EndSites.{has_site}
 use Rattle.wy_telling.proofs.print.LineEnds.has.Goals as goal
 
 pub returns : goal.returns

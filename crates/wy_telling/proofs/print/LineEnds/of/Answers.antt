@@ -1,5 +1,5 @@
 use Rattle.wy_kernel.specs.Parts.{program_of}
-use Rattle.wy_telling.proofs.LineEnds.{line_ends}
+use Rattle.wy_telling.proofs.EndSites.{line_ends}
 use Rattle.wy_telling.proofs.print.LineEnds.of.Goals as goal
 
 pub returns : goal.returns

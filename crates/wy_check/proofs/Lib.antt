@@ -1,0 +1,11 @@
+pub mod Histories
+pub mod Fronts
+pub mod Weights
+pub mod Faults
+pub mod Verdicts
+pub mod Flows
+pub mod Askings
+pub mod Marking
+pub mod Ends
+pub mod Spellings
+pub mod Alone

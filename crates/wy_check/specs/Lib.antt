@@ -1,0 +1,11 @@
+pub mod Refusals
+pub mod Keys
+pub mod Marks
+pub mod Writes
+pub mod History
+pub mod Asking
+pub mod Weighing
+pub mod Checks
+pub mod Faults
+pub mod Data
+pub mod Laws
