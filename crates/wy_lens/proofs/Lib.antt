@@ -4,3 +4,4 @@ mod Said
 mod Sources
 mod Told
 mod Replies
+mod Pairs

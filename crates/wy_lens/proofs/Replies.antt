@@ -10,7 +10,7 @@ use Rattle.wy_fold.specs.Asked.{FindsAsked}
 use Rattle.wy_fold.specs.Stops.{StopsAt}
 use Rattle.wy_lens.specs.Answers.{IsBytesAnswer, SpeaksOfNoFile}
 use Rattle.wy_lens.specs.Statuses.{code_of}
-use Rattle.wy_lens.specs.Replies.{Denies, IsTold, NamesNoEvent}
+use Rattle.wy_lens.specs.Replies.{Denies, IsTold, IsUnopenedAs, NamesNoEvent}
 use Rattle.wy_lens.specs.Traces.{DueForBytes, IsUnopenedLine, OfQuestion, OfStop, OnLine, Says, Tells, Told}
 use Rattle.wy_lens.specs.Traces as due
 use Rattle.wy_lens.specs.Words.{Telling}
@@ -73,6 +73,10 @@ pub unopened_told : (bytes : List ℕ) (telling : Telling) (e : OpeningError) (l
     → IsBytesAnswer bytes telling answer
 unopened_told bytes telling e line answer why is refused says =
     (quiet answer Trace refused (λ x. cc) (λ x. cc) (λ x. cc) (λ x. cc), rw (refused, says) (due.unopened e line why is))
+
+pub unopened_bytes : (bytes : List ℕ) (telling : Telling) (e : OpeningError) (r : Result Answer AllocError) → IsUnopenedFor bytes e → IfOk r (IsUnopenedAs e) → IfOk r (IsBytesAnswer bytes telling)
+unopened_bytes bytes telling e (Ok a) why says = unopened_told bytes telling e a.text.items a why says.1 says.0 refl
+unopened_bytes bytes telling e (Err x) why says = tt
 
 -- ---- a line
 

@@ -94,15 +94,37 @@ pub content_asked : (P : Answer → Type 0) (r : Result Answer AllocError) → I
 content_asked P (Ok x) is = is.0.3
 content_asked P (Err e) is = tt
 
+-- the same for the file of one name, beside what is due for that of another
+pub beside_answers : (held mid : Option Files) (good bad given : List ℕ) (limit : ℕ) (due : List ℕ → ByBytes) (bytes : Vec ℕ Global) (n k m : ℕ) (r : Result Answer AllocError) → ReadsFile held good (limit + 1) (Ok bytes)
+    → vec_len bytes ≤ limit → given ≡ bytes.items → k ≡ n → mid ≡ held → IfOk r (IsFileAnswer (λ files. DueForFile files bad limit (due given)) mid k m)
+    → IfOk r (IsFileAnswer (λ files. DueForFile files good limit (λ first. DueForFile files bad limit (due first))) held n m)
+beside_answers held mid good bad given limit due bytes n k m (Ok a) reads few all same stay (inl (fault, line, rose)) = inl (fault, line, subst (λ j. Rose j m) same rose)
+beside_answers held mid good bad given limit due bytes n k m (Ok a) reads few all same stay (inr (kept, other, is)) =
+    inr (
+      kept ∙ same,
+      other,
+      λ files told.
+          content_due (λ first. DueForFile files bad limit (due first)) held good limit bytes (code_of a.status) a.text.items reads few
+          (subst (λ (s : List ℕ). DueForFile files bad limit (due s) (code_of a.status) a.text.items) all (is files (stay ∙ told))) files told,
+    )
+beside_answers held mid good bad given limit due bytes n k m (Err e) reads few all same stay is = tt
+
+pub causes_on : (a b c d x y : ℕ) (r : Result Answer AllocError) → x ≡ a → y ≡ c → IfOk r (HasCause x b y d) → IfOk r (HasCause a b c d)
+causes_on a b c d x y r same so is = subst (λ z. IfOk r (HasCause z b c d)) same (subst (λ z. IfOk r (HasCause x b z d)) so is)
+
 -- ---- a file that was not read
+
+pub lacking_answers_by : (due : Files → ByBytes) (held : Option Files) (name : List ℕ) (limit : ℕ) (error : ShelfError) (n m : ℕ) (r : Result Answer AllocError) → ReadsFile held name (limit + 1) (Err error)
+    → MatchBool (is_failed error) (Rose n m) (m ≡ n) → IfOk r (Lacks name error) → IfOk r (IsFileAnswer (λ files. DueForFile files name limit (due files)) held n m)
+lacking_answers_by due held name limit shelf.Absent n m (Ok a) reads same is =
+    inr (same, (λ e. absurd (let x = sym is.0 ∙ e in cc)), λ files told. rw (is.0, is.1) (absent_due (due files) held name limit reads files told))
+lacking_answers_by due held name limit shelf.Failed n m (Ok a) reads rose is = inl (is.0, is.1, rose)
+lacking_answers_by due held name limit shelf.NoMemory n m (Ok a) reads same is = absurd is
+lacking_answers_by due held name limit error n m (Err e) reads same is = tt
 
 pub lacking_answers : (due : ByBytes) (held : Option Files) (name : List ℕ) (limit : ℕ) (error : ShelfError) (n m : ℕ) (r : Result Answer AllocError) → ReadsFile held name (limit + 1) (Err error)
     → MatchBool (is_failed error) (Rose n m) (m ≡ n) → IfOk r (Lacks name error) → IfOk r (IsFileAnswer (λ files. DueForFile files name limit due) held n m)
-lacking_answers due held name limit shelf.Absent n m (Ok a) reads same is =
-    inr (same, (λ e. absurd (let x = sym is.0 ∙ e in cc)), λ files told. rw (is.0, is.1) (absent_due due held name limit reads files told))
-lacking_answers due held name limit shelf.Failed n m (Ok a) reads rose is = inl (is.0, is.1, rose)
-lacking_answers due held name limit shelf.NoMemory n m (Ok a) reads same is = absurd is
-lacking_answers due held name limit error n m (Err e) reads same is = tt
+lacking_answers due = lacking_answers_by (λ files. due)
 
 pub lacking_causes : (name : List ℕ) (error : ShelfError) (a b c d : ℕ) (r : Result Answer AllocError) → MatchBool (is_absent error) (Rose a b) (b ≡ a) → IfOk r (Lacks name error)
     → IfOk r (HasCause a b c d)

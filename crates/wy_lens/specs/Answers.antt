@@ -4,7 +4,8 @@ use Rattle.wy_lens.specs.Due.{Due, DueFor}
 use Rattle.wy_lens.specs.Statuses.{code_of}
 use Rattle.wy_lens.specs.Texts.{absent_line, fault_line}
 use Rattle.wy_lens.specs.Traces.{DueForBytes}
-use Rattle.wy_lens.specs.Words.{Asks, Explain, Tell, Telling}
+use Rattle.wy_lens.specs.Pairs.{DueForPair}
+use Rattle.wy_lens.specs.Words.{Asks, Compare, Explain, Tell, Telling}
 use Rattle.wy_lens.specs.declared.answer.Answer.{Answer}
 use Rattle.wy_lens.specs.declared.status.Status.TheVariants.{Absent, Fault, TooLong, Usage}
 use Rattle.wy_outside.specs.Counts.{Rose}
@@ -13,9 +14,14 @@ use Rattle.wy_outside.specs.declared.shelf.ShelfError.TheVariants.{Absent as Mis
 use Rattle.wy_outside.specs.Shelf.{Files}
 use Rattle.wy_outside.specs.Sink.{appended}
 
+pub record AskNoFile (words : List (List ℕ)) : Type 0 where
+  pub source : (name : List ℕ) → ¬ Asks words (Explain name)
+  pub trace : (name : List ℕ) (telling : Telling) → ¬ Asks words (Tell name telling)
+  pub traces : (good bad : List ℕ) → ¬ Asks words (Compare good bad)
+
 -- the words ask for no file, or the shelf tells its files
 abbrev pub Knows : List (List ℕ) → Option Files → Type 0
-Knows words held = (((name : List ℕ) → Asks words (Explain name) → ⊥) × ((name : List ℕ) (telling : Telling) → Asks words (Tell name telling) → ⊥)) ⊎ ((files : Files) × (held ≡ Some files))
+Knows words held = AskNoFile words ⊎ ((files : Files) × (held ≡ Some files))
 
 -- the shelf failed, and the answer says so; or it did not, and the answer is what is due where this is so
 abbrev pub Answers : (ℕ → List ℕ → Type 0) → ℕ → ℕ → Answer → Type 0
@@ -36,6 +42,9 @@ IsSourceAnswer name source answer = SpeaksOfNoFile answer × DueFor name source 
 
 abbrev pub IsBytesAnswer : List ℕ → Telling → Answer → Type 0
 IsBytesAnswer bytes telling answer = SpeaksOfNoFile answer × DueForBytes bytes telling (code_of answer.status) answer.text.items
+
+abbrev pub IsPairAnswer : List ℕ → List ℕ → List ℕ → Answer → Type 0
+IsPairAnswer good bad name answer = SpeaksOfNoFile answer × DueForPair good bad name (code_of answer.status) answer.text.items
 
 -- the same for the file of a name
 abbrev pub IsFileAnswer : (Files → ℕ → List ℕ → Type 0) → Option Files → ℕ → ℕ → Answer → Type 0

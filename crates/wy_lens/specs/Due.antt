@@ -6,7 +6,8 @@ use Rattle.wy_kernel.specs.declared.program.Program.{Program}
 use Rattle.wy_lens.specs.Refusals.{IsExplained}
 use Rattle.wy_lens.specs.Texts.{absent_line, help_text, too_long_line, usage_text, version_text}
 use Rattle.wy_lens.specs.Traces.{DueForBytes}
-use Rattle.wy_lens.specs.Words.{Asks, AskNothing, Explain, Tell, Telling, Help, Version}
+use Rattle.wy_lens.specs.Pairs.{DueForPair}
+use Rattle.wy_lens.specs.Words.{Asks, AskNothing, Compare, Explain, Tell, Telling, Help, Version}
 use Rattle.wy_outside.specs.Shelf.{Files}
 use Rattle.wy_program.specs.Programs.{IsProgramOf}
 use Rattle.wy_program.specs.Sources.{IsRefusedFor}
@@ -31,6 +32,10 @@ DueForSource files name = DueForFile files name source_limit (DueFor name)
 abbrev pub DueForTrace : Files → List ℕ → Telling → ℕ → List ℕ → Type 0
 DueForTrace files name telling = DueForFile files name trace_limit (λ bytes. DueForBytes bytes telling)
 
+-- the same for the files of two names
+abbrev pub DueForTraces : Files → List ℕ → List ℕ → ℕ → List ℕ → Type 0
+DueForTraces files good bad = DueForFile files good trace_limit (λ first. DueForFile files bad trace_limit (λ second. DueForPair first second bad))
+
 -- the status and the text that are due, by the files where they are told
 pub data Due (words : List (List ℕ)) (held : Option Files) : ℕ → List ℕ → Type 0 where
   usage : AskNothing words → Due words held 2 usage_text
@@ -40,3 +45,5 @@ pub data Due (words : List (List ℕ)) (held : Option Files) : ℕ → List ℕ 
       → Due words held status text
   told : (name : List ℕ) (telling : Telling) (files : Files) (status : ℕ) (text : List ℕ) → Asks words (Tell name telling) → held ≡ Some files → DueForTrace files name telling status text
       → Due words held status text
+  compared : (good bad : List ℕ) (files : Files) (status : ℕ) (text : List ℕ) → Asks words (Compare good bad) → held ≡ Some files
+      → DueForTraces files good bad status text → Due words held status text

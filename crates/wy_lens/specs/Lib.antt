@@ -5,6 +5,7 @@ pub mod Views
 pub mod Refusals
 pub mod Texts
 pub mod Traces
+pub mod Pairs
 pub mod Due
 pub mod Answers
 pub mod Deliveries

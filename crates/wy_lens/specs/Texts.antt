@@ -11,8 +11,9 @@ help_text =
     ++ (line_of (codes "show TRACE QUESTION [--all] [--data]   the answer of whyline why by the lines of the source: how often each ran, and what was last there")
     ++ (line_of (codes "show TRACE --stop [--all] [--data]     the same of where the run stopped")
     ++ (line_of (codes "slice TRACE QUESTION                   the source, only the lines of the answer")
+    ++ (line_of (codes "diff GOOD BAD                          where two runs of one source part, and what to ask next of the second one")
     ++ (line_of (codes "events TRACE [LINE]                    all events, or those of a line")
-    ++ line_of (codes "--version                              names the program")))))
+    ++ line_of (codes "--version                              names the program"))))))
 
 unfoldable pub version_text : List ℕ
 version_text = line_of (codes "whylens 1")
@@ -25,3 +26,6 @@ too_long_line name = line_of (codes "too long: " ++ name)
 
 unfoldable pub fault_line : List ℕ
 fault_line = line_of (codes "fault: shelf")
+
+unfoldable pub other_source_line : List ℕ
+other_source_line = line_of (codes "question: other source")

@@ -21,6 +21,7 @@ pub data Telling : Type 0 where
 pub data Request : Type 0 where
   Explain : (source : Text) → Request
   Tell : (trace : Text) (telling : Telling) → Request
+  Compare : (good bad : Text) → Request
   Help : Request
   Version : Request
 
@@ -54,9 +55,15 @@ telling_in name rows =
 unfoldable pub explaining : List Row → Text → Option Request
 explaining rows source = if has_options rows || is_some (first_of (codes "second") rows) then None else Some (Explain source)
 
+-- a trace is compared with another one
+unfoldable pub comparing : List Row → Text → Option Request
+comparing rows good = if has_options rows then None else option_map (Compare good) (first_of (codes "second") rows)
+
 -- what it asks of a file
 unfoldable pub request_for : Text → List Row → Text → Option Request
-request_for name rows file = if bytes_eq name (codes "explain") then explaining rows file else option_map (Tell file) (telling_in name rows)
+request_for name rows file =
+    if bytes_eq name (codes "explain") then explaining rows file
+    else (if bytes_eq name (codes "diff") then comparing rows file else option_map (Tell file) (telling_in name rows))
 
 -- what the command that is entered asks: its first operand is a file
 abbrev pub request_in : Option (Text × List Row) → Option Request
@@ -69,6 +76,7 @@ request_in (Some p) = option_and_then (request_for p.0 p.1) (first_of (codes "fi
 abbrev pub IsFault : ErrorKind → Option Request → Type 0
 IsFault k (Some (Explain source)) = ⊥
 IsFault k (Some (Tell trace telling)) = ⊥
+IsFault k (Some (Compare good bad)) = ⊥
 IsFault k (Some Help) = k ≡ kind.DisplayHelp
 IsFault k (Some Version) = k ≡ kind.DisplayVersion
 IsFault k None = (k ≢ kind.DisplayHelp) × (k ≢ kind.DisplayVersion) × (k ≢ kind.OutOfMemory)

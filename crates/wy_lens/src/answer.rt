@@ -3,13 +3,15 @@ ghost use Rattle.std.specs.Prelude.{◌≡◌, ◌≢◌, ◌≤◌, IfOk, lengt
 ghost use Rattle.wy_kernel.specs.Limits.{source_limit, trace_limit};
 ghost use Rattle.wy_explain.specs.Explained.{program_line};
 ghost use Rattle.wy_lens.specs.Answers.{HasCause, IsAnswer, IsFileAnswer, IsSourceAnswer, Lacks};
-ghost use Rattle.wy_lens.specs.Due.{DueForSource, DueForTrace};
+ghost use Rattle.wy_lens.specs.Due.{DueForFile, DueForSource, DueForTrace, DueForTraces};
+ghost use Rattle.wy_lens.specs.Pairs.{DueForPair};
 ghost use Rattle.wy_lens.specs.Refusals.{IsExplained};
 ghost use Rattle.wy_lens.specs.Views.{telling_of};
 ghost use Rattle.wy_lens.specs.Words.{AskNothing};
 ghost use Rattle.wy_program.specs.Sources.{IsRefusedFor};
 
 use crate::fixed::{absent, fault, help, too_long, usage, version};
+use crate::pair::answer_to_pair;
 use crate::refusal::explained;
 use crate::status::Status;
 use crate::traced::answer_to_bytes;
@@ -109,6 +111,52 @@ fn answer_to_trace<S: Shelf>(
     }
 }
 
+/// What is due for the traces of two names.
+fn answer_to_traces<S: Shelf>(
+    alloc: Global,
+    shelf: &mut S,
+    good: &str,
+    bad: &str,
+) -> Result<Answer, AllocError>
+    ensures due { IfOk result (λ answer. IsFileAnswer
+        (λ files. DueForTraces files good.now bad.now)
+        (S.held shelf.old) (S.faults shelf.old) (S.faults shelf.new) answer) }
+    ensures causes { IfOk result (λ answer. HasCause (S.misses shelf.old) (S.misses shelf.new)
+        (S.fulls shelf.old) (S.fulls shelf.new) answer) }
+    ensures asked { IfOk result (λ answer. answer.status ≢ Status.Usage) }
+    ensures files_stay { S.held shelf.new ≡ S.held shelf.old }
+{
+    match shelf.read(alloc, good, TRACE_LIMIT + 1) {
+        Ok(bytes) if bytes.len() > TRACE_LIMIT as usize => too_long(alloc, good),
+        Ok(bytes) => answer_beside(alloc, shelf, bytes.as_slice(), bad),
+        Err(error) => lacking(alloc, good, error),
+    }
+}
+
+/// What is due for the bytes of a trace and the trace of a name.
+fn answer_beside<S: Shelf>(
+    alloc: Global,
+    shelf: &mut S,
+    good: &[u8],
+    bad: &str,
+) -> Result<Answer, AllocError>
+    requires { length good.now ≤ trace_limit }
+    ensures due { IfOk result (λ answer. IsFileAnswer
+        (λ files. DueForFile files bad.now trace_limit (λ second.
+        DueForPair good.now second bad.now))
+        (S.held shelf.old) (S.faults shelf.old) (S.faults shelf.new) answer) }
+    ensures causes { IfOk result (λ answer. HasCause (S.misses shelf.old) (S.misses shelf.new)
+        (S.fulls shelf.old) (S.fulls shelf.new) answer) }
+    ensures asked { IfOk result (λ answer. answer.status ≢ Status.Usage) }
+    ensures files_stay { S.held shelf.new ≡ S.held shelf.old }
+{
+    match shelf.read(alloc, bad, TRACE_LIMIT + 1) {
+        Ok(bytes) if bytes.len() > TRACE_LIMIT as usize => too_long(alloc, bad),
+        Ok(bytes) => answer_to_pair(alloc, good, bytes.as_slice(), bad),
+        Err(error) => lacking(alloc, bad, error),
+    }
+}
+
 /// What is written where the file of a name was not read.
 fn lacking(alloc: Global, name: &str, error: ShelfError) -> Result<Answer, AllocError>
     ensures { IfOk result (Lacks name.now error) }
@@ -120,7 +168,7 @@ fn lacking(alloc: Global, name: &str, error: ShelfError) -> Result<Answer, Alloc
     }
 }
 
-/// What the words and the files give. The shelf is read at most once.
+/// What the words and the files give. The shelf is read at most twice.
 pub fn answer_to<S: Shelf>(
     alloc: Global,
     words: &[String],
@@ -137,6 +185,7 @@ pub fn answer_to<S: Shelf>(
     match asked_by(alloc, words)? {
         Some(Request::Explain { source }) => answer_to_file(alloc, shelf, source),
         Some(Request::Tell { trace, telling }) => answer_to_trace(alloc, shelf, trace, telling),
+        Some(Request::Compare { good, bad }) => answer_to_traces(alloc, shelf, good, bad),
         Some(Request::Help) => help(alloc),
         Some(Request::Version) => version(alloc),
         None => usage(alloc),

@@ -1,7 +1,7 @@
 //! The answers that tell nothing of what a source says.
 ghost use Rattle.std.specs.Prelude.{◌≡◌, ◌++◌, IfOk};
 ghost use Rattle.wy_explain.specs.Explained.{line_of};
-ghost use Rattle.wy_lens.specs.Texts.{absent_line, fault_line, help_text, too_long_line, usage_text, version_text};
+ghost use Rattle.wy_lens.specs.Texts.{absent_line, fault_line, help_text, other_source_line, too_long_line, usage_text, version_text};
 
 use crate::answer::Answer;
 use crate::status::Status;
@@ -51,6 +51,7 @@ pub fn help(alloc: Global) -> Result<Answer, AllocError>
 show TRACE QUESTION [--all] [--data]   the answer of whyline why by the lines of the source: how often each ran, and what was last there
 show TRACE --stop [--all] [--data]     the same of where the run stopped
 slice TRACE QUESTION                   the source, only the lines of the answer
+diff GOOD BAD                          where two runs of one source part, and what to ask next of the second one
 events TRACE [LINE]                    all events, or those of a line
 --version                              names the program
 ",
@@ -88,4 +89,13 @@ pub fn fault(alloc: Global) -> Result<Answer, AllocError>
         × (answer.text.items ≡ fault_line)) }
 {
     told(alloc, Status::Fault, "fault: shelf\n")
+}
+
+/// Two traces are of other sources.
+#[tactic(auto, unfolding(crate::specs::Texts::other_source_line))]
+pub fn other_source(alloc: Global) -> Result<Answer, AllocError>
+    ensures { IfOk result (λ answer. (answer.status ≡ Status.Question)
+        × (answer.text.items ≡ other_source_line)) }
+{
+    told(alloc, Status::Question, "question: other source\n")
 }

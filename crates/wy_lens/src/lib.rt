@@ -5,6 +5,7 @@
 mod answer;
 mod delivery;
 mod fixed;
+mod pair;
 mod refusal;
 mod status;
 mod table;

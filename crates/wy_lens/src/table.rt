@@ -28,6 +28,7 @@ pub fn table<'a>(alloc: Global) -> Result<Command<'a>, AllocError>
     let table = table.subcommand(arguments(alloc, "explain")?)?;
     let table = table.subcommand(arguments(alloc, "show")?)?;
     let table = table.subcommand(arguments(alloc, "slice")?)?;
+    let table = table.subcommand(arguments(alloc, "diff")?)?;
     table.subcommand(arguments(alloc, "events")?)
 }
 

@@ -4,7 +4,7 @@ ghost use Rattle.wy_ask.specs.Opened.{IsOpenedOf};
 ghost use Rattle.wy_event.specs.Record.{recorded};
 ghost use Rattle.wy_kernel.specs.Limits.{trace_limit};
 ghost use Rattle.wy_lens.specs.Answers.{IsBytesAnswer};
-ghost use Rattle.wy_lens.specs.Replies.{IsTold, NamesNoEvent};
+ghost use Rattle.wy_lens.specs.Replies.{IsTold, IsUnopenedAs, NamesNoEvent};
 ghost use Rattle.wy_lens.specs.Traces.{OfQuestion, OfStop, Tells, shown_of, sliced_by};
 ghost use Rattle.wy_lens.specs.Words as words;
 ghost use Rattle.wy_lens.specs.Views.{telling_of};
@@ -194,6 +194,20 @@ fn unopened(text: Vec<u8>) -> Answer
     }
 }
 
+/// Bytes that can't be opened.
+pub(crate) fn unopened_by(alloc: Global, error: OpeningError) -> Result<Answer, AllocError>
+    ensures { IfOk result (IsUnopenedAs error) }
+{
+    match error {
+        OpeningError::Source(SourceError::Refused(refusal)) => {
+            let line = refusal_line(alloc, Refusal::TraceProgram(refusal))?;
+            Ok(unopened(line))
+        }
+        OpeningError::Source(SourceError::NoMemory) => Err(AllocError),
+        OpeningError::Trace(error) => Ok(unopened(answer_to_trace_error(alloc, error)?.text)),
+    }
+}
+
 /// What is due for the bytes of a trace.
 pub(crate) fn answer_to_bytes(
     alloc: Global,
@@ -205,13 +219,6 @@ pub(crate) fn answer_to_bytes(
 {
     match trace_of_bytes(alloc, bytes) {
         Ok(opening) => answer_to_open(alloc, opening, telling),
-        Err(OpeningError::Source(SourceError::Refused(refusal))) => {
-            let line = refusal_line(alloc, Refusal::TraceProgram(refusal))?;
-            Ok(unopened(line))
-        }
-        Err(OpeningError::Source(SourceError::NoMemory)) => Err(AllocError),
-        Err(OpeningError::Trace(error)) => {
-            Ok(unopened(answer_to_trace_error(alloc, error)?.text))
-        }
+        Err(error) => unopened_by(alloc, error),
     }
 }

@@ -3,7 +3,7 @@ ghost use Rattle.std.specs.Prelude.{◌≡◌, IfOk, IfSome, None, map, option_m
 ghost use Rattle.clap.specs.Words.{first_of, found_of, kind_of, rows_of, subcommand_rows_of};
 ghost use Rattle.wy_lens.specs.Views.{request_of, telling_of};
 ghost use Rattle.wy_lens.specs.Words.{AskNothing, Asks, IsFault, has_options as options_in, is_set as is_set_in};
-ghost use Rattle.wy_lens.specs.Words.{explaining as explaining_in, request_for as request_for_in};
+ghost use Rattle.wy_lens.specs.Words.{comparing as comparing_in, explaining as explaining_in, request_for as request_for_in};
 ghost use Rattle.wy_lens.specs.Words.{request_in as request_found, shown as shown_as, telling_in as telling_found};
 
 use crate::table::{ALL, DATA, FIRST, SECOND, STOP, table};
@@ -39,6 +39,11 @@ pub enum Request<'a> {
     Tell {
         trace: &'a str,
         telling: Telling<'a>,
+    },
+    /// Where two runs part.
+    Compare {
+        good: &'a str,
+        bad: &'a str,
     },
     Help,
     Version,
@@ -84,6 +89,9 @@ fn request_for<'a>(name: &str, found: &ArgMatches<'a>, file: &'a str) -> Option<
     if name == "explain" {
         return explaining(found, file);
     }
+    if name == "diff" {
+        return comparing(found, file);
+    }
     match telling_in(name, found) {
         Some(telling) => Some(Request::Tell {
             trace: file,
@@ -103,6 +111,21 @@ fn explaining<'a>(found: &ArgMatches<'a>, source: &'a str) -> Option<Request<'a>
         return None;
     }
     Some(Request::Explain { source })
+}
+
+/// A trace is compared with another one.
+#[tactic(auto, unfolding(crate::specs::Words::comparing))]
+fn comparing<'a>(found: &ArgMatches<'a>, good: &'a str) -> Option<Request<'a>>
+    ensures { option_map request_of result
+        ≡ comparing_in (rows_of (found_of found.now)) good.now }
+{
+    if has_options(found) {
+        return None;
+    }
+    match value(found, SECOND) {
+        Some(bad) => Some(Request::Compare { good, bad }),
+        None => None,
+    }
 }
 
 /// What the command of a name tells of a trace.

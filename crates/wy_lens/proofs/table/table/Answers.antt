@@ -16,5 +16,7 @@ returns c =
     ∙ ap (with_subcommand (app_of c.in_ok-table.table)) c.in_ok-arguments-2.ensures.shape ∙ ap (λ a. with_subcommand a (sub (codes "show"))) one in
     let three = c.in_ok-table-3.ensures.shape c.in_ok-arguments-3.ensures.own
     ∙ ap (with_subcommand (app_of c.in_ok-table-2.table)) c.in_ok-arguments-3.ensures.shape ∙ ap (λ a. with_subcommand a (sub (codes "slice"))) two in
-    IfOk-weaker c.subcommand-4.result _ _ (λ after adds. adds.shape c.in_ok-arguments-4.ensures.own
-    ∙ ap (with_subcommand (app_of c.in_ok-table-3.table)) c.in_ok-arguments-4.ensures.shape ∙ ap (λ a. with_subcommand a (sub (codes "events"))) three) c.subcommand-4.ensures
+    let four = c.in_ok-table-4.ensures.shape c.in_ok-arguments-4.ensures.own
+    ∙ ap (with_subcommand (app_of c.in_ok-table-3.table)) c.in_ok-arguments-4.ensures.shape ∙ ap (λ a. with_subcommand a (sub (codes "diff"))) three in
+    IfOk-weaker c.subcommand-5.result _ _ (λ after adds. adds.shape c.in_ok-arguments-5.ensures.own
+    ∙ ap (with_subcommand (app_of c.in_ok-table-4.table)) c.in_ok-arguments-5.ensures.shape ∙ ap (λ a. with_subcommand a (sub (codes "events"))) four) c.subcommand-5.ensures

@@ -1,0 +1,6 @@
+mod Steps
+mod Walking
+mod Agreeing
+mod Lines
+mod Partings
+mod Written
