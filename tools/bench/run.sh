@@ -80,3 +80,6 @@ measure audit "$program" audit "$trace"
 measure why "$program" why "$trace" p0
 measure "why of one event" "$program" why "$trace" e9
 measure "affects of the first event" "$program" affects "$trace" e0
+measure certify "$program" certify "$trace" p0
+"$program" certify "$trace" p0 >"$scratch/events.cert"
+measure "check of $(wc -c <"$scratch/events.cert") bytes" "$program" check "$trace" "$scratch/events.cert"

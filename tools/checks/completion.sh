@@ -22,7 +22,7 @@ offer() { # FUNCTION LINE WANTED: the words that are offered at the end of the l
 
 "$program" record examples/discount.java -o "$scratch/discount.trace" >/dev/null 2>&1
 "$program" record examples/overridden.java -o "$scratch/overridden.trace" >/dev/null 2>&1
-offer _whyline 'whyline ' 'affects audit explore gen output questions record run why whynot'
+offer _whyline 'whyline ' 'affects audit certify check explore gen output questions record run why whynot'
 offer _whyline 'whyline re' 'record'
 offer _whyline './whyline wh' 'why whynot'
 offer _whyline 'whyline run examples/co' 'examples/collatz.java examples/coupon.java'
@@ -36,11 +36,15 @@ offer _whyline "$program why $scratch/discount.trace p" 'p0 p1 p2'
 offer _whyline "$program whynot $scratch/overridden.trace 1" '11.1'
 offer _whyline "$program why $scratch/overridden.trace field:6" '6:Account.balance@27'
 offer _whyline "$program why $scratch/none.trace p" ''
+offer _whyline "$program certify $scratch/discount.trace p" 'p0 p1 p2'
+: >"$scratch/discount.cert"
+offer _whyline "whyline check $scratch/discount.trace $scratch/dis" "$scratch/discount.cert"
 offer _whyline 'whyline gen ' ''
-offer _whylens 'whylens ' '--help --version events explain show slice'
+offer _whylens 'whylens ' '--help --version diff events explain show slice'
 offer _whylens './whylens s' 'show slice'
 offer _whylens 'whylens explain examples/ref' 'examples/refused.java'
 offer _whylens "whylens slice $scratch/over" "$scratch/overridden.trace"
+offer _whylens "whylens diff $scratch/discount.trace $scratch/over" "$scratch/overridden.trace"
 offer _whylens "whylens show $scratch/discount.trace -" '--all --data --stop'
 offer _whylens "whylens show $scratch/discount.trace p0 --d" '--data'
 finish completion

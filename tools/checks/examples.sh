@@ -125,6 +125,21 @@ expect_line "what a test affects" 0 $'#7 line 6 set y = 5\n#8 line 8 print 5' af
 expect_line "what a value affects" 0 $'#6 line 5 test true *\n#7 line 6 set y = 5 *\n#8 line 8 print 5 *' affects "$trace" e4
 expect_line "what is used no more" 0 'nothing later' affects "$trace" e5
 expect_line "what no event affects" 6 'question: no such 10' affects "$trace" e10
+certificate=$scratch/first.cert
+"$program" certify "$trace" p0 >"$certificate" 2>/dev/null
+expect_line "the certificate of a print" 0 "whycert 1 $(tail -c 32 "$trace" | od -An -v -tx1 | tr -d ' \n') 8 5"$'\n2\n4 c:2\n6 c:2 d:4\n7 d:4 c:6\n8 c:2 d:7' certify "$trace" p0
+expect_line "a good certificate" 0 'certificate: 5 events, 3 in the data' check "$trace" "$certificate"
+sed 's/^7 d:4 c:6$/7 d:4/' "$certificate" >"$scratch/spoilt.cert"
+expect_line "a certificate without a source" 11 'certificate: event 7' check "$trace" "$scratch/spoilt.cert"
+sed '1s/5$/6/; s/^6 c:2 d:4$/5 c:2\n&/' "$certificate" >"$scratch/spoilt.cert"
+expect_line "a certificate with an event too many" 11 'certificate: event 5' check "$trace" "$scratch/spoilt.cert"
+: >"$scratch/spoilt.cert"
+expect_line "an empty certificate" 11 'certificate: not read' check "$trace" "$scratch/spoilt.cert"
+expect_line "a certificate of another trace" 11 'certificate: other trace' check "$scratch/made.trace" "$certificate"
+expect_line "no certificate" 3 "absent: $scratch/none.cert" check "$trace" "$scratch/none.cert"
+expect_line "a certificate, and no trace" 3 "absent: $scratch/none.trace" check "$scratch/none.trace" "$scratch/none.cert"
+head -c 100 "$trace" >"$scratch/cut.trace"
+expect_line "a certificate of a trace that is cut" 5 'trace: Cut at byte 100' check "$scratch/cut.trace" "$scratch/none.cert"
 expect_line "a statement that ran" 6 'question: line 8.1 ran 1 times, first before #8' whynot "$trace" 8
 expect_line "a line without a statement" 6 'question: no such 99' whynot "$trace" 99
 for word in 0 0.1 5.0 5. 5.1.1 x; do

@@ -124,4 +124,5 @@ def main(path):
     sys.stdout.buffer.write(output + between + f"-- {verdict(stop, last, events, classes(words), lines)}\n".encode())
 
 
-main(sys.argv[1])
+if __name__ == "__main__":
+    main(sys.argv[1])

@@ -1,7 +1,8 @@
 #!/usr/bin/env bash
 # Runs each command that README.md, docs/tour.md and docs/bugs.md show, in their order, in a folder that has the examples, and compares
 # what it writes with the lines below it. A line that begins with "$ ./whyline " is a command; what it writes ends where the
-# next line begins with "$ " or the block ends. Below explore stands a session as a terminal shows it, and terminal.py plays it.
+# next line begins with "$ " or the block ends, and goes into FILE where the line ends with " > FILE". A line that begins with
+# "$ sed " is run as it stands. Below explore stands a session as a terminal shows it, and terminal.py plays it.
 # WHYLINE names another program than that of tools/program.
 set -u
 source "$(dirname "$0")/counting.bash"
@@ -10,6 +11,14 @@ home=$PWD
 
 check() { # NAME WORDS: compares with the file `wanted`
   local words same=1
+  case $2 in
+    *' > '*)
+      read -r -a words <<<"${2% > *}"
+      "$program" "${words[@]}" >"${2##* > }" 2>/dev/null || same=0
+      report "$1: $2" "$same"
+      return
+      ;;
+  esac
   read -r -a words <<<"$2"
   if [ "${words[0]}" = explore ]; then
     python3 "$home/tools/checks/terminal.py" "$program" "${words[@]}" <"$scratch/wanted" || same=0
@@ -31,7 +40,10 @@ follow() { # PAGE
         [ -n "$words" ] && check "$1" "$words"
         words=''
         : >"$scratch/wanted"
-        case $line in '$ ./whyline '*) words=${line#'$ ./whyline '} ;; esac
+        case $line in
+          '$ ./whyline '*) words=${line#'$ ./whyline '} ;;
+          '$ sed '*) eval "${line#'$ '}" ;;
+        esac
         ;;
       *) printf '%s\n' "$line" >>"$scratch/wanted" ;;
     esac
