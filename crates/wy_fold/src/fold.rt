@@ -1,5 +1,5 @@
 //! All that an event comes from, folded by the lines of the source.
-ghost use Rattle.std.specs.Prelude.{◌≡◌, ◌++◌, ◌<◌, ℕ, List, None, Some, IfOk, OnOk, length, map, if◌then◌else◌};
+ghost use Rattle.std.specs.Prelude.{◌≡◌, ◌++◌, ◌<◌, ℕ, List, None, Some, IfErr, IfOk, OnOk, length, map, if◌then◌else◌};
 ghost use Rattle.std.specs.List.{flat_map};
 ghost use Rattle.wy_ask.specs.Opened.{IsOpenedOf};
 ghost use Rattle.wy_event.specs.Numbers.{Numbers};
@@ -9,6 +9,7 @@ ghost use Rattle.wy_fold.specs.Shown.{group_text, opened_text, show_text};
 ghost use Rattle.wy_kernel.specs.Parts.{program_of};
 ghost use Rattle.wy_view.specs.View.{KeepsCounts, Keeps};
 ghost use Rattle.wy_view.specs.Whole.{whole};
+ghost use Rattle.wy_view.specs.declared.view.ViewError.TheVariants.{NoMemory};
 ghost use Rattle.wy_why.specs.Answer.{Rises};
 
 use crate::group::{Group, groups};
@@ -20,7 +21,7 @@ use std::marker::Brand;
 use std::sync::ledger::{Blank, Ledger};
 use wy_ask::Opened;
 use wy_kernel::program::Program;
-use wy_telling::answer_lines;
+use wy_telling::{answer_lines, want_of_memory};
 use wy_view::{EventView, MemoryView, Steps, ViewError};
 use wy_why::{Answer, why};
 
@@ -59,11 +60,11 @@ pub fn show_text(
 {
     match show_by::<Brand>(alloc, opened, source, event, showing, Blank::new(1)) {
         Ok(text) => Ok(text),
-        Err(_) => Err(AllocError),
+        Err(error) => Err(want_of_memory(error)),
     }
 }
 
-/// The same, with a ledger for the steps, which nobody reads. Events in memory refuse for want of memory alone.
+/// The same, with a ledger for the steps, which nobody reads.
 fn show_by<L: Ledger>(
     alloc: Global,
     opened: &mut Opened<'_, MemoryView>,
@@ -77,9 +78,10 @@ fn show_by<L: Ledger>(
     requires name { blank.name ≡ L.name }
     requires parts { blank.parts ≡ L.parts }
     requires some { 0 < blank.parts }
-    ensures { IfOk result (λ text. text.items ≡ show_text (program_of opened.old.program.now)
+    ensures rows { IfOk result (λ text. text.items ≡ show_text (program_of opened.old.program.now)
         opened.old.program.now.lines.items source.now
         (map recorded opened.old.view.events.items) event showing) }
+    ensures memory { IfErr result (λ error. error ≡ NoMemory) }
 {
     let mut steps = Steps::<L>::new(blank);
     let answer = why(alloc, &mut opened.view, &opened.index, event, &mut steps)?;
@@ -154,6 +156,8 @@ fn group_lines<V: EventView, L: Ledger>(
         → IfOk result (λ text. text.items ≡ flat_map (group_text (program_of program.now)
         program.now.lines.items (map (λ l. l.now) fold.now.lines.items) rs by_data
         (row_of fold.now.all) is_open) fold.now.groups.items) }
+    ensures keeps { Keeps (V.tells view.old) (V.tells view.new) }
+    ensures answers { KeepsCounts result (V.tells view.old) (V.tells view.new) }
 {
     let mut out = Vec::new(alloc);
     for group in fold.groups.as_slice() {

@@ -20,7 +20,7 @@ fn goes_with(before: u8, byte: u8) -> bool
 
 /// The lines of a text without their ends.
 #[tactic(auto, unfolding(crate::specs::SourceLines::source_lines))]
-pub(crate) fn source_lines<'a>(alloc: Global, source: &'a [u8]) -> Result<Vec<&'a [u8]>, AllocError>
+pub fn source_lines<'a>(alloc: Global, source: &'a [u8]) -> Result<Vec<&'a [u8]>, AllocError>
     ensures { IfOk result (λ lines.
         map (λ l. l.now) lines.items ≡ source_lines source.entry.now) }
 {

@@ -1,10 +1,11 @@
 //! The lines of all events of a trace, or of those on a line.
-ghost use Rattle.std.specs.Prelude.{◌≡◌, ◌<◌, ◌^◌, IfOk, length, map};
+ghost use Rattle.std.specs.Prelude.{◌≡◌, ◌<◌, ◌^◌, IfErr, IfOk, length, map};
 ghost use Rattle.wy_event.specs.Numbers.{none};
 ghost use Rattle.wy_event.specs.Record.{recorded};
 ghost use Rattle.wy_fold.specs.Shown.{TellsLine, all_events_text, events_on, numbers_of};
 ghost use Rattle.wy_kernel.specs.Parts.{program_of};
 ghost use Rattle.wy_telling.specs.Answers.{marked_lines};
+ghost use Rattle.wy_view.specs.declared.view.ViewError.TheVariants.{NoMemory};
 ghost use Rattle.wy_why.specs.Answer.{Rises};
 
 use crate::place::line_at;
@@ -14,7 +15,7 @@ use std::sync::ledger::{Blank, Ledger};
 use wy_ask::Opened;
 use wy_event::record::Event;
 use wy_kernel::program::Program;
-use wy_telling::answer_lines;
+use wy_telling::{answer_lines, want_of_memory};
 use wy_view::{MemoryView, Steps, ViewError};
 use wy_why::Answer;
 
@@ -30,7 +31,7 @@ pub fn all_events_text(
     let all = numbers(alloc, opened.view.events.as_slice())?;
     match lines_by::<Brand>(alloc, opened, all, Blank::new(1)) {
         Ok(text) => Ok(text),
-        Err(_) => Err(AllocError),
+        Err(error) => Err(want_of_memory(error)),
     }
 }
 
@@ -49,7 +50,7 @@ pub fn line_events_text(
     }
     match lines_by::<Brand>(alloc, opened, here, Blank::new(1)) {
         Ok(text) => Ok(Some(text)),
-        Err(_) => Err(AllocError),
+        Err(error) => Err(want_of_memory(error)),
     }
 }
 
@@ -84,7 +85,7 @@ fn numbers_on(
         .collect(alloc)
 }
 
-/// The lines of these events, with a ledger for the steps, which nobody reads. Events in memory refuse for want of memory alone.
+/// The lines of these events, with a ledger for the steps, which nobody reads.
 fn lines_by<L: Ledger>(
     alloc: Global,
     opened: &mut Opened<'_, MemoryView>,
@@ -95,9 +96,10 @@ fn lines_by<L: Ledger>(
     requires name { blank.name ≡ L.name }
     requires parts { blank.parts ≡ L.parts }
     requires some { 0 < blank.parts }
-    ensures { IfOk result (λ text. text.items ≡ marked_lines (program_of opened.old.program.now)
-        opened.old.program.now.lines.items (map recorded opened.old.view.events.items) none
-        events.items) }
+    ensures lines { IfOk result (λ text. text.items
+        ≡ marked_lines (program_of opened.old.program.now) opened.old.program.now.lines.items
+        (map recorded opened.old.view.events.items) none events.items) }
+    ensures memory { IfErr result (λ error. error ≡ NoMemory) }
 {
     let answer = Answer {
         all: events,

@@ -17,7 +17,8 @@ pub(crate) fn line_at(program: &Program, records: &[Event], event: u32) -> u32
     }
 }
 
-fn line_of_site(program: &Program, site: u32) -> u32
+/// The line of a token of the source, from 1; 0 for a site of the library.
+pub fn line_of_site(program: &Program, site: u32) -> u32
     ensures { result ≡ line_of_site program.now.lines.items site }
 {
     program.lines.get(site as usize).copied().unwrap_or(0)

@@ -47,7 +47,7 @@ fn put_number(alloc: Global, out: &mut Vec<u8>, number: usize) -> Result<(), All
 }
 
 /// The text of an event, without the end of its line.
-fn event_text<V: EventView, L: Ledger>(
+pub fn event_text<V: EventView, L: Ledger>(
     alloc: Global,
     program: &Program,
     view: &mut V,

@@ -1,5 +1,5 @@
 //! The lines of the source on which some of an answer stands.
-ghost use Rattle.std.specs.Prelude.{◌≡◌, ◌<◌, ◌++◌, None, IfOk, OnOk, length, map};
+ghost use Rattle.std.specs.Prelude.{◌≡◌, ◌<◌, ◌++◌, None, IfErr, IfOk, OnOk, length, map};
 ghost use Rattle.wy_ask.specs.Opened.{IsOpenedOf};
 ghost use Rattle.wy_event.specs.Record.{recorded};
 ghost use Rattle.wy_fold.specs.Groups.{IsTable};
@@ -7,6 +7,7 @@ ghost use Rattle.wy_fold.specs.Places.{Places, stands_on};
 ghost use Rattle.wy_fold.specs.Shown.{or_nothing, slice_text, sliced, sliced_line};
 ghost use Rattle.wy_kernel.specs.Parts.{program_of};
 ghost use Rattle.wy_view.specs.Whole.{whole};
+ghost use Rattle.wy_view.specs.declared.view.ViewError.TheVariants.{NoMemory};
 
 use crate::lines::source_lines;
 use crate::row::put_numbered;
@@ -15,6 +16,7 @@ use std::alloc::{AllocError, Global};
 use std::marker::Brand;
 use std::sync::ledger::{Blank, Ledger};
 use wy_ask::Opened;
+use wy_telling::want_of_memory;
 use wy_view::{MemoryView, Steps, ViewError};
 use wy_why::why;
 
@@ -34,11 +36,11 @@ pub fn slice_text(
 {
     match slice_by::<Brand>(alloc, opened, source, event, Blank::new(1)) {
         Ok(text) => Ok(text),
-        Err(_) => Err(AllocError),
+        Err(error) => Err(want_of_memory(error)),
     }
 }
 
-/// The same, with a ledger for the steps, which nobody reads. Events in memory refuse for want of memory alone.
+/// The same, with a ledger for the steps, which nobody reads.
 fn slice_by<L: Ledger>(
     alloc: Global,
     opened: &mut Opened<'_, MemoryView>,
@@ -51,9 +53,10 @@ fn slice_by<L: Ledger>(
     requires name { blank.name ≡ L.name }
     requires parts { blank.parts ≡ L.parts }
     requires some { 0 < blank.parts }
-    ensures { IfOk result (λ text. text.items ≡ slice_text (program_of opened.old.program.now)
+    ensures lines { IfOk result (λ text. text.items ≡ slice_text (program_of opened.old.program.now)
         opened.old.program.now.lines.items source.now
         (map recorded opened.old.view.events.items) event) }
+    ensures memory { IfErr result (λ error. error ≡ NoMemory) }
 {
     let mut steps = Steps::<L>::new(blank);
     let answer = why(alloc, &mut opened.view, &opened.index, event, &mut steps)?;
@@ -103,7 +106,7 @@ fn put_sliced(
 }
 
 /// Whether one of the events stands on a line.
-fn stands_on(table: &Table<'_>, line: usize) -> bool
+pub fn stands_on(table: &Table<'_>, line: usize) -> bool
     ensures { (at : Places) → IsTable at table.now
         → result ≡ stands_on at line table.now.events.now }
 {

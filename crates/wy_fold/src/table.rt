@@ -37,7 +37,8 @@ fn put(rows: &mut Vec<Vec<u32>>, line: u32, event: u32) -> Result<(), AllocError
     Ok(())
 }
 
-pub(crate) fn tabled<'a>(
+/// The events of a list by their lines.
+pub fn tabled<'a>(
     alloc: Global,
     program: &Program,
     records: &[Event],

@@ -15,12 +15,13 @@ use Rattle.wy_reply.specs.declared.answer.Answer.{Answer}
 use Rattle.wy_reply.specs.declared.status.Status.{Status}
 use Rattle.wy_reply.specs.declared.status.Status.TheVariants as status
 use Rattle.wy_reply.specs.Statuses.{code_of}
-use Rattle.wy_ask.specs.declared.question.AskError.{AskError}
-use Rattle.wy_ask.specs.declared.question.AskError.TheVariants as errors
 use Rattle.wy_telling.specs.Whynot.{WhynotIs, Denied, TellsWhynot}
 use Rattle.wy_telling.specs.Whynot as denied_as
+use Rattle.wy_telling.specs.declared.untold.Untold.{Untold}
+use Rattle.wy_telling.specs.declared.untold.Untold.TheVariants as untold
 use Rattle.wy_telling.specs.declared.whynot.Unanswered.{Unanswered}
 use Rattle.wy_telling.specs.declared.whynot.Unanswered.TheVariants as unanswered
+use Rattle.wy_view.specs.declared.view.ViewError.{ViewError}
 use Rattle.wy_check.specs.Checks.{Judges}
 use Rattle.wy_check.specs.declared.error.CertError.{CertError}
 use Rattle.wy_check.specs.declared.error.CertError.TheVariants as cert
@@ -44,22 +45,22 @@ Told p t w answer = Tells p t w (code_of answer.status) answer.text.items
 -- what is told of a question, where each answer to it is a row of what a trace tells
 pub told_answer : (telling : Telling) (p : Program) (t : Trace) (question : List ℕ) (w : Wanted)
     → ((a : Result (List ℕ) Refused) → AnswerIs telling (program_of p) p.lines.items (map recorded t.events) question a → Tells p t w (answer_status a) (answer_text a))
-    → (outcome : Result (Vec ℕ Global) AskError) (r : Result Answer AllocError) → TellsAnswer telling (program_of p) p.lines.items (map recorded t.events) question outcome
+    → (outcome : Result (Vec ℕ Global) Untold) (r : Result Answer ViewError) → TellsAnswer telling (program_of p) p.lines.items (map recorded t.events) question outcome
     → IfOk r (SaysAsTold outcome) → IfOk r (Told p t w)
 told_answer telling p t question w row outcome (Err x) is h = tt
 told_answer telling p t question w row (Ok text) (Ok answer) is h = rw (h.0, h.1) (row (Ok text.items) is)
-told_answer telling p t question w row (Err errors.BadQuestion) (Ok answer) is h = rw (h.0, h.1) (row (Err NotRead) is)
-told_answer telling p t question w row (Err (errors.NoSuch n)) (Ok answer) is h = rw (h.0, h.1) (row (Err (NoSuch n)) is)
-told_answer telling p t question w row (Err errors.NoMemory) (Ok answer) is h = absurd h
+told_answer telling p t question w row (Err untold.BadQuestion) (Ok answer) is h = rw (h.0, h.1) (row (Err NotRead) is)
+told_answer telling p t question w row (Err (untold.NoSuch n)) (Ok answer) is h = rw (h.0, h.1) (row (Err (NoSuch n)) is)
+told_answer telling p t question w row (Err (untold.View error)) (Ok answer) is h = absurd h
 
 -- the certificate of the event that a question asks about
-pub told_certificate : (p : Program) (t : Trace) (question : List ℕ) (outcome : Result (Vec ℕ Global) AskError) (r : Result Answer AllocError)
+pub told_certificate : (p : Program) (t : Trace) (question : List ℕ) (outcome : Result (Vec ℕ Global) Untold) (r : Result Answer ViewError)
     → Certified (program_of p) p.lines.items (map recorded t.events) (seal_of t) question outcome → IfOk r (SaysAsTold outcome) → IfOk r (Told p t (Certify question))
 told_certificate p t question outcome (Err x) is h = tt
 told_certificate p t question (Ok bytes) (Ok answer) is h = rw (h.0, h.1) (certify question (Ok bytes.items) is)
-told_certificate p t question (Err errors.BadQuestion) (Ok answer) is h = rw (h.0, h.1) (certify question (Err NotRead) is)
-told_certificate p t question (Err (errors.NoSuch n)) (Ok answer) is h = rw (h.0, h.1) (certify question (Err (NoSuch n)) is)
-told_certificate p t question (Err errors.NoMemory) (Ok answer) is h = absurd h
+told_certificate p t question (Err untold.BadQuestion) (Ok answer) is h = rw (h.0, h.1) (certify question (Err NotRead) is)
+told_certificate p t question (Err (untold.NoSuch n)) (Ok answer) is h = rw (h.0, h.1) (certify question (Err (NoSuch n)) is)
+told_certificate p t question (Err (untold.View error)) (Ok answer) is h = absurd h
 
 -- the verdict on a certificate
 pub told_verdict : (p : Program) (t : Trace) (bytes : List ℕ) (v : Result found.Answer CertError) (r : Result Answer AllocError)

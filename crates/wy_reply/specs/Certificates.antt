@@ -1,5 +1,5 @@
 -- What is told of certificates over a trace: that of the event that a question asks about, and whether one that is given is good.
-use Rattle.std.specs.Prelude.{◌≡◌, ℕ, List, [], ◌∷◌, ◌++◌, length, Some, Result, Ok, Err, Vec}
+use Rattle.std.specs.Prelude.{◌≡◌, ℕ, List, [], ◌∷◌, ◌++◌, length, Result, Ok, Err, Vec}
 use Rattle.std.specs.declared.alloc.Global.{Global}
 use Rattle.sha2.specs.Sha256.{sha256}
 use Rattle.wy_kernel.specs.Program.{Program}
@@ -7,13 +7,13 @@ use Rattle.wy_event.specs.Record.{Recorded}
 use Rattle.wy_event.specs.declared.record.Trace.{Trace}
 use Rattle.wy_spelling.specs.Spelling.{events_bytes, opening, tail_frames}
 use Rattle.wy_why.specs.declared.answer.Answer.{Answer}
-use Rattle.wy_ask.specs.declared.question.AskError.{AskError}
-use Rattle.wy_ask.specs.Asked.{event_of, owners}
-use Rattle.wy_ask.specs.Questions.{Asked}
+use Rattle.wy_ask.specs.Asked.{owners}
 use Rattle.wy_cert.specs.Goodness.{Certifies}
 use Rattle.wy_check.specs.declared.error.CertError.{CertError}
-use Rattle.wy_check.specs.declared.error.CertError.TheVariants.{NotRead, OtherTrace, BadEvent}
-use Rattle.wy_telling.specs.Answers.{AnswerIs, Refused, Telling, TellsAnswer, TellsOf}
+use Rattle.wy_check.specs.declared.error.CertError.TheVariants.{OtherTrace, BadEvent, View}
+use Rattle.wy_telling.specs.declared.untold.Untold.{Untold}
+use Rattle.wy_telling.specs.Answers.{AnswerIs, Refused, Telling, TellsAnswer}
+use Rattle.wy_view.specs.declared.view.ViewError.TheVariants.{NoMemory}
 use Rattle.wy_reply.specs.Lines.{certificate_event_line, certificate_not_read_line, good_line, other_trace_line}
 
 -- the seal of a trace: the digest of all bytes before it
@@ -33,16 +33,10 @@ CertifyIs p lines rs seal question (Ok bytes) = (event : ℕ)
     × Certifies (owners p) rs seal event bytes
 CertifyIs p lines rs seal question (Err why) = AnswerIs itself p lines rs question (Err why)
 
--- these bytes or this refusal is the answer; memory can run out at any question
-abbrev pub Certified : Program → List ℕ → List Recorded → List ℕ → List ℕ → Result (Vec ℕ Global) AskError → Type 0
+-- these bytes or this refusal is the answer; a view can refuse, and memory run out, at any question
+abbrev pub Certified : Program → List ℕ → List Recorded → List ℕ → List ℕ → Result (Vec ℕ Global) Untold → Type 0
 Certified p lines rs seal question (Ok bytes) = CertifyIs p lines rs seal question (Ok bytes.items)
 Certified p lines rs seal question (Err e) = TellsAnswer itself p lines rs question (Err e)
-
--- the same of a question that is read
-abbrev pub CertifiedOf : Program → List ℕ → List Recorded → List ℕ → Asked → Result (Vec ℕ Global) AskError → Type 0
-CertifiedOf p lines rs seal q (Ok bytes) = (event : ℕ) × (event_of p rs q ≡ Some event)
-    × Certifies (owners p) rs seal event bytes.items
-CertifiedOf p lines rs seal q (Err e) = TellsOf itself p lines rs q (Err e)
 
 -- ---- the verdict on a certificate
 
@@ -56,3 +50,8 @@ verdict_line (Ok answer) = good_line (length answer.all.items) (length answer.fl
 verdict_line (Err OtherTrace) = other_trace_line
 verdict_line (Err (BadEvent event)) = certificate_event_line event
 verdict_line (Err _) = certificate_not_read_line
+
+-- where the view refused, it was for want of memory
+abbrev pub WantsMemory : Result Answer CertError → Type 0
+WantsMemory (Err (View error)) = error ≡ NoMemory
+WantsMemory _ = Unit {0}

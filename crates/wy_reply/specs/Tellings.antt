@@ -21,10 +21,10 @@ use Rattle.wy_telling.specs.Affects.{AffectsIs}
 use Rattle.wy_telling.specs.Questions.{questions_text}
 use Rattle.wy_telling.specs.Whynot.{WhynotIs, Denied}
 use Rattle.wy_telling.specs.Whynot as denial
+use Rattle.wy_telling.specs.declared.untold.Untold.{Untold}
+use Rattle.wy_telling.specs.declared.untold.Untold.TheVariants as untold
 use Rattle.wy_telling.specs.declared.whynot.Unanswered.{Unanswered}
 use Rattle.wy_telling.specs.declared.whynot.Unanswered.TheVariants as unanswered
-use Rattle.wy_ask.specs.declared.question.AskError.{AskError}
-use Rattle.wy_ask.specs.declared.question.AskError.TheVariants as errors
 use Rattle.wy_ask.specs.Asked.{owners}
 use Rattle.wy_check.specs.Checks.{Judges}
 use Rattle.wy_check.specs.Laws.{IsVerdict}
@@ -155,11 +155,11 @@ wanted_of (asked.Check certificate) = Check (Bytes certificate.now)
 -- ---- what is told of a question, in memory
 
 -- the text that is told, or a refusal with the line of why there is none
-abbrev pub SaysAsTold : Result (Vec ℕ Global) AskError → Answer → Type 0
+abbrev pub SaysAsTold : Result (Vec ℕ Global) Untold → Answer → Type 0
 SaysAsTold (Ok text) answer = (answer.status ≡ status.Done) × (answer.text.items ≡ text.items)
-SaysAsTold (Err errors.BadQuestion) answer = Refuses not_read_line answer
-SaysAsTold (Err (errors.NoSuch number)) answer = Refuses (no_such_line number) answer
-SaysAsTold (Err errors.NoMemory) answer = ⊥
+SaysAsTold (Err untold.BadQuestion) answer = Refuses not_read_line answer
+SaysAsTold (Err (untold.NoSuch number)) answer = Refuses (no_such_line number) answer
+SaysAsTold (Err (untold.View error)) answer = ⊥
 
 -- ---- a word that has no answer, in memory
 

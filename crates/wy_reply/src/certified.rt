@@ -1,62 +1,67 @@
-//! Certificates over a trace that is held in memory: that of an event that is asked about, and the verdict on one that is given.
-ghost use Rattle.std.specs.Prelude.{◌≡◌, ◌<◌, None, Some, map};
+//! Certificates over a trace: that of an event that is asked about, and the verdict on one that is given.
+ghost use Rattle.std.specs.Prelude.{◌≡◌, ◌<◌, List, Some, IfOk, map};
 ghost use Rattle.wy_ask.specs.Opened.{IsOpenedOf};
-ghost use Rattle.wy_ask.specs.Questions.{asked};
+ghost use Rattle.wy_cert.specs.Goodness.{Certifies};
 ghost use Rattle.wy_check.specs.Checks.{Judges};
 ghost use Rattle.wy_check.specs.Writes.{owners};
-ghost use Rattle.wy_event.specs.Record.{recorded};
+ghost use Rattle.wy_event.specs.Record.{Recorded, recorded};
 ghost use Rattle.wy_kernel.specs.Parts.{program_of};
-ghost use Rattle.wy_reply.specs.Certificates.{Certified, CertifiedOf};
-ghost use Rattle.wy_view.specs.Whole.{whole};
+ghost use Rattle.wy_reply.specs.Certificates.{Certified, WantsMemory};
+ghost use Rattle.wy_telling.specs.Untelling.{HasCause};
+ghost use Rattle.wy_view.specs.View.{Keeps, KeepsCounts};
 
 use std::alloc::Global;
 use std::marker::Brand;
 use std::sync::ledger::{Blank, Ledger};
-use wy_ask::{AskError, Opened, Question, read_question, resolve};
+use wy_ask::Opened;
 use wy_cert::certify;
 use wy_check::{CertError, check};
 use wy_kernel::program::Program;
-use wy_view::{MemoryView, Steps};
+use wy_telling::{Untold, asked_event};
+use wy_view::{EventView, MemoryView, Steps, ViewError};
 use wy_why::Answer;
 
 /// The certificate of what the event comes from that a question asks about, over the trace with this seal.
-pub(crate) fn certificate_text(
+pub(crate) fn certificate_text<V: EventView>(
     alloc: Global,
-    opened: &mut Opened<'_, MemoryView>,
+    opened: &mut Opened<'_, V>,
     seal: &[u8; 32],
     question: &str,
-) -> Result<Vec<u8>, AskError>
-    requires { IsOpenedOf (whole opened.old.view.events.items None) opened.old }
-    ensures { Certified (program_of opened.old.program.now) opened.old.program.now.lines.items
-        (map recorded opened.old.view.events.items) seal.now question.now result }
+) -> Result<Vec<u8>, Untold>
+    requires { IsOpenedOf (V.tells opened.old.view) opened.old }
+    ensures told { (rs : List Recorded) → (V.tells opened.old.view).records ≡ Some rs
+        → Certified (program_of opened.old.program.now) opened.old.program.now.lines.items
+        rs seal.now question.now result }
+    ensures cause { HasCause question.now result
+        (V.tells opened.old.view) (V.tells opened.new.view) }
+    ensures keeps { Keeps (V.tells opened.old.view) (V.tells opened.new.view) }
 {
-    let question = read_question(alloc, question)?;
-    certificate_of::<Brand>(alloc, opened, seal, &question, Blank::new(1))
+    let event = asked_event(alloc, opened, question)?;
+    Ok(certificate_of::<V, Brand>(alloc, opened, seal, event, Blank::new(1))?)
 }
 
-/// The same of a question that is read, with a ledger for the steps, which nobody reads.
-/// Events in memory refuse for want of memory alone.
-fn certificate_of<L: Ledger>(
+/// The certificate of an event, with a ledger for the steps, which nobody reads.
+fn certificate_of<V: EventView, L: Ledger>(
     alloc: Global,
-    opened: &mut Opened<'_, MemoryView>,
+    opened: &mut Opened<'_, V>,
     seal: &[u8; 32],
-    question: &Question,
+    event: u32,
     blank: Blank,
-) -> Result<Vec<u8>, AskError>
-    requires opened { IsOpenedOf (whole opened.old.view.events.items None) opened.old }
+) -> Result<Vec<u8>, ViewError>
+    requires opened { IsOpenedOf (V.tells opened.old.view) opened.old }
+    requires there { event < (V.tells opened.old.view).count }
     requires name { blank.name ≡ L.name }
     requires parts { blank.parts ≡ L.parts }
     requires some { 0 < blank.parts }
-    ensures { CertifiedOf (program_of opened.old.program.now) opened.old.program.now.lines.items
-        (map recorded opened.old.view.events.items) seal.now (asked question.now) result }
+    ensures certificate { (rs : List Recorded) → (V.tells opened.old.view).records ≡ Some rs
+        → IfOk result (λ bytes. Certifies (owners (program_of opened.old.program.now))
+        rs seal.now event bytes.items) }
+    ensures keeps { Keeps (V.tells opened.old.view) (V.tells opened.new.view) }
+    ensures answers { KeepsCounts result (V.tells opened.old.view) (V.tells opened.new.view) }
 {
     let mut steps = Steps::<L>::new(blank);
-    let event = resolve(question, opened, &mut steps)?;
     let view = &mut opened.view;
-    let Ok(bytes) = certify(alloc, view, &opened.index, seal, event, &mut steps) else {
-        return Err(AskError::NoMemory);
-    };
-    Ok(bytes)
+    certify(alloc, view, &opened.index, seal, event, &mut steps)
 }
 
 /// What is said of the bytes of a certificate, over the trace with this seal.
@@ -67,8 +72,9 @@ pub(crate) fn verdict_on(
     seal: &[u8; 32],
     bytes: &[u8],
 ) -> Result<Answer, CertError>
-    ensures { Judges (owners (program_of program.now))
+    ensures judges { Judges (owners (program_of program.now))
         (Some (map recorded view.events.items)) seal.now bytes.now result }
+    ensures memory { WantsMemory result }
 {
     verdict_with::<Brand>(alloc, view, program, seal, bytes, Blank::new(1))
 }
@@ -85,8 +91,9 @@ fn verdict_with<L: Ledger>(
     requires name { blank.name ≡ L.name }
     requires parts { blank.parts ≡ L.parts }
     requires some { 0 < blank.parts }
-    ensures { Judges (owners (program_of program.now))
+    ensures judges { Judges (owners (program_of program.now))
         (Some (map recorded view.events.items)) seal.now bytes.now result }
+    ensures memory { WantsMemory result }
 {
     let mut view = view;
     check(

@@ -11,6 +11,7 @@ mod sizes;
 mod source;
 pub mod status;
 pub mod telling;
+mod viewed;
 
 pub use answer::Answer;
 pub use generating::answer_to_generated;
@@ -19,3 +20,4 @@ pub use recording::answer_to_recording;
 pub use running::answer_to_program;
 pub use status::Status;
 pub use telling::{Inquiry, Wanted, answer_to_trace, answer_to_trace_error};
+pub use viewed::{answer_to_opened, answer_to_view};

@@ -1,19 +1,17 @@
 //! What is answered from a trace.
-ghost use Rattle.std.specs.Prelude.{◌≡◌, ◌<◌, ◌≤◌, ◌-◌, ◌^◌, None, IfOk, drop, false, length};
-ghost use Rattle.wy_ask.specs.Opened.{IsOpenedOf};
-ghost use Rattle.wy_event.specs.declared.record.Trace.{Trace};
+ghost use Rattle.std.specs.Prelude.{◌≡◌, ◌<◌, ◌≤◌, ◌-◌, ◌^◌, IfOk, drop, false, length};
 ghost use Rattle.wy_reply.specs.declared.status.Status.TheVariants.{Done};
 ghost use Rattle.wy_reply.specs.ByRun.{HasSource, TellsRun};
 ghost use Rattle.wy_reply.specs.Statuses.{code_of, is_of_files};
-ghost use Rattle.wy_reply.specs.Opening.{IsDecoded, IsOpenedTrace, IsViewable};
-ghost use Rattle.wy_reply.specs.Certificates.{seal_of};
-ghost use Rattle.wy_reply.specs.Tellings.{Bytes, DeniesAs, DueUnder, RefusesTrace, SaysAsTold, SaysVerdict, Tells, inquiry_of, wanted_of};
+ghost use Rattle.wy_reply.specs.Opening.{IsDecoded, IsViewable};
+ghost use Rattle.wy_reply.specs.Certificates.{WantsMemory, seal_of};
+ghost use Rattle.wy_reply.specs.Tellings.{Bytes, DueUnder, RefusesTrace, SaysVerdict, Tells, inquiry_of, wanted_of};
 ghost use Rattle.wy_reply.specs.Tellings as wanted;
-ghost use Rattle.wy_view.specs.Whole.{whole};
 
 use crate::answer::Answer;
-use crate::certified::{certificate_text, verdict_on};
+use crate::certified::verdict_on;
 use crate::lines::{Refusal, good_line, line};
+use crate::viewed::answer_to_view;
 use law_carried::{backward_is_forward, carrying_changes_nothing};
 use law_reading::{
     recorded_ends_are_read_back, recorded_heads_are_read_back, recorded_traces_are_read_back,
@@ -21,7 +19,6 @@ use law_reading::{
 };
 use law_shaped::references_point_below;
 use std::alloc::{AllocError, Global};
-use wy_ask::{AskError, Opened};
 use wy_check::CertError;
 use wy_event::record::Trace;
 use wy_event::sequence::Sequence;
@@ -29,7 +26,7 @@ use wy_fitting::end_fits;
 use wy_frames::TraceError;
 use wy_kernel::program::Program;
 use wy_machine::{Verdict, audit};
-use wy_telling::{Unanswered, affects_text, output_text, questions_text, why_text, whynot_text};
+use wy_telling::{output_text, want_of_memory};
 use wy_view::MemoryView;
 use wy_why::Answer as Found;
 
@@ -84,120 +81,6 @@ fn answer_to_output(alloc: Global, program: &Program, trace: &Trace) -> Result<A
     Ok(Answer::done(text))
 }
 
-fn answer_to_why(
-    alloc: Global,
-    opened: &mut Opened<'_, MemoryView>,
-    question: &str,
-) -> Result<Answer, AllocError>
-    requires { IsOpenedOf (whole opened.old.view.events.items None) opened.old }
-    ensures due { (t : Trace) → IsOpenedTrace t opened.old
-        → IfOk result (λ answer. Tells opened.old.program.now t (wanted.Why question.now)
-        (code_of answer.status) answer.text.items) }
-    ensures settled { IfOk result (λ answer. is_of_files answer.status ≡ false) }
-{
-    let told = why_text(alloc, opened, question);
-    answer_to_question(alloc, told)
-}
-
-fn answer_to_affects(
-    alloc: Global,
-    opened: &mut Opened<'_, MemoryView>,
-    question: &str,
-) -> Result<Answer, AllocError>
-    requires { IsOpenedOf (whole opened.old.view.events.items None) opened.old }
-    ensures due { (t : Trace) → IsOpenedTrace t opened.old
-        → IfOk result (λ answer. Tells opened.old.program.now t (wanted.Affects question.now)
-        (code_of answer.status) answer.text.items) }
-    ensures settled { IfOk result (λ answer. is_of_files answer.status ≡ false) }
-{
-    let told = affects_text(alloc, opened, question);
-    answer_to_question(alloc, told)
-}
-
-fn answer_to_certify(
-    alloc: Global,
-    opened: &mut Opened<'_, MemoryView>,
-    seal: &[u8; 32],
-    question: &str,
-) -> Result<Answer, AllocError>
-    requires { IsOpenedOf (whole opened.old.view.events.items None) opened.old }
-    ensures due { (t : Trace) → IsOpenedTrace t opened.old → seal.now ≡ seal_of t
-        → IfOk result (λ answer. Tells opened.old.program.now t (wanted.Certify question.now)
-        (code_of answer.status) answer.text.items) }
-    ensures settled { IfOk result (λ answer. is_of_files answer.status ≡ false) }
-{
-    let told = certificate_text(alloc, opened, seal, question);
-    answer_to_question(alloc, told)
-}
-
-/// The answer to a question: what is told of its event, or why it has none.
-fn answer_to_question(alloc: Global, told: Result<Vec<u8>, AskError>) -> Result<Answer, AllocError>
-    ensures says { IfOk result (SaysAsTold told) }
-    ensures settled { IfOk result (λ answer. is_of_files answer.status ≡ false) }
-{
-    match told {
-        Ok(text) => Ok(Answer::done(text)),
-        Err(AskError::BadQuestion) => Answer::refused(alloc, Refusal::NotRead),
-        Err(AskError::NoSuch(number)) => Answer::refused(alloc, Refusal::NoSuch { number }),
-        Err(AskError::NoMemory) => Err(AllocError),
-    }
-}
-
-fn answer_to_questions(
-    alloc: Global,
-    opened: &mut Opened<'_, MemoryView>,
-) -> Result<Answer, AllocError>
-    requires { IsOpenedOf (whole opened.old.view.events.items None) opened.old }
-    ensures due { (t : Trace) → IsOpenedTrace t opened.old
-        → IfOk result (λ answer. Tells opened.old.program.now t wanted.Questions
-        (code_of answer.status) answer.text.items) }
-    ensures settled { IfOk result (λ answer. is_of_files answer.status ≡ false) }
-{
-    Ok(Answer::done(questions_text(alloc, opened)?))
-}
-
-fn answer_to_statement(
-    alloc: Global,
-    opened: &Opened<'_, MemoryView>,
-    statement: &str,
-) -> Result<Answer, AllocError>
-    requires { IsOpenedOf (whole opened.now.view.events.items None) opened.now }
-    ensures due { (t : Trace) → IsOpenedTrace t opened.now
-        → IfOk result (λ answer. Tells opened.now.program.now t (wanted.WhyNot statement.now)
-        (code_of answer.status) answer.text.items) }
-    ensures settled { IfOk result (λ answer. is_of_files answer.status ≡ false) }
-{
-    match whynot_text(alloc, opened, statement) {
-        Ok(text) => Ok(Answer::done(text)),
-        Err(error) => answer_to_unanswered(alloc, error),
-    }
-}
-
-/// The answer to a word that names no statement, or one that ran.
-fn answer_to_unanswered(alloc: Global, error: Unanswered) -> Result<Answer, AllocError>
-    ensures { IfOk result (DeniesAs error) }
-{
-    match error {
-        Unanswered::NotRead => Answer::refused(alloc, Refusal::NotRead),
-        Unanswered::NoSuch(number) => Answer::refused(alloc, Refusal::NoSuch { number }),
-        Unanswered::Ran {
-            line,
-            place,
-            count,
-            first,
-        } => {
-            let ran = Refusal::Ran {
-                line,
-                place,
-                count,
-                first,
-            };
-            Answer::refused(alloc, ran)
-        }
-        Unanswered::NoMemory => Err(AllocError),
-    }
-}
-
 fn answer_to_audit(alloc: Global, program: &Program, trace: Trace) -> Result<Answer, AllocError>
     ensures due { IfOk result (λ answer. Tells program.now trace wanted.Audit
         (code_of answer.status) answer.text.items) }
@@ -233,6 +116,7 @@ fn answer_to_check(
 
 /// The answer to a certificate on which there is a verdict.
 fn answer_to_verdict(alloc: Global, verdict: Result<Found, CertError>) -> Result<Answer, AllocError>
+    requires { WantsMemory verdict }
     ensures says { IfOk result (SaysVerdict verdict) }
     ensures settled { IfOk result (λ answer. is_of_files answer.status ≡ false) }
 {
@@ -246,12 +130,13 @@ fn answer_to_verdict(alloc: Global, verdict: Result<Found, CertError>) -> Result
         Err(CertError::BadEvent(event)) => {
             Answer::refused(alloc, Refusal::CertificateEvent { event })
         }
-        Err(CertError::View(_) | CertError::NoMemory) => Err(AllocError),
+        Err(CertError::View(error)) => Err(want_of_memory(error)),
+        Err(CertError::NoMemory) => Err(AllocError),
     }
 }
 
-/// What is answered from a trace that is opened for it.
-fn answer_opened(
+/// What is looked up in a trace that is held in memory, which a view refuses for want of memory alone.
+fn answer_from_memory(
     alloc: Global,
     program: &Program,
     trace: Trace,
@@ -270,15 +155,10 @@ fn answer_opened(
     let view = MemoryView {
         events: events.into_vec(),
     };
-    let Ok(mut opened) = Opened::open(alloc, program, covers, view) else {
-        return Err(AllocError);
-    };
-    match inquiry {
-        Inquiry::Why { question } => answer_to_why(alloc, &mut opened, question),
-        Inquiry::Affects { question } => answer_to_affects(alloc, &mut opened, question),
-        Inquiry::Certify { question } => answer_to_certify(alloc, &mut opened, seal, question),
-        Inquiry::Questions => answer_to_questions(alloc, &mut opened),
-        Inquiry::WhyNot { statement } => answer_to_statement(alloc, &opened, statement),
+    let (_view, answer) = answer_to_view(alloc, program, covers, view, seal, inquiry);
+    match answer {
+        Ok(answer) => Ok(answer),
+        Err(error) => Err(want_of_memory(error)),
     }
 }
 
@@ -300,7 +180,7 @@ fn tell(
     match wanted {
         Wanted::Output => answer_to_output(alloc, program, &trace),
         Wanted::Audit => answer_to_audit(alloc, program, trace),
-        Wanted::Inquiry(inquiry) => answer_opened(alloc, program, trace, seal, inquiry),
+        Wanted::Inquiry(inquiry) => answer_from_memory(alloc, program, trace, seal, inquiry),
         Wanted::Check { certificate } => answer_to_check(alloc, program, trace, seal, certificate),
     }
 }

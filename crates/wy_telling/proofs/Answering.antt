@@ -15,13 +15,13 @@ use Rattle.wy_index.specs.Index.{owners_of}
 use Rattle.wy_why.specs.Answer.{Rises, up_to}
 use Rattle.wy_why.specs.Walk.{closure_of}
 use Rattle.wy_why.proofs.Closures.{Among, closure_cases, closure_itself, closure_source}
-use Rattle.wy_ask.specs.declared.question.AskError.{AskError}
-use Rattle.wy_ask.specs.declared.question.AskError.TheVariants as errors
-use Rattle.wy_ask.specs.Asked.{Resolves, event_of, number_in, owners}
-use Rattle.wy_ask.specs.Questions.{Asked, Asks, IsUnread}
+use Rattle.wy_ask.specs.Asked.{owners}
 use Rattle.wy_affects.specs.Affected.{affected, affected_by_data}
 use Rattle.wy_telling.specs.Affects.{affects_text, later_lines, nothing_later_line}
-use Rattle.wy_telling.specs.Answers.{AnswerIs, NoSuch, Telling, TellsAnswer, TellsOf, answered, marked_lines, not_read, not_there}
+use Rattle.wy_telling.specs.Answers.{AnswerIs, NoSuch, Telling, TellsAnswer, answered, marked_lines, not_read, not_there}
+use Rattle.wy_telling.specs.Untelling.{FindsAsked}
+use Rattle.wy_telling.specs.declared.untold.Untold.{Untold}
+use Rattle.wy_telling.specs.declared.untold.Untold.TheVariants as untold
 use Rattle.wy_telling.specs.Why.{why_text}
 
 -- ---- the data are among all
@@ -110,19 +110,12 @@ nothing_told p lines rs event index all text same all_is none is =
 
 -- ---- the question, and its answer
 
-module _ (telling : Telling) (p : Program) (lines : List ℕ) (rs : List Recorded) where
-  pub refused : (q : Asked) (e : AskError) → Resolves (Err e) (event_of p rs q) (number_in q) → TellsOf telling p lines rs q (Err e)
-  refused q errors.BadQuestion found = absurd found
-  refused q (errors.NoSuch n) found = found
-  refused q errors.NoMemory found = tt
+module _ (telling : Telling) (p : Program) (lines : List ℕ) (rs : List Recorded) (text : List ℕ) where
+  -- what is told of the event that is asked about is the answer
+  pub told_of : (event : ℕ) (told : Vec ℕ Global) → FindsAsked p rs text (Ok event) → told.items ≡ telling p lines rs event → TellsAnswer telling p lines rs text (Ok told)
+  told_of event told (q, asks, at) is = subst (λ l. AnswerIs telling p lines rs text (Ok l)) (sym is) (answered q event asks at)
 
-  pub unread : (text : List ℕ) (e : AskError) → IsUnread text e → TellsAnswer telling p lines rs text (Err e)
-  unread text errors.BadQuestion none = not_read none
-  unread text (errors.NoSuch n) none = absurd none
-  unread text errors.NoMemory none = tt
-
-  pub read : (text : List ℕ) (q : Asked) (r : Result (Vec ℕ Global) AskError) → Asks text q → TellsOf telling p lines rs q r → TellsAnswer telling p lines rs text r
-  read text q (Ok told) asks (event, at, is) = subst (λ l. AnswerIs telling p lines rs text (Ok l)) (sym is) (answered q event asks at)
-  read text q (Err (errors.NoSuch n)) asks (none, is) = subst (λ m. AnswerIs telling p lines rs text (Err (NoSuch m))) (sym is) (not_there q asks none)
-  read text q (Err errors.BadQuestion) asks told = absurd told
-  read text q (Err errors.NoMemory) asks told = tt
+  pub unasked : (e : Untold) → FindsAsked p rs text (Err e) → TellsAnswer telling p lines rs text (Err e)
+  unasked untold.BadQuestion none = not_read none
+  unasked (untold.NoSuch n) (q, asks, none, is) = subst (λ m. AnswerIs telling p lines rs text (Err (NoSuch m))) (sym is) (not_there q asks none)
+  unasked (untold.View error) none = tt

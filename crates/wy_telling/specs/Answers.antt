@@ -7,10 +7,10 @@ use Rattle.wy_kernel.specs.Program.{Program}
 use Rattle.wy_event.specs.Numbers.{Numbers}
 use Rattle.wy_event.specs.Record.{Recorded}
 use Rattle.wy_text.specs.EventLines.{event_line}
-use Rattle.wy_ask.specs.declared.question.AskError.{AskError}
-use Rattle.wy_ask.specs.declared.question.AskError.TheVariants as errors
 use Rattle.wy_ask.specs.Asked.{event_of, number_in}
 use Rattle.wy_ask.specs.Questions.{Asked, Asks, Spells}
+use Rattle.wy_telling.specs.declared.untold.Untold.{Untold}
+use Rattle.wy_telling.specs.declared.untold.Untold.TheVariants as untold
 
 -- the lines of events, with a star on those of a set
 abbrev pub marked_lines : Program → List ℕ → List Recorded → Numbers → List ℕ → List ℕ
@@ -39,19 +39,9 @@ OneAnswerToQuestions = (telling : Telling) (p : Program) (lines : List ℕ) (rs 
     (a b : Result (List ℕ) Refused)
     → AnswerIs telling p lines rs question a → AnswerIs telling p lines rs question b → a ≡ b
 
--- this text or this refusal is the answer; memory can run out at any question
-abbrev pub TellsAnswer : Telling → Program → List ℕ → List Recorded → List ℕ → Result (Vec ℕ Global) AskError → Type 0
+-- this text or this refusal is the answer; a view can refuse, and memory run out, at any question
+abbrev pub TellsAnswer : Telling → Program → List ℕ → List Recorded → List ℕ → Result (Vec ℕ Global) Untold → Type 0
 TellsAnswer telling p lines rs question (Ok text) = AnswerIs telling p lines rs question (Ok text.items)
-TellsAnswer telling p lines rs question (Err errors.BadQuestion) = AnswerIs telling p lines rs question (Err NotRead)
-TellsAnswer telling p lines rs question (Err (errors.NoSuch n)) = AnswerIs telling p lines rs question (Err (NoSuch n))
-TellsAnswer telling p lines rs question (Err errors.NoMemory) = Unit {0}
-
--- ---- the parts of the way
-
--- what is told of the event that a question asks about, or a refusal where it is not there
-abbrev pub TellsOf : Telling → Program → List ℕ → List Recorded → Asked → Result (Vec ℕ Global) AskError → Type 0
-TellsOf telling p lines rs q (Ok text) =
-    (event : ℕ) × (event_of p rs q ≡ Some event) × (text.items ≡ telling p lines rs event)
-TellsOf telling p lines rs q (Err (errors.NoSuch n)) = (event_of p rs q ≡ Absent) × (n ≡ number_in q)
-TellsOf telling p lines rs q (Err errors.BadQuestion) = ⊥
-TellsOf telling p lines rs q (Err errors.NoMemory) = Unit {0}
+TellsAnswer telling p lines rs question (Err untold.BadQuestion) = AnswerIs telling p lines rs question (Err NotRead)
+TellsAnswer telling p lines rs question (Err (untold.NoSuch n)) = AnswerIs telling p lines rs question (Err (NoSuch n))
+TellsAnswer telling p lines rs question (Err (untold.View error)) = Unit {0}

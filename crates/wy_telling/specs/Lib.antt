@@ -1,6 +1,7 @@
 pub mod Printed
 pub mod Thrown
 pub mod Output
+pub mod Untelling
 pub mod Answers
 pub mod Why
 pub mod Affects

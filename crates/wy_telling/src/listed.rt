@@ -1,14 +1,13 @@
 //! What can be asked about a trace, line by line, in the words that ask it.
 
-ghost use Rattle.std.specs.Prelude.{◌≡◌, ◌++◌, ◌<◌, All, List, None, Some, IfOk, OnOk, map};
+ghost use Rattle.std.specs.Prelude.{◌≡◌, ◌++◌, ◌<◌, All, List, Some, IfOk, OnOk};
 ghost use Rattle.std.specs.List.{flat_map};
 ghost use Rattle.wy_ask.specs.Listing.{IsListedBelow};
-ghost use Rattle.wy_ask.specs.Opened.{IsOpenedOf};
-ghost use Rattle.wy_event.specs.Record.{Recorded, recorded};
+ghost use Rattle.wy_ask.specs.Opened.{IsOpenedOf, StaysOpened};
+ghost use Rattle.wy_event.specs.Record.{Recorded};
 ghost use Rattle.wy_kernel.specs.Parts.{program_of};
 ghost use Rattle.wy_telling.specs.Questions.{field_at, listed_line, piece_line, never_line, questions_text, slot_question, stored_line};
 ghost use Rattle.wy_view.specs.View.{KeepsCounts, Keeps};
-ghost use Rattle.wy_view.specs.Whole.{whole};
 
 use std::alloc::{AllocError, Global};
 use std::marker::Brand;
@@ -17,25 +16,24 @@ use wy_ask::{Listed, Opened, questions};
 use wy_event::record::Slot;
 use wy_kernel::program::Program;
 use wy_text::{put_event_line, put_field_name, put_value};
-use wy_view::{EventView, MemoryView, Steps, ViewError};
+use wy_view::{EventView, Steps, ViewError};
 
 /// What can be asked about a trace: a line for each.
-pub fn questions_text(
+pub fn questions_text<V: EventView>(
     alloc: Global,
-    opened: &mut Opened<'_, MemoryView>,
-) -> Result<Vec<u8>, AllocError>
-    requires { IsOpenedOf (whole opened.old.view.events.items None) opened.old }
-    ensures { IfOk result (λ text. text.items ≡ questions_text
-        (program_of opened.old.program.now) opened.old.program.now.lines.items
-        (map recorded opened.old.view.events.items) opened.old.coverage.now) }
+    opened: &mut Opened<'_, V>,
+) -> Result<Vec<u8>, ViewError>
+    requires { IsOpenedOf (V.tells opened.old.view) opened.old }
+    ensures lines { (rs : List Recorded) → (V.tells opened.old.view).records ≡ Some rs
+        → IfOk result (λ text. text.items ≡ questions_text (program_of opened.old.program.now)
+        opened.old.program.now.lines.items rs opened.old.coverage.now) }
+    ensures stays { StaysOpened V.tells opened.old opened.new }
+    ensures answers { KeepsCounts result (V.tells opened.old.view) (V.tells opened.new.view) }
 {
-    match all_lines::<MemoryView, Brand>(alloc, opened, Blank::new(1)) {
-        Ok(text) => Ok(text),
-        Err(_) => Err(AllocError),
-    }
+    all_lines::<V, Brand>(alloc, opened, Blank::new(1))
 }
 
-/// The same, with a ledger for the steps, which nobody reads. Events in memory refuse for want of memory alone.
+/// The same, with a ledger for the steps, which nobody reads.
 fn all_lines<V: EventView, L: Ledger>(
     alloc: Global,
     opened: &mut Opened<'_, V>,
@@ -45,9 +43,11 @@ fn all_lines<V: EventView, L: Ledger>(
     requires name { blank.name ≡ L.name }
     requires parts { blank.parts ≡ L.parts }
     requires some { 0 < blank.parts }
-    ensures { (rs : List Recorded) → (V.tells opened.old.view).records ≡ Some rs
+    ensures lines { (rs : List Recorded) → (V.tells opened.old.view).records ≡ Some rs
         → IfOk result (λ text. text.items ≡ questions_text (program_of opened.old.program.now)
         opened.old.program.now.lines.items rs opened.old.coverage.now) }
+    ensures stays { StaysOpened V.tells opened.old opened.new }
+    ensures answers { KeepsCounts result (V.tells opened.old.view) (V.tells opened.new.view) }
 {
     let mut steps = Steps::<L>::new(blank);
     let listed = questions(alloc, opened, &mut steps)?;

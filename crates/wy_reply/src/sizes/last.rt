@@ -11,11 +11,12 @@ use std::sync::ledger::{Blank, Ledger};
 use wy_event::record::Event;
 use wy_index::Index;
 use wy_kernel::program::Program;
+use wy_telling::want_of_memory;
 use wy_view::{MemoryView, Steps};
 use wy_why::why;
 
 /// The number of events that the last print of these comes from, in all and by data, with a ledger for the steps,
-/// which nobody reads. Events in memory refuse for want of memory alone.
+/// which nobody reads.
 pub(crate) fn answer_sizes<L: Ledger>(
     alloc: Global,
     program: &Program,
@@ -34,14 +35,15 @@ pub(crate) fn answer_sizes<L: Ledger>(
 {
     let mut steps = Steps::<L>::new(blank);
     let mut view = MemoryView { events };
-    let Ok(index) = Index::build(alloc, &mut view, program, &mut steps) else {
-        return Err(AllocError);
+    let index = match Index::build(alloc, &mut view, program, &mut steps) {
+        Ok(index) => index,
+        Err(error) => return Err(want_of_memory(error)),
     };
     let Some(event) = index.prints().last().copied() else {
         return Ok((0, 0));
     };
-    let Ok(answer) = why(alloc, &mut view, &index, event, &mut steps) else {
-        return Err(AllocError);
-    };
-    Ok((answer.all.len(), answer.flow.len()))
+    match why(alloc, &mut view, &index, event, &mut steps) {
+        Ok(answer) => Ok((answer.all.len(), answer.flow.len())),
+        Err(error) => Err(want_of_memory(error)),
+    }
 }

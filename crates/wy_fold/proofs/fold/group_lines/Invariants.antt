@@ -14,6 +14,7 @@ invariant-loop-group g l =
     let told = g.V.EventView.tells in
     record {
       keeps : Keeps (told l.initial.view) (told l.view);
+      faults : (told l.view).faults ≡ (told l.initial.view).faults;
       lines : (rs : List Recorded) → (told l.initial.view).records ≡ Some rs → (by_data : Numbers) → AreOfData by_data l.fold
           → l.out.items ≡ flat_map (group_text (program_of l.program) l.program.lines.items (map (λ x. x.now) l.fold.lines.items) rs by_data (row_of l.fold.all) l.is_open) (take l.group-index l.fold.groups.items);
     }

@@ -17,8 +17,8 @@ group_lines-requires g c =
     let rises = shown_rises c.args.event (length now) c.args.showing.by_data answer.all.items answer.flow.items (omega (arith, c.requires.there, c.why.ensures.keeps.count)) c.in_ok-answer.ensures.rises.0 c.in_ok-answer.ensures.rises.1 in
     record { there = can_be_shown o.program.now.lines.items (map recorded now) c.args.source.now c.shown.result.now c.as_slice.result.now c.in_ok-fold.fold (length now) c.in_ok-fold.ensures (subst (Rises 0 (length now)) (sym c.shown.ensures) rises) }
 
-pub returns : goal.returns
-returns g c =
+pub returns-clause-rows : goal.returns-clause-rows
+returns-clause-rows g c =
     let o = c.args.opened.now in
     let p = program_of o.program.now in
     let lines = o.program.now.lines.items in

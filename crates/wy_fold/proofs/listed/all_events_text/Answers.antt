@@ -17,5 +17,5 @@ pub returns-in-Ok : goal.returns-in-Ok
 unfolding all_events_text
 returns-in-Ok c =
     let o = c.args.opened.now in
-    c.in-Ok.ensures ∙ ap (marked_lines (program_of o.program.now) o.program.now.lines.items (map recorded o.view.events.items) none)
+    c.in-Ok.ensures.lines ∙ ap (marked_lines (program_of o.program.now) o.program.now.lines.items (map recorded o.view.events.items) none)
     (c.in_ok-all.ensures ∙ ap (λ es. numbers_of (map recorded es)) c.as_slice.ensures.value)

@@ -26,5 +26,5 @@ returns-in-Ok c =
     let lines = o.program.now.lines.items in
     let here = c.in_ok-here.ensures ∙ ap (λ es. events_on lines (map recorded es) c.args.line) c.as_slice.ensures.value in (
       (λ empty_line. (let empty : c.is_empty.result ≡ true = c.is_empty.ensures ∙ eq-eqb c.in_ok-here.here.len 0 (c.in_ok-here.here.ok.0 ∙ ap length (here ∙ empty_line)) in absurd (false≢true (sym c.if-is_empty.false ∙ empty)))),
-      c.in-Ok.ensures ∙ ap (marked_lines (program_of o.program.now) lines (map recorded o.view.events.items) none) here,
+      c.in-Ok.ensures.lines ∙ ap (marked_lines (program_of o.program.now) lines (map recorded o.view.events.items) none) here,
     )

@@ -7,8 +7,8 @@ use Rattle.wy_fold.specs.Places.{line_at}
 use Rattle.wy_fold.proofs.Slicing.{sliced_told}
 use Rattle.wy_fold.proofs.slice.slice_by.Goals as goal
 
-pub returns : goal.returns
-returns g c =
+pub returns-clause-lines : goal.returns-clause-lines
+returns-clause-lines g c =
     let o = c.args.opened.now in
     let lines = o.program.now.lines.items in
     let rs = map recorded o.view.events.items in

@@ -14,15 +14,15 @@ marked_lines-requires g c =
     let rises = subst (λ n. Rises (c.args.event + 1) n found.all.items) (sym c.affects.ensures.keeps.count) c.in_ok-found.ensures.rises.0 in
     record { there = subst (Rises 0 count) (sym c.as_slice-all.ensures.value) (from_zero (c.args.event + 1) count found.all.items rises) }
 
-pub returns-then-is_empty : goal.returns-then-is_empty
-returns-then-is_empty g c = λ rs is.
+pub returns-then-is_empty-clause-lines : goal.returns-then-is_empty-clause-lines
+returns-then-is_empty-clause-lines g c = λ rs is.
     let o = c.args.opened.now in
     let found = c.in_ok-found.found in
     let none : found.all.items ≡ [] = nil_from_length found.all.items (sym found.all.ok.0 ∙ eqb-true _ 0 (sym c.is_empty.ensures ∙ c.if-is_empty.true)) in
     nothing_told (program_of o.program.now) o.program.now.lines.items rs c.args.event o.index found.all.items _ c.requires.opened.owners (c.in_ok-found.ensures.all rs is) none c.in_ok-nothing_later.ensures
 
-pub returns : goal.returns
-returns g c = λ rs is.
+pub returns-clause-lines : goal.returns-clause-lines
+returns-clause-lines g c = λ rs is.
     let o = c.args.opened.now in
     let found = c.in_ok-found.found in
     let all = c.as_slice-all.ensures.value in

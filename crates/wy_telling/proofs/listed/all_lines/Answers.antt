@@ -10,9 +10,9 @@ listed_lines-requires g c = record {
       (subst (All (IsListedBelow (g.V.EventView.tells c.args.opened.now.view).count)) (sym c.as_slice.ensures.value) c.in_ok-listed.ensures.below);
 }
 
-pub returns : goal.returns
+pub returns-clause-lines : goal.returns-clause-lines
 unfolding questions_text
-returns g c = λ rs is.
+returns-clause-lines g c = λ rs is.
     let stays = c.questions.ensures.stays in
     let lines = rw (stays.program) at c.listed_lines.ensures.lines rs (stays.keeps.records ∙ is) in
     rw (c.as_slice.ensures.value, c.in_ok-listed.ensures.listed rs is) at lines

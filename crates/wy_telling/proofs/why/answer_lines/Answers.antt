@@ -1,8 +1,6 @@
-use Rattle.std.proofs.Common.{◌≡◌, ◌∙◌, sym, ap, subst}
-use Rattle.std.specs.Prelude.{filter, IfOk}
-use Rattle.wy_kernel.specs.Parts.{program_of}
+use Rattle.std.proofs.Common.{◌∙◌, sym, ap, subst}
+use Rattle.std.specs.Prelude.{filter}
 use Rattle.wy_why.specs.Answer.{Rises}
-use Rattle.wy_telling.specs.Answers.{marked_lines}
 use Rattle.wy_telling.proofs.why.answer_lines.Goals as goal
 
 pub marked_lines-requires : goal.marked_lines-requires

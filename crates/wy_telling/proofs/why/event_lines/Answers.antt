@@ -9,8 +9,8 @@ answer_lines-requires g c =
     let there : c.args.event + 1 ≤ count = omega (arith, c.requires.there, c.why.ensures.keeps.count) in
     record { there = rises_up 0 (c.args.event + 1) count c.in_ok-answer.answer.all.items there c.in_ok-answer.ensures.rises.0 }
 
-pub returns : goal.returns
-returns g c = λ rs is.
+pub returns-clause-lines : goal.returns-clause-lines
+returns-clause-lines g c = λ rs is.
     let o = c.args.opened.now in
     let answer = c.in_ok-answer.answer in
     let found = c.in_ok-answer.ensures in

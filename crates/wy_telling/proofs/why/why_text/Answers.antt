@@ -1,24 +1,20 @@
 use Rattle.std.proofs.Common.{◌∙◌, sym, ap, subst, Err}
-use Rattle.std.specs.Prelude.{map}
 use Rattle.std.proofs.lemmas.Result.{err_from_is_err_and}
-use Rattle.wy_event.specs.Record.{recorded}
 use Rattle.wy_kernel.specs.Parts.{program_of}
-use Rattle.wy_ask.specs.Questions.{asked}
 use Rattle.wy_telling.specs.Answers.{TellsAnswer}
 use Rattle.wy_telling.specs.Why.{why_text}
-use Rattle.wy_telling.proofs.Answering.{read, unread}
+use Rattle.wy_telling.proofs.Answering.{told_of, unasked}
 use Rattle.wy_telling.proofs.why.why_text.Goals as goal
 
-pub returns : goal.returns
-returns c =
-    let o = c.args.opened.now in
-    read why_text (program_of o.program.now) o.program.now.lines.items (map recorded o.view.events.items) c.args.question.now (asked c.in_ok-question.question) c.why_asked.result c.in_ok-question.ensures c.why_asked.ensures
-
-pub returns-in_err-question : goal.returns-in_err-question
-returns-in_err-question c =
+pub returns-in_err-event-clause-told : goal.returns-in_err-event-clause-told
+returns-in_err-event-clause-told g c = λ rs is.
     let o = c.args.opened.now in
     let p = program_of o.program.now in
     let lines = o.program.now.lines.items in
-    let rs = map recorded o.view.events.items in
     let left = err_from_is_err_and c.from_residual.result c.from_residual.ensures.1 in
-    subst (TellsAnswer why_text p lines rs c.args.question.now) (sym (left.1 ∙ ap Err left.2)) (unread why_text p lines rs c.args.question.now c.in_err-question.field-0.0 c.in_err-question.ensures)
+    subst (TellsAnswer why_text p lines rs c.args.question.now) (sym (left.1 ∙ ap Err left.2)) (unasked why_text p lines rs c.args.question.now c.in_err-event.field-0.0 (c.in_err-event.ensures.found rs is))
+
+pub returns-clause-told : goal.returns-clause-told
+returns-clause-told g c = λ rs is.
+    let o = c.args.opened.now in
+    told_of why_text (program_of o.program.now) o.program.now.lines.items rs c.args.question.now c.in_ok-event.event c.in_ok-event_lines.field-0 (c.in_ok-event.ensures.found rs is) (c.in_ok-event_lines.ensures.lines rs is)

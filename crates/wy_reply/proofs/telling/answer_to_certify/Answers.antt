@@ -1,6 +1,0 @@
-use Rattle.wy_reply.proofs.Tellings.{told_certificate}
-use Rattle.wy_reply.proofs.telling.answer_to_certify.Goals as goal
-
-pub returns-clause-due : goal.returns-clause-due
-returns-clause-due c = λ t is sealed.
-    told_certificate c.args.opened.now.program.now t c.args.question.now c.certificate_text-told.result _ (rw (is.events, sealed) at c.certificate_text-told.ensures) c.answer_to_question.ensures.says

@@ -1,0 +1,233 @@
+//! What is looked up in a trace, over any view of it.
+ghost use Rattle.std.specs.Prelude.{◌≡◌, ◌<◌, ◌^◌, ℕ, List, IfOk, false, length};
+ghost use Rattle.wy_ask.specs.Opened.{IsOpenedOf};
+ghost use Rattle.wy_event.specs.declared.record.Trace.{Trace};
+ghost use Rattle.wy_reply.specs.Certificates.{seal_of};
+ghost use Rattle.wy_reply.specs.Opening.{IsViewOf};
+ghost use Rattle.wy_reply.specs.Statuses.{code_of, is_of_files};
+ghost use Rattle.wy_reply.specs.Tellings.{DeniesAs, SaysAsTold, Tells, inquiry_of};
+ghost use Rattle.wy_reply.specs.Tellings as wanted;
+ghost use Rattle.wy_telling.specs.Untelling.{HasCause};
+ghost use Rattle.wy_view.specs.View.{Keeps, KeepsCounts, Told};
+
+use crate::answer::Answer;
+use crate::certified::certificate_text;
+use crate::lines::Refusal;
+use crate::telling::Inquiry;
+use std::alloc::{AllocError, Global};
+use std::marker::Brand;
+use std::sync::ledger::{Blank, Ledger};
+use wy_ask::Opened;
+use wy_event::record::Cover;
+use wy_index::Index;
+use wy_kernel::program::Program;
+use wy_telling::{Unanswered, Untold, affects_text, questions_text, why_text, whynot_text};
+use wy_view::{EventView, Steps, ViewError};
+
+/// The answer to a question: what is told of its event, or why nothing is.
+fn answer_to_question(alloc: Global, told: Result<Vec<u8>, Untold>) -> Result<Answer, ViewError>
+    ensures says { IfOk result (SaysAsTold told) }
+    ensures settled { IfOk result (λ answer. is_of_files answer.status ≡ false) }
+    ensures answers { (text : List ℕ) (old new : Told) → HasCause text told old new
+        → KeepsCounts result old new }
+{
+    match told {
+        Ok(text) => Ok(Answer::done(text)),
+        Err(Untold::BadQuestion) => Ok(Answer::refused(alloc, Refusal::NotRead)?),
+        Err(Untold::NoSuch(number)) => Ok(Answer::refused(alloc, Refusal::NoSuch { number })?),
+        Err(Untold::View(error)) => Err(error),
+    }
+}
+
+fn answer_to_why<V: EventView>(
+    alloc: Global,
+    opened: &mut Opened<'_, V>,
+    question: &str,
+) -> Result<Answer, ViewError>
+    requires { IsOpenedOf (V.tells opened.old.view) opened.old }
+    ensures due { (t : Trace) → IsViewOf t (V.tells opened.old.view) opened.old.coverage.now
+        → IfOk result (λ answer. Tells opened.old.program.now t (wanted.Why question.now)
+        (code_of answer.status) answer.text.items) }
+    ensures settled { IfOk result (λ answer. is_of_files answer.status ≡ false) }
+    ensures keeps { Keeps (V.tells opened.old.view) (V.tells opened.new.view) }
+    ensures answers { KeepsCounts result (V.tells opened.old.view) (V.tells opened.new.view) }
+{
+    let told = why_text(alloc, opened, question);
+    answer_to_question(alloc, told)
+}
+
+fn answer_to_affects<V: EventView>(
+    alloc: Global,
+    opened: &mut Opened<'_, V>,
+    question: &str,
+) -> Result<Answer, ViewError>
+    requires { IsOpenedOf (V.tells opened.old.view) opened.old }
+    ensures due { (t : Trace) → IsViewOf t (V.tells opened.old.view) opened.old.coverage.now
+        → IfOk result (λ answer. Tells opened.old.program.now t (wanted.Affects question.now)
+        (code_of answer.status) answer.text.items) }
+    ensures settled { IfOk result (λ answer. is_of_files answer.status ≡ false) }
+    ensures keeps { Keeps (V.tells opened.old.view) (V.tells opened.new.view) }
+    ensures answers { KeepsCounts result (V.tells opened.old.view) (V.tells opened.new.view) }
+{
+    let told = affects_text(alloc, opened, question);
+    answer_to_question(alloc, told)
+}
+
+fn answer_to_certify<V: EventView>(
+    alloc: Global,
+    opened: &mut Opened<'_, V>,
+    seal: &[u8; 32],
+    question: &str,
+) -> Result<Answer, ViewError>
+    requires { IsOpenedOf (V.tells opened.old.view) opened.old }
+    ensures due { (t : Trace) → IsViewOf t (V.tells opened.old.view) opened.old.coverage.now
+        → seal.now ≡ seal_of t
+        → IfOk result (λ answer. Tells opened.old.program.now t (wanted.Certify question.now)
+        (code_of answer.status) answer.text.items) }
+    ensures settled { IfOk result (λ answer. is_of_files answer.status ≡ false) }
+    ensures keeps { Keeps (V.tells opened.old.view) (V.tells opened.new.view) }
+    ensures answers { KeepsCounts result (V.tells opened.old.view) (V.tells opened.new.view) }
+{
+    let told = certificate_text(alloc, opened, seal, question);
+    answer_to_question(alloc, told)
+}
+
+fn answer_to_questions<V: EventView>(
+    alloc: Global,
+    opened: &mut Opened<'_, V>,
+) -> Result<Answer, ViewError>
+    requires { IsOpenedOf (V.tells opened.old.view) opened.old }
+    ensures due { (t : Trace) → IsViewOf t (V.tells opened.old.view) opened.old.coverage.now
+        → IfOk result (λ answer. Tells opened.old.program.now t wanted.Questions
+        (code_of answer.status) answer.text.items) }
+    ensures settled { IfOk result (λ answer. is_of_files answer.status ≡ false) }
+    ensures keeps { Keeps (V.tells opened.old.view) (V.tells opened.new.view) }
+    ensures answers { KeepsCounts result (V.tells opened.old.view) (V.tells opened.new.view) }
+{
+    Ok(Answer::done(questions_text(alloc, opened)?))
+}
+
+fn answer_to_statement<V: EventView>(
+    alloc: Global,
+    opened: &Opened<'_, V>,
+    statement: &str,
+) -> Result<Answer, AllocError>
+    requires { IsOpenedOf (V.tells opened.now.view) opened.now }
+    ensures due { (t : Trace) → IsViewOf t (V.tells opened.now.view) opened.now.coverage.now
+        → IfOk result (λ answer. Tells opened.now.program.now t (wanted.WhyNot statement.now)
+        (code_of answer.status) answer.text.items) }
+    ensures settled { IfOk result (λ answer. is_of_files answer.status ≡ false) }
+{
+    match whynot_text(alloc, opened, statement) {
+        Ok(text) => Ok(Answer::done(text)),
+        Err(error) => answer_to_unanswered(alloc, error),
+    }
+}
+
+/// The answer to a word that names no statement, or one that ran.
+fn answer_to_unanswered(alloc: Global, error: Unanswered) -> Result<Answer, AllocError>
+    ensures { IfOk result (DeniesAs error) }
+{
+    match error {
+        Unanswered::NotRead => Answer::refused(alloc, Refusal::NotRead),
+        Unanswered::NoSuch(number) => Answer::refused(alloc, Refusal::NoSuch { number }),
+        Unanswered::Ran {
+            line,
+            place,
+            count,
+            first,
+        } => {
+            let ran = Refusal::Ran {
+                line,
+                place,
+                count,
+                first,
+            };
+            Answer::refused(alloc, ran)
+        }
+        Unanswered::NoMemory => Err(AllocError),
+    }
+}
+
+/// What is answered from a trace that is opened, with this seal.
+pub fn answer_to_opened<V: EventView>(
+    alloc: Global,
+    opened: &mut Opened<'_, V>,
+    seal: &[u8; 32],
+    inquiry: Inquiry<'_>,
+) -> Result<Answer, ViewError>
+    requires { IsOpenedOf (V.tells opened.old.view) opened.old }
+    ensures due { (t : Trace) → IsViewOf t (V.tells opened.old.view) opened.old.coverage.now
+        → seal.now ≡ seal_of t
+        → IfOk result (λ answer. Tells opened.old.program.now t (inquiry_of inquiry.entry)
+        (code_of answer.status) answer.text.items) }
+    ensures settled { IfOk result (λ answer. is_of_files answer.status ≡ false) }
+    ensures keeps { Keeps (V.tells opened.old.view) (V.tells opened.new.view) }
+    ensures answers { KeepsCounts result (V.tells opened.old.view) (V.tells opened.new.view) }
+{
+    match inquiry {
+        Inquiry::Why { question } => answer_to_why(alloc, opened, question),
+        Inquiry::Affects { question } => answer_to_affects(alloc, opened, question),
+        Inquiry::Certify { question } => answer_to_certify(alloc, opened, seal, question),
+        Inquiry::Questions => answer_to_questions(alloc, opened),
+        Inquiry::WhyNot { statement } => Ok(answer_to_statement(alloc, opened, statement)?),
+    }
+}
+
+/// What is answered from a trace of a program, through a view of its events, with what it tells of the statements and its
+/// seal. The view is given back.
+pub fn answer_to_view<V: EventView>(
+    alloc: Global,
+    program: &Program,
+    coverage: &[Cover],
+    view: V,
+    seal: &[u8; 32],
+    inquiry: Inquiry<'_>,
+) -> (V, Result<Answer, ViewError>)
+    requires { length program.now.fields.items < 2 ^ 32 }
+    ensures due { (t : Trace) → IsViewOf t (V.tells view) coverage.now → seal.now ≡ seal_of t
+        → IfOk result.1 (λ answer. Tells program.now t (inquiry_of inquiry.entry)
+        (code_of answer.status) answer.text.items) }
+    ensures settled { IfOk result.1 (λ answer. is_of_files answer.status ≡ false) }
+    ensures keeps { Keeps (V.tells view) (V.tells result.0) }
+    ensures answers { KeepsCounts result.1 (V.tells view) (V.tells result.0) }
+{
+    answer_indexed::<V, Brand>(alloc, program, coverage, view, seal, inquiry, Blank::new(1))
+}
+
+/// The same, with a ledger for the steps, which nobody reads.
+fn answer_indexed<V: EventView, L: Ledger>(
+    alloc: Global,
+    program: &Program,
+    coverage: &[Cover],
+    view: V,
+    seal: &[u8; 32],
+    inquiry: Inquiry<'_>,
+    blank: Blank,
+) -> (V, Result<Answer, ViewError>)
+    requires fields { length program.now.fields.items < 2 ^ 32 }
+    requires name { blank.name ≡ L.name }
+    requires parts { blank.parts ≡ L.parts }
+    requires some { 0 < blank.parts }
+    ensures due { (t : Trace) → IsViewOf t (V.tells view) coverage.now → seal.now ≡ seal_of t
+        → IfOk result.1 (λ answer. Tells program.now t (inquiry_of inquiry.entry)
+        (code_of answer.status) answer.text.items) }
+    ensures settled { IfOk result.1 (λ answer. is_of_files answer.status ≡ false) }
+    ensures keeps { Keeps (V.tells view) (V.tells result.0) }
+    ensures answers { KeepsCounts result.1 (V.tells view) (V.tells result.0) }
+{
+    let mut view = view;
+    let index = match Index::build(alloc, &mut view, program, &mut Steps::<L>::new(blank)) {
+        Ok(index) => index,
+        Err(error) => return (view, Err(error)),
+    };
+    let mut opened = Opened {
+        program,
+        coverage,
+        index,
+        view,
+    };
+    let answer = answer_to_opened(alloc, &mut opened, seal, inquiry);
+    let Opened { view, .. } = opened;
+    (view, answer)
+}
