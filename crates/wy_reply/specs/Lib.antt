@@ -2,6 +2,7 @@ pub mod Statuses
 pub mod Lines
 pub mod Sources
 pub mod Refusals
+pub mod Refused
 pub mod Report
 pub mod Certificates
 pub mod Tellings

@@ -1,15 +1,17 @@
 //! What a call answers, before any byte of it is written.
 ghost use Rattle.std.specs.Prelude.{◌≡◌, IfOk};
+ghost use Rattle.wy_reply.specs.Refused.{IsDoneOrRefused};
 
 use crate::lines::{Refusal, refusal_line};
 use crate::status::Status;
 use std::alloc::{AllocError, Global};
 
-/// A status and the text that is written with it.
+/// A status and the text that is written with it: where the command did not do what it says, one line, which says why.
 #[derive(Drop)]
 pub struct Answer {
     pub status: Status,
     pub text: Vec<u8>,
+    pub ghost line: { ∥ IsDoneOrRefused status text.items ∥₁ },
 }
 
 impl Answer {

@@ -1,9 +1,11 @@
 -- What a call promises, from its answer and what came of writing it.
 use Rattle.std.proofs.Common.{◌≡◌, ◌≢◌, ◌∙◌, sym, ap, refl, inl, inr, ℕ, ◌<◌, ◌⊎◌, List, [], ◌++◌, length, take, drop, Option, arith, subst}
+use Rattle.std.proofs.Math.Logic.{∥∥₁_map}
 use Rattle.std.proofs.Math.Seq.{take-length}
 use Rattle.std.proofs.lemmas.List.{take-append-drop}
 use Rattle.wy_outside.specs.Counts.{Rose}
 use Rattle.wy_outside.specs.Shelf.{Files}
+use Rattle.wy_outside.specs.Sink.{appended}
 use Rattle.wy_reply.specs.declared.answer.Answer.{Answer}
 use Rattle.wy_reply.specs.declared.status.Status.{Status}
 use Rattle.wy_reply.specs.declared.status.Status.TheVariants.{Done, Usage, Absent, Program, Trace, Question, Fault, TooLong, NoMemory, Audit, Certificate}
@@ -12,7 +14,8 @@ use Rattle.wy_session.specs.Talk.{IsPrefixOf}
 use Rattle.wy_top.specs.Answers.{Counts, IsAnswer, IsFault, Knows}
 use Rattle.wy_top.specs.Deliveries.{Delivers, WritesPart}
 use Rattle.wy_top.specs.Left.{StartsNone}
-use Rattle.wy_top.specs.Call.{BeginsDue, Failures, IsFaultBehind, WritesDue, WritesFaultLine, WritesPrefix, alone, whole}
+use Rattle.wy_reply.specs.Refused.{IsDoneOrRefused}
+use Rattle.wy_top.specs.Call.{BeginsDue, Failures, IsFaultBehind, WritesDue, WritesFaultLine, WritesPrefix, WritesRefusal, alone, whole}
 
 -- ---- statuses by their numbers
 
@@ -155,3 +158,17 @@ pub recorder_fault : (words : List (List ℕ)) (held : Option Files) (keys : Opt
     Delivers answer status n m before after → code ≡ code_of status → old.recorder < new.recorder → (code ≡ 7) ⊎ (code ≡ 9)
 recorder_fault words held keys old new n m before after answer status code (inl (fault, line)) delivers is less = rw (is) (delivered_fault answer status n m before after delivers fault)
 recorder_fault words held keys old new n m before after answer status code (inr (same, due)) delivers is less = absurd (omega (arith, less, ap (λ (c : Counts). c.recorder) same))
+
+-- ---- one line alone
+
+refused_line : (before after : Option (List ℕ)) (answer : Answer) (code : ℕ) → code ≡ code_of answer.status → after ≡ appended before answer.text.items → code ≢ 0
+    → IsDoneOrRefused answer.status answer.text.items → WritesRefusal code before after
+refused_line before after answer code is all some (inl done) = absurd (some (is ∙ ap code_of done))
+refused_line before after answer code is all some (inr refused) = (answer.status, answer.text.items, is, refused, all)
+
+pub written_alone : (n m : ℕ) (before after : Option (List ℕ)) (answer : Answer) (status : Status) (code : ℕ) → Delivers answer status n m before after → code ≡ code_of status → code ≢ 0 → code ≢ 9 → ¬ Rose n m
+    → ∥ WritesRefusal code before after ∥₁
+written_alone n m before after answer status code (inl (same, kept, all)) is some enough out =
+    ∥∥₁_map answer.line (refused_line before after answer code (is ∙ ap code_of same) all some)
+written_alone n m before after answer status code (inr (inl (fault, rose, part))) is some enough out = absurd (out rose)
+written_alone n m before after answer status code (inr (inr (memory, kept, part))) is some enough out = absurd (enough (is ∙ ap code_of memory))

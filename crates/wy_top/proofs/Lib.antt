@@ -13,3 +13,4 @@ pub mod Generated
 pub mod LeftLemmas
 mod OwnTraces
 mod Certified
+mod Sound

@@ -108,7 +108,7 @@ ranges_are p = λ i. record {
   newlines = newlines_of (statements_of (program_of p));
 }
 
-same_ranges : (p q : memory.Program) → program_of p ≡ program_of q → p.lines.items ≡ q.lines.items → ranges_of p ≡ ranges_of q
+pub same_ranges : (p q : memory.Program) → program_of p ≡ program_of q → p.lines.items ≡ q.lines.items → ranges_of p ≡ ranges_of q
 same_ranges p q parts lines = ranges_are p ∙ (λ i. ranges_in (parts i) (lines i)) ∙ sym (ranges_are q)
 
 -- ---- so bytes are read alike under each
@@ -130,7 +130,7 @@ read_at : (p q : memory.Program) (bytes : List ℕ) (h : Result (Head × ℕ) Tr
 read_at p q bytes (Ok x) r same is = read_behind p q x.0 (drop x.1 bytes) r same is
 read_at p q bytes (Err e) r same is = is
 
-read_alike : (p q : memory.Program) (bytes : List ℕ) (r : Result Trace TraceError) → ranges_of p ≡ ranges_of q → IsReadAs p bytes r → IsReadAs q bytes r
+pub read_alike : (p q : memory.Program) (bytes : List ℕ) (r : Result Trace TraceError) → ranges_of p ≡ ranges_of q → IsReadAs p bytes r → IsReadAs q bytes r
 read_alike p q bytes r same is = read_at p q bytes (head_of bytes) r same is
 
 -- ---- lines
@@ -140,12 +140,12 @@ one_trace_line _ _ _ (cut byte) (cut b) = refl
 one_trace_line _ _ _ (damaged byte rule) (damaged b r) = refl
 one_trace_line _ _ _ bad_seal bad_seal = refl
 
-says : (e : TraceError) (x : List ℕ) → IsTraceLine e x → SaysOfBytes (Err e)
+pub says : (e : TraceError) (x : List ℕ) → IsTraceLine e x → SaysOfBytes (Err e)
 says _ _ (cut byte) = tt
 says _ _ (damaged byte rule) = tt
 says _ _ bad_seal = tt
 
-abbrev failed : TraceError → Result Trace TraceError
+abbrev pub failed : TraceError → Result Trace TraceError
 failed e = Err e
 
 -- ---- what is told
@@ -236,10 +236,10 @@ head_at x = Ok x
 one_pair : (x y : Head × ℕ) → head_at x ≡ head_at y → x ≡ y
 one_pair x y e = cc
 
-one_head : (bytes : List ℕ) (h g : Head) (m n : ℕ) → head_of bytes ≡ Ok (h, m) → head_of bytes ≡ Ok (g, n) → g ≡ h
+pub one_head : (bytes : List ℕ) (h g : Head) (m n : ℕ) → head_of bytes ≡ Ok (h, m) → head_of bytes ≡ Ok (g, n) → g ≡ h
 one_head bytes h g m n a b = ap (λ (x : Head × ℕ). x.0) (one_pair (g, n) (h, m) (sym b ∙ a))
 
-abbrev no_head_at : TraceError → Result (Head × ℕ) TraceError
+abbrev pub no_head_at : TraceError → Result (Head × ℕ) TraceError
 no_head_at e = Err e
 
 pub one_of_bytes : Known → Traces → (bytes : List ℕ) (w : Wanted) (s u : ℕ) (x y : List ℕ) → DueForBytes bytes w s x → DueForBytes bytes w u y → (s ≡ u) × SameOfTrace bytes x y

@@ -12,7 +12,7 @@ use Rattle.wy_tree.specs.TokenLaws.{TokensInOrder}
 use Rattle.wy_steps.specs.Sets.{nothing}
 use Rattle.wy_meaning.specs.Run.{events}
 use Rattle.wy_whynot.specs.Laws.{ItemsAreACut}
-use Rattle.law_reached.specs.Laws.{EachItemIsNeeded}
+use Rattle.law_reached.specs.Laws.{CallsStandOnLinks, EachItemIsNeeded}
 use Rattle.wy_frames.specs.Heads.{head_of}
 use Rattle.wy_outside.specs.Shelf.{Files}
 use Rattle.wy_words.specs.Words.{Asks, Command, Why, Affects, WhyNot, IsNoCommand, AskOneCommand}
@@ -47,6 +47,7 @@ pub record CutLaws : Type 0 where
   pub ordered : TokensInOrder
   pub cut : ItemsAreACut
   pub needed : OfTexts (EachItemIsNeeded nothing)
+  pub calls : OfTexts (CallsStandOnLinks nothing)
 
 least : CutLaws → (source : List ℕ) (p : memory.Program) (lines input : List ℕ) (steps : ℕ) (word text : List ℕ) → length source ≤ source_limit → IsProgramOf source p →
     BlockedAnswer (program_of p) lines input steps word text → CutAnswer (program_of p) lines input steps word text
@@ -58,6 +59,7 @@ least laws source p lines input steps word text short of b =
         cut = laws.cut (program_of p) (events nothing (program_of p) input steps) b.covers b.number b.items b.never b.items_are;
         needed = laws.needed source of.spans of.becomes.tree of.read of.becomes.reads few (length of.spans) (program_of p) of.becomes.elaborated input steps b.covers b.number b.items b.covers_are b.never b.items_are;
       };
+      calls = laws.calls source of.spans of.becomes.tree of.read of.becomes.reads few (length of.spans) (program_of p) of.becomes.elaborated input steps b.covers b.covers_are;
     }
 
 by_run : CutLaws → (source : List ℕ) (p : memory.Program) (input : List ℕ) (steps : ℕ) (w : Wanted) (text : List ℕ) → length source ≤ source_limit → IsProgramOf source p →

@@ -27,7 +27,7 @@ use Rattle.wy_record.specs.declared.recorder.Phase.{Phase}
 use Rattle.wy_reply.specs.Recordings.{Spelling}
 use Rattle.wy_top.specs.Answers.{AsksToExplore, IsAnswer, Knows, counts}
 use Rattle.wy_top.specs.Left.{FinishesProgram, Leaves}
-use Rattle.wy_top.specs.Call.{BeginsDue, AnswersEach, Carries, Cuts, Failures, IsFaultBehind, IsOpened, Traces, WritesAll, WritesCarried, WritesCut, WritesDue, WritesFaultLine, WritesPrefix, failures, of_keys}
+use Rattle.wy_top.specs.Call.{BeginsDue, AnswersEach, Carries, Cuts, Failures, IsFaultBehind, IsOpened, Traces, WritesAll, WritesCarried, WritesCut, WritesDue, WasRefused, WritesFaultLine, WritesPrefix, WritesRefusal, failures, of_keys}
 use Rattle.wy_top.specs.Call as call
 use Rattle.wy_top.specs.Deliveries.{Delivers}
 use Rattle.wy_top.specs.Due.{Due, DueForTrace}
@@ -35,7 +35,7 @@ use Rattle.wy_top.specs.Due as due
 use Rattle.wy_top.specs.Openings.{AnswersAny, Explores, Keys, Output, refused, memory, status_of}
 use Rattle.wy_top.specs.Openings as opening
 use Rattle.wy_top.specs.Replies.{ShelfCounts}
-use Rattle.wy_top.proofs.Delivered.{delivered_fault, prefix_of, part_of}
+use Rattle.wy_top.proofs.Delivered.{delivered_fault, prefix_of, part_of, written_alone}
 
 -- ---- what is known
 
@@ -250,6 +250,17 @@ explored_too_long words name held sb sa kb ka b a _ x (opening.session p t endin
 explored_too_long words name held sb sa kb ka b a _ x (opening.session p t ending.OutFailed same opened closed takes) is = absurd cc
 explored_too_long words name held sb sa kb ka b a _ x (opening.session p t ending.NoMemory same opened closed takes) is = absurd cc
 explored_too_long words name held sb sa kb ka b a _ x (memory stayed kept) is = absurd cc
+
+pub explored_alone : (words : List (List ℕ)) (name : List ℕ) (held : Option Files) (sb sa : ShelfCounts) (kb ka : Keys) (b a : Output) (s : Status) (code : ℕ) → Session words name → Explores held name sb sa kb ka b a s →
+    code ≡ code_of s → WasRefused words code → ¬ Rose b.faults a.faults → ∥ WritesRefusal code b.written a.written ∥₁
+explored_alone words name held sb sa kb ka b a _ code x (refused answer s cause any stayed delivers) is was out = written_alone b.faults a.faults b.written a.written answer s code delivers is was.0 was.1 out
+explored_alone words name held sb sa kb ka b a _ code x (opening.session p t ending.Done same opened closed takes) is was out = absurd (was.0 is)
+explored_alone words name held sb sa kb ka b a _ code x (opening.session p t ending.LongLine same opened closed takes) is was out = absurd ((was.2 (name, x.asks)).1 is)
+explored_alone words name held sb sa kb ka b a _ code x (opening.session p t ending.LongInput same opened closed takes) is was out = absurd ((was.2 (name, x.asks)).1 is)
+explored_alone words name held sb sa kb ka b a _ code x (opening.session p t ending.KeysFailed same opened closed takes) is was out = absurd ((was.2 (name, x.asks)).0 is)
+explored_alone words name held sb sa kb ka b a _ code x (opening.session p t ending.OutFailed same opened closed takes) is was out = absurd ((was.2 (name, x.asks)).0 is)
+explored_alone words name held sb sa kb ka b a _ code x (opening.session p t ending.NoMemory same opened closed takes) is was out = absurd (was.1 is)
+explored_alone words name held sb sa kb ka b a _ code x (memory stayed kept) is was out = absurd (was.1 is)
 
 pub explored_fault : (X : Type 0) (words : List (List ℕ)) (name : List ℕ) (held : Option Files) (sb sa : ShelfCounts) (kb ka : Keys) (b a : Output) (s : Status) → Session words name → Explores held name sb sa kb ka b a s → s ≡ Fault →
     Rose sb.faults sa.faults ⊎ X ⊎ Rose b.faults a.faults ⊎ (AsksToExplore words × Rose kb.faults ka.faults)

@@ -15,6 +15,9 @@ use Rattle.wy_session.specs.Talk.{BeginsTalk, IsPrefixOf}
 use Rattle.wy_session.specs.Closings.{keys_fault_line}
 use Rattle.wy_words.specs.Words.{Asked, Asks, Command, Explore, Record, Why, Affects, WhyNot}
 use Rattle.wy_reply.specs.Carried.{AffectedAnswer, CarriedAnswer}
+use Rattle.wy_reply.specs.Refused.{IsRefused}
+use Rattle.wy_reply.specs.Statuses.{code_of}
+use Rattle.wy_reply.specs.declared.status.Status.{Status}
 use Rattle.wy_reply.specs.Recordings.{HoldTrace, IsTraceOf, Spelling, trace_spelling}
 use Rattle.wy_reply.specs.Tellings.{Wanted, covers_of}
 use Rattle.wy_reply.specs.Tellings as wanted
@@ -71,6 +74,14 @@ WritesPrefix words held keys faults_before faults_after before after =
     × ((part ≡ [])
     ⊎ ((said : List ℕ) × (line : List ℕ) × (prefix : List ℕ) × IsFaultBehind words held keys faults_before faults_after said line × IsPrefixOf prefix line × (part ≡ said ++ prefix))
     ⊎ ((faults_after ≡ faults_before) × (Knows words held keys → BeginsDue words held keys part)))
+
+-- the command was refused: its status is neither 0 nor 9 nor, where the words ask for a session, one with which a session may end
+abbrev pub WasRefused : List (List ℕ) → ℕ → Type 0
+WasRefused words status = (status ≢ 0) × (status ≢ 9) × (AsksToExplore words → (status ≢ 7) × (status ≢ 8))
+
+-- the one line of a refusal with this status was written, and nothing else
+abbrev pub WritesRefusal : ℕ → Option (List ℕ) → Option (List ℕ) → Type 0
+WritesRefusal status before after = (s : Status) × (line : List ℕ) × (status ≡ code_of s) × IsRefused s line × (after ≡ appended before line)
 
 -- the run that was asked for is traced: each mirror that tells its bytes holds the trace of the source's program
 pub record Traced (s : Spelling) (files : Files) (a : Asked) (old new : Mirrors) : Type 0 where

@@ -12,3 +12,4 @@ pub mod Recorders
 pub mod Openings
 pub mod Left
 pub mod OwnTraces
+pub mod Sound

@@ -7,6 +7,7 @@ ghost use Rattle.wy_steps.specs.Sets.{nothing};
 ghost use Rattle.wy_top.specs.Causes.{ProgramsAreNotRefused};
 ghost use Rattle.wy_top.specs.Due.{Due, AreSyntaxLines};
 ghost use Rattle.wy_top.specs.OwnTraces.{RecordedTracesAreNotRefused, RecordedTracesAreRead};
+ghost use Rattle.wy_top.specs.Sound.{SoundCallsSucceed};
 ghost use Rattle.wy_top.specs.Texts.{OfTexts};
 ghost use Rattle.law_typed_states.specs.Laws.{StatesAreTyped};
 
@@ -38,6 +39,25 @@ pub fn one_answer_is_due()
     ensures { (words : List (List ℕ)) (held : Option Files) (keys : Option (List ℕ)) (s t : ℕ)
         (x y : List ℕ) → Due words held keys s x → Due words held keys t y
         → (s ≡ t) × ((x ≡ y) ⊎ AreSyntaxLines words held x y) }
+{
+    a_text_has_one_token_list();
+    a_refused_text_has_no_tokens();
+    a_token_list_has_one_tree();
+    a_text_has_one_program();
+    bytes_are_read_in_one_way();
+    one_answer_to_questions();
+    one_answer_to_whynot();
+    one_audit_is_due();
+    one_certificate_is_made();
+    one_verdict_is_due();
+    one_talk();
+    words_ask_one_command();
+}
+
+/// Where the files are there and within their limits, the source is a program or the bytes are a sealed trace, and what is asked names
+/// something, nothing is due but status 0; of an audit also 10, and of a check also 11.
+pub fn sound_calls_succeed()
+    ensures { SoundCallsSucceed }
 {
     a_text_has_one_token_list();
     a_refused_text_has_no_tokens();

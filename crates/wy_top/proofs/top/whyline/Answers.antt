@@ -3,9 +3,9 @@ use Rattle.std.specs.Prelude.{option_map, string_bytes}
 use Rattle.wy_words.specs.Views.{request_of}
 use Rattle.wy_top.specs.Answers.{IsAsked}
 use Rattle.wy_top.proofs.RunAnswers.{written_so}
-use Rattle.wy_top.proofs.Delivered.{written_due, prefix, answered_done, answered_starts_none, answered_usage, done_at, fault_at, fault_cause, fault_line, shelf_fault, recorder_fault, too_long_at}
+use Rattle.wy_top.proofs.Delivered.{written_alone, written_due, prefix, answered_done, answered_starts_none, answered_usage, done_at, fault_at, fault_cause, fault_line, shelf_fault, recorder_fault, too_long_at}
 use Rattle.wy_top.proofs.LeftLemmas.{some_untouched}
-use Rattle.wy_top.proofs.Sessions.{explored_due, explored_prefix, explored_fault_line, explored_shelf_fault, explored_out_fault, explored_carried, explored_cut, explored_fault, explored_finishes, explored_leaves, explored_too_long, explored_traces, is_command, is_session, nothing_prefix, session_of}
+use Rattle.wy_top.proofs.Sessions.{explored_alone, explored_due, explored_prefix, explored_fault_line, explored_shelf_fault, explored_out_fault, explored_carried, explored_cut, explored_fault, explored_finishes, explored_leaves, explored_too_long, explored_traces, is_command, is_session, nothing_prefix, session_of}
 use Rattle.wy_top.proofs.Requests.{asked_nothing, asked_once, few_asked, no_recording, none_asked, nothing_asked}
 use Rattle.wy_top.proofs.top.whyline.Given as given
 use Rattle.wy_top.proofs.top.whyline.Goals as goal
@@ -41,6 +41,12 @@ returns-in-Some-Explore-clause-cut g c = λ zero. explored_cut _ _ _ _ _ _ _ _ _
 
 pub returns-in-Some-Explore-clause-fault_line : goal.returns-in-Some-Explore-clause-fault_line
 returns-in-Some-Explore-clause-fault_line g c = λ seven. explored_fault_line _ _ _ _ _ _ _ _ _ _ _ (session_of c.words_ask_one_command.ensures _ c.in-Ok.command c.in-Some-Explore.trace c.in-Ok.ensures.asked (c.in-Some-Explore.is ∙ ap Some (rw (c.in-Some-Explore.is) at c.in-Some-Explore.field-0-is))) c.explore_trace.ensures.explores (fault_at _ (sym c.code-in-Some-Explore.ensures ∙ seven))
+
+pub returns-in-Some-Explore-clause-alone : goal.returns-in-Some-Explore-clause-alone
+returns-in-Some-Explore-clause-alone g c = λ was out. explored_alone _ _ _ _ _ _ _ _ _ _ _ (session_of c.words_ask_one_command.ensures _ c.in-Ok.command c.in-Some-Explore.trace c.in-Ok.ensures.asked (c.in-Some-Explore.is ∙ ap Some (rw (c.in-Some-Explore.is) at c.in-Some-Explore.field-0-is))) c.explore_trace.ensures.explores c.code-in-Some-Explore.ensures was out
+
+pub returns-in-Ok-answer_to-clause-alone : goal.returns-in-Ok-answer_to-clause-alone
+returns-in-Ok-answer_to-clause-alone g c = λ was out. written_alone _ _ _ _ c.in-Ok-answer_to.answer _ _ c.deliver.ensures c.code-in-Ok-answer_to.ensures was.0 was.1 out
 
 pub returns-in-Some-Explore-clause-shelf_fault : goal.returns-in-Some-Explore-clause-shelf_fault
 returns-in-Some-Explore-clause-shelf_fault g c = λ less. rw (c.code-in-Some-Explore.ensures) (explored_shelf_fault _ _ _ _ _ _ _ _ _ c.explore_trace.ensures.explores less)
