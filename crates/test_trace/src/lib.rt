@@ -18,6 +18,8 @@ mod frames;
 #[cfg(test)]
 mod framing;
 #[cfg(test)]
+mod kinds;
+#[cfg(test)]
 mod memory;
 #[cfg(test)]
 mod mirrors;
