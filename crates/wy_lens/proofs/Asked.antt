@@ -47,7 +47,7 @@ among given a e told has other = elim has [ inl memory ↦ absurd (other memory)
 pub fault_asks : (given : List Text) (a : App) (e : Error) (r : Request) → a ≡ table → HasKind (fault_of a given) e → IsFault (kind_of e) (Some r) → Asks given r
 fault_asks given a e (Explain source) told has is = absurd is
 fault_asks given a e (Tell trace telling) told has is = absurd is
-fault_asks given a e (Compare good bad) told has is = absurd is
+fault_asks given a e (Compare beside trace other) told has is = absurd is
 fault_asks given a e Help told has is =
     words.help (subst (λ k. IsAmong k (fault_of table given)) is (among given a e told has (λ memory. absurd (help_no_memory (sym memory ∙ is)))))
   where

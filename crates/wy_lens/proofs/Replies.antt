@@ -11,11 +11,12 @@ use Rattle.wy_fold.specs.Stops.{StopsAt}
 use Rattle.wy_lens.specs.Answers.{IsBytesAnswer, SpeaksOfNoFile}
 use Rattle.wy_lens.specs.Statuses.{code_of}
 use Rattle.wy_lens.specs.Replies.{Denies, IsTold, IsUnopenedAs, NamesNoEvent}
-use Rattle.wy_lens.specs.Traces.{DueForBytes, IsUnopenedLine, OfQuestion, OfStop, OnLine, Says, Tells, Told}
+use Rattle.wy_lens.specs.Traces.{DueForBytes, IsUnopenedLine, OfQuestion, OfReport, OfStop, OnLine, Says, Tells, Told}
 use Rattle.wy_lens.specs.Traces as due
 use Rattle.wy_lens.specs.Words.{Telling}
 use Rattle.wy_lens.specs.declared.answer.Answer.{Answer}
 use Rattle.wy_lens.specs.declared.status.Status.TheVariants.{Done, Question, Trace}
+use Rattle.wy_report.specs.Page.{IsReport}
 use Rattle.wy_program.specs.Openings.{IsUnopenedFor, Opens}
 use Rattle.wy_program.specs.declared.opening.OpenTrace.{OpenTrace}
 use Rattle.wy_program.specs.declared.opening.OpeningError.{OpeningError}
@@ -77,6 +78,19 @@ unopened_told bytes telling e line answer why is refused says =
 pub unopened_bytes : (bytes : List ℕ) (telling : Telling) (e : OpeningError) (r : Result Answer AllocError) → IsUnopenedFor bytes e → IfOk r (IsUnopenedAs e) → IfOk r (IsBytesAnswer bytes telling)
 unopened_bytes bytes telling e (Ok a) why says = unopened_told bytes telling e a.text.items a why says.1 says.0 refl
 unopened_bytes bytes telling e (Err x) why says = tt
+
+-- ---- a page
+
+pub reported : (p : Program) (rs : List Recorded) (source question : List ℕ) (event : ℕ) (answer : Answer) → FindsAsked (program_of p) rs question (Ok event) → answer.status ≡ Done
+    → IsReport (program_of p) p.lines.items source rs event answer.text.items → IsTold (OfReport p rs source question) answer
+reported p rs source question event answer finds done is = (done_quiet answer done, (Ok event, finds, (ap code_of done, is)))
+
+pub no_report : (p : Program) (rs : List Recorded) (source question : List ℕ) (error : AskError) (r : Result Answer AllocError) → FindsAsked (program_of p) rs question (Err error)
+    → IfOk r (NamesNoEvent error) → IfOk r (IsTold (OfReport p rs source question))
+no_report p rs source question BadQuestion (Ok a) finds says = (question_quiet a says.0, (Err BadQuestion, finds, (ap code_of says.0, says.1)))
+no_report p rs source question (NoSuch n) (Ok a) finds says = (question_quiet a says.0, (Err (NoSuch n), finds, (ap code_of says.0, says.1)))
+no_report p rs source question NoMemory (Ok a) finds says = absurd says
+no_report p rs source question error (Err e) finds says = tt
 
 -- ---- a line
 

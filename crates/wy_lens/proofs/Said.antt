@@ -2,9 +2,10 @@
 use Rattle.std.proofs.Common.{◌≡◌, ◌≢◌, ◌∙◌, sym, refl, inl, inr, ℕ, List, Result, Ok, Err, IfOk, Option, Some}
 use Rattle.std.specs.declared.alloc.AllocError.{AllocError}
 use Rattle.wy_lens.specs.Answers.{Answers, HasCause, IsAnswer, IsFileAnswer, Knows}
-use Rattle.wy_lens.specs.Due.{Due, DueForSource, DueForTrace, DueForTraces}
+use Rattle.wy_lens.specs.Due.{Due, DueForFiles, DueForSource, DueForTrace}
 use Rattle.wy_lens.specs.Due as due
 use Rattle.wy_lens.specs.Statuses.{code_of}
+use Rattle.wy_lens.specs.declared.words.Beside.{Beside}
 use Rattle.wy_lens.specs.Words.{AskNothing, Asks, Compare, Explain, Tell, Telling}
 use Rattle.wy_lens.specs.declared.answer.Answer.{Answer}
 use Rattle.wy_lens.specs.declared.status.Status.{Status}
@@ -51,10 +52,10 @@ pub known_trace : (words : List (List ℕ)) (held : Option Files) (name : List �
 known_trace words held name telling asks status text by (inl none) = absurd (none.trace name telling asks)
 known_trace words held name telling asks status text by (inr (files, is)) = due.told name telling files status text asks is (by files is)
 
-pub known_traces : (words : List (List ℕ)) (held : Option Files) (good bad : List ℕ) → Asks words (Compare good bad) → (status : ℕ) (text : List ℕ)
-    → ((files : Files) → held ≡ Some files → DueForTraces files good bad status text) → Knows words held → Due words held status text
-known_traces words held good bad asks status text by (inl none) = absurd (none.traces good bad asks)
-known_traces words held good bad asks status text by (inr (files, is)) = due.compared good bad files status text asks is (by files is)
+pub known_pair : (words : List (List ℕ)) (held : Option Files) (beside : Beside) (trace other : List ℕ) → Asks words (Compare beside trace other) → (status : ℕ) (text : List ℕ)
+    → ((files : Files) → held ≡ Some files → DueForFiles beside files trace other status text) → Knows words held → Due words held status text
+known_pair words held beside trace other asks status text by (inl none) = absurd (none.pair beside trace other asks)
+known_pair words held beside trace other asks status text by (inr (files, is)) = due.compared beside trace other files status text asks is (by files is)
 
 pub file_answers : (words : List (List ℕ)) (held : Option Files) (by : Files → ℕ → List ℕ → Type 0) (n m : ℕ) (r : Result Answer AllocError)
     → ((status : ℕ) (text : List ℕ) → ((files : Files) → held ≡ Some files → by files status text) → Knows words held → Due words held status text)

@@ -5,6 +5,7 @@ use Rattle.wy_lens.specs.Statuses.{code_of}
 use Rattle.wy_lens.specs.Texts.{absent_line, fault_line}
 use Rattle.wy_lens.specs.Traces.{DueForBytes}
 use Rattle.wy_lens.specs.Pairs.{DueForPair}
+use Rattle.wy_lens.specs.declared.words.Beside.{Beside}
 use Rattle.wy_lens.specs.Words.{Asks, Compare, Explain, Tell, Telling}
 use Rattle.wy_lens.specs.declared.answer.Answer.{Answer}
 use Rattle.wy_lens.specs.declared.status.Status.TheVariants.{Absent, Fault, TooLong, Usage}
@@ -17,7 +18,7 @@ use Rattle.wy_outside.specs.Sink.{appended}
 pub record AskNoFile (words : List (List ℕ)) : Type 0 where
   pub source : (name : List ℕ) → ¬ Asks words (Explain name)
   pub trace : (name : List ℕ) (telling : Telling) → ¬ Asks words (Tell name telling)
-  pub traces : (good bad : List ℕ) → ¬ Asks words (Compare good bad)
+  pub pair : (beside : Beside) (trace other : List ℕ) → ¬ Asks words (Compare beside trace other)
 
 -- the words ask for no file, or the shelf tells its files
 abbrev pub Knows : List (List ℕ) → Option Files → Type 0
@@ -43,8 +44,8 @@ IsSourceAnswer name source answer = SpeaksOfNoFile answer × DueFor name source 
 abbrev pub IsBytesAnswer : List ℕ → Telling → Answer → Type 0
 IsBytesAnswer bytes telling answer = SpeaksOfNoFile answer × DueForBytes bytes telling (code_of answer.status) answer.text.items
 
-abbrev pub IsPairAnswer : List ℕ → List ℕ → List ℕ → Answer → Type 0
-IsPairAnswer good bad name answer = SpeaksOfNoFile answer × DueForPair good bad name (code_of answer.status) answer.text.items
+abbrev pub IsPairAnswer : Beside → List ℕ → List ℕ → List ℕ → Answer → Type 0
+IsPairAnswer beside trace other name answer = SpeaksOfNoFile answer × DueForPair trace other name beside (code_of answer.status) answer.text.items
 
 -- the same for the file of a name
 abbrev pub IsFileAnswer : (Files → ℕ → List ℕ → Type 0) → Option Files → ℕ → ℕ → Answer → Type 0

@@ -7,6 +7,7 @@ use Rattle.wy_lens.specs.Refusals.{IsExplained}
 use Rattle.wy_lens.specs.Texts.{absent_line, help_text, too_long_line, usage_text, version_text}
 use Rattle.wy_lens.specs.Traces.{DueForBytes}
 use Rattle.wy_lens.specs.Pairs.{DueForPair}
+use Rattle.wy_lens.specs.declared.words.Beside.{Beside}
 use Rattle.wy_lens.specs.Words.{Asks, AskNothing, Compare, Explain, Tell, Telling, Help, Version}
 use Rattle.wy_outside.specs.Shelf.{Files}
 use Rattle.wy_program.specs.Programs.{IsProgramOf}
@@ -32,9 +33,10 @@ DueForSource files name = DueForFile files name source_limit (DueFor name)
 abbrev pub DueForTrace : Files → List ℕ → Telling → ℕ → List ℕ → Type 0
 DueForTrace files name telling = DueForFile files name trace_limit (λ bytes. DueForBytes bytes telling)
 
--- the same for the files of two names
-abbrev pub DueForTraces : Files → List ℕ → List ℕ → ℕ → List ℕ → Type 0
-DueForTraces files good bad = DueForFile files good trace_limit (λ first. DueForFile files bad trace_limit (λ second. DueForPair first second bad))
+-- the same for the trace of a name and the file of another
+abbrev pub DueForFiles : Beside → Files → List ℕ → List ℕ → ℕ → List ℕ → Type 0
+DueForFiles beside files trace other =
+    DueForFile files trace trace_limit (λ first. DueForFile files other trace_limit (λ second. DueForPair first second other beside))
 
 -- the status and the text that are due, by the files where they are told
 pub data Due (words : List (List ℕ)) (held : Option Files) : ℕ → List ℕ → Type 0 where
@@ -45,5 +47,5 @@ pub data Due (words : List (List ℕ)) (held : Option Files) : ℕ → List ℕ 
       → Due words held status text
   told : (name : List ℕ) (telling : Telling) (files : Files) (status : ℕ) (text : List ℕ) → Asks words (Tell name telling) → held ≡ Some files → DueForTrace files name telling status text
       → Due words held status text
-  compared : (good bad : List ℕ) (files : Files) (status : ℕ) (text : List ℕ) → Asks words (Compare good bad) → held ≡ Some files
-      → DueForTraces files good bad status text → Due words held status text
+  compared : (beside : Beside) (trace other : List ℕ) (files : Files) (status : ℕ) (text : List ℕ) → Asks words (Compare beside trace other) → held ≡ Some files
+      → DueForFiles beside files trace other status text → Due words held status text

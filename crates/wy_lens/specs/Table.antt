@@ -36,5 +36,5 @@ top = record (new_shape (codes "whylens")) { no_binary_name = true; disable_help
 
 abbrev pub table : App
 table =
-    with_subcommand (with_subcommand (with_subcommand (with_subcommand (with_subcommand (record { top = top; subs = [] }) (sub (codes "explain"))) (sub (codes "show")))
-    (sub (codes "slice"))) (sub (codes "diff"))) (sub (codes "events"))
+    with_subcommand (with_subcommand (with_subcommand (with_subcommand (with_subcommand (with_subcommand (with_subcommand (record { top = top; subs = [] })
+    (sub (codes "explain"))) (sub (codes "show"))) (sub (codes "slice"))) (sub (codes "report"))) (sub (codes "diff"))) (sub (codes "expect"))) (sub (codes "events"))

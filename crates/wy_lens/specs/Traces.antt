@@ -10,6 +10,7 @@ use Rattle.wy_fold.specs.Asked.{FindsAsked}
 use Rattle.wy_fold.specs.Shown.{all_events_text, events_on, line_events_text, show_text, slice_text}
 use Rattle.wy_fold.specs.Stops.{StopsAt}
 use Rattle.wy_fold.specs.declared.fold.Showing.{Showing}
+use Rattle.wy_report.specs.Page.{IsReport}
 use Rattle.wy_reply.specs.Lines.{not_read_line, no_such_line, of_trace}
 use Rattle.wy_reply.specs.Sources.{source_refusal_text}
 use Rattle.wy_reply.specs.Tellings.{IsTraceLine}
@@ -18,7 +19,7 @@ use Rattle.wy_program.specs.declared.opening.OpenTrace.{OpenTrace}
 use Rattle.wy_program.specs.declared.opening.OpeningError.{OpeningError}
 use Rattle.wy_program.specs.declared.opening.OpeningError.TheVariants as opening
 use Rattle.wy_program.specs.declared.source.SourceError.TheVariants as source
-use Rattle.wy_lens.specs.Words.{Telling, Show, Slice, Events}
+use Rattle.wy_lens.specs.Words.{Telling, Show, Slice, Report, Events}
 
 -- ---- what is told of an event
 
@@ -48,6 +49,17 @@ AtStop tell None = Says 6 (no_such_line 0)
 abbrev pub OfStop : ℕ → ℕ → (ℕ → List ℕ) → Told
 OfStop last count tell status text = (found : Option ℕ) × StopsAt last count found × AtStop tell found status text
 
+-- ---- a page
+
+-- the page of the event that was found, or why none was
+abbrev pub Reports : Program → List Recorded → List ℕ → Result ℕ AskError → Told
+Reports p rs source (Ok event) status text = (status ≡ 0) × IsReport (program_of p) p.lines.items source rs event text
+Reports p rs source (Err e) status text = OfEvent (λ event. []) (Err e) status text
+
+abbrev pub OfReport : Program → List Recorded → List ℕ → List ℕ → Told
+OfReport p rs source question status text =
+    (found : Result ℕ AskError) × FindsAsked (program_of p) rs question found × Reports p rs source found status text
+
 -- ---- all events
 
 -- the lines of these events, where there are some on the line
@@ -73,6 +85,7 @@ abbrev pub Tells : Program → List Recorded → ℕ → List ℕ → Telling �
 Tells p rs last source (Show (Some question) showing) = OfQuestion p rs question (shown_of p rs source showing)
 Tells p rs last source (Show None showing) = OfStop last (length rs) (shown_of p rs source showing)
 Tells p rs last source (Slice question) = OfQuestion p rs question (sliced_by p rs source)
+Tells p rs last source (Report question) = OfReport p rs source question
 Tells p rs last source (Events None) = Says 0 (all_events_text (program_of p) p.lines.items rs)
 Tells p rs last source (Events (Some word)) = OfLine p rs (number_of word)
 

@@ -9,19 +9,22 @@ use Rattle.clap.specs.declared.error.kind.ErrorKind.{ErrorKind}
 use Rattle.clap.specs.declared.error.kind.ErrorKind.TheVariants as kind
 use Rattle.wy_fold.specs.declared.fold.Showing.{Showing}
 use Rattle.wy_lens.specs.Table.{table}
+use Rattle.wy_lens.specs.declared.words.Beside.{Beside}
+use Rattle.wy_lens.specs.declared.words.Beside.TheVariants.{Run, Output}
 
 -- what is told of a trace: the answer to a question, or to why its run stopped, by lines; the lines of the source that an answer stands
--- on; all events, or those of a line
+-- on; the answer as a page; all events, or those of a line
 pub data Telling : Type 0 where
   Show : (question : Option Text) (showing : Showing) → Telling
   Slice : (question : Text) → Telling
+  Report : (question : Text) → Telling
   Events : (line : Option Text) → Telling
 
 -- what can be asked
 pub data Request : Type 0 where
   Explain : (source : Text) → Request
   Tell : (trace : Text) (telling : Telling) → Request
-  Compare : (good bad : Text) → Request
+  Compare : (beside : Beside) (trace other : Text) → Request
   Help : Request
   Version : Request
 
@@ -50,20 +53,22 @@ telling_in name rows =
     if bytes_eq name (codes "show") then shown (is_set (codes "stop") rows) (first_of (codes "second") rows) (showing_in rows)
     else (if has_options rows then None
     else (if bytes_eq name (codes "slice") then option_map Slice (first_of (codes "second") rows)
-    else (if bytes_eq name (codes "events") then Some (Events (first_of (codes "second") rows)) else None)))
+    else (if bytes_eq name (codes "report") then option_map Report (first_of (codes "second") rows)
+    else (if bytes_eq name (codes "events") then Some (Events (first_of (codes "second") rows)) else None))))
 
 unfoldable pub explaining : List Row → Text → Option Request
 explaining rows source = if has_options rows || is_some (first_of (codes "second") rows) then None else Some (Explain source)
 
--- a trace is compared with another one
-unfoldable pub comparing : List Row → Text → Option Request
-comparing rows good = if has_options rows then None else option_map (Compare good) (first_of (codes "second") rows)
+-- a trace is compared with another file
+unfoldable pub comparing : Beside → List Row → Text → Option Request
+comparing beside rows trace = if has_options rows then None else option_map (Compare beside trace) (first_of (codes "second") rows)
 
 -- what it asks of a file
 unfoldable pub request_for : Text → List Row → Text → Option Request
 request_for name rows file =
     if bytes_eq name (codes "explain") then explaining rows file
-    else (if bytes_eq name (codes "diff") then comparing rows file else option_map (Tell file) (telling_in name rows))
+    else (if bytes_eq name (codes "diff") then comparing Run rows file
+    else (if bytes_eq name (codes "expect") then comparing Output rows file else option_map (Tell file) (telling_in name rows)))
 
 -- what the command that is entered asks: its first operand is a file
 abbrev pub request_in : Option (Text × List Row) → Option Request
@@ -76,7 +81,7 @@ request_in (Some p) = option_and_then (request_for p.0 p.1) (first_of (codes "fi
 abbrev pub IsFault : ErrorKind → Option Request → Type 0
 IsFault k (Some (Explain source)) = ⊥
 IsFault k (Some (Tell trace telling)) = ⊥
-IsFault k (Some (Compare good bad)) = ⊥
+IsFault k (Some (Compare beside trace other)) = ⊥
 IsFault k (Some Help) = k ≡ kind.DisplayHelp
 IsFault k (Some Version) = k ≡ kind.DisplayVersion
 IsFault k None = (k ≢ kind.DisplayHelp) × (k ≢ kind.DisplayVersion) × (k ≢ kind.OutOfMemory)

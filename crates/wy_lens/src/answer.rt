@@ -3,7 +3,7 @@ ghost use Rattle.std.specs.Prelude.{◌≡◌, ◌≢◌, ◌≤◌, IfOk, lengt
 ghost use Rattle.wy_kernel.specs.Limits.{source_limit, trace_limit};
 ghost use Rattle.wy_explain.specs.Explained.{program_line};
 ghost use Rattle.wy_lens.specs.Answers.{HasCause, IsAnswer, IsFileAnswer, IsSourceAnswer, Lacks};
-ghost use Rattle.wy_lens.specs.Due.{DueForFile, DueForSource, DueForTrace, DueForTraces};
+ghost use Rattle.wy_lens.specs.Due.{DueForFile, DueForFiles, DueForSource, DueForTrace};
 ghost use Rattle.wy_lens.specs.Pairs.{DueForPair};
 ghost use Rattle.wy_lens.specs.Refusals.{IsExplained};
 ghost use Rattle.wy_lens.specs.Views.{telling_of};
@@ -15,7 +15,7 @@ use crate::pair::answer_to_pair;
 use crate::refusal::explained;
 use crate::status::Status;
 use crate::traced::answer_to_bytes;
-use crate::words::{Request, Telling, asked_by};
+use crate::words::{Beside, Request, Telling, asked_by};
 use std::alloc::{AllocError, Global};
 use wy_constant::SourceRefusal;
 use wy_explain::program_line;
@@ -111,49 +111,51 @@ fn answer_to_trace<S: Shelf>(
     }
 }
 
-/// What is due for the traces of two names.
-fn answer_to_traces<S: Shelf>(
+/// What is due for the trace of a name and the file of another.
+fn answer_to_files<S: Shelf>(
     alloc: Global,
     shelf: &mut S,
-    good: &str,
-    bad: &str,
+    trace: &str,
+    other: &str,
+    beside: Beside,
 ) -> Result<Answer, AllocError>
     ensures due { IfOk result (λ answer. IsFileAnswer
-        (λ files. DueForTraces files good.now bad.now)
+        (λ files. DueForFiles beside files trace.now other.now)
         (S.held shelf.old) (S.faults shelf.old) (S.faults shelf.new) answer) }
     ensures causes { IfOk result (λ answer. HasCause (S.misses shelf.old) (S.misses shelf.new)
         (S.fulls shelf.old) (S.fulls shelf.new) answer) }
     ensures asked { IfOk result (λ answer. answer.status ≢ Status.Usage) }
     ensures files_stay { S.held shelf.new ≡ S.held shelf.old }
 {
-    match shelf.read(alloc, good, TRACE_LIMIT + 1) {
-        Ok(bytes) if bytes.len() > TRACE_LIMIT as usize => too_long(alloc, good),
-        Ok(bytes) => answer_beside(alloc, shelf, bytes.as_slice(), bad),
-        Err(error) => lacking(alloc, good, error),
+    match shelf.read(alloc, trace, TRACE_LIMIT + 1) {
+        Ok(bytes) if bytes.len() > TRACE_LIMIT as usize => too_long(alloc, trace),
+        Ok(bytes) => answer_beside(alloc, shelf, bytes.as_slice(), other, beside),
+        Err(error) => lacking(alloc, trace, error),
     }
 }
 
-/// What is due for the bytes of a trace and the trace of a name.
+/// What is due for the bytes of a trace and the file of a name.
 fn answer_beside<S: Shelf>(
     alloc: Global,
     shelf: &mut S,
-    good: &[u8],
-    bad: &str,
+    trace: &[u8],
+    other: &str,
+    beside: Beside,
 ) -> Result<Answer, AllocError>
-    requires { length good.now ≤ trace_limit }
+    requires { length trace.now ≤ trace_limit }
     ensures due { IfOk result (λ answer. IsFileAnswer
-        (λ files. DueForFile files bad.now trace_limit (λ second.
-        DueForPair good.now second bad.now))
+        (λ files. DueForFile files other.now trace_limit (λ second.
+        DueForPair trace.now second other.now beside))
         (S.held shelf.old) (S.faults shelf.old) (S.faults shelf.new) answer) }
     ensures causes { IfOk result (λ answer. HasCause (S.misses shelf.old) (S.misses shelf.new)
         (S.fulls shelf.old) (S.fulls shelf.new) answer) }
     ensures asked { IfOk result (λ answer. answer.status ≢ Status.Usage) }
     ensures files_stay { S.held shelf.new ≡ S.held shelf.old }
 {
-    match shelf.read(alloc, bad, TRACE_LIMIT + 1) {
-        Ok(bytes) if bytes.len() > TRACE_LIMIT as usize => too_long(alloc, bad),
-        Ok(bytes) => answer_to_pair(alloc, good, bytes.as_slice(), bad),
-        Err(error) => lacking(alloc, bad, error),
+    match shelf.read(alloc, other, TRACE_LIMIT + 1) {
+        Ok(bytes) if bytes.len() > TRACE_LIMIT as usize => too_long(alloc, other),
+        Ok(bytes) => answer_to_pair(alloc, trace, bytes.as_slice(), other, beside),
+        Err(error) => lacking(alloc, other, error),
     }
 }
 
@@ -185,7 +187,13 @@ pub fn answer_to<S: Shelf>(
     match asked_by(alloc, words)? {
         Some(Request::Explain { source }) => answer_to_file(alloc, shelf, source),
         Some(Request::Tell { trace, telling }) => answer_to_trace(alloc, shelf, trace, telling),
-        Some(Request::Compare { good, bad }) => answer_to_traces(alloc, shelf, good, bad),
+        Some(
+            Request::Compare {
+                beside,
+                trace,
+                other,
+            },
+        ) => answer_to_files(alloc, shelf, trace, other, beside),
         Some(Request::Help) => help(alloc),
         Some(Request::Version) => version(alloc),
         None => usage(alloc),

@@ -51,7 +51,9 @@ pub fn help(alloc: Global) -> Result<Answer, AllocError>
 show TRACE QUESTION [--all] [--data]   the answer of whyline why by the lines of the source: how often each ran, and what was last there
 show TRACE --stop [--all] [--data]     the same of where the run stopped
 slice TRACE QUESTION                   the source, only the lines of the answer
+report TRACE QUESTION                  the answer as a page for a browser: the source, the events, and links between them
 diff GOOD BAD                          where two runs of one source part, and what to ask next of the second one
+expect TRACE FILE                      where the output is not what stands in a file: the first print that is another, or what never printed
 events TRACE [LINE]                    all events, or those of a line
 --version                              names the program
 ",

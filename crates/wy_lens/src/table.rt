@@ -28,7 +28,9 @@ pub fn table<'a>(alloc: Global) -> Result<Command<'a>, AllocError>
     let table = table.subcommand(arguments(alloc, "explain")?)?;
     let table = table.subcommand(arguments(alloc, "show")?)?;
     let table = table.subcommand(arguments(alloc, "slice")?)?;
+    let table = table.subcommand(arguments(alloc, "report")?)?;
     let table = table.subcommand(arguments(alloc, "diff")?)?;
+    let table = table.subcommand(arguments(alloc, "expect")?)?;
     table.subcommand(arguments(alloc, "events")?)
 }
 

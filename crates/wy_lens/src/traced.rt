@@ -5,7 +5,7 @@ ghost use Rattle.wy_event.specs.Record.{recorded};
 ghost use Rattle.wy_kernel.specs.Limits.{trace_limit};
 ghost use Rattle.wy_lens.specs.Answers.{IsBytesAnswer};
 ghost use Rattle.wy_lens.specs.Replies.{IsTold, IsUnopenedAs, NamesNoEvent};
-ghost use Rattle.wy_lens.specs.Traces.{OfQuestion, OfStop, Tells, shown_of, sliced_by};
+ghost use Rattle.wy_lens.specs.Traces.{OfQuestion, OfReport, OfStop, Tells, shown_of, sliced_by};
 ghost use Rattle.wy_lens.specs.Words as words;
 ghost use Rattle.wy_lens.specs.Views.{telling_of};
 ghost use Rattle.wy_view.specs.References.{AllRefersBelow};
@@ -23,10 +23,11 @@ use wy_fold::{
 use wy_program::{OpenTrace, OpeningError, SourceError, trace_of_bytes};
 use wy_reply::lines::refusal_line;
 use wy_reply::{Refusal, answer_to_trace_error};
+use wy_report::report_text;
 use wy_view::{EventView, MemoryView};
 
 /// The text of a telling, and the status that stands with it.
-fn done(text: Vec<u8>) -> Answer
+pub(crate) fn done(text: Vec<u8>) -> Answer
     ensures status { result.status ≡ Status.Done }
     ensures text { result.text.items ≡ text.items }
 {
@@ -86,6 +87,23 @@ fn sliced(
 {
     match asked_event(alloc, opened, question) {
         Ok(event) => Ok(done(slice_text(alloc, opened, source, event)?)),
+        Err(error) => no_answer(alloc, error),
+    }
+}
+
+/// The page of the event that a question asks about.
+fn reported(
+    alloc: Global,
+    opened: &mut Opened<'_, MemoryView>,
+    source: &[u8],
+    question: &str,
+) -> Result<Answer, AllocError>
+    requires { IsOpenedOf (whole opened.old.view.events.items None) opened.old }
+    ensures { IfOk result (IsTold (OfReport opened.old.program.now
+        (map recorded opened.old.view.events.items) source.now question.now)) }
+{
+    match asked_event(alloc, opened, question) {
+        Ok(event) => Ok(done(report_text(alloc, opened, source, event)?)),
         Err(error) => no_answer(alloc, error),
     }
 }
@@ -155,6 +173,7 @@ fn tell(
             showing,
         } => stopped(alloc, opened, source, tail, showing),
         Telling::Slice { question } => sliced(alloc, opened, source, question),
+        Telling::Report { question } => reported(alloc, opened, source, question),
         Telling::Events { line } => events(alloc, opened, line),
     }
 }

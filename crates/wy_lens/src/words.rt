@@ -24,10 +24,23 @@ pub enum Telling<'a> {
     Slice {
         question: &'a str,
     },
+    /// The answer to a question as a page.
+    Report {
+        question: &'a str,
+    },
     /// All events, or those of a line.
     Events {
         line: Option<&'a str>,
     },
+}
+
+/// What a trace is compared with.
+#[derive(Clone, Copy)]
+pub enum Beside {
+    /// The trace of a second run of its source.
+    Run,
+    /// What its run was expected to print.
+    Output,
 }
 
 /// What can be asked.
@@ -40,10 +53,11 @@ pub enum Request<'a> {
         trace: &'a str,
         telling: Telling<'a>,
     },
-    /// Where two runs part.
+    /// Where a run and another one part, or a run and what was expected of it.
     Compare {
-        good: &'a str,
-        bad: &'a str,
+        beside: Beside,
+        trace: &'a str,
+        other: &'a str,
     },
     Help,
     Version,
@@ -90,7 +104,10 @@ fn request_for<'a>(name: &str, found: &ArgMatches<'a>, file: &'a str) -> Option<
         return explaining(found, file);
     }
     if name == "diff" {
-        return comparing(found, file);
+        return comparing(Beside::Run, found, file);
+    }
+    if name == "expect" {
+        return comparing(Beside::Output, found, file);
     }
     match telling_in(name, found) {
         Some(telling) => Some(Request::Tell {
@@ -113,17 +130,21 @@ fn explaining<'a>(found: &ArgMatches<'a>, source: &'a str) -> Option<Request<'a>
     Some(Request::Explain { source })
 }
 
-/// A trace is compared with another one.
+/// A trace is compared with another file.
 #[tactic(auto, unfolding(crate::specs::Words::comparing))]
-fn comparing<'a>(found: &ArgMatches<'a>, good: &'a str) -> Option<Request<'a>>
+fn comparing<'a>(beside: Beside, found: &ArgMatches<'a>, trace: &'a str) -> Option<Request<'a>>
     ensures { option_map request_of result
-        ≡ comparing_in (rows_of (found_of found.now)) good.now }
+        ≡ comparing_in beside (rows_of (found_of found.now)) trace.now }
 {
     if has_options(found) {
         return None;
     }
     match value(found, SECOND) {
-        Some(bad) => Some(Request::Compare { good, bad }),
+        Some(other) => Some(Request::Compare {
+            beside,
+            trace,
+            other,
+        }),
         None => None,
     }
 }
@@ -147,6 +168,12 @@ fn telling_in<'a>(name: &str, found: &ArgMatches<'a>) -> Option<Telling<'a>>
     if name == "slice" {
         return match value(found, SECOND) {
             Some(question) => Some(Telling::Slice { question }),
+            None => None,
+        };
+    }
+    if name == "report" {
+        return match value(found, SECOND) {
+            Some(question) => Some(Telling::Report { question }),
             None => None,
         };
     }

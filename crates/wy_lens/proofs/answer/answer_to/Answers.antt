@@ -1,10 +1,10 @@
 use Rattle.std.proofs.Common.{map, string_bytes}
 use Rattle.wy_lens.specs.Due as due
-use Rattle.wy_lens.specs.Due.{DueForSource, DueForTrace, DueForTraces}
+use Rattle.wy_lens.specs.Due.{DueForFiles, DueForSource, DueForTrace}
 use Rattle.wy_lens.specs.Texts.{help_text, usage_text, version_text}
 use Rattle.wy_lens.specs.Views.{telling_of}
 use Rattle.wy_lens.specs.declared.status.Status.TheVariants.{Done, Usage}
-use Rattle.wy_lens.proofs.Said.{file_answers, known_source, known_trace, known_traces, never_usage, said_asked, said_causes, said_due, said_usage}
+use Rattle.wy_lens.proofs.Said.{file_answers, known_pair, known_source, known_trace, never_usage, said_asked, said_causes, said_due, said_usage}
 use Rattle.wy_lens.proofs.answer.answer_to.Goals as goal
 
 pub returns-in-Some-Explain-clause-due : goal.returns-in-Some-Explain-clause-due
@@ -25,11 +25,11 @@ returns-in-Some-Tell-clause-usage g c = never_usage (map string_bytes c.args.wor
 
 pub returns-in-Some-Compare-clause-due : goal.returns-in-Some-Compare-clause-due
 returns-in-Some-Compare-clause-due g c =
-    file_answers (map string_bytes c.args.words.now) _ (λ files. DueForTraces files c.in-Some-Compare.good.now c.in-Some-Compare.bad.now) _ _ c.answer_to_traces.result
-    (known_traces (map string_bytes c.args.words.now) _ c.in-Some-Compare.good.now c.in-Some-Compare.bad.now (rw (c.in-Some-Compare.is, c.in-Some-Compare.field-0-is) at c.in_ok-source.ensures.asked)) c.answer_to_traces.ensures.due
+    file_answers (map string_bytes c.args.words.now) _ (λ files. DueForFiles c.in-Some-Compare.beside files c.in-Some-Compare.trace.now c.in-Some-Compare.other.now) _ _ c.answer_to_files.result
+    (known_pair (map string_bytes c.args.words.now) _ c.in-Some-Compare.beside c.in-Some-Compare.trace.now c.in-Some-Compare.other.now (rw (c.in-Some-Compare.is, c.in-Some-Compare.field-0-is) at c.in_ok-source.ensures.asked)) c.answer_to_files.ensures.due
 
 pub returns-in-Some-Compare-clause-usage : goal.returns-in-Some-Compare-clause-usage
-returns-in-Some-Compare-clause-usage g c = never_usage (map string_bytes c.args.words.now) c.answer_to_traces.result c.answer_to_traces.ensures.asked
+returns-in-Some-Compare-clause-usage g c = never_usage (map string_bytes c.args.words.now) c.answer_to_files.result c.answer_to_files.ensures.asked
 
 pub returns-in-Some-Help-clause-due : goal.returns-in-Some-Help-clause-due
 returns-in-Some-Help-clause-due g c =

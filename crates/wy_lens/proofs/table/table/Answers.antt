@@ -17,6 +17,10 @@ returns c =
     let three = c.in_ok-table-3.ensures.shape c.in_ok-arguments-3.ensures.own
     ∙ ap (with_subcommand (app_of c.in_ok-table-2.table)) c.in_ok-arguments-3.ensures.shape ∙ ap (λ a. with_subcommand a (sub (codes "slice"))) two in
     let four = c.in_ok-table-4.ensures.shape c.in_ok-arguments-4.ensures.own
-    ∙ ap (with_subcommand (app_of c.in_ok-table-3.table)) c.in_ok-arguments-4.ensures.shape ∙ ap (λ a. with_subcommand a (sub (codes "diff"))) three in
-    IfOk-weaker c.subcommand-5.result _ _ (λ after adds. adds.shape c.in_ok-arguments-5.ensures.own
-    ∙ ap (with_subcommand (app_of c.in_ok-table-4.table)) c.in_ok-arguments-5.ensures.shape ∙ ap (λ a. with_subcommand a (sub (codes "events"))) four) c.subcommand-5.ensures
+    ∙ ap (with_subcommand (app_of c.in_ok-table-3.table)) c.in_ok-arguments-4.ensures.shape ∙ ap (λ a. with_subcommand a (sub (codes "report"))) three in
+    let five = c.in_ok-table-5.ensures.shape c.in_ok-arguments-5.ensures.own
+    ∙ ap (with_subcommand (app_of c.in_ok-table-4.table)) c.in_ok-arguments-5.ensures.shape ∙ ap (λ a. with_subcommand a (sub (codes "diff"))) four in
+    let six = c.in_ok-table-6.ensures.shape c.in_ok-arguments-6.ensures.own
+    ∙ ap (with_subcommand (app_of c.in_ok-table-5.table)) c.in_ok-arguments-6.ensures.shape ∙ ap (λ a. with_subcommand a (sub (codes "expect"))) five in
+    IfOk-weaker c.subcommand-7.result _ _ (λ after adds. adds.shape c.in_ok-arguments-7.ensures.own
+    ∙ ap (with_subcommand (app_of c.in_ok-table-6.table)) c.in_ok-arguments-7.ensures.shape ∙ ap (λ a. with_subcommand a (sub (codes "events"))) six) c.subcommand-7.ensures

@@ -1,0 +1,5 @@
+pub mod Beside
+pub mod Expected
+pub mod Laws
+pub mod Printers
+pub mod Texts

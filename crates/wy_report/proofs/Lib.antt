@@ -1,0 +1,11 @@
+mod Texts
+mod Signs
+mod Tags
+mod Values
+mod Anchors
+mod Links
+mod Written
+mod Lines
+mod Rows
+mod Reports
+mod Alone
