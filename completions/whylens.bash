@@ -12,9 +12,10 @@ _whylens_files() { # SUFFIX BEGINNING: the files of the suffix, and folders
 _whylens() {
   local begun=${COMP_WORDS[COMP_CWORD]} replies=''
   case $COMP_CWORD:${COMP_WORDS[1]} in
-    1:*) replies=$(compgen -W 'explain show slice diff events --help --version' -- "$begun") ;;
+    1:*) replies=$(compgen -W 'explain show slice report expect diff events --help --version' -- "$begun") ;;
     2:explain) replies=$(_whylens_files java "$begun") ;;
-    2:show | 2:slice | 2:events | 2:diff | 3:diff) replies=$(_whylens_files trace "$begun") ;;
+    2:show | 2:slice | 2:report | 2:expect | 2:events | 2:diff | 3:diff) replies=$(_whylens_files trace "$begun") ;;
+    3:expect) replies=$(compgen -f -- "$begun") ;;
     *:show) replies=$(compgen -W '--all --data --stop' -- "$begun") ;;
   esac
   COMPREPLY=()

@@ -40,11 +40,13 @@ offer _whyline "$program certify $scratch/discount.trace p" 'p0 p1 p2'
 : >"$scratch/discount.cert"
 offer _whyline "whyline check $scratch/discount.trace $scratch/dis" "$scratch/discount.cert"
 offer _whyline 'whyline gen ' ''
-offer _whylens 'whylens ' '--help --version diff events explain show slice'
+offer _whylens 'whylens ' '--help --version diff events expect explain report show slice'
 offer _whylens './whylens s' 'show slice'
 offer _whylens 'whylens explain examples/ref' 'examples/refused.java'
 offer _whylens "whylens slice $scratch/over" "$scratch/overridden.trace"
 offer _whylens "whylens diff $scratch/discount.trace $scratch/over" "$scratch/overridden.trace"
+offer _whylens "whylens report $scratch/over" "$scratch/overridden.trace"
+offer _whylens "whylens expect $scratch/discount.trace examples/overr" 'examples/overridden.expected examples/overridden.java examples/overridden.out'
 offer _whylens "whylens show $scratch/discount.trace -" '--all --data --stop'
 offer _whylens "whylens show $scratch/discount.trace p0 --d" '--data'
 finish completion
