@@ -6,13 +6,17 @@ use crate::programs::PROGRAMS;
 use std::test::Fail;
 
 /// A command, and how many files it reads.
-static COMMANDS: [(&str, u32); 6] = [
+static COMMANDS: [(&str, u32); 10] = [
     ("run Main.java -i in", 2),
     ("run Main.java", 1),
     ("record Main.java -i in -o new", 2),
     ("output old", 1),
     ("audit old", 1),
     ("why old p0", 1),
+    ("affects old e0", 1),
+    ("certify old p0", 1),
+    ("questions old", 1),
+    ("gen 3", 0),
 ];
 
 fn same(left: &Left, whole: &Left) -> bool {

@@ -1,0 +1,19 @@
+-- What a reader lets stand as the end of a trace.
+use Rattle.std.specs.Prelude.{◌≡◌, ℕ, ◌<◌, ◌≤◌, true, List, length}
+use Rattle.wy_kernel.specs.declared.program.Program.{Program}
+use Rattle.wy_event.specs.declared.record.Head.{Head}
+use Rattle.wy_event.specs.declared.record.Tail.{Tail}
+use Rattle.wy_payload.specs.Closing.{is_thrown}
+use Rattle.wy_payload.specs.Ranges.{ranges_of}
+use Rattle.wy_frames.specs.declared.stage.Stage.TheVariants as stages
+use Rattle.wy_frames.specs.Progress.{Progress, start}
+use Rattle.wy_frames.specs.Scan.{Leaves}
+
+-- behind so many events, of a program with so many statements: a cover for each of these, and where the run ended by a throw, the event that it was
+pub record EndStands (statements count : ℕ) (tail : Tail) : Type 0 where
+  pub covered : length tail.coverage.statements ≡ statements
+  pub stop : tail.stop ≤ 11
+  pub last : is_thrown tail.stop ≡ true → tail.last < count
+
+abbrev pub ReadEndsStand : Type 0
+ReadEndsStand = (p : Program) (head : Head) (fed : List ℕ) (t : Progress) (rest : List ℕ) (tail : Tail) (seal : List ℕ) → Leaves (ranges_of p) head.steps (start head) fed t rest → t.stage ≡ stages.Sealed tail seal → EndStands p.statements (length t.placed) tail

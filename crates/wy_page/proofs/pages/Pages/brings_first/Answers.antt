@@ -1,0 +1,19 @@
+-- The cache stays as large, and has the blocks that it had.
+use Rattle.std.proofs.Common.{ℕ, ap, subst, sym, ◌∙◌}
+use Rattle.std.specs.Prelude.{Vec}
+use Rattle.std.specs.declared.alloc.Global.{Global}
+use Rattle.lru.specs.LruCache.{LruCache}
+use Rattle.wy_event.specs.declared.record.Event.{Event}
+use Rattle.wy_page.specs.Blocks.{AreBlocks}
+use Rattle.wy_page.proofs.Held.{promoted_blocks}
+use Rattle.wy_page.proofs.pages.Pages.brings_first.Goals as goal
+
+pub invariant_of-self : goal.invariant_of-self
+invariant_of-self c =
+    let p = c.args.self.now in
+    let entries = c.promote.ensures.entries in
+    record {
+      places = p.places;
+      room = ap (λ (x : LruCache ℕ (Vec Event Global)). x.cap) entries ∙ p.room;
+      blocks = subst (λ (x : LruCache ℕ (Vec Event Global)). AreBlocks p.count x.entries) (sym entries) (promoted_blocks p.count c.args.block p.held.entries p.blocks);
+    }

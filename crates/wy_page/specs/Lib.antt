@@ -1,0 +1,7 @@
+pub mod Frames
+pub mod Blocks
+pub mod Refusals
+pub mod Paged
+pub mod Places
+pub mod Reads
+pub mod Opening
