@@ -22,7 +22,7 @@ use Rattle.wy_page.specs.Refusals.{refused}
 use Rattle.wy_page.specs.declared.pages.Pages.{Pages}
 use Rattle.wy_page.specs.Blocks.{block_length, block_of, size_of_block}
 use Rattle.wy_page.specs.Frames.{AreFrames, ReadAs}
-use Rattle.wy_page.specs.Paged.{IsBlockTold, IsNoBlock, IsOfShelf, block_bytes, records_of, records_told, told_by}
+use Rattle.wy_page.specs.Paged.{HasDigest, IsBlockTold, IsNoBlock, IsOfShelf, block_bytes, records_of, records_told, told_by}
 use Rattle.wy_page.proofs.Frames.{length_from}
 
 -- the bytes that were read of a block, and its records, where the file is told
@@ -104,3 +104,9 @@ pub refused_counts : (p new : Pages) (held : Option Files) (from len faults miss
 refused_counts p new held from len faults misses after later lender shelf.Failed of read failed absent = failed
 refused_counts p new held from len faults misses after later lender shelf.Absent of read failed absent = (absent, failed, never_gone p held from len of read)
 refused_counts p new held from len faults misses after later lender shelf.NoMemory of read failed absent = failed
+
+-- ---- told or not
+
+pub has_digest : (p : Pages) (b : ℕ) (bytes : List ℕ) (r : Result (Vec Event Global) ViewError) → IfOk r (λ _. slice_get p.digests.items b ≡ Some (sha256 bytes)) → IfOk r (λ events. AsItsRecords p b bytes events.items) → IfOk r (λ events. HasDigest p b events.items)
+has_digest p b bytes (Ok events) kept read = (bytes, kept, read)
+has_digest p b bytes (Err e) kept read = tt

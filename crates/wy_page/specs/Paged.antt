@@ -12,8 +12,8 @@ use Rattle.std.specs.Borrow.{GName}
 use Rattle.std.specs.declared.alloc.Global.{Global}
 use Rattle.wy_view.specs.declared.view.ViewError.{ViewError}
 use Rattle.wy_view.specs.declared.view.ViewError.TheVariants.{Changed, NoMemory}
-use Rattle.wy_page.specs.Blocks.{Order, block_length, block_of}
-use Rattle.wy_page.specs.Frames.{AreFrames, records_from}
+use Rattle.wy_page.specs.Blocks.{Order, block_length, block_of, size_of_block}
+use Rattle.wy_page.specs.Frames.{AreFrames, ReadAs, records_from}
 use Rattle.wy_page.specs.declared.pages.Pages.{Pages}
 
 -- the bytes of block b of a file, by where blocks begin
@@ -76,6 +76,10 @@ IsChange old new block bytes _ = ⊥
 abbrev pub IsNoBlock : Pages → Pages → ℕ → List ℕ → ViewError → Type 0
 IsNoBlock old new block bytes NoMemory = new ≡ old
 IsNoBlock old new block bytes e = IsChange old new block bytes e
+
+-- they are read from bytes that have the digest which was kept of the block
+abbrev pub HasDigest : Pages → ℕ → List Event → Type 0
+HasDigest p b events = (bytes : List ℕ) × (slice_get p.digests.items b ≡ Some (sha256 bytes)) × ReadAs (block_length * b) (size_of_block p.count b) bytes events
 
 -- these are the records of the block, where the files are told
 abbrev pub IsBlockTold : Pages → Option Files → ℕ → List Event → Type 0

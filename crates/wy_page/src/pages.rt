@@ -198,6 +198,8 @@ impl Pages {
         ensures block { IfOk result (λ events. IsBlock self.old.count block events.items) }
         ensures read { IfOk result (λ events. ReadAs (block_length * block)
             (size_of_block self.old.count block) bytes.now events.items) }
+        ensures kept { IfOk result (λ _.
+            slice_get self.old.digests.items block ≡ Some (sha256 bytes.now)) }
         ensures same { IfOk result (λ _. self.new ≡ self.old) }
         ensures refused { IfErr result (λ e. IsNoBlock self.old self.new block bytes.now e) }
         ensures file { KeepsFile self.old self.new }

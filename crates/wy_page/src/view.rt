@@ -58,7 +58,7 @@ impl<'a, S: Shelf> PagedView<'a, S, Pages> {
     ghost use Rattle.wy_view.specs.View.{KeepsCounts};
     ghost use Rattle.wy_view.specs.Counts.{count_after};
     ghost use Rattle.wy_page.specs.Blocks.{IsBlock};
-    ghost use Rattle.wy_page.specs.Paged.{IsBlockTold, KeepsFile, order_of, told_by};
+    ghost use Rattle.wy_page.specs.Paged.{HasDigest, IsBlockTold, KeepsFile, order_of, told_by};
 
     /// How many blocks were read since the trace was opened.
     pub fn loads(&self) -> u64
@@ -73,6 +73,8 @@ impl<'a, S: Shelf> PagedView<'a, S, Pages> {
         ensures block { IfOk result (λ events. IsBlock self.old.pages.count block events.items) }
         ensures told { IfOk result (λ events.
             IsBlockTold self.old.pages (S.held self.old.shelf.now) block events.items) }
+        ensures kept { IfOk result (λ events.
+            HasDigest self.old.pages block events.items) }
         ensures counts { KeepsCounts result
             (told_by self.old.pages (S.held self.old.shelf.now) (S.faults self.old.shelf.now)
             (S.misses self.old.shelf.now) self.old.shelf.ghost_name)

@@ -11,7 +11,7 @@ use Rattle.wy_page.specs.Frames.{ReadAs}
 use Rattle.wy_page.specs.Refusals.{refused}
 use Rattle.wy_page.specs.Paged.{IsOfShelf, told_by}
 use Rattle.wy_page.proofs.Fits.{fits_same}
-use Rattle.wy_page.proofs.Told.{counts_if, refused_counts, told_if}
+use Rattle.wy_page.proofs.Told.{counts_if, has_digest, refused_counts, told_if}
 use Rattle.wy_page.proofs.view.PagedView+S+Pages.load.Goals as goal
 
 pub invariant_of-self : goal.invariant_of-self
@@ -54,3 +54,6 @@ returns-in-Err-clause-counts g c =
     subst (λ (e : ViewError). RefusedFor e told (told_by p (g.S.Shelf.held now) (g.S.Shelf.faults now) (g.S.Shelf.misses now) lender)) (sym c.refusal.ensures)
     (subst (λ (h : Option Files). KeepsCounts {X = Vec Event Global} (Err (refused c.in-Err.error)) told (told_by p h (g.S.Shelf.faults now) (g.S.Shelf.misses now) lender)) (sym c.read.ensures.held)
     (refused_counts p p held (slice_index p.starts.items b) (slice_index p.starts.items (b + 1) - slice_index p.starts.items b) (g.S.Shelf.faults shelf) (g.S.Shelf.misses shelf) (g.S.Shelf.faults now) (g.S.Shelf.misses now) lender c.in-Err.error c.args.self.now.fits c.in-Err.ensures.content c.in-Err.ensures.failed c.in-Err.ensures.absent))
+
+pub returns-in-Ok-clause-kept : goal.returns-in-Ok-clause-kept
+returns-in-Ok-clause-kept g c = has_digest c.args.self.now.pages c.args.block c.as_slice.result.now c.events_of.result c.events_of.ensures.kept c.events_of.ensures.read
