@@ -1,3 +1,4 @@
 mod Placing
 mod Telling
 mod Endings
+mod Sealing

@@ -1,13 +1,14 @@
--- What a reader lets stand as the end of a trace.
-use Rattle.std.specs.Prelude.{◌≡◌, ℕ, ◌<◌, ◌≤◌, true, List, length}
+-- What a reader lets stand as the end of a trace, and what its bytes end with.
+use Rattle.std.specs.Prelude.{◌≡◌, ℕ, ◌-◌, ◌<◌, ◌≤◌, ◌++◌, true, List, drop, length}
 use Rattle.wy_kernel.specs.declared.program.Program.{Program}
 use Rattle.wy_event.specs.declared.record.Head.{Head}
 use Rattle.wy_event.specs.declared.record.Tail.{Tail}
+use Rattle.wy_spelling.specs.Spelling.{opening}
 use Rattle.wy_payload.specs.Closing.{is_thrown}
 use Rattle.wy_payload.specs.Ranges.{ranges_of}
 use Rattle.wy_frames.specs.declared.stage.Stage.TheVariants as stages
 use Rattle.wy_frames.specs.Progress.{Progress, start}
-use Rattle.wy_frames.specs.Scan.{Leaves}
+use Rattle.wy_frames.specs.Scan.{Leaves, Waits, turn}
 
 -- behind so many events, of a program with so many statements: a cover for each of these, and where the run ended by a throw, the event that it was
 pub record EndStands (statements count : ℕ) (tail : Tail) : Type 0 where
@@ -17,3 +18,10 @@ pub record EndStands (statements count : ℕ) (tail : Tail) : Type 0 where
 
 abbrev pub ReadEndsStand : Type 0
 ReadEndsStand = (p : Program) (head : Head) (fed : List ℕ) (t : Progress) (rest : List ℕ) (tail : Tail) (seal : List ℕ) → Leaves (ranges_of p) head.steps (start head) fed t rest → t.stage ≡ stages.Sealed tail seal → EndStands p.statements (length t.placed) tail
+
+-- these thirty-two are the last of all bytes
+abbrev pub EndsWithSeal : List ℕ → List ℕ → Type 0
+EndsWithSeal bytes seal = (32 ≤ length bytes) × (drop (length bytes - 32) bytes ≡ seal)
+
+abbrev pub ReadTracesEndSealed : Type 0
+ReadTracesEndSealed = (p : Program) (head : Head) (fed : List ℕ) (t : Progress) (rest : List ℕ) (tail : Tail) (seal : List ℕ) → Leaves (ranges_of p) head.steps (start head) fed t rest → turn (ranges_of p) head.steps t rest ≡ Waits → t.stage ≡ stages.Sealed tail seal → EndsWithSeal (opening head ++ fed) seal

@@ -1,8 +1,8 @@
 //! Where the events of a trace stand that is read: their frames stand one behind another behind the head, and the place of
-//! each is behind its own frame; and their bytes tell all of them. And what end a trace has that is read. The functions do nothing: their contracts are the laws.
+//! each is behind its own frame; and their bytes tell all of them. And what end a trace has that is read, and its seal. The functions do nothing: their contracts are the laws.
 #![tactic(auto)]
 
-ghost use Rattle.law_placing.specs.Ended.{ReadEndsStand};
+ghost use Rattle.law_placing.specs.Ended.{ReadEndsStand, ReadTracesEndSealed};
 ghost use Rattle.law_placing.specs.Placed.{ReadEventsArePlaced, ReadEventsAreTold};
 
 use law_reading::recorded_traces_are_read_back;
@@ -24,4 +24,9 @@ pub fn read_events_are_told()
 /// stopped the run, one of the events.
 pub fn read_ends_stand()
     ensures { ReadEndsStand }
+{}
+
+/// The last thirty-two bytes of a trace that is read whole are its seal.
+pub fn read_traces_end_sealed()
+    ensures { ReadTracesEndSealed }
 {}

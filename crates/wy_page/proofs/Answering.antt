@@ -63,4 +63,4 @@ module _ (held : Option Files) (name : List ℕ) (p : Program) (head : Head) (ma
     by (Some files) may (View (view.Changed block kept found)) refused = absurd refused
 
 pub end_stands : (law : ReadEndsStand) (r : Reading) (p : Program) (head : Head) (fed : List ℕ) (t : Progress) → Reads r p head fed t → (pages : Pages) (tail : Tail) → IsWhole pages tail head fed t → EndStands p.statements pages.count tail
-end_stands law r p head fed t h pages tail w = subst (λ (n : ℕ). EndStands p.statements n tail) (sym (whole_count head fed t pages tail w)) (law p head fed t r.scanner.rest.items tail w.seal h.scans.leaves w.sealed)
+end_stands law r p head fed t h pages tail w = subst (λ (n : ℕ). EndStands p.statements n tail) (sym (whole_count head fed t pages tail w)) (law p head fed t r.scanner.rest.items tail pages.seal h.scans.leaves w.sealed)

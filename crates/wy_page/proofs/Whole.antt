@@ -19,6 +19,7 @@ use Rattle.wy_view.specs.References.{RefersBelow}
 use Rattle.wy_frames.specs.Progress.{Progress, event_in}
 use Rattle.wy_frames.specs.declared.stage.ReadEvent.{ReadEvent}
 use Rattle.wy_frames.specs.Traces.{IsReadAs, IsReadBehind}
+use Rattle.law_placing.specs.Ended.{EndsWithSeal, ReadTracesEndSealed}
 use Rattle.law_placing.specs.Placed.{ArePlaced, ReadEventsArePlaced, ReadEventsAreTold}
 use Rattle.law_reading.specs.Referring.{DecodedEventsReferBelow}
 use Rattle.law_reading.specs.Spelled.{AreBytes}
@@ -41,6 +42,7 @@ pub record Laws : Type 0 where
   pub placed : ReadEventsArePlaced
   pub told : ReadEventsAreTold
   pub refer : DecodedEventsReferBelow
+  pub sealed : ReadTracesEndSealed
 
 pub whole_count : (head : Head) (fed : List ℕ) (t : Progress) (pages : Pages) (tail : Tail) → IsWhole pages tail head fed t → pages.count ≡ length t.placed
 whole_count head fed t pages tail w = omega (arith, w.marked.counted, length-map t.placed (λ (x : ReadEvent). x.end))
@@ -56,7 +58,7 @@ module _ (laws : Laws) (r : Reading) (p : Program) (head : Head) (fed : List ℕ
   file_is = begin.spelled ∙ ap (λ l. opening head ++ l) (sym (behind ∙ ap (drop (length (opening head))) begin.spelled ∙ drop_at (opening head) begin.rest (length (opening head)) refl))
 
   read_behind : IsReadBehind p head (drop (length (opening head)) bytes) (Ok trace)
-  read_behind = subst (λ (l : List ℕ). IsReadBehind p head l (Ok trace)) behind (t, record { rest = r.scanner.rest.items; leaves = h.scans.leaves; waits = h.scans.waits }, record { head_is = refl; events = refl; seal = w.seal; sealed = w.sealed })
+  read_behind = subst (λ (l : List ℕ). IsReadBehind p head l (Ok trace)) behind (t, record { rest = r.scanner.rest.items; leaves = h.scans.leaves; waits = h.scans.waits }, record { head_is = refl; events = refl; seal = pages.seal; sealed = w.sealed })
 
   pub is_read : IsReadAs p bytes (Ok trace)
   is_read = rw begin.read read_behind
@@ -136,8 +138,11 @@ module _ (laws : Laws) (r : Reading) (p : Program) (head : Head) (fed : List ℕ
     none_in : (h : ℕ × Vec Event Global) → Contains [] h → ⊥
     none_in h among = search rules
 
+  seal_is : EndsWithSeal bytes pages.seal
+  seal_is = subst (λ (l : List ℕ). EndsWithSeal l pages.seal) (sym file_is) (laws.sealed p head fed t r.scanner.rest.items tail pages.seal h.scans.leaves h.scans.waits w.sealed)
+
   pub is_opened : IsOpened pages tail p bytes
-  is_opened = record { trace = trace; read = is_read; tail_is = refl; records_are = records_are }
+  is_opened = record { trace = trace; read = is_read; tail_is = refl; records_are = records_are; are_bytes = are; seal_is = seal_is }
 
 pub fits_opened : (laws : Laws) (r : Reading) (p : Program) (head : Head) (fed : List ℕ) (t : Progress) → Reads r p head fed t → (pages : Pages) (tail : Tail) → IsWhole pages tail head fed t → AreBytes (opening head) → pages.held.entries ≡ [] → (name : List ℕ) → string_bytes pages.name ≡ name → (held : Option Files)
     → IfSome held (λ files. (bytes : List ℕ) → files name ≡ Some bytes → BeginsWith head bytes) → AreOthers held name (length (opening head)) fed → IsOfShelf pages held

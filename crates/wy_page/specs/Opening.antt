@@ -14,6 +14,7 @@ use Rattle.wy_frames.specs.Heads.{head_of}
 use Rattle.wy_frames.specs.Progress.{start}
 use Rattle.wy_frames.specs.Scan.{Refused}
 use Rattle.wy_frames.specs.Traces.{IsReadAs, ReadsAs}
+use Rattle.law_placing.specs.Ended.{EndsWithSeal}
 use Rattle.law_reading.specs.Spelled.{AreBytes}
 use Rattle.wy_outside.specs.Counts.{Rose}
 use Rattle.wy_outside.specs.Shelf.{Files}
@@ -34,12 +35,14 @@ pub record BeginsWith (head : Head) (bytes : List ℕ) : Type 0 where
 abbrev pub MayBeOpened : Option Files → List ℕ → Head → Type 0
 MayBeOpened held name head = IfSome held (λ files. (bytes : List ℕ) → files name ≡ Some bytes → BeginsWith head bytes)
 
--- these are the records and the end of the trace that bytes are read as
+-- these are the records, the end and the seal of the trace that bytes are read as
 pub record IsOpened (pages : Pages) (tail : Tail) (p : Program) (bytes : List ℕ) : Type 0 where
   pub trace : Trace
   pub read : IsReadAs p bytes (Ok trace)
   pub tail_is : tail ≡ trace.tail
   pub records_are : records_of pages.starts pages.count bytes ≡ map recorded trace.events
+  pub are_bytes : AreBytes bytes
+  pub seal_is : EndsWithSeal bytes pages.seal
 
 -- the answer of a reader of these bytes, unless the shelf failed or memory ran out
 abbrev pub OpensAs : Result (Pages × Tail) PageError → Program → List ℕ → Type 0
@@ -64,12 +67,12 @@ IsUnread held name p head (View view.NoMemory) = Unit {0}
 IsUnread held name p head (View view.Gone) = IfSome held (λ files. files name ≡ Absent)
 IsUnread held name p head (View (view.Changed block kept found)) = ⊥
 
--- what the shelf counted: each of its refusals has its cause, and only ReadFault is a fault
+-- what the shelf counted: each of its refusals has its cause, only ReadFault is a fault, and only Gone a miss
 abbrev pub OpenCounts : {X : Type 0} → Result X PageError → ℕ → ℕ → ℕ → ℕ → Type 0
 OpenCounts (Err (View view.ReadFault)) faults now misses later = Rose faults now
 OpenCounts (Err (View view.Gone)) faults now misses later = Rose misses later × (now ≡ faults)
 OpenCounts (Err (View (view.Changed block kept found))) faults now misses later = ⊥
-OpenCounts r faults now misses later = now ≡ faults
+OpenCounts r faults now misses later = (now ≡ faults) × (later ≡ misses)
 
 -- ---- a front of a file
 

@@ -6,7 +6,7 @@ use Rattle.sha2.specs.Sha256.{sha256}
 use Rattle.wy_event.specs.Record.{Recorded, recorded}
 use Rattle.wy_outside.specs.Shelf.{Files}
 use Rattle.wy_view.specs.Counts.{Rose}
-use Rattle.wy_view.specs.View.{Told}
+use Rattle.wy_view.specs.View.{Lender, Told}
 use Rattle.wy_event.specs.declared.record.Event.{Event}
 use Rattle.std.specs.Borrow.{GName}
 use Rattle.std.specs.declared.alloc.Global.{Global}
@@ -55,6 +55,7 @@ pub record KeepsFile (old new : Pages) : Type 0 where
   pub name : new.name ≡ old.name
   pub starts : new.starts ≡ old.starts
   pub digests : new.digests ≡ old.digests
+  pub seal : new.seal ≡ old.seal
   pub count : new.count ≡ old.count
 
 -- a block was found changed, which is counted: its digest isn't the one that was kept; and nothing else changes
@@ -87,4 +88,4 @@ IsBlockTold p held b events = IfSome (records_told p held) (λ rs. map recorded 
 
 -- what a view of it tells, over a shelf of these files that failed and missed so often, and that was borrowed so
 abbrev pub told_by : Pages → Option Files → ℕ → ℕ → GName → Told
-told_by p held faults misses lender = record { records = records_told p held; reads = Some p.reads; count = p.count; faults = faults; misses = misses; changes = p.changes; lender = Some lender }
+told_by p held faults misses lender = record { records = records_told p held; reads = Some p.reads; count = p.count; faults = faults; misses = misses; changes = p.changes; lender = Some (record { name = lender; holds = held }) }

@@ -46,14 +46,8 @@ ReadsOn (Err e) r p head fed = Refused (ranges_of p) head.steps (start head) fed
 
 -- all was read, up to the seal, and this is kept of it
 pub record IsWhole (pages : Pages) (tail : Tail) (head : Head) (fed : List ℕ) (t : Progress) : Type 0 where
-  pub seal : List ℕ
-  pub sealed : t.stage ≡ stages.Sealed tail seal
+  pub sealed : t.stage ≡ stages.Sealed tail pages.seal
   pub marked : AreAllMarked pages.starts.items pages.digests.items pages.count (places head t) (opening head ++ fed)
-
--- the bytes end with the seal of this end, or before it
-abbrev pub EndsSealed : Result Tail TraceError → Head → List ℕ → Progress → Type 0
-EndsSealed (Ok tail) head fed t = (seal : List ℕ) × (t.stage ≡ stages.Sealed tail seal)
-EndsSealed (Err e) head fed t = Finishes (Err e) head fed t
 
 -- all was read, or it ends before the seal
 abbrev pub ReadsAll : Result (Pages × Tail) TraceError → Head → List ℕ → Progress → Type 0

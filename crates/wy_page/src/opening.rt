@@ -5,7 +5,6 @@ ghost use Rattle.wy_event.specs.declared.record.Head.{Head};
 ghost use Rattle.wy_event.specs.Record.{recorded};
 ghost use Rattle.wy_fitting.specs.Fits.{AllFit};
 ghost use Rattle.wy_frames.specs.Progress.{Progress, event_in, start};
-ghost use Rattle.wy_frames.specs.Scanning.{Scans};
 ghost use Rattle.wy_kernel.specs.declared.program.Program.{Program};
 ghost use Rattle.wy_kernel.specs.Limits.{trace_limit};
 ghost use Rattle.wy_spelling.specs.Spelling.{opening};
@@ -14,12 +13,14 @@ ghost use Rattle.law_reading.specs.Spelled.{AreBytes};
 ghost use Rattle.wy_page.specs.Opening.{IsUnread, MayBeOpened, OpenCounts, Opens};
 ghost use Rattle.wy_page.specs.Paged.{IsFresh, IsOfShelf};
 ghost use Rattle.wy_page.specs.Places.{AreMarked, RiseTo, ends_of};
-ghost use Rattle.wy_page.specs.Reads.{AreOthers, EndsSealed, IsReading, Reads, ReadsAll, ReadsOn};
+ghost use Rattle.wy_page.specs.Reads.{AreOthers, IsReading, Reads, ReadsAll, ReadsOn};
 
 use crate::error::{PageError, refusal};
 use crate::marks::Marks;
 use crate::pages::Pages;
-use law_placing::{read_ends_stand, read_events_are_placed, read_events_are_told};
+use law_placing::{
+    read_ends_stand, read_events_are_placed, read_events_are_told, read_traces_end_sealed,
+};
 use law_reading::decoded_events_refer_below;
 use std::alloc::{AllocError, Global};
 use std::slice;
@@ -157,8 +158,8 @@ impl<'a> Reading<'a> {
             bytes,
             at: _,
         } = self;
-        let tail = match sealed_end(scanner) {
-            Ok(tail) => tail,
+        let (tail, seal) = match scanner.finish() {
+            Ok(end) => end,
             Err(error) => return Err(error),
         };
         marks.end(bytes.as_slice())?;
@@ -169,19 +170,8 @@ impl<'a> Reading<'a> {
             count,
             end: _,
         } = marks;
-        let pages = Pages::fresh(alloc, name, starts, digests, count)?;
+        let pages = Pages::fresh(alloc, name, starts, digests, seal, count)?;
         Ok((pages, tail))
-    }
-}
-
-/// The end of a trace that has come whole, up to its seal.
-fn sealed_end(scanner: Scanner<'_>) -> Result<Tail, TraceError>
-    ensures { (p : Program) (head : Head) (fed : List ℕ) (t : Progress)
-        → Scans scanner.entry p head fed t → EndsSealed result head fed t }
-{
-    match scanner.finish() {
-        Ok((tail, _)) => Ok(tail),
-        Err(error) => Err(error),
     }
 }
 
@@ -202,6 +192,7 @@ fn read_whole<'a, S: Shelf>(
         IsUnread (S.held shelf.old) name.now program.now head.now e) }
     ensures counts { OpenCounts result (S.faults shelf.old) (S.faults shelf.new)
         (S.misses shelf.old) (S.misses shelf.new) }
+    ensures fulls { S.fulls shelf.new ≡ S.fulls shelf.old }
     ensures held { S.held shelf.new ≡ S.held shelf.old }
     ensures faults_kept { S.faults shelf.old ≤ S.faults shelf.new }
     ensures misses_kept { S.misses shelf.old ≤ S.misses shelf.new }
@@ -242,6 +233,7 @@ impl Pages {
         ensures end { IfOk result (λ x. EndStands program.now.statements x.0.count x.1) }
         ensures counts { OpenCounts result (S.faults shelf.old) (S.faults shelf.new)
             (S.misses shelf.old) (S.misses shelf.new) }
+        ensures fulls { S.fulls shelf.new ≡ S.fulls shelf.old }
         ensures held { S.held shelf.new ≡ S.held shelf.old }
         ensures faults_kept { S.faults shelf.old ≤ S.faults shelf.new }
         ensures misses_kept { S.misses shelf.old ≤ S.misses shelf.new }
@@ -249,6 +241,7 @@ impl Pages {
         read_events_are_placed();
         read_events_are_told();
         read_ends_stand();
+        read_traces_end_sealed();
         decoded_events_refer_below();
         is_of_bytes(head);
         let kept = match String::from_str(alloc, name) {

@@ -25,13 +25,14 @@ use wy_view::ViewError;
 pub const BLOCK: u32 = 1024;
 
 /// A named file that was read as a trace: where each block of its events begins, where the last ends, and the digest of
-/// each block's bytes; the blocks that are held, and what was counted.
+/// each block's bytes; the seal of the trace; the blocks that are held, and what was counted.
 #[derive(Drop)]
 pub struct Pages {
     pub(crate) alloc: Global,
     pub(crate) name: String,
     pub(crate) starts: Vec<u32>,
     pub(crate) digests: Vec<[u8; 32]>,
+    pub(crate) seal: [u8; 32],
     pub(crate) count: u32,
     pub(crate) reads: u64,
     pub(crate) loads: u64,
@@ -69,11 +70,13 @@ impl Pages {
         name: String,
         starts: Vec<u32>,
         digests: Vec<[u8; 32]>,
+        seal: [u8; 32],
         count: u32,
     ) -> Result<Pages, AllocError>
         requires { ArePlaces count starts.items digests.items }
         ensures starts { IfOk result (λ p. p.starts ≡ starts) }
         ensures digests { IfOk result (λ p. p.digests ≡ digests) }
+        ensures seal { IfOk result (λ p. p.seal ≡ seal) }
         ensures count { IfOk result (λ p. p.count ≡ count) }
         ensures fresh { IfOk result (λ p. IsFresh p name) }
     {
@@ -83,6 +86,7 @@ impl Pages {
             name,
             starts,
             digests,
+            seal,
             count,
             reads: 0,
             loads: 0,
@@ -103,6 +107,13 @@ impl Pages {
         ensures { result ≡ self.now.loads }
     {
         self.loads
+    }
+
+    /// The digest that the trace ends with.
+    pub fn seal(&self) -> &[u8; 32]
+        ensures { result.now ≡ self.now.seal }
+    {
+        &self.seal
     }
 
     pub(crate) fn note_read(&mut self)

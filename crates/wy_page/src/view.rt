@@ -67,6 +67,13 @@ impl<'a, S: Shelf> PagedView<'a, S, Pages> {
         self.pages.loads()
     }
 
+    /// The digest that the trace ends with. It takes no memory.
+    pub fn seal(&self) -> &[u8; 32]
+        ensures { result.now ≡ self.now.pages.seal }
+    {
+        self.pages.seal()
+    }
+
     /// The events of a block, read from the shelf.
     fn load(&mut self, block: u32) -> Result<Vec<Event>, ViewError>
         requires { block < length self.old.pages.digests.items }

@@ -8,9 +8,14 @@ use Rattle.wy_view.specs.Counts.{count_after, Rose}
 use Rattle.wy_view.specs.declared.view.ViewError.{ViewError}
 use Rattle.wy_view.specs.declared.view.ViewError.TheVariants.{ReadFault, Gone, Changed, NoMemory}
 
+-- from whom a view has borrowed what it reads, and what files this one holds, by their names, where that is told
+pub record Lender : Type 0 where
+  pub name : GName
+  pub holds : Option (List ℕ → Option (List ℕ))
+
 -- the records, and how many events were asked for, where these are told; how many records there are;
 -- how often a read failed, the trace was gone, and a part of it was found changed;
--- and from whom the view has borrowed what it reads, where it has
+-- and the lender of what the view reads, where it has borrowed that
 pub record Told : Type 0 where
   pub records : Option (List Recorded)
   pub reads : Option ℕ
@@ -18,9 +23,9 @@ pub record Told : Type 0 where
   pub faults : ℕ
   pub misses : ℕ
   pub changes : ℕ
-  pub lender : Option GName
+  pub lender : Option Lender
 
--- the records stay, and who lent; no count fell
+-- the records stay, and who lent with what he holds; no count fell
 pub record Keeps (old new : Told) : Type 0 where
   pub records : new.records ≡ old.records
   pub count : new.count ≡ old.count

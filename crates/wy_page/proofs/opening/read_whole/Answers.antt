@@ -57,4 +57,5 @@ pieces-preserved g c =
       held = c.read_at.ensures.files_stay ∙ v.held;
       faults = c.in-Ok.ensures.failed ∙ v.faults;
       misses = c.in-Ok.ensures.absent ∙ v.misses;
+      fulls = c.read_at.ensures.full ∙ v.fulls;
     }

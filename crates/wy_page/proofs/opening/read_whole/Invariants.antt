@@ -16,6 +16,7 @@ invariant-pieces g l = record {
   held : g.S.Shelf.held l.shelf ≡ g.S.Shelf.held l.initial.shelf;
   faults : g.S.Shelf.faults l.shelf ≡ g.S.Shelf.faults l.initial.shelf;
   misses : g.S.Shelf.misses l.shelf ≡ g.S.Shelf.misses l.initial.shelf;
+  fulls : g.S.Shelf.fulls l.shelf ≡ g.S.Shelf.fulls l.initial.shelf;
 }
 
 abbrev pub decreases-pieces : goal.decreases-pieces

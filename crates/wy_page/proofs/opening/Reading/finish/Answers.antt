@@ -1,8 +1,9 @@
 -- All blocks are marked, and a digest of each is kept.
-use Rattle.std.proofs.Common.{◌++◌, length, ap, ◌∙◌, arith}
+use Rattle.std.proofs.Common.{◌++◌, length, sym, ap, ◌∙◌, arith}
 use Rattle.std.specs.Prelude.{Vec}
 use Rattle.std.specs.declared.alloc.Global.{Global}
 use Rattle.wy_spelling.specs.Spelling.{opening}
+use Rattle.wy_frames.specs.declared.stage.Stage.TheVariants as stages
 use Rattle.wy_page.specs.Reads.{places}
 use Rattle.wy_page.proofs.Marked.{all_of_parts}
 use Rattle.wy_page.proofs.Taken.{are_places, ends_within}
@@ -23,10 +24,9 @@ pub returns-clause-read : goal.returns-clause-read
 returns-clause-read c = λ p head fed t h.
     let end = c.end.new.self in
     let pages = c.in_ok-pages.pages in
-    let sealed = c.in-Ok.ensures p head fed t h.scans in
+    let sealed = c.in-Ok.ensures.read p head fed t h.scans in
     let m = c.in_ok-end.ensures.marked (places head t) (opening head ++ fed) (c.as_slice.ensures.value ∙ h.left) h.marked in
     record {
-      seal = sealed.0;
-      sealed = sealed.1;
+      sealed = sealed ∙ ap (stages.Sealed c.in-Ok.end.0) (sym c.in_ok-pages.ensures.seal);
       marked = all_of_parts end.starts.items pages.starts.items end.digests.items pages.digests.items end.count pages.count (places head t) (opening head ++ fed) (ap (λ (v : Vec _ Global). v.items) c.in_ok-pages.ensures.starts) (ap (λ (v : Vec _ Global). v.items) c.in_ok-pages.ensures.digests) c.in_ok-pages.ensures.count m;
     }

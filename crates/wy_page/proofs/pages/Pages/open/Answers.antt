@@ -16,14 +16,14 @@ finish-requires g c =
 pub returns-in-Ok-finish-clause-trace : goal.returns-in-Ok-finish-clause-trace
 returns-in-Ok-finish-clause-trace g c =
     let x = c.in-Ok-read_whole.ensures.read in
-    let laws : Laws = record { placed = c.read_events_are_placed.ensures; told = c.read_events_are_told.ensures; refer = c.decoded_events_refer_below.ensures } in
+    let laws : Laws = record { placed = c.read_events_are_placed.ensures; told = c.read_events_are_told.ensures; refer = c.decoded_events_refer_below.ensures; sealed = c.read_traces_end_sealed.ensures } in
     let w = c.in-Ok-finish.ensures.read c.args.program.now c.args.head.now x.0 x.1 x.2 in
     opened (g.S.Shelf.held c.args.shelf.now) c.args.name.now c.args.program.now c.args.head.now c.requires.file laws c.in-Ok-read_whole.reading x.0 x.1 x.2 c.in-Ok-finish.opened.0 c.in-Ok-finish.opened.1 w c.is_of_bytes.ensures x.3
 
 pub returns-in-Ok-finish-clause-fits : goal.returns-in-Ok-finish-clause-fits
 returns-in-Ok-finish-clause-fits g c =
     let x = c.in-Ok-read_whole.ensures.read in
-    let laws : Laws = record { placed = c.read_events_are_placed.ensures; told = c.read_events_are_told.ensures; refer = c.decoded_events_refer_below.ensures } in
+    let laws : Laws = record { placed = c.read_events_are_placed.ensures; told = c.read_events_are_told.ensures; refer = c.decoded_events_refer_below.ensures; sealed = c.read_traces_end_sealed.ensures } in
     let w = c.in-Ok-finish.ensures.read c.args.program.now c.args.head.now x.0 x.1 x.2 in
     let fresh = c.in-Ok-finish.ensures.fresh in
     fits_opened laws c.in-Ok-read_whole.reading c.args.program.now c.args.head.now x.0 x.1 x.2 c.in-Ok-finish.opened.0 c.in-Ok-finish.opened.1 w c.is_of_bytes.ensures fresh.nothing_held c.args.name.now (ap string_bytes fresh.name_is ∙ c.in-Ok.ensures.ok) (g.S.Shelf.held c.args.shelf.now) c.requires.file x.3

@@ -35,7 +35,7 @@ returns-in-Ok g c =
             faults = c.ask.ensures.faults_kept;
             misses = c.ask.ensures.misses_kept;
             changes = changes;
-            lender = ap Some c.ask.ensures.same_reference;
+            lender = λ i. Some (record { name = c.ask.ensures.same_reference i; holds = c.ask.ensures.held i });
           },
           ap Some (c.ask.ensures.reads ∙ c.note_read.ensures.reads),
           c.in-Ok.ensures.counts,
