@@ -72,6 +72,7 @@ measure run "$program" run "$events" --steps "$steps"
 alone=$taken
 measure record "$program" record "$events" -o "$trace" --steps "$steps"
 recorded=$taken
+count=$(sed -n 's/^-- recorded \([0-9]*\) events$/\1/p' "$scratch/out")
 measure "sha256sum of $(wc -c <"$trace") bytes" sha256sum "$trace"
 awk -v r="$recorded" -v a="$alone" -v h="$taken" \
   'BEGIN { printf "Events, record: %.2f times as long as run and sha256sum together\n", r / (a + h) }'
@@ -83,3 +84,5 @@ measure "affects of the first event" "$program" affects "$trace" e0
 measure certify "$program" certify "$trace" p0
 "$program" certify "$trace" p0 >"$scratch/events.cert"
 measure "check of $(wc -c <"$scratch/events.cert") bytes" "$program" check "$trace" "$scratch/events.cert"
+tools/bench/stops "$program" "$trace" "$count" 'sum + i' >"$scratch/out" || exit 1
+sed 's/^/Events, /' "$scratch/out"

@@ -37,12 +37,14 @@ long() { # COUNT: a line of so many bytes, without its end
 mkdir "$traces"
 printf 'class Main { public static void main(String[] a) { } }' >"$scratch/empty.java"
 printf 'class Main {\n  public static void main(String[] a) {\n    int n = 1;\n    if (n > 3) {\n      System.out.println(n);\n    }\n  }\n  void alone() {\n    alone();\n  }\n}\n' >"$scratch/never.java"
+printf 'class Main { static int n = 7; public static void main(String[] a) { } }' >"$scratch/static.java"
 printf '100,200,300,40' >"$scratch/amounts"
 record first examples/first.java
 record overridden examples/overridden.java
 record bank "$checks/bank.java" -i "$scratch/amounts"
 record empty "$scratch/empty.java"
 record never "$scratch/never.java"
+record static "$scratch/static.java"
 
 while IFS=$'\t' read -r trace status lines text || [ -n "$trace" ]; do
   case $trace in '#'* | '') continue ;; esac
@@ -148,6 +150,13 @@ up
 #7 line 6 set y = 5
 whynot 6
 no such
+show y
+= 0
+frames
+#2 Main.main
+ args.0 = java.lang.String[]#1
+ x.1 = 2
+ y.2 = 0
 undo
 #8 line 8 print 5
 list

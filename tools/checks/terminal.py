@@ -9,7 +9,7 @@ import subprocess
 import sys
 import termios
 
-TYPED = re.compile(rb"(ask|list|up|down|go|sources|whynot|undo|quit)( |\n)")
+TYPED = re.compile(rb"(ask|list|up|down|go|sources|frames|show|whynot|undo|quit)( |\n)")
 SECONDS = 60
 END_OF_INPUT = b"\x04"
 

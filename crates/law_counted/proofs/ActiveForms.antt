@@ -4,7 +4,7 @@ use Rattle.wy_steps.specs.Sets.{Sets}
 use Rattle.wy_steps.specs.State.{Around, Carried, Run}
 use Rattle.wy_meaning.specs.World.{throwing}
 use Rattle.law_induction.specs.Composed.{Composed}
-use Rattle.law_counted.proofs.ActiveRules.{Levels, bind, after, lift, bind_kept, level_choose, level_return, level_leave, level_unassigned, level_tick, level_frame, level_event_at, level_is_begun, level_read, level_declare, level_take_elements, level_take_units, level_room_for_output, level_write_out, level_next_byte, level_note, level_note_write, level_note_new, records_note, level_scoped, NoStatement, keeps_activating}
+use Rattle.law_counted.proofs.ActiveRules.{test_runs_none, Levels, bind, after, lift, bind_kept, level_choose, level_return, level_leave, level_unassigned, level_tick, level_frame, level_event_at, level_is_begun, level_read, level_declare, level_take_elements, level_take_units, level_room_for_output, level_write_out, level_next_byte, level_note, level_note_write, level_note_new, records_note, level_scoped, NoStatement, keeps_activating}
 
 module _ (A : Sets) where
   abbrev pub IsLevel : (X : Type 0) → Run A X → Type 0
@@ -20,7 +20,7 @@ module _ (A : Sets) where
     after = λ h k. after A h k;
     on_choose = λ b h k. level_choose A b h k;
     on_decided = λ site h k. level_scoped A (λ f r. Unit {0}) (bind_kept A (lift A h) (λ v.
-        bind_kept A (keeps_activating A (NoStatement A) (λ f r. Unit {0}) Around (λ f. tt) (records_note A _ v)) (λ e. lift A (k v e))));
+        bind_kept A (keeps_activating A (NoStatement A) (λ f r. Unit {0}) Around (λ f. tt) (records_note A _ v) (test_runs_none site v.value)) (λ e. lift A (k v e))));
     on_return = λ x. level_return A x;
     on_throwing = level_throwing;
     on_unassigned = level_unassigned A;

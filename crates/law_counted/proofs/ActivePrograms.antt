@@ -12,7 +12,7 @@ use Rattle.wy_meaning.specs.Statement.{number_of, tested, if_form, turns, while_
 use Rattle.wy_meaning.specs.Run.{call_body, init_block, world, main_run, strings}
 use Rattle.wy_kernel.specs.Statements.{statements, statements_within, statements_of_other, statements_of_all, statements_of_catches}
 use Rattle.law_counted.specs.Entries.{OneOf, IsNumberOf, IsReachOf, IsThroughOneOf}
-use Rattle.law_counted.proofs.ActiveRules.{Levels, Keeps, lift, bind, after, bind_kept, after_kept, kept_catching, kept_choose, widen, level_return, level_leave, level_stop, level_tick, level_steps_left, level_note, level_note_write, records_note, records_note_write, records_note_new, kept_activating, with_frame, bind_at, level_body, keeps_statement, level_choose, level_unassigned, level_frame, level_event_at, level_is_begun, level_read, level_declare, level_take_elements, level_take_units, level_room_for_output, level_write_out, level_next_byte, level_note_new}
+use Rattle.law_counted.proofs.ActiveRules.{test_runs_none, catch_runs_none, call_runs, init_runs, Levels, Keeps, lift, bind, after, bind_kept, after_kept, kept_catching, kept_choose, widen, level_return, level_leave, level_stop, level_tick, level_steps_left, level_note, level_note_write, records_note, records_note_write, records_note_new, kept_activating, with_frame, bind_at, level_body, keeps_statement, level_choose, level_unassigned, level_frame, level_event_at, level_is_begun, level_read, level_declare, level_take_elements, level_take_units, level_room_for_output, level_write_out, level_next_byte, level_note_new}
 use Rattle.law_induction.proofs.Composed.{WorldHas, PartHas, on_type_of, on_initialize, on_make_array, on_part_or, on_eval, on_part, on_evaluated, on_declaration, on_throw_form, on_print_form}
 use Rattle.law_counted.proofs.ActiveForms.{IsLevel, level_by_steps}
 
@@ -62,7 +62,7 @@ module _ (A : Sets) (w : World A) (pw : WorldHas A (IsLevel A) w) where
     keeps_tested site reach test allowed h =
         bind_kept A (lift A h) (λ v.
         with_frame A N P _ (λ s.
-        bind_at A N P _ _ s (kept_activating A N P (Through s.frame reach) s (allowed s.frame) (records_note A _ v)) (λ e.
+        bind_at A N P _ _ s (kept_activating A N P (Through s.frame reach) s (allowed s.frame) (records_note A _ v) (test_runs_none site v.value)) (λ e.
         lift A (level_return A _))))
 
     keeps_if : (test : Run A Bool) (a b : Run A Unit) → Keeps A N P test → Keeps A N P a → Keeps A N P b → Keeps A N P (if_form test a b)
@@ -99,7 +99,7 @@ module _ (A : Sets) (w : World A) (pw : WorldHas A (IsLevel A) w) where
     unfolding caught
     keeps_caught c v h allowed =
         with_frame A N P _ (λ s.
-        bind_at A N P _ _ s (kept_activating A N P (Through s.frame c.number) s (allowed s.frame) (records_note_write A _ v)) (λ e. h))
+        bind_at A N P _ _ s (kept_activating A N P (Through s.frame c.number) s (allowed s.frame) (records_note_write A _ v) (catch_runs_none _ _ _)) (λ e. h))
 
     keeps_handle : (p : Program) (clauses : List (Clause A)) (c e : ℕ) (v : Carried A) → ClausesHold clauses → Keeps A N P (handle p clauses c e v)
     unfolding handle
@@ -273,7 +273,7 @@ module _ (A : Sets) (w : World A) (pw : WorldHas A (IsLevel A) w) where
   level_call_method : (site n : ℕ) (m : Method) (b : Body) (block : Run A Unit) (r : Option (Carried A)) (args : List (Carried A)) → Keeps A All Any block → Levels A (call_method site n m b block r args)
   unfolding call_method
   level_call_method site n m b block r args h =
-      level_body A All Any (λ e. frame_of_call b block _ e.number _) (records_note A _ _) (λ e. keeps_frame_of_call b block _ e.number _ h)
+      level_body A All Any (λ e. frame_of_call b block _ e.number _) (records_note A _ _) (call_runs _ _ _) (λ e. keeps_frame_of_call b block _ e.number _ h)
 
   level_at_failure : (why : Reason A) → Levels A (at_failure why)
   unfolding at_failure
@@ -289,7 +289,7 @@ module _ (A : Sets) (w : World A) (pw : WorldHas A (IsLevel A) w) where
   level_initialization : (site c : ℕ) (block : Run A Unit) → Keeps A All Any block → Levels A (initialization w site c block)
   unfolding initialization
   level_initialization site c block h =
-      level_body A All Any (λ e. initialize_above w _ _ >> catching block at_failure) (records_note_new A _ _ _) (λ e.
+      level_body A All Any (λ e. initialize_above w _ _ >> catching block at_failure) (records_note_new A _ _ _) (init_runs _ _ _) (λ e.
       after_kept A (lift A (level_initialize_above _ _)) (kept_catching A h (λ why. lift A (level_at_failure why))))
 
   pub level_call_body : (site m : ℕ) (o : Option Body) (r : Option (Carried A)) (args : List (Carried A)) → Levels A (call_body w site m o r args)

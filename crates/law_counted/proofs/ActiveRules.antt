@@ -4,40 +4,96 @@ use Rattle.std.proofs.lemmas.Bool.Decides.{leb_tells}
 use Rattle.std.specs.Prelude.{None as Absent}
 use Rattle.std.specs.Prelude.{nat_eq, nat_le, nat_lt, if◌then◌else◌}
 use Rattle.wy_kernel.specs.Program.{Program}
+use Rattle.wy_value.specs.declared.value.Value.{Value}
+use Rattle.wy_event.specs.declared.record.Kind.{Kind}
+use Rattle.wy_event.specs.declared.record.Kind.TheVariants as kind
 use Rattle.wy_event.specs.declared.record.Slot.{Slot}
 use Rattle.wy_event.specs.Record.{Recorded}
 use Rattle.wy_steps.specs.Sets.{Sets}
 use Rattle.wy_steps.specs.State.{Carried, Noted, Active, Reach, Around, State, Stop, EventLimit, UseLimit, ElementLimit, UnitLimit, OutputLimit, Unassigned, Reason, Outcome, Done, Left, Stopped, Run, go_on, ◌>>=◌, ◌>>◌, return, leave, stop, go_on_left, catching, choose}
 use Rattle.wy_kernel.specs.Limits.{event_limit, use_limit, element_limit, unit_limit, output_limit}
-use Rattle.wy_steps.specs.Steps.{Made, pay, tick, steps_left, frame, event_in, event_at, is_begun, read, declare, parent, Draft, next_event, made, with_event, room_for, noting, note, with_stored, writing, note_write, with_created, creating, note_new, with_active, entered, go_in, activating, active_again, scoped, ends_with, outlasting, without, end_reaches, reaching, frame_again, in_frame, with_elements, take_elements, with_units, take_units, room_for_output, write_out, take_byte, next_byte, covering, arrives, end_normally, be_left, cover_end, covered}
+use Rattle.wy_steps.specs.Steps.{Made, pay, tick, steps_left, frame, event_in, event_at, is_begun, read, declare, parent, control_set, Draft, next_event, made, with_event, room_for, noting, note, with_stored, writing, note_write, with_created, creating, note_new, with_active, entered, go_in, activating, active_again, scoped, ends_with, outlasting, without, end_reaches, reaching, frame_again, in_frame, with_elements, take_elements, with_units, take_units, room_for_output, write_out, take_byte, next_byte, covering, arrives, end_normally, be_left, cover_end, covered}
+use Rattle.wy_meaning.specs.World.{plain, into, about}
 use Rattle.wy_meaning.specs.Statement.{statement}
 use Rattle.wy_meaning.specs.Run.{end}
-use Rattle.law_counted.specs.Entries.{IsAmong, AreInOrder, IsFrom, IsControlledBy}
+use Rattle.law_counted.specs.Entries.{runs_body, IsAmong, AreInOrder, IsFrom, IsControlledBy}
 
 less_or_not : (n m : ℕ) → (n < m) ⊎ (m ≤ n)
 less_or_not n m = ⊎_elim (λ h. inr h.1) (λ h. inl h.1) (leb_tells m n)
 
+-- ---- which events run a body
+
+pub test_runs_none : (site : ℕ) (v : Value) → runs_body (plain kind.Test site v).kind ≡ false
+unfolding plain runs_body
+test_runs_none site v = refl
+
+pub catch_runs_none : (site : ℕ) (x : Slot) (v : Value) → runs_body (into kind.Catch site x v).kind ≡ false
+unfolding into runs_body
+catch_runs_none site x v = refl
+
+pub call_runs : (site m : ℕ) (v : Value) → runs_body (about kind.Call site m v).kind ≡ true
+unfolding about runs_body
+call_runs site m v = refl
+
+pub init_runs : (site c : ℕ) (v : Value) → runs_body (about kind.Init site c v).kind ≡ true
+unfolding about runs_body
+init_runs site c v = refl
+
 module _ (A : Sets) where
   -- ---- what the entries of a state are
 
-  -- event n of the records so far is one of a body
+  -- event n of the records so far is one of a body, and runs none itself
   pub record IsOwn (noted : List (Noted A)) (fr : Option ℕ) (n : ℕ) : Type 0 where
     pub event : Recorded
     pub there : event_in noted n ≡ Some event
     pub of_body : event.frame ≡ fr
+    pub runs_none : runs_body event.kind ≡ false
 
-  -- the entries above the Call or Init of the body are events of it
+  -- the number of an event of a body, if any, is below n
+  abbrev pub IsBelow : ℕ → Option ℕ → Type 0
+  IsBelow n Absent = Unit {0}
+  IsBelow n (Some f) = f < n
+
+  -- the entry is the Call or Init that runs the body
+  pub record IsBody (noted : List (Noted A)) (fr : Option ℕ) (a : Active A) : Type 0 where
+    pub frame : fr ≡ Some a.number
+    pub around : a.reach ≡ Around
+    pub event : Recorded
+    pub there : event_in noted a.number ≡ Some event
+    pub runs : runs_body event.kind ≡ true
+    pub below : IsBelow a.number event.frame
+
+  -- the entries above the Call or Init of the body are events of it, and those behind that stand so for the body around it
   abbrev pub Stand : List (Noted A) → Option ℕ → List (Active A) → Type 0
   Stand noted fr [] = fr ≡ Absent
-  Stand noted fr (a ∷ rest) = ((fr ≡ Some a.number) × (a.reach ≡ Around)) ⊎ (IsOwn noted fr a.number × Stand noted fr rest)
+  Stand noted fr (a ∷ rest) = ((b : IsBody noted fr a) × Stand noted b.event.frame rest) ⊎ (IsOwn noted fr a.number × Stand noted fr rest)
+
+  -- what an event of that number comes from begins with itself
+  abbrev pub BeginsWith : ℕ → A.set → Type 0
+  BeginsWith n x = (others : A.set) × (x ≡ A.both (A.one n) others)
+
+  -- each entry comes from what its event comes from
+  abbrev pub AreMade : List (Active A) → Type 0
+  AreMade [] = Unit {0}
+  AreMade (a ∷ rest) = BeginsWith a.number a.from_all × AreMade rest
 
   abbrev pub Controls : List (Noted A) → Option ℕ → Option ℕ → Type 0
   Controls noted fr Absent = fr ≡ Absent
   Controls noted fr (Some c) = (fr ≡ Some c) ⊎ IsOwn noted fr c
 
+  -- the entries that were active as an event was recorded, which comes from them, its operands and itself
+  pub record IsControlled (rest : List (Noted A)) (e : Noted A) : Type 0 where
+    pub control : Controls rest e.event.frame e.event.control
+    pub entries : List (Active A)
+    pub operands : A.set
+    pub comes_from : e.from_all ≡ A.both (A.one (length rest)) (A.both operands (control_set entries))
+    pub newest : e.event.control ≡ parent entries
+    pub stand : Stand rest e.event.frame entries
+    pub made : AreMade entries
+
   abbrev pub AllControlled : List (Noted A) → Type 0
   AllControlled [] = Unit {0}
-  AllControlled (e ∷ rest) = Controls rest e.event.frame e.event.control × AllControlled rest
+  AllControlled (e ∷ rest) = IsControlled rest e × AllControlled rest
 
   -- what of a state the entries hang on
   pub record Core : Type 0 where
@@ -57,6 +113,7 @@ module _ (A : Sets) where
 
   pub record Fine (c : Core) : Type 0 where
     pub stand : Stand c.noted c.frame c.active
+    pub made : AreMade c.active
     pub controlled : AllControlled c.noted
 
   -- after a part of a run the same entries are active es before it, in the same body
@@ -72,6 +129,7 @@ module _ (A : Sets) where
     pub frame : d.frame ≡ c.frame
     pub later : Later c.noted d.noted
     pub fine : Fine c → Fine d
+    pub made : AreMade c.active → AreMade d.active
     pub order : InOrder c → InOrder d
     pub under : (a : Active A) → IsAmong a c.active → ((n : ℕ) → N n → ends_with c.frame n a.reach ≡ false) → InOrder c → IsControlledBy a.number (length c.noted) d.noted
     pub stays : (a : Active A) → IsAmong a c.active → ((n : ℕ) → N n → ends_with c.frame n a.reach ≡ false) → IsAmong a d.active
@@ -79,10 +137,10 @@ module _ (A : Sets) where
 
   -- ---- from one moment to a later one
 
-  later_same : (noted : List (Noted A)) → Later noted noted
+  pub later_same : (noted : List (Noted A)) → Later noted noted
   later_same noted = record { longer = le_refl _; found = λ n e h. h }
 
-  later_trans : (x y z : List (Noted A)) → Later x y → Later y z → Later x z
+  pub later_trans : (x y z : List (Noted A)) → Later x y → Later y z → Later x z
   later_trans x y z h k = let h1 = h.longer in let k1 = k.longer in record { longer = omega (arith, h1, k1); found = λ n e f. k.found n e (h.found n e f) }
 
   pub event_in_below : (noted : List (Noted A)) (n : ℕ) (e : Recorded) → event_in noted n ≡ Some e → n < length noted
@@ -102,11 +160,14 @@ module _ (A : Sets) where
   }
 
   own_up : (x y : List (Noted A)) (fr : Option ℕ) (n : ℕ) → Later x y → IsOwn x fr n → IsOwn y fr n
-  own_up x y fr n l h = record { event = h.event; there = l.found n h.event h.there; of_body = h.of_body }
+  own_up x y fr n l h = record { event = h.event; there = l.found n h.event h.there; of_body = h.of_body; runs_none = h.runs_none }
+
+  abbrev body_up : (x y : List (Noted A)) (fr : Option ℕ) (a : Active A) → Later x y → IsBody x fr a → IsBody y fr a
+  body_up x y fr a l h = record { frame = h.frame; around = h.around; event = h.event; there = l.found a.number h.event h.there; runs = h.runs; below = h.below }
 
   stand_up : (x y : List (Noted A)) (fr : Option ℕ) (es : List (Active A)) → Later x y → Stand x fr es → Stand y fr es
   stand_up x y fr [] l h = h
-  stand_up x y fr (a ∷ rest) l (inl h) = inl h
+  stand_up x y fr (a ∷ rest) l (inl h) = inl (body_up x y fr a l h.0, stand_up x y h.0.event.frame rest l h.1)
   stand_up x y fr (a ∷ rest) l (inr h) = inr (own_up x y fr a.number l h.0, stand_up x y fr rest l h.1)
 
   pub controls_up : (x y : List (Noted A)) (fr c : Option ℕ) → Later x y → Controls x fr c → Controls y fr c
@@ -117,8 +178,14 @@ module _ (A : Sets) where
   parent_controls : (noted : List (Noted A)) (fr : Option ℕ) (es : List (Active A)) → Stand noted fr es → Controls noted fr (parent es)
   unfolding parent
   parent_controls noted fr [] h = h
-  parent_controls noted fr (a ∷ rest) (inl h) = inl h.0
+  parent_controls noted fr (a ∷ rest) (inl h) = inl h.0.frame
   parent_controls noted fr (a ∷ rest) (inr h) = inr h.0
+
+  -- the event of the running body is among those so far
+  pub frame_below : (noted : List (Noted A)) (fr : Option ℕ) (es : List (Active A)) → Stand noted fr es → IsBelow (length noted) fr
+  frame_below noted fr [] h = subst (IsBelow (length noted)) (sym h) tt
+  frame_below noted fr (a ∷ rest) (inl h) = subst (IsBelow (length noted)) (sym h.0.frame) (event_in_below noted a.number h.0.event h.0.there)
+  frame_below noted fr (a ∷ rest) (inr h) = frame_below noted fr rest h.1
 
   order_up : (m n : ℕ) (es : List (Active A)) → m ≤ n → AreInOrder m es → AreInOrder n es
   order_up m n [] le h = tt
@@ -199,6 +266,7 @@ module _ (A : Sets) where
       frame = h.frame;
       later = h.later;
       fine = h.fine;
+      made = λ m. subst AreMade (sym h.active) m;
       order = level_order c d h.active h.later;
       under = λ a i spared o. h.under a i o;
       stays = λ a i k. subst (IsAmong a) (sym h.active) i;
@@ -210,6 +278,7 @@ module _ (A : Sets) where
       frame = k.frame ∙ h.frame;
       later = later_trans c.noted d.noted e.noted h.later k.later;
       fine = λ f. k.fine (h.fine f);
+      made = λ m. k.made (h.made m);
       order = λ o. k.order (h.order o);
       under = λ a i spared o. under_trans a.number (length c.noted) d.noted e.noted k.later (h.under a i spared o) (k.under a (h.stays a i spared) (λ n is. ap (λ f. ends_with f n a.reach) h.frame ∙ spared n is) (h.order o));
       stays = λ a i spared. k.stays a (h.stays a i spared) (λ n is. ap (λ f. ends_with f n a.reach) h.frame ∙ spared n is);
@@ -280,6 +349,7 @@ module _ (A : Sets) where
       frame = k.frame;
       later = k.later;
       fine = k.fine;
+      made = k.made;
       order = k.order;
       under = λ a i spared o. k.under a i (λ n is. spared n (more n is)) o;
       stays = λ a i spared. k.stays a i (λ n is. spared n (more n is));
@@ -374,21 +444,23 @@ module _ (A : Sets) where
 
   -- ---- events
 
-  -- one event of the running body was recorded
-  pub record IsNext (s : State A) (e : Made A) (t : State A) : Type 0 where
+  -- one event of the running body was recorded, of that kind
+  pub record IsNext (k : Kind) (s : State A) (e : Made A) (t : State A) : Type 0 where
     pub event : Noted A
     pub number : e.number ≡ length s.noted
     pub noted : t.noted ≡ event ∷ s.noted
     pub of_body : event.event.frame ≡ s.frame
+    pub of_kind : event.event.kind ≡ k
+    pub made : BeginsWith e.number e.from_all
 
-  abbrev pub IfNext : State A → Outcome A (Made A) → Type 0
-  IfNext s (Done e t) = IsNext s e t
-  IfNext s (Left why t) = t.noted ≡ s.noted
-  IfNext s (Stopped why t) = t.noted ≡ s.noted
+  abbrev pub IfNext : Kind → State A → Outcome A (Made A) → Type 0
+  IfNext k s (Done e t) = IsNext k s e t
+  IfNext k s (Left why t) = t.noted ≡ s.noted
+  IfNext k s (Stopped why t) = t.noted ≡ s.noted
 
-  pub record Records (m : Run A (Made A)) : Type 0 where
+  pub record Records (k : Kind) (m : Run A (Made A)) : Type 0 where
     pub level : Levels m
-    pub next : (s : State A) → IfNext s (m s)
+    pub next : (s : State A) → IfNext k s (m s)
 
   noted_level : (d : Draft) (c : Carried A) (s : State A) → Level (core s) (record { noted = next_event d c s ∷ s.noted; frame = s.frame; active = s.active })
   unfolding next_event
@@ -398,7 +470,19 @@ module _ (A : Sets) where
     later = later_one (next_event d c s) s.noted;
     fine = λ f. record {
       stand = stand_up s.noted _ s.frame s.active (later_one (next_event d c s) s.noted) f.stand;
-      controlled = (parent_controls s.noted s.frame s.active f.stand, f.controlled);
+      made = f.made;
+      controlled = (
+        record {
+          control = parent_controls s.noted s.frame s.active f.stand;
+          entries = s.active;
+          operands = c.from_all;
+          comes_from = refl;
+          newest = refl;
+          stand = f.stand;
+          made = f.made;
+        },
+        f.controlled,
+      );
     };
     under = λ a i o. under_one a.number (next_event d c s) s.noted (from_parent (length s.noted) s.active a o i);
   }
@@ -407,34 +491,34 @@ module _ (A : Sets) where
   unfolding room_for
   room_level c m s h = limited (nat_lt (length s.noted) event_limit) EventLimit _ s (limited (nat_le (s.uses + length c.uses) use_limit) UseLimit m s h)
 
-  next_if : (b : Bool) (why : Stop) (m : Run A (Made A)) (s : State A) → IfNext s (m s) → IfNext s (choose b m (stop why) s)
+  next_if : (k : Kind) (b : Bool) (why : Stop) (m : Run A (Made A)) (s : State A) → IfNext k s (m s) → IfNext k s (choose b m (stop why) s)
   unfolding choose stop
-  next_if true why m s h = h
-  next_if false why m s h = refl
+  next_if k true why m s h = h
+  next_if k false why m s h = refl
 
-  room_next : (c : Carried A) (m : Run A (Made A)) (s : State A) → IfNext s (m s) → IfNext s (room_for c m s)
+  room_next : (k : Kind) (c : Carried A) (m : Run A (Made A)) (s : State A) → IfNext k s (m s) → IfNext k s (room_for c m s)
   unfolding room_for
-  room_next c m s h = next_if (nat_lt (length s.noted) event_limit) EventLimit _ s (next_if (nat_le (s.uses + length c.uses) use_limit) UseLimit m s h)
+  room_next k c m s h = next_if k (nat_lt (length s.noted) event_limit) EventLimit _ s (next_if k (nat_le (s.uses + length c.uses) use_limit) UseLimit m s h)
 
-  pub records_note : (d : Draft) (c : Carried A) → Records (note d c)
+  pub records_note : (d : Draft) (c : Carried A) → Records d.kind (note d c)
   unfolding note noting with_event end made next_event
   records_note d c = record {
     level = record { by = λ s. room_level c (noting d c) s (noted_level d c s) };
-    next = λ s. room_next c (noting d c) s (record { event = next_event d c s; number = refl; noted = refl; of_body = refl });
+    next = λ s. room_next d.kind c (noting d c) s (record { event = next_event d c s; number = refl; noted = refl; of_body = refl; of_kind = refl; made = (_, refl) });
   }
 
-  pub records_note_write : (d : Draft) (c : Carried A) → Records (note_write d c)
+  pub records_note_write : (d : Draft) (c : Carried A) → Records d.kind (note_write d c)
   unfolding note_write writing with_event with_stored end made next_event
   records_note_write d c = record {
     level = record { by = λ s. room_level c (writing d c) s (noted_level d c s) };
-    next = λ s. room_next c (writing d c) s (record { event = next_event d c s; number = refl; noted = refl; of_body = refl });
+    next = λ s. room_next d.kind c (writing d c) s (record { event = next_event d c s; number = refl; noted = refl; of_body = refl; of_kind = refl; made = (_, refl) });
   }
 
-  pub records_note_new : (p : Program) (d : Draft) (c : Carried A) → Records (note_new p d c)
+  pub records_note_new : (p : Program) (d : Draft) (c : Carried A) → Records d.kind (note_new p d c)
   unfolding note_new creating with_event with_created end made next_event
   records_note_new p d c = record {
     level = record { by = λ s. room_level c (creating p d c) s (noted_level d c s) };
-    next = λ s. room_next c (creating p d c) s (record { event = next_event d c s; number = refl; noted = refl; of_body = refl });
+    next = λ s. room_next d.kind c (creating p d c) s (record { event = next_event d c s; number = refl; noted = refl; of_body = refl; of_kind = refl; made = (_, refl) });
   }
 
   pub level_note : (d : Draft) (c : Carried A) → Levels (note d c)
@@ -457,7 +541,7 @@ module _ (A : Sets) where
     active = refl;
     frame = h.frame;
     later = h.later;
-    fine = λ f. record { stand = subst (λ fr. Stand d.noted fr s.active) (sym h.frame) (stand_up s.noted d.noted s.frame s.active h.later f.stand); controlled = (h.fine f).controlled };
+    fine = λ f. record { stand = subst (λ fr. Stand d.noted fr s.active) (sym h.frame) (stand_up s.noted d.noted s.frame s.active h.later f.stand); made = f.made; controlled = (h.fine f).controlled };
     under = λ a i o. h.under a i (λ n is. elim is [ ]) o;
   }
 
@@ -474,26 +558,39 @@ module _ (A : Sets) where
   entry_of : Reach → Made A → Active A
   entry_of reach e = record { number = e.number; from_all = e.from_all; reach = reach }
 
-  -- the next event is in the records, and is one of the running body
-  own_next : (s t : State A) (e : Made A) → IsNext s e t → IsOwn t.noted s.frame e.number
+  -- the next event is in the records
+  next_there : (k : Kind) (s t : State A) (e : Made A) (h : IsNext k s e t) → event_in t.noted e.number ≡ Some h.event.event
   unfolding event_in
-  own_next s t e h = record {
+  next_there k s t e h = ap (λ l. event_in l e.number) h.noted ∙ ap (λ b. if b then Some h.event.event else event_in s.noted e.number) (eq-eqb e.number (length s.noted) h.number)
+
+  -- one that runs no body is one of the running body
+  own_next : (k : Kind) (s t : State A) (e : Made A) → runs_body k ≡ false → IsNext k s e t → IsOwn t.noted s.frame e.number
+  own_next k s t e runs h = record { event = h.event.event; there = next_there k s t e h; of_body = h.of_body; runs_none = ap runs_body h.of_kind ∙ runs }
+
+  -- one that runs a body is the event of that body
+  body_next : (k : Kind) (s t : State A) (e : Made A) → runs_body k ≡ true → IsNext k s e t → Fine (core s) → IsBody t.noted (Some e.number) (entry_of Around e)
+  unfolding entry_of
+  body_next k s t e runs h f = record {
+    frame = refl;
+    around = refl;
     event = h.event.event;
-    there = ap (λ l. event_in l e.number) h.noted ∙ ap (λ b. if b then Some h.event.event else event_in s.noted e.number) (eq-eqb e.number (length s.noted) h.number);
-    of_body = h.of_body;
+    there = next_there k s t e h;
+    runs = ap runs_body h.of_kind ∙ runs;
+    below = subst (λ n. IsBelow n h.event.event.frame) (sym h.number) (subst (IsBelow (length s.noted)) (sym h.of_body) (frame_below s.noted s.frame s.active f.stand));
   }
 
   module _ (N : ℕ → Type 0) (P : Option ℕ → Reach → Type 0) where
-    go_in_kept : (reach : Reach) (s : State A) (o : Outcome A (Made A)) → P s.frame reach → Level (core s) (core (end o)) → IfNext s o → Kept N P (core s) (core (end (go_in reach o)))
+    go_in_kept : (k : Kind) (reach : Reach) (s : State A) (o : Outcome A (Made A)) → runs_body k ≡ false → P s.frame reach → Level (core s) (core (end o)) → IfNext k s o → Kept N P (core s) (core (end (go_in reach o)))
     unfolding go_in entered with_active end
-    go_in_kept reach s (Done e t) allowed h next =
-        let own : IsOwn t.noted t.frame e.number = subst (λ fr. IsOwn t.noted fr e.number) (sym h.frame) (own_next s t e next) in
+    go_in_kept k reach s (Done e t) runs allowed h next =
+        let own : IsOwn t.noted t.frame e.number = subst (λ fr. IsOwn t.noted fr e.number) (sym h.frame) (own_next k s t e runs next) in
         let up : length t.noted ≡ suc (length s.noted) = ap length next.noted in
         let at = next.number in
         record {
           frame = h.frame;
           later = h.later;
-          fine = λ f. record { stand = inr (own, (h.fine f).stand); controlled = (h.fine f).controlled };
+          fine = λ f. record { stand = inr (own, (h.fine f).stand); made = (next.made, (h.fine f).made); controlled = (h.fine f).controlled };
+          made = λ m. (next.made, subst AreMade (sym h.active) m);
           order = λ o. (omega (arith, up, at), subst (AreInOrder e.number) (sym h.active) (subst (λ n. AreInOrder n s.active) (sym next.number) o));
           under = λ a i spared o. h.under a i o;
           stays = λ a i spared. inr (subst (IsAmong a) (sym h.active) i);
@@ -501,12 +598,12 @@ module _ (A : Sets) where
               (λ is. inr (subst (λ (b : Active A). (length s.noted ≤ b.number) × P s.frame b.reach) is (omega (arith, at), allowed)))
               (λ old. inl (subst (IsAmong a) h.active old)) i;
         }
-    go_in_kept reach s (Left why t) allowed h next = level_kept N P (core s) (core t) h
-    go_in_kept reach s (Stopped why t) allowed h next = level_kept N P (core s) (core t) h
+    go_in_kept k reach s (Left why t) runs allowed h next = level_kept N P (core s) (core t) h
+    go_in_kept k reach s (Stopped why t) runs allowed h next = level_kept N P (core s) (core t) h
 
-    pub kept_activating : {m : Run A (Made A)} (reach : Reach) (s : State A) → P s.frame reach → Records m → Kept N P (core s) (core (end (activating reach m s)))
+    pub kept_activating : {k : Kind} {m : Run A (Made A)} (reach : Reach) (s : State A) → P s.frame reach → Records k m → runs_body k ≡ false → Kept N P (core s) (core (end (activating reach m s)))
     unfolding activating
-    kept_activating {m = m} reach s allowed h = go_in_kept reach s (m s) allowed (h.level.by s) (h.next s)
+    kept_activating {k = k} {m = m} reach s allowed h runs = go_in_kept k reach s (m s) runs allowed (h.level.by s) (h.next s)
 
     -- the running body is known
     pub with_frame : {X : Type 0} (k : Option ℕ → Run A X) → ((s : State A) → Kept N P (core s) (core (end (k s.frame s)))) → Keeps N P (frame >>= k)
@@ -518,8 +615,8 @@ module _ (A : Sets) where
     bind_at m f s h k = go_on_kept N P (core s) (m s) f h (λ x t. (k x).by t)
 
     -- an entry of a reach that each body allows
-    pub keeps_activating : {m : Run A (Made A)} (reach : Reach) → ((f : Option ℕ) → P f reach) → Records m → Keeps N P (activating reach m)
-    keeps_activating reach allowed h = record { by = λ s. kept_activating reach s (allowed s.frame) h }
+    pub keeps_activating : {k : Kind} {m : Run A (Made A)} (reach : Reach) → ((f : Option ℕ) → P f reach) → Records k m → runs_body k ≡ false → Keeps N P (activating reach m)
+    keeps_activating reach allowed h runs = record { by = λ s. kept_activating reach s (allowed s.frame) h runs }
 
   -- ---- bodies
 
@@ -530,7 +627,7 @@ module _ (A : Sets) where
     active = refl;
     frame = same ∙ h.frame;
     later = later_trans s.noted t.noted noted h.later later;
-    fine = λ f. record { stand = subst (λ fr. Stand noted fr s.active) (sym (same ∙ h.frame)) (stand_up s.noted noted s.frame s.active (later_trans s.noted t.noted noted h.later later) f.stand); controlled = controlled f };
+    fine = λ f. record { stand = subst (λ fr. Stand noted fr s.active) (sym (same ∙ h.frame)) (stand_up s.noted noted s.frame s.active (later_trans s.noted t.noted noted h.later later) f.stand); made = f.made; controlled = controlled f };
     under = λ a i o. under_trans a.number (length s.noted) t.noted noted later (h.under a i o) (under a i o);
   }
 
@@ -546,34 +643,43 @@ module _ (A : Sets) where
     active = refl;
     frame = h.frame;
     later = h.later;
-    fine = λ f. record { stand = subst (Stand d.noted d.frame) h.active (h.fine f).stand; controlled = (h.fine f).controlled };
+    fine = λ f. record { stand = subst (Stand d.noted d.frame) h.active (h.fine f).stand; made = f.made; controlled = (h.fine f).controlled };
     under = h.under;
   }
 
   -- all that happens in a body is controlled by its event, or later ones
-  in_body : (N : ℕ → Type 0) (P : Option ℕ → Reach → Type 0) (s t : State A) (e : Made A) (d : Core) → Level (core s) (core t) → IsNext s e t →
+  in_body : (N : ℕ → Type 0) (P : Option ℕ → Reach → Type 0) (k : Kind) (s t : State A) (e : Made A) (d : Core) → Level (core s) (core t) → IsNext k s e t →
       Kept N P (record { noted = t.noted; frame = Some e.number; active = entry_of Around e ∷ t.active }) d → (a : Active A) → IsAmong a s.active → InOrder (core s) → IsControlledBy a.number (length t.noted) d.noted
   unfolding entry_of ends_with
-  in_body N P s t e d h next inner a i o =
+  in_body N P k s t e d h next inner a i o =
       let up : length t.noted ≡ suc (length s.noted) = ap length next.noted in
       let at = next.number in
       let lt = all_below (length s.noted) s.active a o i in
       let order : AreInOrder e.number t.active = subst (AreInOrder e.number) (sym h.active) (subst (λ n. AreInOrder n s.active) (sym next.number) o) in
       under_less a.number e.number (length t.noted) d.noted (omega (arith, lt, at)) (inner.under (record { number = e.number; from_all = e.from_all; reach = Around }) (inl refl) (λ n is. refl) (omega (arith, up, at), order))
 
-  body_level : {X : Type 0} (N : ℕ → Type 0) (P : Option ℕ → Reach → Type 0) (k : Made A → Run A X) (s : State A) (o : Outcome A (Made A)) → Level (core s) (core (end o)) → IfNext s o → ((e : Made A) → Keeps N P (k e)) → Level (core s) (core (end (active_again s.active (go_on (go_in Around o) (λ e. in_frame e.number (k e))))))
+  -- as the body begins, its event is active before the entries that were so
+  fine_body : (k : Kind) (s t : State A) (e : Made A) → runs_body k ≡ true → IsNext k s e t → Level (core s) (core t) → Fine (core s) → Fine (record { noted = t.noted; frame = Some e.number; active = entry_of Around e ∷ t.active })
+  unfolding entry_of body_next
+  fine_body k s t e runs next h f = record {
+    stand = inl (body_next k s t e runs next f, subst (λ fr. Stand t.noted fr t.active) (h.frame ∙ sym next.of_body) (h.fine f).stand);
+    made = (next.made, (h.fine f).made);
+    controlled = (h.fine f).controlled;
+  }
+
+  body_level : {X : Type 0} (N : ℕ → Type 0) (P : Option ℕ → Reach → Type 0) (d : Kind) (k : Made A → Run A X) (s : State A) (o : Outcome A (Made A)) → runs_body d ≡ true → Level (core s) (core (end o)) → IfNext d s o → ((e : Made A) → Keeps N P (k e)) → Level (core s) (core (end (active_again s.active (go_on (go_in Around o) (λ e. in_frame e.number (k e))))))
   unfolding go_in entered with_active go_on in_frame end entry_of active_again
-  body_level N P k s (Done e t) h next keeps =
+  body_level N P d k s (Done e t) runs h next keeps =
       let inner = (keeps e).by (record t { active = entry_of Around e ∷ t.active; frame = Some e.number }) in
       framed s t t.frame (k e (record t { active = entry_of Around e ∷ t.active; frame = Some e.number })) h refl inner.later
-      (λ f. (inner.fine (record { stand = inl (refl, refl); controlled = (h.fine f).controlled })).controlled)
-      (in_body N P s t e _ h next inner)
-  body_level N P k s (Left why t) h next keeps = again_level s (core t) h
-  body_level N P k s (Stopped why t) h next keeps = again_level s (core t) h
+      (λ f. (inner.fine (fine_body d s t e runs next h f)).controlled)
+      (in_body N P d s t e _ h next inner)
+  body_level N P d k s (Left why t) runs h next keeps = again_level s (core t) h
+  body_level N P d k s (Stopped why t) runs h next keeps = again_level s (core t) h
 
-  pub level_body : {X : Type 0} {m : Run A (Made A)} (N : ℕ → Type 0) (P : Option ℕ → Reach → Type 0) (k : Made A → Run A X) → Records m → ((e : Made A) → Keeps N P (k e)) → Levels (scoped (activating Around m >>= (λ e. in_frame e.number (k e))))
+  pub level_body : {X : Type 0} {d : Kind} {m : Run A (Made A)} (N : ℕ → Type 0) (P : Option ℕ → Reach → Type 0) (k : Made A → Run A X) → Records d m → runs_body d ≡ true → ((e : Made A) → Keeps N P (k e)) → Levels (scoped (activating Around m >>= (λ e. in_frame e.number (k e))))
   unfolding scoped activating ◌>>=◌
-  level_body {m = m} N P k h keeps = record { by = λ s. body_level N P k s (m s) (h.level.by s) (h.next s) keeps }
+  level_body {d = d} {m = m} N P k h runs keeps = record { by = λ s. body_level N P d k s (m s) runs (h.level.by s) (h.next s) keeps }
 
   -- ---- statements
 
@@ -612,7 +718,7 @@ module _ (A : Sets) where
   unfolding outlasting ends_with
   stand_outlasting noted fr g n [] h = h
   stand_outlasting noted fr g n (a ∷ rest) (inl h) =
-      subst (λ z. Stand noted fr (if z then outlasting g n rest else a ∷ outlasting g n rest)) (sym (ap (ends_with g n) h.1 ∙ around g n)) (inl h)
+      subst (λ z. Stand noted fr (if z then outlasting g n rest else a ∷ outlasting g n rest)) (sym (ap (ends_with g n) h.0.around ∙ around g n)) (inl (h.0, stand_outlasting noted h.0.event.frame g n rest h.1))
     where
       around : (g : Option ℕ) (n : ℕ) → ends_with g n Around ≡ false
       around g n = refl
@@ -621,6 +727,15 @@ module _ (A : Sets) where
       here : (z : Bool) → Stand noted fr (outlasting g n rest) → Stand noted fr (if z then outlasting g n rest else a ∷ outlasting g n rest)
       here true k = k
       here false k = inr (h.0, k)
+
+  made_outlasting : (g : Option ℕ) (n : ℕ) (es : List (Active A)) → AreMade es → AreMade (outlasting g n es)
+  unfolding outlasting
+  made_outlasting g n [] h = tt
+  made_outlasting g n (a ∷ rest) h = here (ends_with g n a.reach) (made_outlasting g n rest h.1)
+    where
+      here : (z : Bool) → AreMade (outlasting g n rest) → AreMade (if z then outlasting g n rest else a ∷ outlasting g n rest)
+      here true k = k
+      here false k = (h.0, k)
 
   order_outlasting : (m : ℕ) (g : Option ℕ) (n : ℕ) (es : List (Active A)) → AreInOrder m es → AreInOrder m (outlasting g n es)
   unfolding outlasting
@@ -636,7 +751,8 @@ module _ (A : Sets) where
     reached n c d is h = record {
       frame = h.frame;
       later = h.later;
-      fine = λ f. record { stand = stand_outlasting d.noted d.frame c.frame n d.active (h.fine f).stand; controlled = (h.fine f).controlled };
+      fine = λ f. record { stand = stand_outlasting d.noted d.frame c.frame n d.active (h.fine f).stand; made = made_outlasting c.frame n d.active (h.fine f).made; controlled = (h.fine f).controlled };
+      made = λ m. made_outlasting c.frame n d.active (h.made m);
       order = λ o. order_outlasting (length d.noted) c.frame n d.active (h.order o);
       under = h.under;
       stays = λ a i spared. among_outlasting c.frame n a d.active (spared n is) (h.stays a i spared);

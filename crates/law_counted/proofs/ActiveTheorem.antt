@@ -5,7 +5,7 @@ use Rattle.std.specs.Prelude.{nat_eq, if◌then◌else◌, slice_get}
 use Rattle.std.proofs.lemmas.Bool.Decides.{eqb_tells}
 use Rattle.std.proofs.lemmas.List.{map-append, length-map, length-reverse}
 use mathlib.Core.List.{map, reverse, reverse-cons}
-use Rattle.wy_kernel.specs.Form.{Stmt}
+use Rattle.wy_kernel.specs.Form.{Statement, Stmt}
 use Rattle.wy_kernel.specs.Program.{Program}
 use Rattle.wy_event.specs.Record.{Recorded}
 use Rattle.wy_steps.specs.Sets.{Sets}
@@ -13,6 +13,7 @@ use Rattle.wy_steps.specs.State.{Carried, Noted, Active, Around, Through, State,
 use Rattle.wy_kernel.specs.Limits.{depth_limit}
 use Rattle.wy_steps.specs.Steps.{Made, pay, tick, frame, event_in, code_of, parent, note, note_write, with_active, entered, go_in, activating, active_again, scoped, ends_with, without, end_reaches, reaching, covered}
 use Rattle.wy_steps.specs.Laws.{IfDone}
+use Rattle.wy_event.specs.declared.record.Kind.{Kind}
 use Rattle.wy_event.specs.declared.record.Kind.TheVariants as kind
 use Rattle.wy_event.specs.declared.record.Slot.TheVariants.{Local}
 use Rattle.wy_meaning.specs.World.{plain, into, is_true}
@@ -20,7 +21,7 @@ use Rattle.wy_meaning.specs.Expression.{arm, conditional, eval, eval_part}
 use Rattle.wy_meaning.specs.Statement.{statement, tested, caught, exec, exec_act}
 use Rattle.wy_meaning.specs.Run.{world, start, outcome, end, history, events}
 use Rattle.law_counted.specs.Entries.{IsControlOf, ControlIsOfTheBody, NothingIsActiveAtTheEnd, IsAmong, StatementsKeepEntries, EntriesEndWithTheirReach, AreInOrder, IsControlledBy, ArmsAreControlledByTheirTest, ExpressionsAddNoEntry, IsGreatest, TheParentIsTheGreatest, BecameActive, TestsBecomeActive, CatchesBecomeActive}
-use Rattle.law_counted.proofs.ActiveRules.{Controls, AllControlled, core, Fine, Level, Levels, later_one, controls_up, level_same, level_kept, level_order, level_choose, under_same, all_below, IfNext, records_note, records_note_write, spared_among}
+use Rattle.law_counted.proofs.ActiveRules.{AreMade, Controls, AllControlled, core, Fine, Level, Levels, later_one, controls_up, level_same, level_kept, level_order, level_choose, under_same, all_below, IfNext, records_note, records_note_write, spared_among}
 use Rattle.law_induction.proofs.Composed.{on_arm}
 use Rattle.law_counted.proofs.ActiveForms.{IsLevel, level_by_steps}
 use Rattle.law_counted.proofs.ActivePrograms.{level_eval, level_part, keeps_exec, level_main_run, world_levels}
@@ -40,19 +41,17 @@ slice_snoc (x ∷ xs) y zero = sym (ap (λ b. if b then Some y else Some x) (ne_
 slice_snoc (x ∷ xs) y (suc n) = slice_snoc xs y n ∙ sym (ap (λ b. if b then Some y else slice_get xs n) (same_next n (length xs)))
 
 module _ (A : Sets) where
-  in_order : List (Noted A) → List Recorded
+  abbrev pub in_order : List (Noted A) → List Recorded
   in_order noted = map (λ e. e.event) (reverse noted)
 
   in_order-cons : (e : Noted A) (rest : List (Noted A)) → in_order (e ∷ rest) ≡ in_order rest ++ e.event ∷ []
-  unfolding in_order
   in_order-cons e rest = ap (map (λ (x : Noted A). x.event)) (reverse-cons e rest) ∙ map-append (λ (x : Noted A). x.event) (reverse rest) (e ∷ [])
 
   length-in_order : (noted : List (Noted A)) → length (in_order noted) ≡ length noted
-  unfolding in_order
   length-in_order noted = length-map (reverse noted) (λ e. e.event) ∙ length-reverse noted
 
-  in_time : (noted : List (Noted A)) (n : ℕ) → event_in noted n ≡ slice_get (in_order noted) n
-  unfolding event_in in_order
+  pub in_time : (noted : List (Noted A)) (n : ℕ) → event_in noted n ≡ slice_get (in_order noted) n
+  unfolding event_in
   in_time [] n = refl
   in_time (e ∷ rest) n =
       ap (λ o. if nat_eq n (length rest) then Some e.event else o) (in_time rest n)
@@ -66,7 +65,7 @@ module _ (A : Sets) where
   each_controlled (x ∷ rest) h n e there = here (nat_eq n (length rest)) there (each_controlled rest h.1 n e)
     where
       here : (b : Bool) → (if b then Some x.event else event_in rest n) ≡ Some e → (event_in rest n ≡ Some e → Controls A rest e.frame e.control) → Controls A (x ∷ rest) e.frame e.control
-      here true is up = let same : x.event ≡ e = cc in subst (λ (r : Recorded). Controls A (x ∷ rest) r.frame r.control) same (controls_up A rest (x ∷ rest) x.event.frame x.event.control (later_one A x rest) h.0)
+      here true is up = let same : x.event ≡ e = cc in subst (λ (r : Recorded). Controls A (x ∷ rest) r.frame r.control) same (controls_up A rest (x ∷ rest) x.event.frame x.event.control (later_one A x rest) h.0.control)
       here false is up = controls_up A rest (x ∷ rest) e.frame e.control (later_one A x rest) (up is)
 
   shown : (noted : List (Noted A)) (fr control : Option ℕ) → Controls A noted fr control → IsControlOf (in_order noted) fr control
@@ -82,19 +81,27 @@ module _ (A : Sets) where
 
   fine_start : (input : List ℕ) (budget : ℕ) → Fine A (core A (start input budget))
   unfolding start
-  fine_start input budget = record { stand = refl; controlled = tt }
+  fine_start input budget = record { stand = refl; made = tt; controlled = tt }
+
+  -- each event was recorded while such entries were active
+  pub all_controlled : (p : Program) (input : List ℕ) (budget : ℕ) → AllControlled A (end (outcome {A = A} p input budget)).noted
+  all_controlled p input budget = ((of_run p input budget).fine (fine_start input budget)).controlled
 
   pub control : (p : Program) → ControlIsOfTheBody A p
-  unfolding events history in_order
+  unfolding events history
   control p input budget n e there =
       let noted = (end (outcome {A = A} p input budget)).noted in
-      shown noted e.frame e.control (each_controlled noted ((of_run p input budget).fine (fine_start input budget)).controlled n e (in_time noted n ∙ there))
+      shown noted e.frame e.control (each_controlled noted (all_controlled p input budget) n e (in_time noted n ∙ there))
 
   pub none_at_end : (p : Program) → NothingIsActiveAtTheEnd A p
   unfolding start
   none_at_end p input budget = (of_run p input budget).active
 
   -- ---- parts of runs
+
+  -- the entries of a statement come from what their events come from, where those before it did
+  pub statements_make : (p : Program) (depth : ℕ) (x : Statement) (s : State A) → AreMade A s.active → AreMade A (end (exec (world p depth) x s)).active
+  statements_make p depth x s = ((keeps_exec A (world p depth) (world_levels A p depth) x).by s).made
 
   pub statements_keep : (p : Program) → StatementsKeepEntries A p
   statements_keep p depth x s =
@@ -135,27 +142,27 @@ module _ (A : Sets) where
       gone s.frame number a (covered number m (record s { left = left }))
       (subst (λ (o : Outcome A Unit). IsAmong a (end o).active) (after_start number s.left left m s e) i)
 
-  noted_test : {X : Type 0} (r : ℕ) (b : X) (s t : State A) (o : Outcome A (Made A)) → Level A (core A s) (core A t) → Level A (core A t) (core A (end o)) → IfNext A t o →
+  noted_test : {X : Type 0} (k : Kind) (r : ℕ) (b : X) (s t : State A) (o : Outcome A (Made A)) → Level A (core A s) (core A t) → Level A (core A t) (core A (end o)) → IfNext A k t o →
       IfDone (go_on (go_in (Through t.frame r) o) (λ e. return b)) (λ z u. BecameActive (Through s.frame r) s u)
   unfolding go_in entered with_active go_on return end
-  noted_test r b s t (Done e u) h k next =
+  noted_test k r b s t (Done e u) h l next =
       let one = next.number in
       let more = ap length next.noted in
       record {
         entry = record { number = e.number; from_all = e.from_all; reach = Through t.frame r };
-        active = ap (λ l. record { number = e.number; from_all = e.from_all; reach = Through t.frame r } ∷ l) (k.active ∙ h.active);
+        active = ap (λ l. record { number = e.number; from_all = e.from_all; reach = Through t.frame r } ∷ l) (l.active ∙ h.active);
         last = omega (arith, one, more);
         reaches = ap (λ f. Through f r) h.frame;
       }
-  noted_test r b s t (Left why u) h k next = tt
-  noted_test r b s t (Stopped why u) h k next = tt
+  noted_test k r b s t (Left why u) h l next = tt
+  noted_test k r b s t (Stopped why u) h l next = tt
 
   test_active : (site r : ℕ) (s : State A) (m : Run A (Carried A)) → Levels A m → IfDone (tested site r m s) (λ b t. BecameActive (Through s.frame r) s t)
   unfolding tested frame ◌>>=◌ activating go_on end
   test_active site r s m h = from (m s) (h.by s)
     where
       from : (o : Outcome A (Carried A)) → Level A (core A s) (core A (end o)) → IfDone (go_on o (λ v. frame >>= (λ f. activating (Through f r) (note (plain kind.Test site v.value) v) >>= (λ e. return (is_true v.value))))) (λ b t. BecameActive (Through s.frame r) s t)
-      from (Done v t) k = noted_test r (is_true v.value) s t (note (plain kind.Test site v.value) v t) k ((records_note A _ v).level.by t) ((records_note A _ v).next t)
+      from (Done v t) k = noted_test _ r (is_true v.value) s t (note (plain kind.Test site v.value) v t) k ((records_note A _ v).level.by t) ((records_note A _ v).next t)
       from (Left why t) k = tt
       from (Stopped why t) k = tt
 
@@ -164,7 +171,7 @@ module _ (A : Sets) where
 
   pub catches_active : CatchesBecomeActive A
   unfolding caught frame ◌>>=◌ ◌>>◌ activating go_on end
-  catches_active c v s = noted_test c.number tt s s (note_write (into kind.Catch c.site (Local (code_of s.frame) c.local) v.value) v s) (level_same A _) ((records_note_write A _ v).level.by s) ((records_note_write A _ v).next s)
+  catches_active c v s = noted_test _ c.number tt s s (note_write (into kind.Catch c.site (Local (code_of s.frame) c.local) v.value) v s) (level_same A _) ((records_note_write A _ v).level.by s) ((records_note_write A _ v).next s)
 
   -- ---- the arms of `?:`
 
@@ -177,10 +184,10 @@ module _ (A : Sets) where
   none_more : (k : ℕ) (before after : List (Noted A)) → after ≡ before → IsControlledBy k (suc (length before)) after
   none_more k before after same n e le there = under_same A k before n e (omega (arith, le)) (subst (λ l. event_in l n ≡ Some e) same there)
 
-  arm_controlled : (t : State A) (o : Outcome A (Made A)) (k : Made A → Run A (Carried A)) → Level A (core A t) (core A (end o)) → IfNext A t o → AreInOrder (length t.noted) t.active → ((e : Made A) → Levels A (k e)) →
+  arm_controlled : (d : Kind) (t : State A) (o : Outcome A (Made A)) (k : Made A → Run A (Carried A)) → Level A (core A t) (core A (end o)) → IfNext A d t o → AreInOrder (length t.noted) t.active → ((e : Made A) → Levels A (k e)) →
       IsControlledBy (length t.noted) (suc (length t.noted)) (end (go_on (go_in Around o) k)).noted
   unfolding go_in entered with_active go_on end
-  arm_controlled t (Done e u) k h next order levels =
+  arm_controlled d t (Done e u) k h next order levels =
       let entry : Active A = record { number = e.number; from_all = e.from_all; reach = Around } in
       let at = next.number in
       let up : length u.noted ≡ suc (length t.noted) = ap length next.noted in
@@ -188,8 +195,8 @@ module _ (A : Sets) where
       let all = ((levels e).by (record u { active = entry ∷ u.active })).under entry (inl refl) (omega (arith, up, at), inner) in
       let last = (end (k e (record u { active = entry ∷ u.active }))).noted in
       subst (λ m. IsControlledBy {A = A} (length t.noted) m last) up (subst (λ m. IsControlledBy {A = A} m (length u.noted) last) at all)
-  arm_controlled t (Left why u) k h next order levels = none_more (length t.noted) t.noted u.noted next
-  arm_controlled t (Stopped why u) k h next order levels = none_more (length t.noted) t.noted u.noted next
+  arm_controlled d t (Left why u) k h next order levels = none_more (length t.noted) t.noted u.noted next
+  arm_controlled d t (Stopped why u) k h next order levels = none_more (length t.noted) t.noted u.noted next
 
   pub arms_controlled : (p : Program) → ArmsAreControlledByTheirTest A p
   unfolding conditional scoped ◌>>=◌ activating go_on end
@@ -200,5 +207,5 @@ module _ (A : Sets) where
       let k : Made A → Run A (Carried A) = λ e. choose (is_true v.value) (arm e v.value (eval_part w a)) (arm e v.value (eval_part w b)) in
       let levels : (e : Made A) → Levels A (k e) = λ e. level_choose A (is_true v.value) (on_arm A (IsLevel A) (level_by_steps A) w pw e v.value _ (level_part A w pw a)) (on_arm A (IsLevel A) (level_by_steps A) w pw e v.value _ (level_part A w pw b)) in
       let f : Carried A → Run A (Carried A) = λ v. activating Around (note (plain kind.Test site v.value) v) >>= (λ e. choose (is_true v.value) (arm e v.value (eval_part w a)) (arm e v.value (eval_part w b))) in
-      let rest = arm_controlled t (note (plain kind.Test site v.value) v t) k ((records_note A _ v).level.by t) ((records_note A _ v).next t) (level_order A (core A s) (core A t) h.active h.later order) levels in
+      let rest = arm_controlled _ t (note (plain kind.Test site v.value) v t) k ((records_note A _ v).level.by t) ((records_note A _ v).next t) (level_order A (core A s) (core A t) h.active h.later order) levels in
       subst (IsControlledBy (length t.noted) (suc (length t.noted))) (sym (noted_again s.active (go_on (eval w test s) f) ∙ ap (λ o. (end (go_on o f)).noted) is)) rest

@@ -1,10 +1,12 @@
 -- When the entries of a run are active: each from its event to the end of its reach, not longer.
-use Rattle.std.specs.Prelude.{◌≡◌, ◌<◌, ◌≤◌, ◌⊎◌, ℕ, suc, false, List, [], ◌∷◌, length, Option, Some}
+use Rattle.std.specs.Prelude.{◌≡◌, ◌<◌, ◌≤◌, ◌⊎◌, ℕ, suc, Bool, true, false, List, [], ◌∷◌, length, Option, Some}
 use Rattle.std.specs.Prelude.{None as Absent}
 use Rattle.std.specs.Prelude.{slice_get}
 use Rattle.wy_kernel.specs.Form.{Expression, Part, Statement, Stmt}
 use Rattle.wy_kernel.specs.Program.{Program}
 use Rattle.wy_kernel.specs.Statements.{statements}
+use Rattle.wy_event.specs.declared.record.Kind.{Kind}
+use Rattle.wy_event.specs.declared.record.Kind.TheVariants as kind
 use Rattle.wy_event.specs.Record.{Recorded}
 use Rattle.wy_steps.specs.Sets.{Sets}
 use Rattle.wy_steps.specs.State.{Carried, Noted, Reach, Around, Through, Active, State, Done, Run, return}
@@ -16,6 +18,12 @@ use Rattle.wy_meaning.specs.Statement.{tested, Clause, caught, number_of, exec}
 use Rattle.wy_meaning.specs.Run.{world, outcome, end, events}
 
 -- ---- in the records
+
+-- a Call or an Init runs a body
+unfoldable pub runs_body : Kind → Bool
+runs_body kind.Call = true
+runs_body kind.Init = true
+runs_body _ = false
 
 -- record n is there, and was recorded by a body
 pub record IsOf (records : List Recorded) (frame : Option ℕ) (n : ℕ) : Type 0 where

@@ -1,6 +1,6 @@
-//! Tests of the outside, of recorders and sinks, of traces in bytes, of views with the index and why, and of the whole call over
-//! the forms in memory, each call of which fails in turn. It holds nothing else. Expected values are those of the definitions,
-//! worked out by hand, and of the system.
+//! Tests of the outside, of recorders and sinks, of traces in bytes, of views with the index, why and time travel, and of the
+//! whole call over the forms in memory, each call of which fails in turn. It holds nothing else. Expected values are those of
+//! the definitions, worked out by hand, and of the system.
 #![tactic(auto)]
 
 #[cfg(test)]
@@ -31,3 +31,5 @@ mod real;
 mod recorders;
 #[cfg(test)]
 mod sinks;
+#[cfg(test)]
+mod travel;

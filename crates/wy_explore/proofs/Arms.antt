@@ -25,6 +25,13 @@ use Rattle.wy_ask.specs.Statements.{Finds}
 use Rattle.wy_ask.specs.declared.naming.NamedStatement.{NamedStatement}
 use Rattle.wy_ask.specs.declared.question.AskError.{AskError}
 use Rattle.wy_ask.specs.declared.question.AskError.TheVariants as errors
+use Rattle.wy_value.specs.declared.value.Value.{Value}
+use Rattle.wy_travel.specs.declared.frames.State.{State}
+use Rattle.wy_travel.specs.Backtrace.{StackFrame, backtrace, stack_frame}
+use Rattle.wy_watch.specs.declared.error.WatchError.{WatchError}
+use Rattle.wy_watch.specs.declared.error.WatchError.TheVariants as refusal
+use Rattle.wy_watch.specs.Watch.{HasNoValue, IfNoValue, IsValueOf}
+use Rattle.wy_watch.specs.Watched.{watch_limit}
 use Rattle.wy_why.specs.declared.answer.Answer.{Answer}
 use Rattle.wy_why.specs.declared.source.Source.{Source}
 use Rattle.wy_why.specs.Answer.{up_to}
@@ -39,12 +46,12 @@ use Rattle.wy_explore.specs.declared.explorer.Answered.{Answered}
 use Rattle.wy_explore.specs.declared.explorer.Explorer.{Explorer}
 use Rattle.wy_explore.specs.declared.reply.Reply as answer
 use Rattle.wy_explore.specs.declared.reply.Reply.TheVariants as reply
-use Rattle.wy_explore.specs.Commands.{Ask, AsksAbout, Down, Go, Listing, Quit, Reads, Sources, Undo, Up, WhyNot, Worded, worded}
+use Rattle.wy_explore.specs.Commands.{Ask, AsksAbout, Down, Frames, Go, IsMeant, Listing, Quit, Reads, Show, Sources, Undo, Up, WhyNot, Worded, worded}
 use Rattle.wy_explore.specs.Explorer.{AllAnswered, Fulfils, HoldsOf, IsAnswered, Leads, Moves, Undoes, event_asked, reply_of, session_of}
-use Rattle.wy_explore.specs.Session.{AreSources, IsGreatestBelow, IsLeastAbove, Replies, Reply, Session, answer_to, looking_at}
+use Rattle.wy_explore.specs.Session.{AreSources, IsGreatestBelow, IsLeastAbove, Replies, RepliesTo, Reply, Session, answer_to, looking_at}
 use Rattle.wy_explore.specs.Session as session
 use Rattle.wy_explore.proofs.Doing.{Steps}
-use Rattle.wy_explore.proofs.Replying.{asked, denied, found, listed, no_number, not_asked, not_down, not_found, not_listed, not_named, not_there, not_up, nothing, over, ran, reply_to_line, reply_to_none, too_far, went, went_back, went_down, went_up}
+use Rattle.wy_explore.proofs.Replying.{asked, denied, found, framed, listed, no_number, not_asked, not_down, not_found, not_framed, not_listed, not_looked, not_named, not_there, not_up, nothing, over, ran, reply_to_line, reply_to_none, shown, too_far, too_long, went, went_back, went_down, went_up, worthless}
 
 -- ---- an answer by the index
 
@@ -149,6 +156,28 @@ module _ (m : memory.Program) (covers : List Cover) (rs : List Recorded) (x : Ex
 
   pub sources_missed : x.cursor ≡ Absent → Fulfils m covers rs Sources x x reply.NoSuch
   sources_missed none = not_found p m.lines.items rs covers s none
+
+  -- what a state in memory says of its frames
+  abbrev frames_in : State → List StackFrame
+  frames_in state = map stack_frame state.frames.items
+
+  pub frames_told : (event : ℕ) (state : State) → x.cursor ≡ Some event → frames_in state ≡ backtrace p rs event → Fulfils m covers rs Frames x x (reply.Frames state)
+  frames_told event state cursor is = subst (λ frames. RepliesTo p m.lines.items rs covers s (IsMeant Frames) s (session.Backtrace frames)) (sym is) (framed p m.lines.items rs covers s event cursor)
+
+  pub frames_missed : x.cursor ≡ Absent → Fulfils m covers rs Frames x x reply.NoSuch
+  frames_missed none = not_framed p m.lines.items rs covers s none
+
+  pub show_told : (text : List ℕ) (event : ℕ) (v : Value) → length text ≤ watch_limit → x.cursor ≡ Some event → IsValueOf p rs event text v → Fulfils m covers rs (Show text) x x (reply.Shown v)
+  show_told text event v short cursor worth = shown p m.lines.items rs covers s text event v short cursor worth
+
+  pub show_missed : (text : List ℕ) → x.cursor ≡ Absent → Fulfils m covers rs (Show text) x x reply.NoSuch
+  show_missed text none = not_looked p m.lines.items rs covers s text none
+
+  pub show_too_long : (text : List ℕ) → watch_limit < length text → Fulfils m covers rs (Show text) x x reply.NoSuch
+  show_too_long text long = too_long p m.lines.items rs covers s text long
+
+  pub show_worthless : (text : List ℕ) (event : ℕ) (e : WatchError) → e ≡ refusal.NoValue → x.cursor ≡ Some event → IfNoValue (HasNoValue p rs event text) e → Fulfils m covers rs (Show text) x x reply.NoSuch
+  show_worthless text event e is cursor none = worthless p m.lines.items rs covers s text event cursor (subst (IfNoValue (HasNoValue p rs event text)) is none)
 
   pub go_unread : (word : List ℕ) → number_of word ≡ Absent → Fulfils m covers rs (Go word) x x reply.NoSuch
   go_unread word none = no_number p m.lines.items rs covers s word none

@@ -1,4 +1,4 @@
--- Each line of a command is ASCII, and so it is a text.
+-- Each line of a command is ASCII, and so it is a text, but for what is to be shown.
 use Rattle.std.proofs.Common.{◌≡◌, ℕ, zero, suc, ◌<◌, Bool, true, nat_lt, List, [], ◌∷◌, ◌++◌, not, refl, arith, ltb-true}
 use Rattle.std.specs.Prelude.{IsTrue, codes}
 use Rattle.std.specs.List.{list_all}
@@ -71,16 +71,23 @@ a_statement _ _ _ (placed line place v w e f some more) =
     IsAscii-append v (codes "." ++ w) (a_number line v e) (IsAscii-append (codes ".") w (fixed (codes ".") refl) (a_number place w f))
 a_statement _ _ _ (alone line v e some) = a_number line v e
 
-a_command : (line : List ℕ) (c : Command) → Says line c → IsAscii line
-a_command _ _ (session.ask q w spells) = IsAscii-append (codes "ask ") w (fixed (codes "ask ") refl) (a_question q w spells)
-a_command _ _ session.listing = fixed (codes "list") refl
-a_command _ _ session.up = fixed (codes "up") refl
-a_command _ _ session.down = fixed (codes "down") refl
-a_command _ _ (session.go n w is) = IsAscii-append (codes "go ") w (fixed (codes "go ") refl) (a_number n w is)
-a_command _ _ session.sources = fixed (codes "sources") refl
-a_command _ _ (session.whynot line place w spells) = IsAscii-append (codes "whynot ") w (fixed (codes "whynot ") refl) (a_statement line place w spells)
-a_command _ _ session.undo = fixed (codes "undo") refl
-a_command _ _ session.quit = fixed (codes "quit") refl
+-- nothing is to be shown
+abbrev pub ShowsNothing : Command → Type 0
+ShowsNothing (session.Show text) = ⊥
+ShowsNothing c = Unit {0}
 
-pub command_is_text : (line : List ℕ) (c : Command) → Says line c → IsUtf8 line
-command_is_text line c says = IsUtf8-from_ascii line (a_command line c says)
+a_command : (line : List ℕ) (c : Command) → Says line c → ShowsNothing c → IsAscii line
+a_command _ _ (session.ask q w spells) other = IsAscii-append (codes "ask ") w (fixed (codes "ask ") refl) (a_question q w spells)
+a_command _ _ session.listing other = fixed (codes "list") refl
+a_command _ _ session.up other = fixed (codes "up") refl
+a_command _ _ session.down other = fixed (codes "down") refl
+a_command _ _ (session.go n w is) other = IsAscii-append (codes "go ") w (fixed (codes "go ") refl) (a_number n w is)
+a_command _ _ session.sources other = fixed (codes "sources") refl
+a_command _ _ (session.whynot line place w spells) other = IsAscii-append (codes "whynot ") w (fixed (codes "whynot ") refl) (a_statement line place w spells)
+a_command _ _ session.frames other = fixed (codes "frames") refl
+a_command _ _ (session.show text short) other = absurd other
+a_command _ _ session.undo other = fixed (codes "undo") refl
+a_command _ _ session.quit other = fixed (codes "quit") refl
+
+pub command_is_text : (line : List ℕ) (c : Command) → Says line c → ShowsNothing c → IsUtf8 line
+command_is_text line c says other = IsUtf8-from_ascii line (a_command line c says other)

@@ -11,6 +11,9 @@ use Rattle.wy_ask.specs.Asked.{event_of}
 use Rattle.wy_ask.specs.Lines.{numbers_on}
 use Rattle.wy_ask.specs.Statements.{IsPlaced}
 use Rattle.wy_ask.proofs.Rising.{one_place}
+use Rattle.wy_value.specs.declared.value.Value.{Value}
+use Rattle.wy_travel.specs.Backtrace.{backtrace}
+use Rattle.wy_watch.specs.Watch.{IsValueOf, OneValue}
 use Rattle.wy_why.specs.declared.source.Role.{Role}
 use Rattle.wy_why.specs.declared.source.Role.TheVariants as role
 use Rattle.wy_why.specs.declared.source.Source.{Source}
@@ -115,6 +118,15 @@ module _ (p : Program) (lines : List ℕ) (rs : List Recorded) (covers : List Co
     pub stands : t ≡ record { at = position; past = past }
     pub replies : r ≡ session.At position.cursor
 
+  -- what a text is worth at the event that is looked at
+  pub record Shows (text : List ℕ) (t : Session) (r : Reply) : Type 0 where
+    pub event : ℕ
+    pub value : Value
+    pub cursor : s.at.cursor ≡ Some event
+    pub worth : IsValueOf p rs event text value
+    pub stands : t ≡ s
+    pub replies : r ≡ session.Shown value
+
   -- what it is that a command does
   abbrev pub DoesAs : Command → Session → Reply → Type 0
   DoesAs (session.Ask q) t r = (e : ℕ) × (event_of p rs q ≡ Some e) × (t ≡ asking s e) × (r ≡ session.At (Some e))
@@ -124,6 +136,8 @@ module _ (p : Program) (lines : List ℕ) (rs : List Recorded) (covers : List Co
   DoesAs (session.Go n) t r = (n < length rs) × (t ≡ looking_at s n) × (r ≡ session.At (Some n))
   DoesAs session.Sources t r = Finds t r
   DoesAs (session.WhyNot line place) t r = Denies line place t r
+  DoesAs session.Frames t r = (n : ℕ) × (s.at.cursor ≡ Some n) × (t ≡ s) × (r ≡ session.Backtrace (backtrace p rs n))
+  DoesAs (session.Show text) t r = Shows text t r
   DoesAs session.Undo t r = Returns t r ⊎ ((s.past ≡ []) × (t ≡ s) × (r ≡ session.NothingToUndo))
   DoesAs session.Quit t r = (t ≡ s) × (r ≡ session.End)
 
@@ -136,6 +150,8 @@ module _ (p : Program) (lines : List ℕ) (rs : List Recorded) (covers : List Co
   does_as _ _ _ (session.sources n found cursor are) = record { event = n; found = found; cursor = cursor; sources = are; stands = refl; replies = refl }
   does_as _ _ _ (session.whynot line place n items placed never are) =
       record { statement = n; items = items; placed = placed; never = never; are = are; stands = refl; replies = refl }
+  does_as _ _ _ (session.frames n cursor) = (n, cursor, refl, refl)
+  does_as _ _ _ (session.show n text v cursor worth) = record { event = n; value = v; cursor = cursor; worth = worth; stands = refl; replies = refl }
   does_as _ _ _ (session.undo position past is) = inl (record { position = position; past = past; is = is; stands = refl; replies = refl })
   does_as _ _ _ (session.nothing is) = inr (is, refl, refl)
   does_as _ _ _ session.quit = (refl, refl)
@@ -164,38 +180,47 @@ module _ (p : Program) (lines : List ℕ) (rs : List Recorded) (covers : List Co
       let items = one p rs covers a.statement a.items b.items a.are (subst (λ n. AreItems p rs covers n b.items) same b.are) in
       (a.stands ∙ sym b.stands, a.replies ∙ ap session.Items items ∙ sym b.replies)
 
+  one_showing : OneValue → (text : List ℕ) (t u : Session) (r q : Reply) → Shows text t r → Shows text u q → Same t u r q
+  one_showing one text t u r q a b =
+      let event = same_Some b.event a.event (sym b.cursor ∙ a.cursor) in
+      let value = one p rs a.event text a.value b.value a.worth (subst (λ n. IsValueOf p rs n text b.value) event b.worth) in
+      (a.stands ∙ sym b.stands, a.replies ∙ ap session.Shown value ∙ sym b.replies)
+
   one_return : (t u : Session) (r q : Reply) → Returns t r → Returns u q → Same t u r q
   one_return t u r q a b =
       let same = same_cons a.position b.position a.past b.past (sym a.is ∙ b.is) in
       (a.stands ∙ ap₂ (λ x xs. record { at = x; past = xs }) same.0 same.1 ∙ sym b.stands, a.replies ∙ ap (λ x. session.At x.cursor) same.0 ∙ sym b.replies)
 
-  one_deed : ItemsAreOne → (c : Command) (t u : Session) (r q : Reply) → DoesAs c t r → DoesAs c u q → Same t u r q
-  one_deed one (session.Ask k) t u r q (e, is, at, says) (f, also, there, tells) =
+  one_deed : ItemsAreOne → OneValue → (c : Command) (t u : Session) (r q : Reply) → DoesAs c t r → DoesAs c u q → Same t u r q
+  one_deed one worth (session.Ask k) t u r q (e, is, at, says) (f, also, there, tells) =
       let same = same_Some e f (sym is ∙ also) in
       (at ∙ ap (asking s) same ∙ sym there, says ∙ ap (λ n. session.At (Some n)) same ∙ sym tells)
-  one_deed one session.Listing t u r q (e, is, at, says) (f, also, there, tells) =
+  one_deed one worth session.Listing t u r q (e, is, at, says) (f, also, there, tells) =
       (at ∙ sym there, says ∙ ap session.Answer (same_Some e f (sym is ∙ also)) ∙ sym tells)
-  one_deed one session.Up t u r q a b = one_step IsGreatestBelow one_greatest t u r q a b
-  one_deed one session.Down t u r q a b = one_step IsLeastAbove one_least t u r q a b
-  one_deed one (session.Go n) t u r q (lt, at, says) (le, there, tells) = (at ∙ sym there, says ∙ sym tells)
-  one_deed one session.Sources t u r q a b = one_finding t u r q a b
-  one_deed one (session.WhyNot line place) t u r q a b = one_denial one line place t u r q a b
-  one_deed one session.Undo t u r q (inl a) (inl b) = one_return t u r q a b
-  one_deed one session.Undo t u r q (inl a) (inr b) = absurd (nil_cons a.position a.past (sym b.0 ∙ a.is))
-  one_deed one session.Undo t u r q (inr a) (inl b) = absurd (nil_cons b.position b.past (sym a.0 ∙ b.is))
-  one_deed one session.Undo t u r q (inr a) (inr b) = (a.1 ∙ sym b.1, a.2 ∙ sym b.2)
-  one_deed one session.Quit t u r q a b = (a.0 ∙ sym b.0, a.1 ∙ sym b.1)
+  one_deed one worth session.Up t u r q a b = one_step IsGreatestBelow one_greatest t u r q a b
+  one_deed one worth session.Down t u r q a b = one_step IsLeastAbove one_least t u r q a b
+  one_deed one worth (session.Go n) t u r q (lt, at, says) (le, there, tells) = (at ∙ sym there, says ∙ sym tells)
+  one_deed one worth session.Sources t u r q a b = one_finding t u r q a b
+  one_deed one worth (session.WhyNot line place) t u r q a b = one_denial one line place t u r q a b
+  one_deed one worth session.Frames t u r q (n, is, at, says) (m, also, there, tells) =
+      (at ∙ sym there, says ∙ ap (λ e. session.Backtrace (backtrace p rs e)) (same_Some n m (sym is ∙ also)) ∙ sym tells)
+  one_deed one worth (session.Show text) t u r q a b = one_showing worth text t u r q a b
+  one_deed one worth session.Undo t u r q (inl a) (inl b) = one_return t u r q a b
+  one_deed one worth session.Undo t u r q (inl a) (inr b) = absurd (nil_cons a.position a.past (sym b.0 ∙ a.is))
+  one_deed one worth session.Undo t u r q (inr a) (inl b) = absurd (nil_cons b.position b.past (sym a.0 ∙ b.is))
+  one_deed one worth session.Undo t u r q (inr a) (inr b) = (a.1 ∙ sym b.1, a.2 ∙ sym b.2)
+  one_deed one worth session.Quit t u r q a b = (a.0 ∙ sym b.0, a.1 ∙ sym b.1)
 
-  one_serving : ItemsAreOne → (line : List ℕ) (t u : Session) (r q : Reply) → Serves p lines rs covers s (Says line) t r → Serves p lines rs covers s (Says line) u q → Same t u r q
-  one_serving one line t u r q a b =
+  one_serving : ItemsAreOne → OneValue → (line : List ℕ) (t u : Session) (r q : Reply) → Serves p lines rs covers s (Says line) t r → Serves p lines rs covers s (Says line) u q → Same t u r q
+  one_serving one worth line t u r q a b =
       let same = one_command line b.command a.command b.meant a.meant in
-      one_deed one a.command t u r q (does_as a.command t r a.does) (does_as a.command u q (subst (λ c. Does p lines rs covers s c u q) same b.does))
+      one_deed one worth a.command t u r q (does_as a.command t r a.does) (does_as a.command u q (subst (λ c. Does p lines rs covers s c u q) same b.does))
 
-  one : ItemsAreOne → (line : List ℕ) (t u : Session) (r q : Reply) → Replies p lines rs covers s line t r → Replies p lines rs covers s line u q → Same t u r q
-  one items line _ _ _ _ (session.served t r a) (session.served u q b) = one_serving items line t u r q a b
-  one items line _ _ _ _ (session.served t r a) (session.no_such none) = absurd (none t r a)
-  one items line _ _ _ _ (session.no_such none) (session.served u q b) = absurd (none u q b)
-  one items line _ _ _ _ (session.no_such none) (session.no_such nothing) = (refl, refl)
+  one : ItemsAreOne → OneValue → (line : List ℕ) (t u : Session) (r q : Reply) → Replies p lines rs covers s line t r → Replies p lines rs covers s line u q → Same t u r q
+  one items worth line _ _ _ _ (session.served t r a) (session.served u q b) = one_serving items worth line t u r q a b
+  one items worth line _ _ _ _ (session.served t r a) (session.no_such none) = absurd (none t r a)
+  one items worth line _ _ _ _ (session.no_such none) (session.served u q b) = absurd (none u q b)
+  one items worth line _ _ _ _ (session.no_such none) (session.no_such nothing) = (refl, refl)
 
-pub one_reply_to_line : ItemsAreOne → OneReply
-one_reply_to_line items p lines rs covers s line t u r q a b = one p lines rs covers s items line t u r q a b
+pub one_reply_to_line : ItemsAreOne → OneValue → OneReply
+one_reply_to_line items worth p lines rs covers s line t u r q a b = one p lines rs covers s items worth line t u r q a b

@@ -2,6 +2,7 @@ mod Ascii
 mod Lines
 mod Pasts
 mod Searching
+mod Within
 mod Leading
 mod Doing
 mod Replying

@@ -12,15 +12,19 @@ use Rattle.wy_ask.specs.Lines.{numbers_on}
 use Rattle.wy_ask.specs.Statements.{IsPlaced, Names, SpellsStatement}
 use Rattle.wy_ask.specs.Words.{number_of}
 use Rattle.wy_ask.proofs.Rising.{one_place}
+use Rattle.wy_value.specs.declared.value.Value.{Value}
+use Rattle.wy_travel.specs.Backtrace.{backtrace}
+use Rattle.wy_watch.specs.Watch.{HasNoValue, IsValueOf}
+use Rattle.wy_watch.specs.Watched.{watch_limit}
 use Rattle.wy_why.specs.declared.source.Source.{Source}
 use Rattle.wy_whynot.specs.Evidence.{Evidence}
 use Rattle.wy_whynot.specs.Executed.{cover_of}
 use Rattle.wy_whynot.specs.Items.{AreItems}
 use Rattle.wy_explore.specs.declared.command.Command as read
-use Rattle.wy_explore.specs.Commands.{Ask, AsksAbout, Down, Go, IsMeant, Listing, Quit, Reads, Sources, Undo, Up, WhyNot, Worded, worded}
+use Rattle.wy_explore.specs.Commands.{Ask, AsksAbout, Down, Frames, Go, IsMeant, Listing, Quit, Reads, Show, Sources, Undo, Up, WhyNot, Worded, worded}
 use Rattle.wy_explore.specs.Session.{AreSources, Command, Does, IsGreatestBelow, IsLeastAbove, Position, Replies, RepliesTo, Reply, Says, Serves, Session, answer_to, asking, looking_at}
 use Rattle.wy_explore.specs.Session as session
-use Rattle.wy_explore.proofs.Doing.{Denies, DoesAs, Steps, does_as}
+use Rattle.wy_explore.proofs.Doing.{Denies, DoesAs, Shows, Steps, does_as}
 
 module _ (p : Program) (lines : List ℕ) (rs : List Recorded) (covers : List Cover) (s : Session) where
   -- other words for the same commands
@@ -143,6 +147,33 @@ module _ (p : Program) (lines : List ℕ) (rs : List Recorded) (covers : List Co
 
   pub not_named : (word : List ℕ) → ((line place : ℕ) → SpellsStatement line place word → ⊥) → Told (WhyNot word) s session.NoSuch
   not_named word none = undone (WhyNot word) (λ d t r (line, place, spells, is) does. none line place spells)
+
+  -- ---- frames
+
+  pub framed : (event : ℕ) → s.at.cursor ≡ Some event → Told Frames s (session.Backtrace (backtrace p rs event))
+  framed event cursor = done Frames session.Frames s (session.Backtrace (backtrace p rs event)) refl (session.frames event cursor)
+
+  pub not_framed : s.at.cursor ≡ Absent → Told Frames s session.NoSuch
+  not_framed none = undone_one Frames session.Frames (λ e m. m) (λ t r (event, is, at, says). none-some event (sym none ∙ is))
+
+  -- ---- show
+
+  pub shown : (text : List ℕ) (event : ℕ) (v : Value) → length text ≤ watch_limit → s.at.cursor ≡ Some event → IsValueOf p rs event text v → Told (Show text) s (session.Shown v)
+  shown text event v short cursor worth = done (Show text) (session.Show text) s (session.Shown v) (short, refl) (session.show event text v cursor worth)
+
+  -- what is shown is shown of this text
+  not_shown : (text : List ℕ) → ((t : Session) (r : Reply) → length text ≤ watch_limit → Shows p lines rs covers s text t r → ⊥) → Told (Show text) s session.NoSuch
+  not_shown text none = undone (Show text) (λ d t r (short, is) does. none t r short (subst (λ e. DoesAs p lines rs covers s e t r) is does))
+
+  pub not_looked : (text : List ℕ) → s.at.cursor ≡ Absent → Told (Show text) s session.NoSuch
+  not_looked text none = not_shown text (λ t r short shows. none-some shows.event (sym none ∙ shows.cursor))
+
+  pub too_long : (text : List ℕ) → watch_limit < length text → Told (Show text) s session.NoSuch
+  too_long text long = not_shown text (λ t r short shows. omega (arith, long, short))
+
+  pub worthless : (text : List ℕ) (event : ℕ) → s.at.cursor ≡ Some event → HasNoValue p rs event text → Told (Show text) s session.NoSuch
+  worthless text event cursor none = not_shown text (λ t r short shows.
+      none shows.value (subst (λ n. IsValueOf p rs n text shows.value) (same_Some shows.event event (sym shows.cursor ∙ cursor)) shows.worth))
 
   -- ---- undo and quit
 

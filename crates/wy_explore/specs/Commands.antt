@@ -1,5 +1,5 @@
 -- The command of a line, as the functions of this crate find it.
-use Rattle.std.specs.Prelude.{◌≡◌, ℕ, List, Option, Some, codes, if◌then◌else◌}
+use Rattle.std.specs.Prelude.{◌≡◌, ◌≤◌, ℕ, List, length, Option, Some, codes, if◌then◌else◌}
 use Rattle.std.specs.Prelude.{None as Absent}
 use Rattle.std.specs.Str.{bytes_eq}
 use Rattle.wy_event.specs.Record.{Recorded}
@@ -9,6 +9,7 @@ use Rattle.wy_ask.specs.Questions as questions
 use Rattle.wy_ask.specs.Questions.{IsNumber, Spells}
 use Rattle.wy_ask.specs.Reading.{behind, by_front}
 use Rattle.wy_ask.specs.Statements.{SpellsStatement}
+use Rattle.wy_watch.specs.Watched.{watch_limit}
 use Rattle.wy_explore.specs.Session as session
 use Rattle.wy_explore.specs.declared.command.Command.{Command}
 use Rattle.wy_explore.specs.declared.command.Command.TheVariants as command
@@ -22,6 +23,8 @@ pub data Worded : Type 0 where
   Go : (word : List ℕ) → Worded
   Sources : Worded
   WhyNot : (word : List ℕ) → Worded
+  Frames : Worded
+  Show : (text : List ℕ) → Worded
   Undo : Worded
   Quit : Worded
 
@@ -33,6 +36,8 @@ worded command.Down = Down
 worded (command.Go word) = Go word.now
 worded command.Sources = Sources
 worded (command.WhyNot word) = WhyNot word.now
+worded command.Frames = Frames
+worded (command.Show text) = Show text.now
 worded command.Undo = Undo
 worded command.Quit = Quit
 
@@ -46,6 +51,8 @@ IsMeant (Go word) c = (n : ℕ) × IsNumber n word × (c ≡ session.Go n)
 IsMeant Sources c = c ≡ session.Sources
 IsMeant (WhyNot word) c =
     (line : ℕ) × (place : ℕ) × SpellsStatement line place word × (c ≡ session.WhyNot line place)
+IsMeant Frames c = c ≡ session.Frames
+IsMeant (Show text) c = (length text ≤ watch_limit) × (c ≡ session.Show text)
 IsMeant Undo c = c ≡ session.Undo
 IsMeant Quit c = c ≡ session.Quit
 
@@ -56,6 +63,7 @@ short_in text =
     else if bytes_eq text (codes "up") then Some Up
     else if bytes_eq text (codes "down") then Some Down
     else if bytes_eq text (codes "sources") then Some Sources
+    else if bytes_eq text (codes "frames") then Some Frames
     else if bytes_eq text (codes "undo") then Some Undo
     else if bytes_eq text (codes "quit") then Some Quit
     else Absent
@@ -65,6 +73,10 @@ command_in text =
     by_front (behind (codes "ask ") text) (λ word. Some (Ask word))
     (by_front (behind (codes "go ") text) (λ word. Some (Go word))
     (by_front (behind (codes "whynot ") text) (λ word. Some (WhyNot word)) (short_in text)))
+
+-- a command of a line, which is a text but for what is to be shown
+abbrev pub said_in : List ℕ → Option Worded
+said_in line = by_front (behind (codes "show ") line) (λ text. Some (Show text)) (command_in line)
 
 -- no command is said, or one of this command's
 abbrev pub Reads : List ℕ → Option Command → Type 0

@@ -6,6 +6,8 @@ use Rattle.wy_kernel.specs.Parts.{program_of}
 use Rattle.wy_event.specs.declared.record.Cover.{Cover}
 use Rattle.wy_event.specs.Record.{Recorded}
 use Rattle.wy_event.specs.Sources.{data_closure}
+use Rattle.wy_view.specs.References.{ValueBelow}
+use Rattle.wy_travel.specs.Backtrace.{IsBelow, stack_frame}
 use Rattle.wy_why.specs.Answer.{Rises, up_to}
 use Rattle.wy_ask.specs.Asked.{owners}
 use Rattle.wy_whynot.specs.Evidence.{evidence_in}
@@ -42,6 +44,8 @@ reply_of (reply.At event) = session.At event
 reply_of (reply.Answer event) = session.Answer event
 reply_of (reply.From sources) = session.From sources.items
 reply_of (reply.Items items) = session.Items (map evidence_in items.items)
+reply_of (reply.Frames state) = session.Backtrace (map stack_frame state.frames.items)
+reply_of (reply.Shown value) = session.Shown value
 reply_of reply.NoSuch = session.NoSuch
 reply_of reply.NothingToUndo = session.NothingToUndo
 reply_of reply.End = session.End
@@ -79,11 +83,13 @@ pub record IsAnswered (p : Program) (rs : List Recorded) (a : Answered) : Type 0
 abbrev pub AllAnswered : Program → List Recorded → Explorer → Type 0
 AllAnswered p rs x = Holds (IsAnswered p rs) (λ n. Unit {0}) x
 
--- the events that a reply names are there
+-- the events to which a reply refers are there
 abbrev pub IsReplyWithin : ℕ → Reply → Type 0
 IsReplyWithin count (reply.At event) = IfSome event (λ n. n < count)
 IsReplyWithin count (reply.Answer event) = event < count
 IsReplyWithin count (reply.From sources) = All (λ s. s.event < count) sources.items
+IsReplyWithin count (reply.Frames state) = All (IsBelow count) state.frames.items
+IsReplyWithin count (reply.Shown value) = ValueBelow count value
 IsReplyWithin count _ = Unit {0}
 
 -- ---- what moves do

@@ -5,9 +5,13 @@ use Rattle.std.specs.List.{Contains}
 use Rattle.std.specs.List.Sorted.{IsStrictlySortedBy}
 use Rattle.wy_kernel.specs.Program.{Program}
 use Rattle.wy_kernel.specs.Statements.{statements_of}
+use Rattle.wy_value.specs.declared.value.Value.{Value}
 use Rattle.wy_event.specs.declared.record.Cover.{Cover}
 use Rattle.wy_event.specs.Record.{Recorded}
 use Rattle.wy_event.specs.Sources as records
+use Rattle.wy_travel.specs.Backtrace.{StackFrame, backtrace}
+use Rattle.wy_watch.specs.Watch.{IsValueOf}
+use Rattle.wy_watch.specs.Watched.{watch_limit}
 use Rattle.wy_why.specs.Answer.{up_to}
 use Rattle.wy_why.specs.declared.source.Source.{Source}
 use Rattle.wy_why.specs.Sources.{source_cmp, source_of}
@@ -59,6 +63,8 @@ pub data Command : Type 0 where
   Go : (event : ℕ) → Command
   Sources : Command
   WhyNot : (line place : ℕ) → Command
+  Frames : Command
+  Show : (text : List ℕ) → Command
   Undo : Command
   Quit : Command
 
@@ -72,6 +78,8 @@ pub data Says : List ℕ → Command → Type 0 where
   sources : Says (codes "sources") Sources
   whynot : (line place : ℕ) (word : List ℕ) → SpellsStatement line place word
       → Says (codes "whynot " ++ word) (WhyNot line place)
+  frames : Says (codes "frames") Frames
+  show : (text : List ℕ) → length text ≤ watch_limit → Says (codes "show " ++ text) (Show text)
   undo : Says (codes "undo") Undo
   quit : Says (codes "quit") Quit
 
@@ -86,6 +94,10 @@ pub data Reply : Type 0 where
   From : (sources : List Source) → Reply
   -- what kept a statement from running
   Items : (items : List Evidence) → Reply
+  -- the frames just before the event that is looked at, with what their locals held
+  Backtrace : (frames : List StackFrame) → Reply
+  -- what a text was worth then
+  Shown : (value : Value) → Reply
   NoSuch : Reply
   NothingToUndo : Reply
   End : Reply
@@ -131,6 +143,10 @@ pub data Does (p : Program) (lines : List ℕ) (rs : List Recorded) (covers : Li
       → IsPlaced (numbers_on lines line (statements_of p)) place n
       → (cover_of covers n).begins ≡ 0 → AreItems p rs covers n items
       → Does p lines rs covers s (WhyNot line place) s (Items items)
+  frames : (n : ℕ) → s.at.cursor ≡ Some n
+      → Does p lines rs covers s Frames s (Backtrace (backtrace p rs n))
+  show : (n : ℕ) (text : List ℕ) (v : Value) → s.at.cursor ≡ Some n → IsValueOf p rs n text v
+      → Does p lines rs covers s (Show text) s (Shown v)
   undo : (position : Position) (past : List Position) → s.past ≡ position ∷ past
       → Does p lines rs covers s Undo (record { at = position; past = past }) (At position.cursor)
   nothing : s.past ≡ [] → Does p lines rs covers s Undo s NothingToUndo

@@ -22,7 +22,9 @@ use std::alloc::{AllocError, Global};
 use std::sync::ledger::Ledger;
 use wy_ask::{AskError, Opened, number, read_question, resolve, statement};
 use wy_static::Links;
+use wy_travel::state_at;
 use wy_view::{EventView, Steps, ViewError};
+use wy_watch::{WATCH_LIMIT, WatchError, watch};
 use wy_why::{sources, why};
 use wy_whynot::{WhynotError, whynot};
 
@@ -115,6 +117,8 @@ impl Explorer {
             Some(Command::Go(word)) => Ok(self.go_to(word, opened.view.count())),
             Some(Command::Sources) => self.sources(alloc, opened, steps),
             Some(Command::WhyNot(word)) => Ok(reply_to_whynot(alloc, word, opened, links)?),
+            Some(Command::Frames) => self.frames(alloc, opened, steps),
+            Some(Command::Show(text)) => self.show(alloc, text, opened, steps),
             Some(Command::Undo) => Ok(self.go_back()),
             Some(Command::Quit) => Ok(Reply::End),
             None => Ok(Reply::NoSuch),
@@ -239,6 +243,77 @@ impl Explorer {
         };
         let found = sources(alloc, &mut opened.view, &opened.index, event, steps)?;
         Ok(Reply::From(found))
+    }
+
+    /// The frames just before the event that is looked at, with what their locals held.
+    fn frames<V: EventView, L: Ledger>(
+        &self,
+        alloc: Global,
+        opened: &mut Opened<'_, V>,
+        steps: &mut Steps<L>,
+    ) -> Result<Reply, ViewError>
+        requires opened { IsOpenedOf (V.tells opened.old.view) opened.old }
+        requires within { AllWithin (V.tells opened.old.view).count self.now }
+        ensures reply { (rs : List Recorded) → (V.tells opened.old.view).records ≡ Some rs
+            → IfOk result (Fulfils opened.old.program.now opened.old.coverage.now rs said.Frames
+            self.now self.now) }
+        ensures within { IfOk result (IsReplyWithin (V.tells opened.old.view).count) }
+        ensures stays { StaysOpened V.tells opened.old opened.new }
+        ensures answers { KeepsCounts result (V.tells opened.old.view) (V.tells opened.new.view) }
+        ensures forward { steps.old ≤ steps.new }
+    {
+        let Some(event) = self.cursor else {
+            return Ok(Reply::NoSuch);
+        };
+        let state = state_at(
+            alloc,
+            &mut opened.view,
+            &opened.index,
+            opened.program,
+            event,
+            steps,
+        )?;
+        Ok(Reply::Frames(state))
+    }
+
+    /// What a text was worth just before the event that is looked at.
+    fn show<V: EventView, L: Ledger>(
+        &self,
+        alloc: Global,
+        text: &[u8],
+        opened: &mut Opened<'_, V>,
+        steps: &mut Steps<L>,
+    ) -> Result<Reply, ViewError>
+        requires opened { IsOpenedOf (V.tells opened.old.view) opened.old }
+        requires within { AllWithin (V.tells opened.old.view).count self.now }
+        ensures reply { (rs : List Recorded) → (V.tells opened.old.view).records ≡ Some rs
+            → IfOk result (Fulfils opened.old.program.now opened.old.coverage.now rs
+            (said.Show text.now) self.now self.now) }
+        ensures within { IfOk result (IsReplyWithin (V.tells opened.old.view).count) }
+        ensures stays { StaysOpened V.tells opened.old opened.new }
+        ensures answers { KeepsCounts result (V.tells opened.old.view) (V.tells opened.new.view) }
+        ensures forward { steps.old ≤ steps.new }
+    {
+        let Some(event) = self.cursor else {
+            return Ok(Reply::NoSuch);
+        };
+        if text.len() > WATCH_LIMIT as usize {
+            return Ok(Reply::NoSuch);
+        }
+        match watch(
+            alloc,
+            &mut opened.view,
+            &opened.index,
+            opened.program,
+            event,
+            text,
+            steps,
+        ) {
+            Ok(value) => Ok(Reply::Shown(value)),
+            Err(WatchError::NoValue) => Ok(Reply::NoSuch),
+            Err(WatchError::View(error)) => Err(error),
+            Err(WatchError::NoMemory) => Err(ViewError::NoMemory),
+        }
     }
 
     fn go_back(&mut self) -> Reply

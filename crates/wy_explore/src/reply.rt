@@ -1,5 +1,7 @@
 //! What a line is answered, with events by their numbers.
 
+use wy_travel::State;
+use wy_value::Value;
 use wy_why::Source;
 use wy_whynot::Item;
 
@@ -14,6 +16,10 @@ pub enum Reply {
     From(Vec<Source>),
     /// What kept a statement from running.
     Items(Vec<Item>),
+    /// The frames just before the event that is looked at, with what their locals held.
+    Frames(State),
+    /// What a text was worth just before the event that is looked at.
+    Shown(Value),
     NoSuch,
     NothingToUndo,
     /// The session is over.

@@ -11,7 +11,7 @@ use Rattle.wy_ask.specs.Opened.{IsOpenedOf, StaysOpened}
 use Rattle.wy_ask.proofs.Opening.{still_opened}
 use Rattle.wy_kernel.specs.Program.{Program}
 use Rattle.wy_kernel.specs.Parts.{program_of}
-use Rattle.wy_explore.specs.Session.{Command, Does, Replies, RepliesTo, Session, ask, listing, up, down, go, sources, whynot, undo, nothing, quit, served, no_such}
+use Rattle.wy_explore.specs.Session.{Command, Does, Replies, RepliesTo, Session, ask, listing, up, down, go, sources, whynot, frames, show, undo, nothing, quit, served, no_such}
 use Rattle.wy_explore.specs.Session as session
 use Rattle.wy_explore.specs.declared.explorer.Explorer.{Explorer}
 use Rattle.wy_explore.specs.declared.reply.Reply.{Reply}
@@ -67,6 +67,8 @@ not_end (reply.At event) other is = cc
 not_end (reply.Answer event) other is = cc
 not_end (reply.From found) other is = cc
 not_end (reply.Items items) other is = cc
+not_end (reply.Frames state) other is = cc
+not_end (reply.Shown value) other is = cc
 not_end reply.NoSuch other is = cc
 not_end reply.NothingToUndo other is = cc
 not_end reply.End other is = other refl
@@ -86,6 +88,8 @@ asked_by p lines rs covers s _ _ _ n (down e k m is at leads) same = absurd cc
 asked_by p lines rs covers s _ _ _ n (go k less) same = absurd cc
 asked_by p lines rs covers s _ _ _ n (sources k found is are) same = absurd cc
 asked_by p lines rs covers s _ _ _ n (whynot line place k items is never are) same = absurd cc
+asked_by p lines rs covers s _ _ _ n (frames k at) same = absurd cc
+asked_by p lines rs covers s _ _ _ n (show k text value at worth) same = absurd cc
 asked_by p lines rs covers s _ _ _ n (undo position past is) same = absurd cc
 asked_by p lines rs covers s _ _ _ n (nothing is) same = absurd cc
 asked_by p lines rs covers s _ _ _ n quit same = absurd cc
@@ -99,6 +103,8 @@ is_asked o x e next line (reply.At event) is = tt
 is_asked o x e next line (reply.Answer event) is = asked_in (program_of o.program.now) o.program.now.lines.items x.records o.coverage.now (session_of e) line (session_of next) (session.Answer event) event is refl
 is_asked o x e next line (reply.From found) is = tt
 is_asked o x e next line (reply.Items items) is = tt
+is_asked o x e next line (reply.Frames state) is = tt
+is_asked o x e next line (reply.Shown value) is = tt
 is_asked o x e next line reply.NoSuch is = tt
 is_asked o x e next line reply.NothingToUndo is = tt
 is_asked o x e next line reply.End is = tt

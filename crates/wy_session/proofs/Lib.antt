@@ -6,4 +6,5 @@ mod Talking
 mod OneTalk
 mod Saying
 mod Replying
+mod Framing
 mod Desks

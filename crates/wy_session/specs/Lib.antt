@@ -1,3 +1,4 @@
+pub mod Frames
 pub mod Scene
 pub mod Situation
 pub mod Talk

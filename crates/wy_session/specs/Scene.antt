@@ -12,7 +12,8 @@ use Rattle.wy_text.specs.EventLines.{event_line}
 use Rattle.wy_text.specs.Sources.{source_line}
 use Rattle.wy_telling.specs.Why.{why_text}
 use Rattle.wy_telling.specs.Items.{items_text}
-use Rattle.wy_explore.specs.Session.{Session, Reply, At, Answer, From, Items, NoSuch, NothingToUndo, End, Replies}
+use Rattle.wy_explore.specs.Session.{Session, Reply, At, Answer, From, Items, Backtrace, Shown, NoSuch, NothingToUndo, End, Replies}
+use Rattle.wy_session.specs.Frames.{backtrace_text, shown_line}
 
 -- a trace of a program: the lines of the program's tokens, the records, and the covers of statements
 pub record Scene : Type 0 where
@@ -41,6 +42,8 @@ reply_text x (At (Some event)) = event_line x.program x.lines x.records event fa
 reply_text x (Answer event) = why_text x.program x.lines x.records event
 reply_text x (From sources) = sources_text x.program x.lines x.records sources
 reply_text x (Items items) = items_text x.program x.lines items
+reply_text x (Backtrace frames) = backtrace_text x.program x.records frames
+reply_text x (Shown value) = shown_line x.program x.records value
 reply_text x NoSuch = line_of (codes "no such")
 reply_text x NothingToUndo = line_of (codes "nothing to undo")
 reply_text x End = []

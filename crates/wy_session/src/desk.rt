@@ -14,6 +14,7 @@ ghost use Rattle.wy_session.specs.Scene.{Scene, lines_of, reply_text, sources_te
 ghost use Rattle.wy_session.specs.Closings.{Closed, TakesManyFor, failures};
 
 use crate::ending::Ending;
+use crate::frames::{frame_lines, value_line};
 use crate::respond::Respond;
 use crate::session::talk;
 use std::alloc::{AllocError, Global};
@@ -135,6 +136,10 @@ fn reply_lines<V: EventView, L: Ledger>(
         },
         Reply::From(sources) => source_lines(alloc, program, view, sources.as_slice(), steps),
         Reply::Items(items) => Ok(item_lines(alloc, program, items.as_slice())?),
+        Reply::Frames(state) => {
+            frame_lines(alloc, program, view, state.frames.as_slice(), steps)
+        }
+        Reply::Shown(value) => value_line(alloc, program, view, *value, steps),
         Reply::NoSuch => Ok(Vec::from_slice(alloc, "no such\n".as_bytes())?),
         Reply::NothingToUndo => Ok(Vec::from_slice(alloc, "nothing to undo\n".as_bytes())?),
         Reply::End => Ok(Vec::new(alloc)),

@@ -3,6 +3,7 @@
 
 mod desk;
 pub mod ending;
+mod frames;
 pub mod laws;
 mod line;
 pub mod respond;

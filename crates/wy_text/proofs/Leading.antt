@@ -4,7 +4,7 @@ use Rattle.std.specs.Prelude.{codes}
 use Rattle.std.proofs.lemmas.List.{take-append-le}
 use Rattle.std.proofs.Math.Seq.{take-length}
 use Rattle.wy_text.specs.EndLines.{line_of}
-use Rattle.wy_text.specs.EventLines.{led, line_with, star, where_at}
+use Rattle.wy_text.specs.EventLines.{equation, led, line_with, star, where_at}
 use Rattle.wy_text.specs.Names.{numbered}
 
 -- no text came
@@ -32,3 +32,14 @@ pub whole_line : (lines : List ℕ) (n site : ℕ) (text : List ℕ) (marked : B
 unfolding line_with
 whole_line lines n site text marked old a b new first second third =
     third ∙ ap (λ (l : List ℕ). l ++ line_of (star marked)) (second ∙ ap (λ (l : List ℕ). l ++ text) first) ∙ simp append_assoc
+
+-- a place and its value between what a line has before, between and behind them
+pub held_line : (place value old a b c d new before between behind : List ℕ) → before ≡ codes " " → between ≡ codes " = " → behind ≡ codes "\n"
+    → a ≡ old ++ before → b ≡ a ++ place → c ≡ b ++ between → d ≡ c ++ value → new ≡ d ++ behind → new ≡ old ++ (codes " " ++ line_of (equation place value))
+unfolding equation
+held_line place value old a b c d new before between behind is also last first second third fourth fifth =
+    let one : a ≡ old ++ codes " " = first ∙ ap (λ (l : List ℕ). old ++ l) is in
+    let two : b ≡ (old ++ codes " ") ++ place = second ∙ ap (λ (l : List ℕ). l ++ place) one in
+    let three : c ≡ ((old ++ codes " ") ++ place) ++ codes " = " = third ∙ ap₂ (λ (l m : List ℕ). l ++ m) two also in
+    let four : d ≡ (((old ++ codes " ") ++ place) ++ codes " = ") ++ value = fourth ∙ ap (λ (l : List ℕ). l ++ value) three in
+    fifth ∙ ap₂ (λ (l m : List ℕ). l ++ m) four last ∙ simp append_assoc

@@ -1,6 +1,6 @@
 -- What one record of the told ones says.
 use Rattle.std.proofs.Common.{◌≡◌, ◌∙◌, ◌++◌, ◌<◌, ◌≤◌, ℕ, Bool, List, Option, Some, sym, ap, subst, arith}
-use Rattle.std.specs.Prelude.{IfSome, slice_get}
+use Rattle.std.specs.Prelude.{IfSome, codes, slice_get}
 use Rattle.wy_kernel.specs.Program.{Program}
 use Rattle.wy_value.specs.declared.value.Value.{Value}
 use Rattle.wy_value.specs.declared.value.Value.TheVariants as value
@@ -11,6 +11,8 @@ use Rattle.wy_event.specs.declared.record.Slot.TheVariants as slot
 use Rattle.wy_event.specs.Record.{Recorded}
 use Rattle.wy_view.specs.References.{RefersBelow, SlotBelow, ValueBelow}
 use Rattle.wy_text.specs.EventLines.{deed, deed_of, event_line, given, line_at, line_with}
+use Rattle.wy_text.specs.EndLines.{line_of}
+use Rattle.wy_text.specs.FrameLines.{frame_line, running, running_at}
 use Rattle.wy_text.specs.Names.{made_name, numbered}
 use Rattle.wy_text.specs.Places.{begun, frame_body, local_name, slot_text}
 use Rattle.wy_text.specs.Values.{value_text, entity_of}
@@ -27,6 +29,16 @@ pub local_read : (p : Program) (rs : List Recorded) (frame index : ℕ) (e : Rec
     → local_name (begun p k entity) index ≡ slot_text p rs (slot.Local frame index)
 unfolding slot_text
 local_read p rs frame index e k entity at is about = ap (λ b. local_name b index) (frame_read p (slice_get rs frame) e k entity at is about)
+
+running_read : (p : Program) (o : Option Recorded) (e : Recorded) (k : Kind) (entity : Option ℕ) → o ≡ Some e → k ≡ e.kind → entity ≡ e.entity → running p k entity ≡ running_at p o
+unfolding running_at
+running_read p o e k entity at is about = ap (λ j. running p j entity) is ∙ ap (running p e.kind) about ∙ sym (ap (running_at p) at)
+
+-- a frame by what the record of its event says
+pub frame_told : (p : Program) (rs : List Recorded) (n : ℕ) (e : Recorded) (k : Kind) (entity : Option ℕ) → slice_get rs n ≡ Some e → k ≡ e.kind → entity ≡ e.entity
+    → line_of (numbered n ++ (codes " " ++ running p k entity)) ≡ frame_line p rs n
+unfolding frame_line
+frame_told p rs n e k entity at is about = ap (λ (l : List ℕ). line_of (numbered n ++ (codes " " ++ l))) (running_read p (slice_get rs n) e k entity at is about)
 
 entity_read : (o : Option Recorded) (e : Recorded) (entity : Option ℕ) → o ≡ Some e → entity ≡ e.entity → entity ≡ entity_of o
 unfolding entity_of

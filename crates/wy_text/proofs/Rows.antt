@@ -25,6 +25,7 @@ use Rattle.wy_meaning.specs.Library.{type_name, base_name, brackets_text}
 use Rattle.wy_text.specs.Values.{value_text, plain_text, own_text, units_of, entity_of, quoted, letter, shown, is_plain, escaped, hex_digit}
 use Rattle.wy_text.specs.Places.{slot_text, local_name, called, frame_body, begun}
 use Rattle.wy_text.specs.Sources.{role_word, source_line}
+use Rattle.wy_text.specs.FrameLines.{frame_line, running_at, running, local_line, local_text}
 
 abbrev local : List ℕ → Local
 local name = record { name = name; site = 0; ty = Void }
@@ -109,3 +110,12 @@ all_lines = refl
 control_source : source_line program lines trace (record { role = Control; event = 2 }) ≡ codes "control #2 line 1 call Main.main\n"
 unfolding source_line role_word event_line line_at deed_of line_with where_at deed verb led equation made_text subject given star place_of place_on name_of present method_name field_name member_name made_name numbered type_of_code base_of type_name base_name primitive_name brackets_text full_name is_source class method field body fixed_text init_body value_text plain_text own_text units_of entity_of quoted letter shown is_plain escaped hex_digit digits slot_text local_name called frame_body begun classes
 control_source = refl
+
+-- a frame of main and that of an initializer, and what a local holds
+frames_and_locals : frame_line program trace 2 ++ local_line program trace 2 0 (value.Object 1) ++ local_line program trace 2 1 (value.Int (pos 5)) ++ frame_line program trace 0 ≡
+    codes "#2 Main.main\n"
+    ++ codes " args.0 = java.lang.String[]#1\n"
+    ++ codes " m.1 = 5\n"
+    ++ codes "#0 init Main\n"
+unfolding frame_line running_at running local_line local_text equation name_of method_name member_name made_name numbered type_of_code base_of type_name base_name brackets_text full_name is_source class method body value_text plain_text own_text entity_of digits slot_text local_name called frame_body begun classes
+frames_and_locals = refl

@@ -4,3 +4,4 @@ pub mod Values
 pub mod Places
 pub mod EventLines
 pub mod Sources
+pub mod FrameLines

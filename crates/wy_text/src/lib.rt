@@ -1,9 +1,10 @@
-//! The lines of events, of what an event comes from and of how a run ended, and what all lines have: numbers, and the names of
-//! classes and places. A line looks up in the trace what its record refers to.
+//! The lines of events, of what an event comes from, of frames and of how a run ended, and what all lines have: numbers, and
+//! the names of classes and places. A line looks up in the trace what its record refers to.
 #![tactic(auto)]
 
 mod class;
 mod event;
+mod frame;
 mod line;
 mod look;
 mod name;
@@ -16,6 +17,7 @@ mod value;
 
 pub use class::{put_class_name, put_full_name};
 pub use event::put_event_line;
+pub use frame::{put_frame_line, put_local_line};
 pub use line::stop_line;
 pub use name::{put_field_name, put_method_name};
 pub use number::{put_count, put_decimal, put_signed};

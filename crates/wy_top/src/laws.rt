@@ -2,6 +2,8 @@
 //! function that does nothing.
 ghost use Rattle.std.specs.Prelude.{◌≡◌, ◌⊎◌, ℕ, List, Option};
 ghost use Rattle.wy_outside.specs.Shelf.{Files};
+ghost use Rattle.law_frames.specs.Bodies.{FramesWereActive};
+ghost use Rattle.law_held.specs.Last.{HeldWasLastHad, StoresHaveHeld};
 ghost use Rattle.law_reached.specs.Laws.{CallsStandOnLinks, EachItemIsNeeded, ExecutedPointsAreReached};
 ghost use Rattle.wy_steps.specs.Sets.{nothing};
 ghost use Rattle.wy_top.specs.Causes.{ProgramsAreNotRefused};
@@ -11,6 +13,8 @@ ghost use Rattle.wy_top.specs.Sound.{SoundCallsSucceed};
 ghost use Rattle.wy_top.specs.Texts.{OfTexts};
 ghost use Rattle.law_typed_states.specs.Laws.{StatesAreTyped};
 
+use law_frames::frames_are_the_bodies_that_were_active;
+use law_held::held_is_what_the_store_last_had;
 use law_own_traces::{own_traces_are_read, programs_keep_the_library, trees_fit_their_texts};
 use law_program_parts::trees_declare_few;
 use law_reached::{
@@ -84,14 +88,20 @@ pub fn programs_are_not_refused()
 }
 
 /// In every run of the program of a text of at most 1,048,576 tokens states are typed, each executed point is reached by links that
-/// were crossed, each item of why-not is needed, and each Call and Init stands on a link whose owner is executed.
+/// were crossed, each item of why-not is needed, and each Call and Init stands on a link whose owner is executed. The frames at an event
+/// are the bodies that were active as it was recorded. What the records give for a slot at a moment is what the store last had in it
+/// before the moment, and what the store then has in it is nothing or that.
 pub fn runs_of_texts()
     ensures typed { OfTexts (StatesAreTyped nothing) }
     ensures reached { OfTexts (ExecutedPointsAreReached nothing) }
     ensures needed { OfTexts (EachItemIsNeeded nothing) }
     ensures calls { OfTexts (CallsStandOnLinks nothing) }
+    ensures frames { OfTexts FramesWereActive }
+    ensures held { OfTexts (HeldWasLastHad nothing) }
+    ensures stored { OfTexts (StoresHaveHeld nothing) }
 {
     programs_keep_the_library();
+    trees_fit_their_texts();
     texts_are_programs();
     trees_declare_few();
     each_number_is_one_statement();
@@ -102,6 +112,8 @@ pub fn runs_of_texts()
     executed_points_are_reached();
     each_item_is_needed();
     calls_stand_on_links();
+    frames_are_the_bodies_that_were_active();
+    held_is_what_the_store_last_had();
 }
 
 /// The trace of a run of the program of each text, where source, input, steps and the trace are within their limits, is read as a trace

@@ -1,10 +1,8 @@
-use Rattle.std.proofs.Common.{◌∙◌, ap}
-use Rattle.wy_explore.specs.Commands.{command_in}
-use Rattle.wy_explore.proofs.Lines.{no_text, reads_text}
+use Rattle.std.proofs.Common.{◌∙◌, ap, refl, sym}
+use Rattle.std.specs.Prelude.{option_map}
+use Rattle.wy_explore.specs.declared.command.Command.TheVariants as command
+use Rattle.wy_explore.proofs.Lines.{reads_shown}
 use Rattle.wy_explore.proofs.command.command_of.Goals as goal
 
-pub returns-in-Ok : goal.returns-in-Ok
-returns-in-Ok c = reads_text c.args.line.now c.command_in.result (c.command_in.ensures ∙ ap command_in (c.in-Ok.ensures {u = tt}).cases.0)
-
-pub returns-in-Err : goal.returns-in-Err
-returns-in-Err c = no_text c.args.line.now (c.in-Err.ensures {u = tt}).cases.0
+pub returns-in-Some : goal.returns-in-Some
+returns-in-Some c = reads_shown c.args.line.now c.in-Some.text.now (command.Show c.in-Some.text) (sym c.shown_in.ensures ∙ ap (option_map (λ text. text.now)) c.in-Some.is) refl

@@ -43,3 +43,17 @@ returns-clause-calls c = λ text spans tree read is_tree few count p h.
     let keeps : KeepsLibrary p = c.programs_keep_the_library.ensures (unit_of 0 tree) count p h (omega (arith, parts.classes)) in
     let apart : StandsApart p = c.programs_stand_apart.ensures p (c.each_number_is_one_statement.ensures tree is_tree.0 count p h) (c.no_two_choices_share_a_site.ensures tree is_tree.0 count p h) (c.tests_stand_apart.ensures tree is_tree.0 few_tokens count p h) in
     c.calls_stand_on_links.ensures.calls p fits keeps apart
+
+pub returns-clause-frames : goal.returns-clause-frames
+returns-clause-frames c = λ text spans tree read is_tree few count p h. c.frames_are_the_bodies_that_were_active.ensures.frames p
+
+pub returns-clause-held : goal.returns-clause-held
+returns-clause-held c = λ text spans tree read is_tree few count p h.
+    let few_tokens : length (tokens tree) ≤ 1048576 = subst (λ n. n ≤ 1048576) (sym (ap length is_tree.1 ∙ length-map spans (λ (s : SpannedToken). s.token))) few in
+    let parts = few_parts (unit_of 0 tree) count p h (c.trees_declare_few.ensures tree is_tree.0 few_tokens) in
+    let fits : IsProgram p = c.texts_are_programs.ensures text spans tree read is_tree few count p h in
+    let keeps : KeepsLibrary p = c.programs_keep_the_library.ensures (unit_of 0 tree) count p h (omega (arith, parts.classes)) in
+    c.held_is_what_the_store_last_had.ensures.last_had _ p fits keeps (c.trees_fit_their_texts.ensures tree is_tree.0 count p h)
+
+pub returns-clause-stored : goal.returns-clause-stored
+returns-clause-stored c = λ text spans tree read is_tree few count p h. c.held_is_what_the_store_last_had.ensures.stored p

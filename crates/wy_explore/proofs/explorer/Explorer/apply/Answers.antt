@@ -1,5 +1,5 @@
 use Rattle.std.proofs.Common.{◌∙◌, ap, sym}
-use Rattle.wy_explore.specs.Commands.{Ask, Down, Go, Listing, Sources, Undo, Up, WhyNot, worded}
+use Rattle.wy_explore.specs.Commands.{Ask, Down, Frames, Go, Listing, Show, Sources, Undo, Up, WhyNot, worded}
 use Rattle.wy_ask.proofs.Opening.{all_told}
 use Rattle.wy_explore.proofs.Arms.{line_missed, line_over, line_told, line_told_or_not}
 use Rattle.wy_explore.proofs.explorer.Explorer.apply.Goals as goal
@@ -45,6 +45,18 @@ returns-in_ok-reply_to_whynot-in-Some-WhyNot-clause-reply g c = λ rs is all.
 
 pub returns-in_ok-reply_to_whynot-in-Some-WhyNot-clause-reply_within : goal.returns-in_ok-reply_to_whynot-in-Some-WhyNot-clause-reply_within
 returns-in_ok-reply_to_whynot-in-Some-WhyNot-clause-reply_within g c = c.in_ok-reply_to_whynot-in-Some-WhyNot.ensures.within (g.V.EventView.tells c.args.opened.now.view).count
+
+pub returns-in-Some-Frames-clause-reply : goal.returns-in-Some-Frames-clause-reply
+returns-in-Some-Frames-clause-reply g c = λ rs is all.
+    let o = c.args.opened.now in
+    line_told_or_not o.program.now o.coverage.now rs c.args.self.now c.args.line.now c.in-Some-Frames.field-0 Frames c.args.self.now c.frames.result (ap worded c.in-Some-Frames.field-0-is) (c.in-Some-Frames.ensures {u = tt})
+    (c.frames.ensures.reply rs is)
+
+pub returns-in-Some-Show-clause-reply : goal.returns-in-Some-Show-clause-reply
+returns-in-Some-Show-clause-reply g c = λ rs is all.
+    let o = c.args.opened.now in
+    line_told_or_not o.program.now o.coverage.now rs c.args.self.now c.args.line.now c.in-Some-Show.field-0 (Show c.in-Some-Show.text.now) c.args.self.now c.show.result (ap worded c.in-Some-Show.field-0-is) (c.in-Some-Show.ensures {u = tt})
+    (c.show.ensures.reply rs is)
 
 pub returns-in-Some-Undo-clause-reply : goal.returns-in-Some-Undo-clause-reply
 returns-in-Some-Undo-clause-reply g c = λ rs is all.

@@ -1,0 +1,3 @@
+mod Stores
+mod Instance
+mod Theorem

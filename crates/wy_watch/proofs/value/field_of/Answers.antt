@@ -1,0 +1,15 @@
+use Rattle.std.proofs.Common.{ap}
+use Rattle.std.specs.Prelude.{option_and_then}
+use Rattle.wy_event.specs.declared.record.Slot.TheVariants as slot
+use Rattle.wy_watch.specs.Sight.{sight_seen}
+use Rattle.wy_watch.specs.Value.{stored_at}
+use Rattle.wy_watch.proofs.Looking.{look_as, no_look}
+use Rattle.wy_watch.proofs.value.field_of.Goals as goal
+
+pub returns-in-Some-clause-looks : goal.returns-in-Some-clause-looks
+returns-in-Some-clause-looks g c =
+    look_as _ _ _ _ _ (λ rs told. ap (option_and_then (λ o. stored_at (sight_seen rs c.args.sight.now) (slot.Field o c.args.field))) c.in-Some.ensures) c.stored_at.ensures.looks
+
+pub returns-in-None-clause-looks : goal.returns-in-None-clause-looks
+returns-in-None-clause-looks g c =
+    no_look _ _ _ (λ rs told. ap (option_and_then (λ o. stored_at (sight_seen rs c.args.sight.now) (slot.Field o c.args.field))) c.in-None.ensures)
