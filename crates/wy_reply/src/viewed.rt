@@ -5,8 +5,9 @@ ghost use Rattle.wy_event.specs.declared.record.Trace.{Trace};
 ghost use Rattle.wy_reply.specs.Certificates.{seal_of};
 ghost use Rattle.wy_reply.specs.Opening.{IsViewOf};
 ghost use Rattle.wy_reply.specs.Statuses.{code_of, is_of_files};
-ghost use Rattle.wy_reply.specs.Tellings.{DeniesAs, SaysAsTold, Tells, inquiry_of};
+ghost use Rattle.wy_reply.specs.Tellings.{DeniesAs, SaysAsTold, SaysScope, Tells, inquiry_of};
 ghost use Rattle.wy_reply.specs.Tellings as wanted;
+ghost use Rattle.wy_telling.specs.Scoped.{KeepsFaults};
 ghost use Rattle.wy_telling.specs.Untelling.{HasCause};
 ghost use Rattle.wy_view.specs.View.{Keeps, KeepsCounts, Told};
 
@@ -21,7 +22,9 @@ use wy_ask::Opened;
 use wy_event::record::Cover;
 use wy_index::Index;
 use wy_kernel::program::Program;
-use wy_telling::{Unanswered, Untold, affects_text, questions_text, why_text, whynot_text};
+use wy_telling::{
+    Unanswered, Unscoped, Untold, affects_text, questions_text, scope_text, why_text, whynot_text,
+};
 use wy_view::{EventView, Steps, ViewError};
 
 /// The answer to a question: what is told of its event, or why nothing is.
@@ -149,6 +152,43 @@ fn answer_to_unanswered(alloc: Global, error: Unanswered) -> Result<Answer, Allo
     }
 }
 
+/// The answer to a statement and a call: why the guards around the statement were not passed in it, or why nothing is told.
+fn answer_to_scope<V: EventView>(
+    alloc: Global,
+    opened: &mut Opened<'_, V>,
+    statement: &str,
+    call: u32,
+) -> Result<Answer, ViewError>
+    requires { IsOpenedOf (V.tells opened.old.view) opened.old }
+    ensures due { (t : Trace) → IsViewOf t (V.tells opened.old.view) opened.old.coverage.now
+        → IfOk result (λ answer. Tells opened.old.program.now t (wanted.Scope statement.now call)
+        (code_of answer.status) answer.text.items) }
+    ensures settled { IfOk result (λ answer. is_of_files answer.status ≡ false) }
+    ensures keeps { Keeps (V.tells opened.old.view) (V.tells opened.new.view) }
+    ensures answers { KeepsCounts result (V.tells opened.old.view) (V.tells opened.new.view) }
+{
+    let told = scope_text(alloc, opened, statement, call);
+    answer_in_call(alloc, told)
+}
+
+/// What is told of a statement in a call, or why nothing is.
+fn answer_in_call(alloc: Global, told: Result<Vec<u8>, Unscoped>) -> Result<Answer, ViewError>
+    ensures says { IfOk result (SaysScope told) }
+    ensures settled { IfOk result (λ answer. is_of_files answer.status ≡ false) }
+    ensures answers { (old new : Told) → KeepsFaults told old new → KeepsCounts result old new }
+{
+    match told {
+        Ok(text) => Ok(Answer::done(text)),
+        Err(Unscoped::NotRead) => Ok(Answer::refused(alloc, Refusal::NotRead)?),
+        Err(Unscoped::NoSuch(number)) => Ok(Answer::refused(alloc, Refusal::NoSuch { number })?),
+        Err(Unscoped::Passed { line, place, event }) => {
+            let passed = Refusal::Passed { line, place, event };
+            Ok(Answer::refused(alloc, passed)?)
+        }
+        Err(Unscoped::View(error)) => Err(error),
+    }
+}
+
 /// What is answered from a trace that is opened, with this seal.
 pub fn answer_to_opened<V: EventView>(
     alloc: Global,
@@ -171,6 +211,7 @@ pub fn answer_to_opened<V: EventView>(
         Inquiry::Certify { question } => answer_to_certify(alloc, opened, seal, question),
         Inquiry::Questions => answer_to_questions(alloc, opened),
         Inquiry::WhyNot { statement } => Ok(answer_to_statement(alloc, opened, statement)?),
+        Inquiry::Scope { statement, call } => answer_to_scope(alloc, opened, statement, call),
     }
 }
 

@@ -8,3 +8,5 @@ mod Rows
 mod Clauses
 mod Named
 mod One
+mod NamedIn
+mod Called
