@@ -28,9 +28,9 @@ use Rattle.wy_static.specs.declared.point.LinkKind.TheVariants as link_kind
 use Rattle.wy_static.specs.declared.point.Link.{Link}
 use Rattle.wy_static.specs.Links.{IsLink}
 use Rattle.wy_static.specs.LookUps.{method_of}
-use Rattle.wy_whynot.specs.Chains.{Leads}
+use Rattle.wy_paths.specs.Leads.{Leads}
 use Rattle.wy_whynot.specs.Executed.{cover_of, cover_or_none, is_test, is_catch, is_value, gave, caught, executed, begins_at, IsCrossed, IsCrossedAs}
-use Rattle.wy_whynot.proofs.Chaining.{leads_on}
+use Rattle.wy_paths.proofs.Chaining.{leads_on}
 use Rattle.law_reached.specs.Laws.{IsReachedByCrossed, StandsOnLink}
 use Rattle.law_reached.proofs.Contained.{nothing_in, in_head, in_tail, in_cases}
 use Rattle.law_reached.proofs.Seen.{Happened, arm_number, Shows, Begins, CallerIs, Executed, CrossedAs, Reached, at_start, onward, Stands}

@@ -8,11 +8,11 @@ use Rattle.wy_static.specs.declared.point.Point.{Point}
 use Rattle.wy_static.specs.declared.point.Point.TheVariants as point
 use Rattle.wy_static.specs.declared.point.Link.{Link}
 use Rattle.wy_static.specs.Links.{IsLink}
-use Rattle.wy_whynot.specs.Chains.{Leads}
+use Rattle.wy_paths.specs.Leads.{Leads}
 use Rattle.wy_whynot.specs.Evidence.{Evidence}
 use Rattle.wy_whynot.specs.Executed.{executed, IsCrossed}
 use Rattle.wy_whynot.specs.Items.{AreItems, IsBlocked, IsIdle, links_of}
-use Rattle.wy_whynot.proofs.Chaining.{leads_append, leads_weaker}
+use Rattle.wy_paths.proofs.Chaining.{leads_append, leads_weaker}
 use Rattle.law_reached.specs.Laws.{ExecutedAreReached, IsNeeded}
 use Rattle.law_reached.proofs.Contained.{nothing_in, in_head, in_cases, in_right, in_either}
 

@@ -22,7 +22,8 @@ use Rattle.wy_static.specs.declared.standing.Standing.{Standing}
 use Rattle.wy_static.specs.Standings.{standings_of}
 use Rattle.wy_static.specs.Links.{IsLink}
 use Rattle.wy_static.specs.LookUps.{method_of}
-use Rattle.wy_whynot.specs.Chains.{IsChain, Leads}
+use Rattle.wy_paths.specs.Leads.{Leads}
+use Rattle.wy_whynot.specs.Chains.{IsChain}
 use Rattle.wy_whynot.specs.Evidence.{Evidence}
 use Rattle.wy_whynot.specs.Executed.{begins_at, executed, IsCrossed}
 use Rattle.wy_whynot.specs.Items.{AreItems, links_of}

@@ -4,7 +4,7 @@ use Rattle.std.specs.Prelude.{Contains, slice_get, nat_eq, ◌↔◌}
 use Rattle.std.specs.Bool.{Decides}
 use Rattle.std.specs.List.{list_all, list_any}
 use Rattle.std.proofs.lemmas.Bool.{false≢true, and_parts, cases_lt, cases_eq, or_cases, or_left, or_right}
-use Rattle.wy_whynot.proofs.Sorting.{sorted_same}
+use Rattle.wy_paths.proofs.Sorting.{sorted_same}
 use Rattle.std.proofs.lemmas.Option.{none-some, same_Some, slice_get_within}
 use Rattle.wy_event.specs.Record.{Recorded}
 use Rattle.wy_event.specs.Sources as records

@@ -24,7 +24,7 @@ use Rattle.wy_whynot.specs.Evidence.{Evidence}
 use Rattle.wy_whynot.specs.Executed.{cover_of}
 use Rattle.wy_whynot.specs.Items.{AreItems}
 use Rattle.wy_whynot.specs.Laws.{ItemsAreOne}
-use Rattle.wy_whynot.proofs.Sorting.{sorted_same}
+use Rattle.wy_paths.proofs.Sorting.{sorted_same}
 use Rattle.wy_explore.specs.Session.{AreSources, Command, Does, IsGreatestBelow, IsLeastAbove, OneReply, Position, Replies, RepliesTo, Reply, Says, Serves, Session, answer_to, asking, looking_at}
 use Rattle.wy_explore.specs.Session as session
 use Rattle.wy_explore.proofs.Lines.{one_command}

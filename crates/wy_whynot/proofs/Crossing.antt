@@ -11,8 +11,8 @@ use Rattle.wy_static.specs.declared.point.LinkKind.{LinkKind}
 use Rattle.wy_static.specs.declared.point.LinkKind.TheVariants as kind
 use Rattle.wy_static.specs.declared.point.Link.{Link}
 use Rattle.wy_whynot.specs.Executed.{begins_at, executed, IsCrossed, IsCrossedAs}
-use Rattle.wy_whynot.proofs.Sorting.{in_cases}
-use Rattle.wy_whynot.proofs.Spreading.{nothing_in}
+use Rattle.wy_paths.proofs.Sorting.{in_cases}
+use Rattle.wy_paths.proofs.Spreading.{nothing_in}
 
 pub any_holds : {X : Type 0} (test : X → Bool) (xs : List X) (x : X) → Contains xs x → test x ≡ true → list_any test xs ≡ true
 any_holds test [] x i h = nothing_in x i

@@ -1,12 +1,6 @@
-pub mod Spreading
-pub mod Sorting
 pub mod Crossing
 pub mod Chaining
 pub mod Begun
-pub mod Orders
 pub mod Firsts
 pub mod Targeting
-pub mod Numbering
-pub mod Bridging
-pub mod Lists
 pub mod Answering

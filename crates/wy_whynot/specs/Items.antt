@@ -4,19 +4,18 @@ use Rattle.std.specs.Prelude.{◌≡◌, ◌≢◌, ℕ, true, false, List, Resu
 use Rattle.std.specs.List.{Contains}
 use Rattle.std.specs.List.Sorted.{IsStrictlySortedBy}
 use Rattle.std.specs.declared.alloc.Global.{Global}
-use Rattle.std.specs.declared.cmp.Ordering.{Ordering}
-use Rattle.std.specs.Ordering.{nat_cmp, on, ordering_then}
 use Rattle.wy_kernel.specs.Program.{Program}
 use Rattle.wy_event.specs.declared.record.Cover.{Cover}
 use Rattle.wy_event.specs.Record.{Recorded}
 use Rattle.wy_static.specs.declared.point.Point.TheVariants as point
 use Rattle.wy_static.specs.declared.point.Link.{Link}
 use Rattle.wy_static.specs.Links.{IsLink}
-use Rattle.wy_static.specs.Order.{by_site, by_source, by_target, kind_key}
 use Rattle.wy_whynot.specs.declared.item.Item.{Item}
 use Rattle.wy_whynot.specs.declared.item.WhynotError.{WhynotError}
 use Rattle.wy_whynot.specs.declared.item.WhynotError.TheVariants as error
-use Rattle.wy_whynot.specs.Chains.{IsReached, Leads}
+use Rattle.wy_paths.specs.Leads.{Leads}
+use Rattle.wy_paths.specs.Order.{item_cmp}
+use Rattle.wy_whynot.specs.Chains.{IsReached}
 use Rattle.wy_whynot.specs.Evidence.{Evidence, evidence, evidence_in}
 use Rattle.wy_whynot.specs.Executed.{cover_of, executed, IsCrossed}
 
@@ -39,21 +38,6 @@ pub record IsBlocked (p : Program) (rs : List Recorded) (covers : List Cover) (n
   pub leads : Leads (IsIdle p rs covers) l.to onward (point.Statement n)
 
 -- ---- items
-
--- by site, kind and target; then, so that no two tie, by the value of an arm and by source
-abbrev pub by_form : Link → Link → Ordering
-by_form = on (λ l. (kind_key l.kind).0) nat_cmp
-
-abbrev pub by_value : Link → Link → Ordering
-by_value = on (λ l. (kind_key l.kind).1) nat_cmp
-
-abbrev pub item_cmp : Link → Link → Ordering
-item_cmp a b =
-    ordering_then
-    (ordering_then
-    (ordering_then (ordering_then (by_site a b) (by_form a b)) (by_target a b))
-    (by_value a b))
-    (by_source a b)
 
 -- all links that are blocked for a statement, in order
 pub record AreBlocked (p : Program) (rs : List Recorded) (covers : List Cover) (n : ℕ)

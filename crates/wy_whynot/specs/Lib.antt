@@ -1,8 +1,6 @@
-pub mod Graph
 pub mod Chains
 pub mod Executed
 pub mod Evidence
 pub mod Targets
-pub mod Numbers
 pub mod Items
 pub mod Laws

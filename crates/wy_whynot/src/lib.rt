@@ -6,11 +6,8 @@ pub mod answer;
 mod blocked;
 mod evidence;
 mod executed;
-mod graph;
 pub mod item;
 pub mod laws;
-mod order;
-mod points;
 
 pub use answer::whynot;
 pub use item::{Item, Made, WhynotError};

@@ -1,8 +1,8 @@
 use Rattle.std.proofs.Common.{◌≡◌, ◌∙◌, ap, arith, map, take}
 use Rattle.std.proofs.lemmas.Grind.{common_steps}
 use Rattle.wy_whynot.specs.Evidence.{evidence, evidence_in}
-use Rattle.wy_whynot.proofs.Bridging.{some_link}
-use Rattle.wy_whynot.proofs.Lists.{both_next}
+use Rattle.wy_paths.proofs.Bridging.{some_link}
+use Rattle.wy_paths.proofs.Lists.{both_next}
 use Rattle.wy_whynot.proofs.answer.items.Goals as goal
 
 pub loop-link-preserved : goal.loop-link-preserved

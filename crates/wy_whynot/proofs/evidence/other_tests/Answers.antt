@@ -3,7 +3,7 @@ use Rattle.std.specs.Prelude.{filter}
 use Rattle.std.proofs.lemmas.Grind.{common_steps}
 use Rattle.wy_index.specs.declared.found.Hit.{Hit}
 use Rattle.wy_whynot.specs.Evidence.{events_of, gave_another}
-use Rattle.wy_whynot.proofs.Lists.{filter_pass, kept_next}
+use Rattle.wy_paths.proofs.Lists.{filter_pass, kept_next}
 use Rattle.wy_whynot.proofs.evidence.other_tests.Goals as goal
 use Rattle.wy_whynot.proofs.evidence.other_tests.Goals.{then-gave_another+in_ok-push, else-gave_another}
 

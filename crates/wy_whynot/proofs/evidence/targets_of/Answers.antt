@@ -5,7 +5,7 @@ use Rattle.wy_index.specs.declared.found.Hit.{Hit}
 use Rattle.wy_whynot.specs.declared.item.Made.{Made}
 use Rattle.wy_whynot.specs.Evidence.{is_call_from, targets_of}
 use Rattle.wy_whynot.specs.Targets.{KnowsTargets, with_target}
-use Rattle.wy_whynot.proofs.Lists.{filter_next, filter_pass}
+use Rattle.wy_paths.proofs.Lists.{filter_next, filter_pass}
 use Rattle.wy_whynot.proofs.Targeting.{no_hit, no_targets, targets_push}
 use Rattle.wy_whynot.proofs.evidence.targets_of.Goals as goal
 use Rattle.wy_whynot.proofs.evidence.targets_of.Goals.{then-is_call_from+in_ok-note, else-is_call_from}

@@ -2,7 +2,7 @@ use Rattle.std.proofs.Common.{◌≡◌, ◌∙◌, map, take, ap, arith}
 use Rattle.std.proofs.lemmas.Grind.{common_steps}
 use Rattle.wy_static.specs.declared.point.Point.TheVariants as point
 use Rattle.wy_whynot.specs.Executed.{executed}
-use Rattle.wy_whynot.proofs.Lists.{map_next}
+use Rattle.wy_paths.proofs.Lists.{map_next}
 use Rattle.wy_whynot.proofs.executed.executed_points.Goals as goal
 
 pub loop-point-preserved : goal.loop-point-preserved

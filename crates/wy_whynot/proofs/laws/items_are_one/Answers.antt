@@ -2,8 +2,8 @@
 use Rattle.std.proofs.Common.{◌∙◌, sym, ap, map}
 use Rattle.wy_whynot.specs.Evidence.{evidence}
 use Rattle.wy_whynot.specs.Items.{links_of}
-use Rattle.wy_whynot.proofs.Orders.{items_total}
-use Rattle.wy_whynot.proofs.Sorting.{sorted_same}
+use Rattle.wy_paths.proofs.Orders.{items_total}
+use Rattle.wy_paths.proofs.Sorting.{sorted_same}
 use Rattle.wy_whynot.proofs.laws.items_are_one.Goals as goal
 
 pub returns : goal.returns

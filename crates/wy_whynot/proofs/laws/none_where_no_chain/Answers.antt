@@ -10,8 +10,8 @@ use Rattle.wy_whynot.specs.Evidence.{Evidence}
 use Rattle.wy_whynot.specs.Items.{AreItems, links_of}
 use Rattle.wy_whynot.proofs.Begun.{never_executed, start_executed}
 use Rattle.wy_whynot.proofs.Chaining.{blocked_chain, cut}
-use Rattle.wy_whynot.proofs.Sorting.{in_head}
-use Rattle.wy_whynot.proofs.Spreading.{nothing_in}
+use Rattle.wy_paths.proofs.Sorting.{in_head}
+use Rattle.wy_paths.proofs.Spreading.{nothing_in}
 use Rattle.wy_whynot.proofs.laws.none_where_no_chain.Goals as goal
 
 no_items : (p : Program) (rs : List Recorded) (covers : List Cover) (n : ℕ) (items : List Evidence) → AreItems p rs covers n items

@@ -1,0 +1,11 @@
+//! Paths of links between points: which points links lead to, and the links at which what was met ends on the ways to a
+//! point. Nothing here knows what it is to meet a point.
+#![tactic(auto)]
+
+mod graph;
+mod order;
+pub mod points;
+pub mod search;
+
+pub use points::points_of;
+pub use search::frontier;

@@ -1,7 +1,0 @@
-use Rattle.std.proofs.Common.{rules}
-use Rattle.std.proofs.lemmas.List.Sorted.{IsNonDecreasingBy-from_sort_by_key}
-use Rattle.wy_whynot.specs.declared.graph.Edge.{Edge}
-use Rattle.wy_whynot.proofs.graph.in_order.Goals as goal
-
-pub returns-clause-sorted : goal.returns-clause-sorted
-returns-clause-sorted c = IsNonDecreasingBy-from_sort_by_key (λ (e : Edge). e.from) _ c.sort_unstable_by_key.ensures.sorted (λ a r q k. search rules)
