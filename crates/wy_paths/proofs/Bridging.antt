@@ -124,7 +124,7 @@ module _ (links : List Link) (ex : Point → Bool) (start goal : Point) (points 
     leads : Leads (Contains links) start chain q
 
   arrives : (open' : List Bool) (a : ℕ) → IsWay edges open' (at start) a → Arrives a
-  arrives open' _ (here h) = record { q = start; number = refl; there = placed.there.start; chain = []; leads = refl }
+  arrives open' _ (here h) = record { q = start; number = refl; there = placed.there.has_start; chain = []; leads = refl }
   arrives open' _ (along a b w e h) =
       let before = arrives open' a w in
       let own = from_map (edge_of points) links (edge a b) e in
@@ -156,7 +156,7 @@ module _ (links : List Link) (ex : Point → Bool) (start goal : Point) (points 
     leads : Leads Idle q chain goal
 
   leaves : ex goal ≡ false → (a : ℕ) → IsWay (map turned edges) (map not (map ex points)) (at goal) a → Leaves a
-  leaves never _ (here h) = record { q = goal; number = refl; there = placed.there.goal; never = never; chain = []; leads = refl }
+  leaves never _ (here h) = record { q = goal; number = refl; there = placed.there.has_goal; never = never; chain = []; leads = refl }
   leaves never _ (along a b w e h) =
       let behind = leaves never a w in
       let back = from_map turned edges (edge a b) e in
@@ -176,7 +176,7 @@ module _ (links : List Link) (ex : Point → Bool) (start goal : Point) (points 
   marks_back : (marks : List Bool) → IsSpread (map turned edges) (map not (map ex points)) (at goal) marks
       → (q : Point) (ls : List Link) → Leads Idle q ls goal → ex q ≡ false → Contains points q → IsMarked marks (at q)
   marks_back marks s q [] c never i =
-      subst (λ x. IsMarked marks (at x)) (sym c) (s.begun (idle_at goal placed.there.goal ∙ ap not (ap ex (sym c) ∙ never)))
+      subst (λ x. IsMarked marks (at x)) (sym c) (s.begun (idle_at goal placed.there.has_goal ∙ ap not (ap ex (sym c) ∙ never)))
   marks_back marks s q (l ∷ ls) c never i =
       let own : Contains links l = c.0.0 in
       let ends = placed.there.ends l own in
@@ -196,7 +196,7 @@ module _ (links : List Link) (met : Point → Bool) (start goal : Point) (found 
   begun_at q i = ap (λ b. get_or b (point_number points q) false) is ∙ ex_at links met start goal points f.points q i
 
   start_marked : IsMarked found.reached.items (point_number points start)
-  start_marked = f.reached.begun (get_or-replicate (length points) (point_number points start) true false (place_within points start f.points.in_order f.points.there.start))
+  start_marked = f.reached.begun (get_or-replicate (length points) (point_number points start) true false (place_within points start f.points.in_order f.points.there.has_start))
 
   pub picked_frontier : (l : Link) → Contains links l → is_picked found l ≡ true → IsFrontier (Contains links) met start goal l
   picked_frontier l i h =

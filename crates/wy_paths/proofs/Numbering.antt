@@ -23,15 +23,15 @@ use Rattle.wy_paths.proofs.Spreading.{nothing_in}
 
 pub no_ends : (start goal : Point) → HasEnds [] start goal (start ∷ goal ∷ [])
 no_ends start goal = record {
-  start = in_head start (goal ∷ []);
-  goal = Contains-push (start ∷ []) goal;
+  has_start = in_head start (goal ∷ []);
+  has_goal = Contains-push (start ∷ []) goal;
   ends = λ l i. nothing_in l i;
 }
 
 pub more_ends : (links : List Link) (start goal : Point) (points : List Point) (l : Link) → HasEnds links start goal points → HasEnds (links ++ l ∷ []) start goal ((points ++ l.from ∷ []) ++ l.to ∷ [])
 more_ends links start goal points l h = record {
-  start = still start h.start;
-  goal = still goal h.goal;
+  has_start = still start h.has_start;
+  has_goal = still goal h.has_goal;
   ends = λ k i. ⊎_elim
       (λ (old : Contains links k). (still k.from (h.ends k old).0, still k.to (h.ends k old).1))
       (λ (new : l ≡ k). subst (λ (x : Link). Contains ((points ++ l.from ∷ []) ++ l.to ∷ []) x.from × Contains ((points ++ l.from ∷ []) ++ l.to ∷ []) x.to) new
@@ -54,7 +54,7 @@ equal_from_test Greater h = absurd (cc)
 
 pub points_ready : (links : List Link) (start goal : Point) (xs ys zs : List Point) → HasEnds links start goal xs → IsPermutation xs ys → IsSorted point_cmp ys → zs ≡ dedup ties ys → ArePoints links start goal zs
 points_ready links start goal xs ys zs h moved up is = record {
-  there = record { start = still start h.start; goal = still goal h.goal; ends = λ l i. (still l.from (h.ends l i).0, still l.to (h.ends l i).1) };
+  there = record { has_start = still start h.has_start; has_goal = still goal h.has_goal; ends = λ l i. (still l.from (h.ends l i).0, still l.to (h.ends l i).1) };
   in_order = subst (IsStrictlySortedBy point_cmp) (sym is) (IsStrictlySortedBy-dedup point_total (λ x y. refl) ys up);
 }
   where

@@ -17,8 +17,8 @@ pub record AreNumbered (links : List Link) (points : List Point) : Type 0 where
 
 -- all ends of links, the start and the goal are there
 pub record HasEnds (links : List Link) (start goal : Point) (points : List Point) : Type 0 where
-  pub start : Contains points start
-  pub goal : Contains points goal
+  pub has_start : Contains points start
+  pub has_goal : Contains points goal
   pub ends : (l : Link) → Contains links l → Contains points l.from × Contains points l.to
 
 abbrev pub IsInOrder : List Point → Type 0

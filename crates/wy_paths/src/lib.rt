@@ -3,9 +3,10 @@
 #![tactic(auto)]
 
 mod graph;
-mod order;
+pub mod order;
 pub mod points;
 pub mod search;
 
+pub use order::point_key;
 pub use points::points_of;
 pub use search::frontier;

@@ -8,7 +8,7 @@ use std::cmp::Ordering;
 use wy_static::point::{Link, LinkKind, Point};
 
 /// What orders points: their kind, and their numbers.
-fn point_key(point: Point) -> (u8, u32, u32)
+pub fn point_key(point: Point) -> (u8, u32, u32)
     ensures { result ≡ point_key point }
 {
     match point {

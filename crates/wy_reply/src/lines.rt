@@ -44,6 +44,12 @@ pub enum Refusal<'a> {
         count: u32,
         first: u32,
     },
+    /// The region of the statement at that place of the line was passed in the call, first by that event.
+    Passed {
+        line: u32,
+        place: u32,
+        event: u32,
+    },
     FaultShelf,
     FaultRecorder,
     LongFile {
@@ -77,7 +83,10 @@ impl Refusal<'_> {
             | Refusal::Damaged { .. }
             | Refusal::BadSeal
             | Refusal::TraceProgram(_) => Status::Trace,
-            Refusal::NotRead | Refusal::NoSuch { .. } | Refusal::Ran { .. } => Status::Question,
+            Refusal::NotRead
+            | Refusal::NoSuch { .. }
+            | Refusal::Ran { .. }
+            | Refusal::Passed { .. } => Status::Question,
             Refusal::FaultShelf | Refusal::FaultRecorder => Status::Fault,
             Refusal::LongFile { .. } => Status::TooLong,
             Refusal::AuditEvent { .. } | Refusal::AuditTail => Status::Audit,
@@ -108,6 +117,7 @@ pub fn refusal_line(alloc: Global, refusal: Refusal<'_>) -> Result<Vec<u8>, Allo
             count,
             first,
         } => ran(alloc, line, place, count, first),
+        Refusal::Passed { line, place, event } => passed(alloc, line, place, event),
         Refusal::FaultShelf => line(alloc, "fault: shelf", ""),
         Refusal::FaultRecorder => line(alloc, "fault: recorder", ""),
         Refusal::LongFile { name } => line(alloc, "too long: ", name),
@@ -146,6 +156,14 @@ fn ran(alloc: Global, at: u32, place: u32, count: u32, first: u32) -> Result<Vec
     ensures { IfOk result (λ text. text.items ≡ ran_line at place count first) }
 {
     let entity = format!(in alloc; "{at}.{place} ran {count} times, first before #{first}")?;
+    line(alloc, "question: line ", &entity)
+}
+
+#[tactic(auto, unfolding(crate::specs::Lines::passed_line))]
+fn passed(alloc: Global, at: u32, place: u32, event: u32) -> Result<Vec<u8>, AllocError>
+    ensures { IfOk result (λ text. text.items ≡ passed_line at place event) }
+{
+    let entity = format!(in alloc; "{at}.{place} passed at #{event}")?;
     line(alloc, "question: line ", &entity)
 }
 

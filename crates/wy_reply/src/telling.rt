@@ -43,6 +43,8 @@ pub enum Inquiry<'a> {
     Questions,
     /// Why the statement never began that a word names.
     WhyNot { statement: &'a str },
+    /// Why the guards around the statement that a word names were not passed in a call.
+    Scope { statement: &'a str, call: u32 },
 }
 
 /// What a trace is to tell.

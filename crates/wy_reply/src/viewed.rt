@@ -21,7 +21,7 @@ use wy_ask::Opened;
 use wy_event::record::Cover;
 use wy_index::Index;
 use wy_kernel::program::Program;
-use wy_telling::{Unanswered, Untold, affects_text, questions_text, why_text, whynot_text};
+use wy_telling::{Unanswered, Unscoped, Untold, affects_text, questions_text, scope_text, why_text, whynot_text};
 use wy_view::{EventView, Steps, ViewError};
 
 /// The answer to a question: what is told of its event, or why nothing is.
@@ -149,6 +149,33 @@ fn answer_to_unanswered(alloc: Global, error: Unanswered) -> Result<Answer, Allo
     }
 }
 
+/// The answer to a statement and a call: why the guards around the statement were not passed in it, or why nothing is told.
+fn answer_to_scope<V: EventView>(
+    alloc: Global,
+    opened: &mut Opened<'_, V>,
+    statement: &str,
+    call: u32,
+) -> Result<Answer, ViewError>
+    requires { IsOpenedOf (V.tells opened.old.view) opened.old }
+    ensures due { (t : Trace) → IsViewOf t (V.tells opened.old.view) opened.old.coverage.now
+        → IfOk result (λ answer. Tells opened.old.program.now t (wanted.Scope statement.now call)
+        (code_of answer.status) answer.text.items) }
+    ensures settled { IfOk result (λ answer. is_of_files answer.status ≡ false) }
+    ensures keeps { Keeps (V.tells opened.old.view) (V.tells opened.new.view) }
+    ensures answers { KeepsCounts result (V.tells opened.old.view) (V.tells opened.new.view) }
+{
+    match scope_text(alloc, opened, statement, call) {
+        Ok(text) => Ok(Answer::done(text)),
+        Err(Unscoped::NotRead) => Ok(Answer::refused(alloc, Refusal::NotRead)?),
+        Err(Unscoped::NoSuch(number)) => Ok(Answer::refused(alloc, Refusal::NoSuch { number })?),
+        Err(Unscoped::Passed { line, place, event }) => {
+            let passed = Refusal::Passed { line, place, event };
+            Ok(Answer::refused(alloc, passed)?)
+        }
+        Err(Unscoped::View(error)) => Err(error),
+    }
+}
+
 /// What is answered from a trace that is opened, with this seal.
 pub fn answer_to_opened<V: EventView>(
     alloc: Global,
@@ -171,6 +198,7 @@ pub fn answer_to_opened<V: EventView>(
         Inquiry::Certify { question } => answer_to_certify(alloc, opened, seal, question),
         Inquiry::Questions => answer_to_questions(alloc, opened),
         Inquiry::WhyNot { statement } => Ok(answer_to_statement(alloc, opened, statement)?),
+        Inquiry::Scope { statement, call } => answer_to_scope(alloc, opened, statement, call),
     }
 }
 

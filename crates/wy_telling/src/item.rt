@@ -21,7 +21,7 @@ use wy_static::point::{LinkKind, Point};
 use wy_text::{put_class_name, put_count, put_decimal, put_full_name, put_method_name, put_place};
 use wy_whynot::{Item, Made};
 
-fn put_text(out: &mut Vec<u8>, text: &str) -> Result<(), AllocError>
+pub(crate) fn put_text(out: &mut Vec<u8>, text: &str) -> Result<(), AllocError>
     ensures { OnOk result (out.new.items ≡ out.old.items ++ text.now) }
 {
     out.extend_from_slice(text.as_bytes())
@@ -46,7 +46,7 @@ fn put_cause(out: &mut Vec<u8>, cause: u32) -> Result<(), AllocError>
     }
 }
 
-fn truth(value: u32) -> &'static str
+pub(crate) fn truth(value: u32) -> &'static str
     ensures { result.now ≡ truth value }
 {
     if value == 1 { "true" } else { "false" }
@@ -59,7 +59,7 @@ fn other_truth(value: u32) -> &'static str
 }
 
 #[tactic(auto, unfolding(crate::specs::Items::tested))]
-fn put_tested(
+pub(crate) fn put_tested(
     out: &mut Vec<u8>,
     value: u32,
     count: usize,
@@ -84,7 +84,7 @@ fn put_span(out: &mut Vec<u8>, first: u32, last: u32) -> Result<(), AllocError>
 }
 
 /// The last number of some.
-fn last_from(first: u32, rest: &[u32]) -> u32
+pub(crate) fn last_from(first: u32, rest: &[u32]) -> u32
     ensures { result ≡ last_from first rest.now }
 {
     let mut last = first;
@@ -169,7 +169,7 @@ fn put_calls(
 }
 
 #[tactic(auto, unfolding(crate::specs::Items::call_text))]
-fn put_call(
+pub(crate) fn put_call(
     out: &mut Vec<u8>,
     program: &Program,
     method: u32,
@@ -239,7 +239,7 @@ fn put_caught(out: &mut Vec<u8>, program: &Program, class: Option<u32>) -> Resul
 }
 
 #[tactic(auto, unfolding(crate::specs::Items::catch_text))]
-fn put_catch(
+pub(crate) fn put_catch(
     out: &mut Vec<u8>,
     program: &Program,
     clauses: &[Clause],

@@ -1,5 +1,5 @@
 //! What is told of a trace, line by line: what its run wrote and how it ended, all that an event comes from and all that comes
-//! from it, what can be asked about it, and why a statement never began. Nothing here reads a trace's bytes.
+//! from it, what can be asked about it, why a statement never began, and why not in one call. Nothing here reads a trace's bytes.
 #![tactic(auto)]
 
 mod affects;
@@ -13,6 +13,7 @@ mod marked;
 mod memory;
 mod print;
 mod report;
+mod scoped;
 mod thrown;
 mod untold;
 mod why;
@@ -25,6 +26,7 @@ pub use listed::{listed_line, questions_text};
 pub use memory::want_of_memory;
 pub use print::{LineEnds, put_printed};
 pub use report::{ends_its_line, output_text, whole_report};
+pub use scoped::{Unscoped, scope_text};
 pub use untold::Untold;
 pub use why::{answer_lines, why_text};
 pub use whynot::{Unanswered, whynot_lines, whynot_text};

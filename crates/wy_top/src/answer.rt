@@ -212,6 +212,14 @@ pub fn answer_to<S: Shelf, R: Recorder>(
             let inquiry = Inquiry::WhyNot { statement };
             answer_from(alloc, shelf, trace, Wanted::Inquiry(inquiry))
         }
+        Request::Scope {
+            trace,
+            statement,
+            call,
+        } => {
+            let inquiry = Inquiry::Scope { statement, call };
+            answer_from(alloc, shelf, trace, Wanted::Inquiry(inquiry))
+        }
         Request::Audit { trace } => answer_from(alloc, shelf, trace, Wanted::Audit),
         Request::Gen { number } => run_generated(alloc, number),
     }

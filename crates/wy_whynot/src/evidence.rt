@@ -25,7 +25,7 @@ fn gave_another(arm: u32, hit: &Hit) -> bool
 }
 
 /// The value of an arm.
-fn arm_of(kind: LinkKind) -> Option<u32>
+pub fn arm_of(kind: LinkKind) -> Option<u32>
     ensures { result ≡ arm_of kind }
 {
     match kind {
@@ -34,7 +34,8 @@ fn arm_of(kind: LinkKind) -> Option<u32>
     }
 }
 
-fn site_of_tests(link: &Link) -> u32
+/// The site at which the tests of a link's arm stand, and that of the link where it is no arm.
+pub fn site_of_tests(link: &Link) -> u32
     ensures { result ≡ site_of_tests link.now link.now.to }
 {
     match link.to {
@@ -43,7 +44,8 @@ fn site_of_tests(link: &Link) -> u32
     }
 }
 
-fn other_tests(alloc: Global, hits: &[Hit], arm: u32) -> Result<Vec<u32>, AllocError>
+/// The tests that gave another value than that of an arm.
+pub fn other_tests(alloc: Global, hits: &[Hit], arm: u32) -> Result<Vec<u32>, AllocError>
     ensures { IfOk result (λ tests. tests.items ≡ events_of (filter (gave_another arm) hits.now)) }
 {
     let mut tests = Vec::new(alloc);
@@ -89,7 +91,7 @@ fn note(methods: &mut BTreeSet<u32>, made: &mut Vec<Made>, call: &Hit) -> Result
 }
 
 /// The targets of the calls from a body, each with its first event.
-fn targets_of(alloc: Global, hits: &[Hit], body: u32) -> Result<Vec<Made>, AllocError>
+pub fn targets_of(alloc: Global, hits: &[Hit], body: u32) -> Result<Vec<Made>, AllocError>
     ensures { IfOk result (λ made. made.items ≡ targets_of (filter (is_call_from body) hits.now)) }
 {
     let mut methods = BTreeSet::new(alloc);
@@ -102,7 +104,8 @@ fn targets_of(alloc: Global, hits: &[Hit], body: u32) -> Result<Vec<Made>, Alloc
     Ok(made)
 }
 
-fn calls_method(link: &Link) -> bool
+/// Whether a link calls a method.
+pub fn calls_method(link: &Link) -> bool
     ensures { result ≡ calls_method link.now }
 {
     matches!(link.kind, LinkKind::Call) && matches!(link.to, Point::Entry(_))

@@ -4,7 +4,7 @@
 
 pub mod answer;
 mod blocked;
-mod evidence;
+pub mod evidence;
 mod executed;
 pub mod item;
 pub mod laws;

@@ -5,18 +5,19 @@ ghost use Rattle.wy_words.specs.Views.{asking_of, operands_of};
 ghost use Rattle.wy_words.specs.Found.{asking_in as asking_found, operands_in, steps_in};
 
 use crate::number::number;
-use crate::table::{FIRST, INPUT, SECOND, STEPS, TRACE};
+use crate::table::{FIRST, INPUT, SECOND, STEPS, THIRD, TRACE};
 use clap::ArgMatches;
 
 /// The steps that a run may be given.
 pub const MOST_STEPS: u32 = 50_000_000;
 
-/// In their order; no command takes more than two.
+/// In their order; no command takes more than three.
 #[derive(Clone, Copy)]
 pub enum Operands<'a> {
     Nothing,
     One(&'a str),
     Two(&'a str, &'a str),
+    Three(&'a str, &'a str, &'a str),
 }
 
 /// Each option is named once at most.
@@ -35,7 +36,11 @@ pub fn asking_in<'a>(matches: &ArgMatches<'a>) -> Option<Asking<'a>>
 {
     let steps = steps_asked(value(matches, STEPS))?;
     Some(Asking {
-        operands: in_order(value(matches, FIRST), value(matches, SECOND)),
+        operands: in_order(
+            value(matches, FIRST),
+            value(matches, SECOND),
+            value(matches, THIRD),
+        ),
         input: value(matches, INPUT),
         trace: value(matches, TRACE),
         steps,
@@ -49,14 +54,19 @@ fn value<'a>(matches: &ArgMatches<'a>, id: &str) -> Option<&'a str>
 }
 
 #[tactic(auto, unfolding(crate::specs::Found::operands_in))]
-fn in_order<'a>(first: Option<&'a str>, second: Option<&'a str>) -> Operands<'a>
-    ensures { operands_of result
-        ≡ operands_in (option_map (λ s. s.now) first.entry) (option_map (λ s. s.now) second.entry) }
+fn in_order<'a>(
+    first: Option<&'a str>,
+    second: Option<&'a str>,
+    third: Option<&'a str>,
+) -> Operands<'a>
+    ensures { operands_of result ≡ operands_in (option_map (λ s. s.now) first.entry)
+        (option_map (λ s. s.now) second.entry) (option_map (λ s. s.now) third.entry) }
 {
-    match (first, second) {
-        (None, _) => Operands::Nothing,
-        (Some(first), None) => Operands::One(first),
-        (Some(first), Some(second)) => Operands::Two(first, second),
+    match (first, second, third) {
+        (None, _, _) => Operands::Nothing,
+        (Some(first), None, _) => Operands::One(first),
+        (Some(first), Some(second), None) => Operands::Two(first, second),
+        (Some(first), Some(second), Some(third)) => Operands::Three(first, second, third),
     }
 }
 

@@ -1,6 +1,6 @@
 //! Which command a name and what is named behind it are.
 ghost use Rattle.std.specs.Prelude.{◌≡◌, option_map};
-ghost use Rattle.wy_words.specs.Views.{asking_of, asked_of, command_of, pair_of};
+ghost use Rattle.wy_words.specs.Views.{asking_of, asked_of, command_of, pair_of, triple_of};
 ghost use Rattle.wy_words.specs.Reading.{audit as audit_asked, command_named as named_so};
 ghost use Rattle.wy_words.specs.Reading.{explore as explore_asked, generated as gen_asked};
 ghost use Rattle.wy_words.specs.Reading.{is_bare as bare, only_operand as alone, output as output_asked};
@@ -9,9 +9,10 @@ ghost use Rattle.wy_words.specs.Reading.{recording as recording_asked, run as ru
 ghost use Rattle.wy_words.specs.Reading.{questions as questions_asked, two_operands as both};
 ghost use Rattle.wy_words.specs.Reading.{affects as affects_asked, why as why_asked, whynot as whynot_asked};
 ghost use Rattle.wy_words.specs.Reading.{certify as certify_asked, check as check_asked};
+ghost use Rattle.wy_words.specs.Reading.{scope as scope_asked, three_operands as all_three};
 
 use crate::asking::{Asking, Operands};
-use crate::number::number;
+use crate::number::{event_number, number};
 
 /// The steps that are run where none are asked.
 const DEFAULT_STEPS: u32 = 1_000_000;
@@ -57,6 +58,11 @@ pub enum Request<'a> {
     Check {
         trace: &'a str,
         certificate: &'a str,
+    },
+    Scope {
+        trace: &'a str,
+        statement: &'a str,
+        call: u32,
     },
     Questions {
         trace: &'a str,
@@ -116,6 +122,9 @@ fn over_trace<'a>(name: &str, asking: Asking<'a>) -> Option<Command<'a>>
     }
     if name == "check" {
         return check(asking);
+    }
+    if name == "scope" {
+        return scope(asking);
     }
     if name == "questions" {
         return questions(asking);
@@ -216,6 +225,21 @@ fn check(asking: Asking<'_>) -> Option<Command<'_>>
     }
 }
 
+#[tactic(auto, unfolding(crate::specs::Reading::scope))]
+fn scope(asking: Asking<'_>) -> Option<Command<'_>>
+    ensures { option_map command_of result ≡ scope_asked (asking_of asking.entry) }
+{
+    let (trace, statement, word) = three_operands(asking)?;
+    match event_number(word) {
+        Some(call) => Some(Command::Once(Request::Scope {
+            trace,
+            statement,
+            call,
+        })),
+        None => None,
+    }
+}
+
 #[tactic(auto, unfolding(crate::specs::Reading::questions))]
 fn questions(asking: Asking<'_>) -> Option<Command<'_>>
     ensures { option_map command_of result ≡ questions_asked (asking_of asking.entry) }
@@ -292,6 +316,18 @@ fn two_operands(asking: Asking<'_>) -> Option<(&str, &str)>
 {
     match asking.operands {
         Operands::Two(first, second) if is_bare(&asking) => Some((first, second)),
+        _ => None,
+    }
+}
+
+/// The three operands, where they stand and no option.
+#[tactic(auto, unfolding(crate::specs::Reading::three_operands))]
+fn three_operands(asking: Asking<'_>) -> Option<(&str, &str, &str)>
+    ensures { option_map triple_of result
+        ≡ all_three (asking_of asking.entry).operands (asking_of asking.entry) }
+{
+    match asking.operands {
+        Operands::Three(first, second, third) if is_bare(&asking) => Some((first, second, third)),
         _ => None,
     }
 }

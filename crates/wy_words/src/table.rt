@@ -13,13 +13,15 @@ pub const FIRST: &str = "first";
 
 pub const SECOND: &str = "second";
 
+pub const THIRD: &str = "third";
+
 pub const INPUT: &str = "input";
 
 pub const TRACE: &str = "trace";
 
 pub const STEPS: &str = "steps";
 
-static NAMES: [&str; 12] = [
+static NAMES: [&str; 13] = [
     "run",
     "record",
     "output",
@@ -28,6 +30,7 @@ static NAMES: [&str; 12] = [
     "affects",
     "certify",
     "check",
+    "scope",
     "questions",
     "explore",
     "audit",
@@ -75,7 +78,9 @@ fn with_operands<'a>(alloc: Global, command: Command<'a>) -> Result<Command<'a>,
     let first = Arg::new(alloc, FIRST);
     let command = command.arg(first)?;
     let second = Arg::new(alloc, SECOND);
-    command.arg(second)
+    let command = command.arg(second)?;
+    let third = Arg::new(alloc, THIRD);
+    command.arg(third)
 }
 
 fn with_files<'a>(alloc: Global, command: Command<'a>) -> Result<Command<'a>, AllocError>

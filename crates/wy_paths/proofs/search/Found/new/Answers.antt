@@ -10,4 +10,4 @@ pub reached-requires-clause-numbered : goal.reached-requires-clause-numbered
 reached-requires-clause-numbered c = subst (AreNumbered c.args.links.now) (sym c.deref.ensures.value) (numbered c.args.links.now c.args.start c.args.goal c.args.points.items c.requires.points)
 
 pub reached-requires-clause-start : goal.reached-requires-clause-start
-reached-requires-clause-start c = subst (λ (ps : List Point). Contains ps c.args.start) (sym c.deref.ensures.value) c.requires.points.there.start
+reached-requires-clause-start c = subst (λ (ps : List Point). Contains ps c.args.start) (sym c.deref.ensures.value) c.requires.points.there.has_start

@@ -1,0 +1,35 @@
+-- What holds of each list of items.
+use Rattle.std.specs.Prelude.{◌≡◌, ℕ, true, List, Some, slice_get}
+use Rattle.std.specs.List.{Contains}
+use Rattle.wy_kernel.specs.Program.{Program}
+use Rattle.wy_event.specs.Record.{Recorded}
+use Rattle.wy_index.specs.Found.{is_call_of}
+use Rattle.wy_static.specs.declared.point.Link.{Link}
+use Rattle.wy_paths.specs.Leads.{Leads}
+use Rattle.wy_scope.specs.Evidence.{Evidence}
+use Rattle.wy_scope.specs.Graph.{IsScopedLink}
+use Rattle.wy_scope.specs.Items.{AreItems, IsMissed, links_of, region_of_statement}
+use Rattle.wy_scope.specs.Scope.{entry_of}
+
+-- the event of a number is a Call
+pub record IsCallAt (rs : List Recorded) (call : ℕ) : Type 0 where
+  pub event : Recorded
+  pub there : slice_get rs call ≡ Some event
+  pub method : ℕ
+  pub calls : is_call_of method event ≡ true
+
+-- every chain of links between regions, from the entry of the method that was called to the region of a
+-- statement that was not passed, has an item's link in it
+abbrev pub ItemsAreACut : Type 0
+ItemsAreACut =
+    (p : Program) (rs : List Recorded) (call n : ℕ) (items : List Evidence)
+    → IsCallAt rs call → IsMissed p rs call n → AreItems p rs call n items
+    → (chain : List Link)
+    → Leads (IsScopedLink p) (entry_of rs call) chain (region_of_statement p n)
+    → (l : Link) × Contains chain l × Contains (links_of items) l
+
+-- a statement has one list of items in a call
+abbrev pub ItemsAreOne : Type 0
+ItemsAreOne =
+    (p : Program) (rs : List Recorded) (call n : ℕ) (xs ys : List Evidence)
+    → AreItems p rs call n xs → AreItems p rs call n ys → xs ≡ ys

@@ -1,0 +1,37 @@
+//! What an event passes.
+
+ghost use Rattle.std.specs.Prelude.{◌≡◌};
+ghost use Rattle.wy_event.specs.Record.{recorded};
+ghost use Rattle.wy_static.specs.declared.point.Point.{Point as AnyPoint};
+ghost use Rattle.wy_scope.specs.Kept.{is_at};
+ghost use Rattle.wy_scope.specs.Passing.{is_arm_taken, passes_point};
+
+use wy_event::record::{Event, Kind};
+use wy_kernel::types::NONE;
+use wy_static::point::Point;
+use wy_value::Value;
+
+/// The arm of a test that gave a value.
+fn arm_taken(site: u32, value: Value) -> Option<Point>
+    ensures { (q : AnyPoint) → is_at result q ≡ is_arm_taken site value q }
+{
+    match value {
+        Value::Bool(true) => Some(Point::Arm { site, value: 1 }),
+        Value::Bool(false) => Some(Point::Arm { site, value: 0 }),
+        _ => None,
+    }
+}
+
+/// The entry, the class, the clause or the arm that an event passes.
+#[tactic(auto, unfolding(wy_event::specs::Record::recorded))]
+pub(crate) fn point_passed(event: &Event) -> Option<Point>
+    ensures { (q : AnyPoint) → is_at result q ≡ passes_point q (recorded event.now) }
+{
+    match event.kind {
+        Kind::Call if event.entity != NONE => Some(Point::Entry(event.entity)),
+        Kind::Init if event.entity != NONE => Some(Point::Init(event.entity)),
+        Kind::Test => arm_taken(event.site, event.value),
+        Kind::Catch => Some(Point::Catch(event.site)),
+        _ => None,
+    }
+}
