@@ -9,7 +9,7 @@ use Rattle.wy_static.specs.declared.point.Point.TheVariants as point
 use Rattle.wy_static.specs.declared.point.LinkKind.TheVariants as kind
 use Rattle.wy_static.specs.declared.point.Link.{Link}
 use Rattle.wy_paths.specs.declared.graph.Edge.{Edge}
-use Rattle.wy_paths.specs.declared.blocked.Found.{Found}
+use Rattle.wy_paths.specs.declared.search.Found.{Found}
 use Rattle.wy_paths.specs.Graph.{along, edge, here, IsMarked, IsSpread, IsWay}
 use Rattle.wy_paths.proofs.Numbering.{place_within, point_at}
 use Rattle.wy_paths.proofs.Sorting.{in_cases, in_head, in_tail}
@@ -32,14 +32,14 @@ use Rattle.wy_paths.proofs.Orders.{items_apart, items_total}
 
 -- ---- lists
 
-in_map : {X Y : Type 0} (f : X → Y) (xs : List X) (x : X) → Contains xs x → Contains (map f xs) (f x)
+pub in_map : {X Y : Type 0} (f : X → Y) (xs : List X) (x : X) → Contains xs x → Contains (map f xs) (f x)
 in_map f [] x i = nothing_in x i
 in_map f (y ∷ ys) x i = ⊎_elim
     (λ (e : y ≡ x). subst (λ z. Contains (f y ∷ map f ys) (f z)) e (in_head (f y) (map f ys)))
     (λ (j : Contains ys x). in_tail (f y) (f x) (map f ys) (in_map f ys x j))
     (in_cases y x ys i)
 
-from_map : {X Y : Type 0} (f : X → Y) (xs : List X) (y : Y) → Contains (map f xs) y → (x : X) × Contains xs x × (f x ≡ y)
+pub from_map : {X Y : Type 0} (f : X → Y) (xs : List X) (y : Y) → Contains (map f xs) y → (x : X) × Contains xs x × (f x ≡ y)
 from_map f [] y i = nothing_in y i
 from_map f (x ∷ xs) y i = ⊎_elim
     (λ (e : f x ≡ y). (x, in_head x xs, e))
@@ -53,7 +53,7 @@ kept_more : (test : Link → Bool) (k l : Link) (ls : List Link) (b : Bool) → 
 kept_more test k l ls true i = in_tail k l (filter test ls) i
 kept_more test k l ls false i = i
 
-in_filter : (test : Link → Bool) (ls : List Link) (l : Link) → Contains ls l → test l ≡ true → Contains (filter test ls) l
+pub in_filter : (test : Link → Bool) (ls : List Link) (l : Link) → Contains ls l → test l ≡ true → Contains (filter test ls) l
 in_filter test [] l i h = nothing_in l i
 in_filter test (k ∷ ls) l i h = ⊎_elim
     (λ (e : k ≡ l). subst (Contains (filter test (k ∷ ls))) e (kept_one test k ls (ap test e ∙ h)))
@@ -68,7 +68,7 @@ from_kept test k l ls true e more i = ⊎_elim
     (in_cases k l (filter test ls) i)
 from_kept test k l ls false e more i = let r = more i in (in_tail k l ls r.0, r.1)
 
-from_filter : (test : Link → Bool) (ls : List Link) (l : Link) → Contains (filter test ls) l → Contains ls l × (test l ≡ true)
+pub from_filter : (test : Link → Bool) (ls : List Link) (l : Link) → Contains (filter test ls) l → Contains ls l × (test l ≡ true)
 from_filter test [] l i = nothing_in l i
 from_filter test (k ∷ ls) l i = from_kept test k l ls (test k) refl (from_filter test ls l) i
 

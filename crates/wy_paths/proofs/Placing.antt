@@ -15,11 +15,11 @@ pub all_turned : (count : ℕ) (es back : List Edge) → All (LiesIn count) es �
 all_turned count es back lie is =
     subst (All (LiesIn count)) (sym is) (All-map (LiesIn count) turned es (All-weaker (LiesIn count) (λ (e : Edge). LiesIn count (turned e)) (λ e h. (h.1, h.0)) es lie))
 
-pub numbered : (links : List Link) (start goal : Point) (points : List Point) → ArePoints links start goal points → AreNumbered links points
-numbered links start goal points are = record { in_order = are.in_order; ends = are.there.ends }
+pub numbered : (links : List Link) (a b : Point) (points : List Point) → ArePoints links a b points → AreNumbered links points
+numbered links a b points are = record { in_order = are.in_order; ends = are.there.ends }
 
-pub all_placed : (links : List Link) (start goal : Point) (found : Found) → IsFound links start goal found → All (IsPlaced found) links
-all_placed links start goal found f = All-weaker (Contains links) (IsPlaced found) (λ l i. record {
+pub all_placed : (links : List Link) (a b : Point) (found : Found) → IsFound links a b found → All (IsPlaced found) links
+all_placed links a b found f = All-weaker (Contains links) (IsPlaced found) (λ l i. record {
   in_order = f.points.in_order;
   from = (f.points.there.ends l i).0;
   to = (f.points.there.ends l i).1;

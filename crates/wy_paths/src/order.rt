@@ -2,7 +2,7 @@
 
 ghost use Rattle.std.specs.Prelude.{◌≡◌};
 ghost use Rattle.wy_static.specs.Order.{kind_key, point_cmp, point_key};
-ghost use Rattle.wy_paths.specs.Items.{item_cmp};
+ghost use Rattle.wy_paths.specs.Order.{item_cmp};
 
 use std::cmp::Ordering;
 use wy_static::point::{Link, LinkKind, Point};

@@ -18,9 +18,9 @@ use Rattle.wy_view.specs.Counts.{RoseAtMost}
 use Rattle.wy_view.specs.View.{Keeps, Told}
 use Rattle.wy_scope.specs.declared.region.Located.{Located}
 use Rattle.wy_scope.specs.declared.scope.Scope.{Scope}
-use Rattle.wy_scope.specs.Passing.{happens, passes_point}
+use Rattle.wy_scope.specs.Passing.{happens, is_at, passed_by}
 use Rattle.wy_scope.specs.Regions.{is_about}
-use Rattle.wy_scope.specs.Scope.{entry_of, in_scope}
+use Rattle.wy_scope.specs.Scope.{entry_called, entry_of, in_scope}
 
 -- ---- regions
 
@@ -64,11 +64,6 @@ noted b n = if b then Some n else Absent
 abbrev pub its_first : Point → ℕ → Point → Option ℕ
 its_first x n q = noted (same_point x q) n
 
--- a point is this one, where there is one
-abbrev pub is_at : Option Point → Point → Bool
-is_at Absent q = false
-is_at (Some x) q = same_point x q
-
 -- the first number below k that passes a test, where there is one
 abbrev pub IsFirstBelow : (ℕ → Bool) → ℕ → Option ℕ → Type 0
 IsFirstBelow test k Absent = (y : ℕ) → y < k → test y ≡ false
@@ -81,9 +76,12 @@ Firsts = BTreeMap (ℕ × ℕ × ℕ) ℕ
 abbrev pub first_at : Firsts → Point → Option ℕ
 first_at firsts q = get triple_cmp firsts (point_key q)
 
--- what happens at a point that is no statement
+-- an event passes a point by itself, which no arm has to lead to
+abbrev pub comes_at : Point → Recorded → Bool
+comes_at q r = is_at (passed_by r) q
+
 abbrev pub goes_through : List Recorded → ℕ → Point → ℕ → Bool
-goes_through rs call q x = happens (passes_point q) rs call x
+goes_through rs call q x = happens (comes_at q) rs call x
 
 -- ---- the way up
 
@@ -99,6 +97,13 @@ pub record IsScopeTo (rs : List Recorded) (call k : ℕ) (s : Scope) : Type 0 wh
   pub marks : (x : ℕ) → x < k → mark_at call s.marks.items x ≡ in_scope rs call x
   pub firsts : (q : Point) → IsFirstBelow (goes_through rs call q) k (first_at s.firsts q)
 
+-- the call alone was taken
+pub record HasBegun (s : Scope) (r : Recorded) (n : ℕ) : Type 0 where
+  pub call : s.call ≡ n
+  pub entry : s.entry ≡ entry_called (Some r)
+  pub marks : s.marks.items ≡ true ∷ []
+  pub firsts : (q : Point) → first_at s.firsts q ≡ noted (comes_at q r) n
+
 -- an event was taken: it has the mark of its frame, and with a mark it is kept under the point that it
 -- passes, unless another is
 pub record HasTaken (old new : Scope) (r : Recorded) (n : ℕ) : Type 0 where
@@ -107,7 +112,7 @@ pub record HasTaken (old new : Scope) (r : Recorded) (n : ℕ) : Type 0 where
   pub marks : new.marks.items ≡ old.marks.items ++ mark_by old.call old.marks.items r.frame ∷ []
   pub firsts : (q : Point) → first_at new.firsts q
       ≡ option_or (first_at old.firsts q)
-      (noted (mark_by old.call old.marks.items r.frame && passes_point q r) n)
+      (noted (mark_by old.call old.marks.items r.frame && comes_at q r) n)
 
 -- ---- arms of statements
 

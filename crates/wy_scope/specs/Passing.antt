@@ -4,8 +4,10 @@ use Rattle.std.specs.Prelude.{None as Absent}
 use Rattle.std.specs.List.{flat_map, list_any, range_with_len}
 use Rattle.wy_kernel.specs.Program.{Program}
 use Rattle.wy_value.specs.declared.value.Value.{Value}
+use Rattle.wy_value.specs.declared.value.Value.TheVariants as value
+use Rattle.wy_event.specs.declared.record.Kind.{Kind}
+use Rattle.wy_event.specs.declared.record.Kind.TheVariants as event
 use Rattle.wy_event.specs.Record.{Recorded}
-use Rattle.wy_index.specs.Found.{is_call_of, is_init_of}
 use Rattle.wy_static.specs.declared.point.Point.{Point}
 use Rattle.wy_static.specs.declared.point.Point.TheVariants as point
 use Rattle.wy_static.specs.declared.point.LinkKind.{LinkKind}
@@ -13,56 +15,55 @@ use Rattle.wy_static.specs.declared.point.LinkKind.TheVariants as kind
 use Rattle.wy_static.specs.declared.way.Goal.{Goal}
 use Rattle.wy_static.specs.declared.way.Goal.TheVariants.{Known}
 use Rattle.wy_static.specs.declared.way.Way.{Way}
+use Rattle.wy_static.specs.Order.{same_point}
 use Rattle.wy_static.specs.Ways.{ways_of}
-use Rattle.wy_whynot.specs.Executed.{is_catch, is_test, is_value}
 use Rattle.wy_scope.specs.Scope.{in_scope}
 
--- ---- arms
+-- ---- arms of statements
 
--- an arm of a test, by the site of the test and the value
-abbrev pub Arm : Type 0
-Arm = ℕ × ℕ
-
--- a test gave the value of an arm
-abbrev pub takes : Arm → Recorded → Bool
-takes arm r = is_test r.kind && ((r.site == arm.0) && is_value arm.1 r.value)
-
-abbrev pub arm_to : ℕ → Goal → Arm → List Arm
+-- the arm of a way that leads to a statement: a test at its site that gives its value
+abbrev pub arm_to : ℕ → Goal → Point → List Point
 arm_to n (Known (point.Statement m)) arm = if m == n then arm ∷ [] else []
 arm_to n _ arm = []
 
-abbrev pub arm_along : ℕ → LinkKind → Goal → ℕ → List Arm
-arm_along n (kind.Arm value) goal site = arm_to n goal (site, value)
+abbrev pub arm_along : ℕ → LinkKind → Goal → ℕ → List Point
+arm_along n (kind.Arm value) goal site = arm_to n goal (point.Arm site value)
 arm_along n _ goal site = []
 
-abbrev pub arm_of_way : ℕ → Way → List Arm
+abbrev pub arm_of_way : ℕ → Way → List Point
 arm_of_way n w = arm_along n w.kind w.goal w.site
 
--- the arms that a statement is: those of a program that lead to it
-abbrev pub arms_into : Program → ℕ → List Arm
+-- the arms that lead to a statement
+abbrev pub arms_into : Program → ℕ → List Point
 arms_into p n = flat_map (arm_of_way n) (ways_of p)
-
--- a point is the arm that a value of a test takes
-abbrev pub is_arm_taken : ℕ → Value → Point → Bool
-is_arm_taken site value (point.Arm at arm) = (site == at) && is_value arm value
-is_arm_taken site value q = false
 
 -- ---- events
 
--- an event passes a region that is no statement: a Call its entry, an Init its class, a Catch its
--- clause, and a Test its arm
-abbrev pub passes_point : Point → Recorded → Bool
-passes_point point.Start r = false
-passes_point (point.Entry method) r = is_call_of method r
-passes_point (point.Init class) r = is_init_of class r
-passes_point (point.Statement n) r = false
-passes_point (point.Arm site value) r = takes (site, value) r
-passes_point (point.Catch site) r = is_catch r.kind && (r.site == site)
+abbrev pub arm_taken : ℕ → Value → Option Point
+arm_taken site (value.Bool true) = Some (point.Arm site 1)
+arm_taken site (value.Bool false) = Some (point.Arm site 0)
+arm_taken site _ = Absent
 
--- and a Test passes the statement that is its arm
+abbrev pub passed_as : Kind → Option ℕ → ℕ → Value → Option Point
+passed_as event.Call (Some method) site v = Some (point.Entry method)
+passed_as event.Init (Some class) site v = Some (point.Init class)
+passed_as event.Test entity site v = arm_taken site v
+passed_as event.Catch entity site v = Some (point.Catch site)
+passed_as _ entity site v = Absent
+
+-- what an event passes: a Call the entry of its method, an Init the initialization of its class, a Test
+-- the arm of its value, and a Catch its clause
+abbrev pub passed_by : Recorded → Option Point
+passed_by r = passed_as r.kind r.entity r.site r.value
+
+abbrev pub is_at : Option Point → Point → Bool
+is_at Absent q = false
+is_at (Some x) q = same_point x q
+
+-- an event passes a region: a statement by an arm that leads to it
 abbrev pub passes : Program → Point → Recorded → Bool
-passes p (point.Statement n) r = list_any (λ arm. takes arm r) (arms_into p n)
-passes p q r = passes_point q r
+passes p (point.Statement n) r = list_any (is_at (passed_by r)) (arms_into p n)
+passes p q r = is_at (passed_by r) q
 
 abbrev pub is_there : (Recorded → Bool) → Option Recorded → Bool
 is_there test Absent = false

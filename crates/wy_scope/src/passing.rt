@@ -2,9 +2,7 @@
 
 ghost use Rattle.std.specs.Prelude.{◌≡◌};
 ghost use Rattle.wy_event.specs.Record.{recorded};
-ghost use Rattle.wy_static.specs.declared.point.Point.{Point as AnyPoint};
-ghost use Rattle.wy_scope.specs.Kept.{is_at};
-ghost use Rattle.wy_scope.specs.Passing.{is_arm_taken, passes_point};
+ghost use Rattle.wy_scope.specs.Passing.{arm_taken, passed_by};
 
 use wy_event::record::{Event, Kind};
 use wy_kernel::types::NONE;
@@ -13,7 +11,7 @@ use wy_value::Value;
 
 /// The arm of a test that gave a value.
 fn arm_taken(site: u32, value: Value) -> Option<Point>
-    ensures { (q : AnyPoint) → is_at result q ≡ is_arm_taken site value q }
+    ensures { result ≡ arm_taken site value }
 {
     match value {
         Value::Bool(true) => Some(Point::Arm { site, value: 1 }),
@@ -23,9 +21,9 @@ fn arm_taken(site: u32, value: Value) -> Option<Point>
 }
 
 /// The entry, the class, the clause or the arm that an event passes.
-#[tactic(auto, unfolding(wy_event::specs::Record::recorded))]
+#[tactic(auto, unfolding(wy_event::specs::Record::recorded, wy_kernel::specs::View::present))]
 pub(crate) fn point_passed(event: &Event) -> Option<Point>
-    ensures { (q : AnyPoint) → is_at result q ≡ passes_point q (recorded event.now) }
+    ensures { result ≡ passed_by (recorded event.now) }
 {
     match event.kind {
         Kind::Call if event.entity != NONE => Some(Point::Entry(event.entity)),

@@ -4,9 +4,9 @@
 ghost use Rattle.std.specs.Prelude.{◌≡◌, ◌++◌, ◌<◌, IfOk, List, OnOk, length, map, option_map};
 ghost use Rattle.std.specs.List.{flat_map, range_with_len};
 ghost use Rattle.wy_kernel.specs.Parts.{program_of};
-ghost use Rattle.wy_kernel.specs.View.{act, body_of, clause, clauses_of, other, part_seen, statement, statements_of};
+ghost use Rattle.wy_kernel.specs.View.{act, body_of, clause, clauses_of, other, statement, statements_of, test_of};
 ghost use Rattle.wy_scope.specs.Kept.{AreKept, KeepsFirst};
-ghost use Rattle.wy_scope.specs.Regions.{arm_regions, initializer_regions, loop_region, method_regions, region_among, regions, regions_of, regions_of_all, regions_of_body, regions_of_clauses, regions_of_other, regions_within};
+ghost use Rattle.wy_scope.specs.Regions.{arm_regions, initializer_regions, loop_region, method_regions, own_region, region_among, regions, regions_of, regions_of_all, regions_of_body, regions_of_clauses, regions_of_other, regions_within};
 
 use std::alloc::{AllocError, Global};
 use std::collections::BTreeMap;
@@ -24,7 +24,7 @@ pub(crate) struct Located {
 
 /// The region that the body of a loop and its updates are.
 fn loop_region(region: Point, test: &Option<Expr>, body: &Stmt) -> Point
-    ensures { result ≡ loop_region region (part_seen test.now) (statement body.now) }
+    ensures { result ≡ loop_region region (test_of test.now) (statement body.now) }
 {
     match test {
         Some(_) => Point::Statement(body.number),
@@ -43,6 +43,15 @@ fn put_regions(out: &mut Vec<Located>, region: Point, s: &Stmt) -> Result<(), Al
     put_within(out, region, &s.form)
 }
 
+/// A statement that is a region of its own.
+#[cycle(regions)]
+fn put_own(out: &mut Vec<Located>, s: &Stmt) -> Result<(), AllocError>
+    ensures { OnOk result (out.new.items
+        ≡ out.old.items ++ regions (own_region (statement s.now)) (statement s.now)) }
+{
+    put_regions(out, Point::Statement(s.number), s)
+}
+
 #[cycle(regions)]
 fn put_within(out: &mut Vec<Located>, region: Point, form: &StmtForm) -> Result<(), AllocError>
     ensures { OnOk result (out.new.items ≡ out.old.items ++ regions_within region (act form.now)) }
@@ -50,10 +59,10 @@ fn put_within(out: &mut Vec<Located>, region: Point, form: &StmtForm) -> Result<
     match form {
         StmtForm::Block { parts } => put_each(out, region, parts),
         StmtForm::If { yes, no, .. } => {
-            put_regions(out, Point::Statement(yes.number), yes)?;
+            put_own(out, yes)?;
             put_arm(out, no)
         }
-        StmtForm::While { body, .. } => put_regions(out, Point::Statement(body.number), body),
+        StmtForm::While { body, .. } => put_own(out, body),
         StmtForm::Do { body, .. } | StmtForm::Labelled { body } => put_regions(out, region, body),
         StmtForm::For {
             inits,
@@ -61,9 +70,10 @@ fn put_within(out: &mut Vec<Located>, region: Point, form: &StmtForm) -> Result<
             updates,
             body,
         } => {
+            let inner = loop_region(region, test, body);
             put_each(out, region, inits)?;
-            put_regions(out, loop_region(region, test, body), body)?;
-            put_each(out, loop_region(region, test, body), updates)
+            put_regions(out, inner, body)?;
+            put_each(out, inner, updates)
         }
         StmtForm::Try {
             first,
@@ -88,7 +98,7 @@ fn put_arm(out: &mut Vec<Located>, arm: &Option<Box<Stmt>>) -> Result<(), AllocE
     ensures { OnOk result (out.new.items ≡ out.old.items ++ arm_regions (other arm.now)) }
 {
     match arm {
-        Some(s) => put_regions(out, Point::Statement(s.number), s),
+        Some(s) => put_own(out, s),
         None => Ok(()),
     }
 }
@@ -203,8 +213,9 @@ pub(crate) fn regions_of(
 ) -> Result<BTreeMap<u32, Point>, AllocError>
     ensures { IfOk result (λ kept. AreKept (regions_of (program_of program.now)) kept) }
 {
+    let all = all_regions(alloc, program)?;
     let mut kept = BTreeMap::new(alloc);
-    for found in &all_regions(alloc, program)? {
+    for found in &all {
         keep_first(&mut kept, *found)?;
     }
     Ok(kept)

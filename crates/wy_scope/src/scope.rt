@@ -7,8 +7,7 @@ ghost use Rattle.wy_kernel.specs.View.{present};
 ghost use Rattle.wy_static.specs.declared.point.Point.{Point as AnyPoint};
 ghost use Rattle.wy_view.specs.Counts.{RoseAtMost};
 ghost use Rattle.wy_view.specs.View.{Keeps, KeepsCounts, ReadsOnce};
-ghost use Rattle.wy_scope.specs.Passing.{passes_point};
-ghost use Rattle.wy_scope.specs.Kept.{HasTaken, IsScopeTo, first_at, its_first, mark_at, mark_by, noted};
+ghost use Rattle.wy_scope.specs.Kept.{HasBegun, comes_at, HasTaken, IsScopeTo, first_at, its_first, mark_at, mark_by, noted};
 
 use crate::passing::point_passed;
 use std::alloc::{AllocError, Global};
@@ -53,7 +52,7 @@ fn note(
     n: u32,
 ) -> Result<(), AllocError>
     ensures { OnOk result ((q : AnyPoint)
-        → first_at firsts.new q ≡ option_or (first_at firsts.old q) (noted (passes_point q (recorded event.now)) n)) }
+        → first_at firsts.new q ≡ option_or (first_at firsts.old q) (noted (comes_at q (recorded event.now)) n)) }
 {
     match point_passed(event) {
         Some(point) => keep_first(firsts, point, n),
@@ -100,6 +99,23 @@ impl Scope {
     }
 }
 
+/// The scope in which a call, with this event, alone was gone through.
+#[tactic(auto, using(wy_index::proofs::Numbers::number_of_present), unfolding(wy_event::specs::Record::recorded))]
+fn alone(alloc: Global, event: &Event, call: u32) -> Result<Scope, AllocError>
+    ensures { IfOk result (λ scope. HasBegun scope (recorded event.now) call) }
+{
+    let mut marks = Vec::new(alloc);
+    marks.push(true)?;
+    let mut firsts = BTreeMap::new(alloc);
+    note(&mut firsts, event, call)?;
+    Ok(Scope {
+        call,
+        entry: Point::Entry(event.entity),
+        marks,
+        firsts,
+    })
+}
+
 /// The scope in which the call alone was gone through.
 fn begun<V: EventView, L: Ledger>(
     alloc: Global,
@@ -110,23 +126,14 @@ fn begun<V: EventView, L: Ledger>(
     requires there { call < (V.tells view.old).count }
     ensures scope { (rs : List Recorded) → (V.tells view.old).records ≡ Some rs
         → IfOk result (IsScopeTo rs call (suc call)) }
-    ensures room { IfOk result (λ scope. scope.call ≡ call) }
     ensures keeps { Keeps (V.tells view.old) (V.tells view.new) }
     ensures reads { ReadsOnce (V.tells view.old) (V.tells view.new) }
     ensures answers { KeepsCounts result (V.tells view.old) (V.tells view.new) }
     ensures step { steps.new ≡ steps.old + 1 }
 {
-    let mut marks = Vec::new(alloc);
-    marks.push(true)?;
-    let mut firsts = BTreeMap::new(alloc);
     let event = view.event(call, steps)?;
-    note(&mut firsts, event, call)?;
-    Ok(Scope {
-        call,
-        entry: Point::Entry(event.entity),
-        marks,
-        firsts,
-    })
+    let scope = alone(alloc, event, call)?;
+    Ok(scope)
 }
 
 /// Goes on to the next event above.
@@ -165,8 +172,9 @@ pub(crate) fn scope_of<V: EventView, L: Ledger>(
     ensures answers { KeepsCounts result (V.tells view.old) (V.tells view.new) }
     ensures forward { steps.old ≤ steps.new }
 {
+    let count = view.count();
     let mut scope = begun(alloc, view, call, steps)?;
-    for n in call + 1..view.count() {
+    for n in call + 1..count {
         step(view, &mut scope, n, steps)?;
     }
     Ok(scope)

@@ -5,7 +5,7 @@ use Rattle.wy_paths.specs.declared.graph.Edge.{Edge}
 use Rattle.wy_paths.specs.Graph.{IsSpread, LiesIn}
 use Rattle.wy_paths.specs.Numbers.{point_number, turned}
 use Rattle.wy_paths.proofs.Placing.{all_turned}
-use Rattle.wy_paths.proofs.blocked.leading.Goals as goal
+use Rattle.wy_paths.proofs.search.leading.Goals as goal
 
 pub spread-requires-clause-lie : goal.spread-requires-clause-lie
 spread-requires-clause-lie c =

@@ -2,7 +2,7 @@ use Rattle.std.proofs.Common.{◌≡◌, List, ℕ, Bool, length, replicate, tru
 use Rattle.wy_paths.specs.declared.graph.Edge.{Edge}
 use Rattle.wy_paths.specs.Graph.{IsSpread}
 use Rattle.wy_paths.specs.Numbers.{point_number}
-use Rattle.wy_paths.proofs.blocked.reached.Goals as goal
+use Rattle.wy_paths.proofs.search.reached.Goals as goal
 
 pub returns : goal.returns
 returns c =

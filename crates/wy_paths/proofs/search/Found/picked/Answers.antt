@@ -5,8 +5,8 @@ use Rattle.wy_static.specs.declared.point.Link.{Link}
 use Rattle.wy_paths.specs.Numbers.{is_picked}
 use Rattle.wy_paths.proofs.Bridging.{some_link}
 use Rattle.wy_paths.proofs.Lists.{filter_next, filter_pass}
-use Rattle.wy_paths.proofs.blocked.Found.picked.Goals as goal
-use Rattle.wy_paths.proofs.blocked.Found.picked.Goals.{then-picks+in_ok-push, else-picks}
+use Rattle.wy_paths.proofs.search.Found.picked.Goals as goal
+use Rattle.wy_paths.proofs.search.Found.picked.Goals.{then-picks+in_ok-push, else-picks}
 
 pub loop-link-preserved : goal.loop-link-preserved
 loop-link-preserved c =

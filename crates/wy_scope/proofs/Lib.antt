@@ -1,0 +1,7 @@
+pub mod Telling
+pub mod Regions
+pub mod Between
+pub mod Scoping
+pub mod Passes
+pub mod Evident
+pub mod Blocking

@@ -1,0 +1,8 @@
+use Rattle.std.proofs.Common.{◌≡◌, ◌++◌}
+use Rattle.std.specs.List.{flat_map, range_with_len}
+use Rattle.wy_kernel.specs.Parts.{program_of}
+use Rattle.wy_scope.specs.Regions.{initializer_regions}
+use Rattle.wy_scope.proofs.region.put_initializers.Given as goal
+
+abbrev pub invariant-loop-n : goal.invariant-loop-n
+invariant-loop-n l = l.out.items ≡ l.fn.out.items ++ flat_map (initializer_regions (program_of l.program)) (range_with_len 0 l.n)
