@@ -19,7 +19,7 @@ use Rattle.wy_affects.proofs.Giving.{no_record}
 use Rattle.wy_telling.specs.Affects.{AffectsIs, affects_text, later_lines}
 use Rattle.wy_telling.specs.Answers.{Refused, NotRead, NoSuch, answered, not_there, not_read}
 use Rattle.wy_reply.specs.Carried.{AffectedAnswer, all_to, data_to}
-use Rattle.wy_reply.specs.Tellings.{Wanted, Affects, Tells, affects, certify, check, lacking, why, whynot, questions, explore, audit, output}
+use Rattle.wy_reply.specs.Tellings.{Wanted, Affects, Tells, affects, certify, check, lacking, scoped, why, whynot, questions, explore, audit, output}
 use Rattle.wy_reply.proofs.Carrying.{Runs, event_below, history_length, ok_is, owners_are}
 
 -- ---- a run
@@ -86,6 +86,7 @@ tells_affects p t _ _ _ (whynot word answer is) asks same zero_is = absurd (cc)
 tells_affects p t _ _ _ (explore input status text is) asks same zero_is = absurd (cc)
 tells_affects p t _ _ _ (audit v is) asks same zero_is = absurd (cc)
 tells_affects p t _ _ _ (certify question answer is) asks same zero_is = absurd (cc)
+tells_affects p t _ _ _ (scoped said call answer is) asks same zero_is = absurd (cc)
 tells_affects p t _ _ _ (check bytes r is judged) asks same zero_is = absurd (cc)
 tells_affects p t _ _ _ (lacking status text) asks same zero_is = absurd (cc)
 

@@ -13,7 +13,7 @@ use Rattle.wy_meaning.specs.Run.{events}
 use Rattle.wy_meaning.specs.Kept.{covered_of, kept_tail}
 use Rattle.wy_telling.specs.Whynot.{WhynotIs, Denied, NotRead, NoSuch, Ran, answered, ran, not_there, not_read}
 use Rattle.wy_reply.specs.Blocked.{BlockedAnswer}
-use Rattle.wy_reply.specs.Tellings.{Wanted, WhyNot, Tells, covers_of, affects, certify, check, lacking, why, whynot, questions, explore, audit, output}
+use Rattle.wy_reply.specs.Tellings.{Wanted, WhyNot, Tells, covers_of, affects, certify, check, lacking, scoped, why, whynot, questions, explore, audit, output}
 
 abbrev ok_text : List ℕ → Result (List ℕ) Denied
 ok_text x = Ok x
@@ -48,6 +48,7 @@ tells_whynot p t _ _ _ (whynot asked (Err (Ran line place count first)) is) word
 tells_whynot p t _ _ _ (explore input status text is) word same zero_is = absurd (cc)
 tells_whynot p t _ _ _ (audit v is) word same zero_is = absurd (cc)
 tells_whynot p t _ _ _ (certify question answer is) word same zero_is = absurd (cc)
+tells_whynot p t _ _ _ (scoped said call answer is) word same zero_is = absurd (cc)
 tells_whynot p t _ _ _ (check bytes r is judged) word same zero_is = absurd (cc)
 tells_whynot p t _ _ _ (lacking status text) word same zero_is = absurd (cc)
 

@@ -24,7 +24,7 @@ use Rattle.wy_reply.specs.declared.answer.Answer.{Answer}
 use Rattle.wy_reply.specs.declared.status.Status.TheVariants.{Done}
 use Rattle.wy_reply.specs.Statuses.{code_of}
 use Rattle.wy_reply.specs.Recordings.{IsTraceOf, trace_spelling}
-use Rattle.wy_reply.specs.Tellings.{Wanted, Output, Explore, Questions, Why, Affects, Certify, Check, WhyNot, Audit, Tells, covers_of}
+use Rattle.wy_reply.specs.Tellings.{Wanted, Output, Explore, Questions, Why, Affects, Certify, Check, WhyNot, Scope, Audit, Tells, covers_of}
 use Rattle.wy_reply.specs.ByRun.{AnswersByRun, HasSource, TellsRun}
 use Rattle.wy_reply.proofs.Affecting.{told_affected}
 use Rattle.wy_reply.proofs.Carrying.{Runs, all_told, told_carried}
@@ -70,6 +70,7 @@ told_by_run laws p t s x input steps read covers (Affects asks) tells done = tol
 told_by_run laws p t s x input steps read covers (WhyNot word) tells done = told_blocked p t s x input steps read covers word tells done
 told_by_run laws p t s x input steps read covers Audit tells done = tt
 told_by_run laws p t s x input steps read covers (Certify asks) tells done = tt
+told_by_run laws p t s x input steps read covers (Scope word call) tells done = tt
 told_by_run laws p t s x input steps read covers (Check given) tells done = tt
 
 tells_run : Laws → (p : memory.Program) (bytes : List ℕ) (w : Wanted) (t : Trace) (s : ℕ) (text : List ℕ) → AreBytes bytes → length bytes ≤ trace_limit → EndFits t.tail → IsReadAs p bytes (Ok t) → Tells p t w s text → s ≡ 0 → TellsRun p bytes w text

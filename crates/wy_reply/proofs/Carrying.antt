@@ -30,7 +30,7 @@ use Rattle.wy_ask.specs.Questions as question
 use Rattle.wy_ask.proofs.Stores.{print_below}
 use Rattle.wy_telling.specs.Answers.{Refused, NotRead, NoSuch, answered, not_there, not_read, marked_lines}
 use Rattle.wy_telling.specs.Why.{WhyIs, why_text}
-use Rattle.wy_reply.specs.Tellings.{Wanted, Why, Tells, affects, certify, check, lacking, why, whynot, questions, explore, audit, output}
+use Rattle.wy_reply.specs.Tellings.{Wanted, Why, Tells, affects, certify, check, lacking, scoped, why, whynot, questions, explore, audit, output}
 use Rattle.wy_reply.specs.Carried.{CarriedAnswer, Means, SameSets, static, field, element, local}
 
 -- ---- bytes tell all of a run's records
@@ -272,6 +272,7 @@ tells_why p t _ _ _ (whynot word answer is) asks same zero_is = absurd (cc)
 tells_why p t _ _ _ (explore input status text is) asks same zero_is = absurd (cc)
 tells_why p t _ _ _ (audit v is) asks same zero_is = absurd (cc)
 tells_why p t _ _ _ (certify question answer is) asks same zero_is = absurd (cc)
+tells_why p t _ _ _ (scoped said call answer is) asks same zero_is = absurd (cc)
 tells_why p t _ _ _ (check bytes r is judged) asks same zero_is = absurd (cc)
 tells_why p t _ _ _ (lacking status text) asks same zero_is = absurd (cc)
 

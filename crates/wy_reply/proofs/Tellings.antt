@@ -21,6 +21,10 @@ use Rattle.wy_telling.specs.declared.untold.Untold.{Untold}
 use Rattle.wy_telling.specs.declared.untold.Untold.TheVariants as untold
 use Rattle.wy_telling.specs.declared.whynot.Unanswered.{Unanswered}
 use Rattle.wy_telling.specs.declared.whynot.Unanswered.TheVariants as unanswered
+use Rattle.wy_telling.specs.declared.scoped.Unscoped.{Unscoped}
+use Rattle.wy_telling.specs.declared.scoped.Unscoped.TheVariants as unscoped
+use Rattle.wy_telling.specs.Scoped.{TellsScope}
+use Rattle.wy_telling.specs.Scoped as scope
 use Rattle.wy_view.specs.declared.view.ViewError.{ViewError}
 use Rattle.wy_check.specs.Checks.{Judges}
 use Rattle.wy_check.specs.declared.error.CertError.{CertError}
@@ -28,7 +32,7 @@ use Rattle.wy_check.specs.declared.error.CertError.TheVariants as cert
 use Rattle.wy_why.specs.declared.answer.Answer as found
 use Rattle.wy_ask.specs.Asked.{owners}
 use Rattle.wy_reply.specs.Certificates.{Certified, seal_of}
-use Rattle.wy_reply.specs.Tellings.{IsTraceLine, RefusesTrace, SaysAsTold, SaysVerdict, Wanted, Bytes, Certify, Check, certify, check, WhyNot, Audit, Tells, DeniesAs, DueUnder, covers_of, answer_status, answer_text, audit_status, audit_line, whynot, audit, told}
+use Rattle.wy_reply.specs.Tellings.{IsTraceLine, RefusesTrace, SaysAsTold, SaysVerdict, Wanted, Bytes, Certify, Check, certify, check, WhyNot, Scope, SaysScope, scoped, Audit, Tells, DeniesAs, DueUnder, covers_of, answer_status, answer_text, audit_status, audit_line, whynot, audit, told}
 
 -- the status and the text of a refusal, where it was made
 abbrev pub Refuses : Status → List ℕ → Result Answer AllocError → Type 0
@@ -95,3 +99,13 @@ pub told_under : (p : Program) (bytes : List ℕ) (w : Wanted) (t : Trace) (r : 
     IfOk r (λ answer. DueUnder p bytes w (code_of answer.status) answer.text.items)
 told_under p bytes w t (Ok answer) reads tells = told t (code_of answer.status) answer.text.items reads tells
 told_under p bytes w t (Err x) reads tells = tt
+
+-- what is told of a statement and a call is due
+pub told_scope : (p : Program) (t : Trace) (word : List ℕ) (call : ℕ) (told : Result (Vec ℕ Global) Unscoped) (r : Result Answer ViewError)
+    → TellsScope (program_of p) p.lines.items (map recorded t.events) word call told → IfOk r (SaysScope told) → IfOk r (Told p t (Scope word call))
+told_scope p t word call told (Err e) is h = h
+told_scope p t word call (Ok text) (Ok answer) is h = rw (h.0, h.1) (scoped word call (Ok text.items) is)
+told_scope p t word call (Err unscoped.NotRead) (Ok answer) is h = rw (h.0, h.1) (scoped word call (Err scope.NotRead) is)
+told_scope p t word call (Err (unscoped.NoSuch n)) (Ok answer) is h = rw (h.0, h.1) (scoped word call (Err (scope.NoSuch n)) is)
+told_scope p t word call (Err (unscoped.Passed line place event)) (Ok answer) is h = rw (h.0, h.1) (scoped word call (Err (scope.Passed line place event)) is)
+told_scope p t word call (Err (unscoped.View e)) (Ok answer) is h = absurd h

@@ -62,6 +62,12 @@ ran_line line place count first =
     line_of (codes "question: line " ++ (decimal line ++ (codes "." ++ (decimal place
     ++ (codes " ran " ++ (decimal count ++ (codes " times, first before #" ++ decimal first)))))))
 
+-- the same, and the event of a call that first passed its region
+unfoldable pub passed_line : ℕ → ℕ → ℕ → List ℕ
+passed_line line place event =
+    line_of (codes "question: line " ++ (decimal line ++ (codes "." ++ (decimal place
+    ++ (codes " passed at #" ++ decimal event)))))
+
 -- ---- faults and limits
 
 abbrev pub shelf_fault_line : List ℕ

@@ -20,6 +20,10 @@ use Rattle.wy_telling.specs.Why.{WhyIs}
 use Rattle.wy_telling.specs.Affects.{AffectsIs}
 use Rattle.wy_telling.specs.Questions.{questions_text}
 use Rattle.wy_telling.specs.Whynot.{WhynotIs, Denied}
+use Rattle.wy_telling.specs.Scoped.{ScopeIs}
+use Rattle.wy_telling.specs.Scoped as scope
+use Rattle.wy_telling.specs.declared.scoped.Unscoped.{Unscoped}
+use Rattle.wy_telling.specs.declared.scoped.Unscoped.TheVariants as unscoped
 use Rattle.wy_telling.specs.Whynot as denial
 use Rattle.wy_telling.specs.declared.untold.Untold.{Untold}
 use Rattle.wy_telling.specs.declared.untold.Untold.TheVariants as untold
@@ -34,7 +38,7 @@ use Rattle.wy_why.specs.declared.answer.Answer as found
 use Rattle.wy_session.specs.Desk.{scene_of}
 use Rattle.wy_session.specs.Talk.{Talks}
 use Rattle.wy_reply.specs.Certificates.{CertifyIs, seal_of, verdict_line, verdict_status}
-use Rattle.wy_reply.specs.Lines.{cut_line, damaged_line, bad_seal_line, not_read_line, no_such_line, ran_line, equal_line, differs_line, tail_differs_line}
+use Rattle.wy_reply.specs.Lines.{cut_line, damaged_line, bad_seal_line, not_read_line, no_such_line, passed_line, ran_line, equal_line, differs_line, tail_differs_line}
 use Rattle.wy_reply.specs.declared.answer.Answer.{Answer}
 use Rattle.wy_reply.specs.declared.status.Status.TheVariants as status
 use Rattle.wy_reply.specs.declared.telling.Inquiry.{Inquiry}
@@ -62,7 +66,7 @@ pub data Given : Type 0 where
   Lacking : (status : ℕ) (text : List ℕ) → Given
 
 -- what a trace is to tell: what its run wrote, what can be asked, what a question's event comes from, the certificate of that, what
--- comes from it, why a statement never began, whether it is the trace of that run, whether a certificate is good for it, or what a
+-- comes from it, why a statement never began, why the guards around one were not passed in a call, whether it is the trace of that run, whether a certificate is good for it, or what a
 -- session over it answers
 pub data Wanted : Type 0 where
   Output : Wanted
@@ -72,6 +76,7 @@ pub data Wanted : Type 0 where
   Affects : List ℕ → Wanted
   Certify : List ℕ → Wanted
   WhyNot : List ℕ → Wanted
+  Scope : (word : List ℕ) (call : ℕ) → Wanted
   Audit : Wanted
   Check : Given → Wanted
 
@@ -94,6 +99,16 @@ whynot_answer (Ok text) = text
 whynot_answer (Err denial.NotRead) = not_read_line
 whynot_answer (Err (denial.NoSuch line)) = no_such_line line
 whynot_answer (Err (denial.Ran line place count first)) = ran_line line place count first
+
+abbrev pub scope_status : Result (List ℕ) scope.Refused → ℕ
+scope_status (Ok text) = 0
+scope_status (Err e) = 6
+
+abbrev pub scope_answer : Result (List ℕ) scope.Refused → List ℕ
+scope_answer (Ok text) = text
+scope_answer (Err scope.NotRead) = not_read_line
+scope_answer (Err (scope.NoSuch number)) = no_such_line number
+scope_answer (Err (scope.Passed line place event)) = passed_line line place event
 
 abbrev pub audit_status : Verdict → ℕ
 audit_status verdict.Equal = 0
@@ -124,6 +139,9 @@ pub data Tells (p : Program) (t : Trace) : Wanted → ℕ → List ℕ → Type 
   whynot : (word : List ℕ) (answer : Result (List ℕ) Denied)
       → WhynotIs (program_of p) p.lines.items (map recorded t.events) (covers_of t) word answer
       → Tells p t (WhyNot word) (whynot_status answer) (whynot_answer answer)
+  scoped : (word : List ℕ) (call : ℕ) (answer : Result (List ℕ) scope.Refused)
+      → ScopeIs (program_of p) p.lines.items (map recorded t.events) word call answer
+      → Tells p t (Scope word call) (scope_status answer) (scope_answer answer)
   explore : (input : List ℕ) (status : ℕ) (text : List ℕ)
       → Talks (scene_of p t.events (covers_of t)) input status text → Tells p t (Explore input) status text
   audit : (v : Verdict) → AuditIs (program_of p) t.head (map recorded t.events) (kept_tail t.tail) v → Tells p t Audit (audit_status v) (audit_line v)
@@ -145,6 +163,7 @@ inquiry_of (inquiry.Affects question) = Affects question.now
 inquiry_of (inquiry.Certify question) = Certify question.now
 inquiry_of inquiry.Questions = Questions
 inquiry_of (inquiry.WhyNot statement) = WhyNot statement.now
+inquiry_of (inquiry.Scope statement call) = Scope statement.now call
 
 abbrev pub wanted_of : Asked → Wanted
 wanted_of asked.Output = Output
@@ -170,6 +189,17 @@ DeniesAs (unanswered.NoSuch line) answer = Refuses (no_such_line line) answer
 DeniesAs (unanswered.Ran line place count first) answer =
     Refuses (ran_line line place count first) answer
 DeniesAs unanswered.NoMemory answer = ⊥
+
+-- ---- a statement and a call, in memory
+
+-- the text that is told, or a refusal with the line of why there is none
+abbrev pub SaysScope : Result (Vec ℕ Global) Unscoped → Answer → Type 0
+SaysScope (Ok text) answer = (answer.status ≡ status.Done) × (answer.text.items ≡ text.items)
+SaysScope (Err unscoped.NotRead) answer = Refuses not_read_line answer
+SaysScope (Err (unscoped.NoSuch number)) answer = Refuses (no_such_line number) answer
+SaysScope (Err (unscoped.Passed line place event)) answer =
+    Refuses (passed_line line place event) answer
+SaysScope (Err (unscoped.View error)) answer = ⊥
 
 -- ---- a verdict on a certificate, in memory
 

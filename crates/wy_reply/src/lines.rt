@@ -1,7 +1,7 @@
 //! The lines of refusals.
 ghost use Rattle.std.specs.Prelude.{◌≡◌, ◌++◌, IfOk};
 ghost use Rattle.std.specs.Fmt.{decimal};
-ghost use Rattle.wy_reply.specs.Lines.{line_of, damage_name, damaged_as, good_line, ran_line, recorded_line};
+ghost use Rattle.wy_reply.specs.Lines.{line_of, damage_name, damaged_as, good_line, passed_line, ran_line, recorded_line};
 ghost use Rattle.wy_reply.specs.Refusals.{refusal_status, refusal_text};
 
 use crate::source::source_refusal_line;

@@ -5,8 +5,9 @@ ghost use Rattle.wy_event.specs.declared.record.Trace.{Trace};
 ghost use Rattle.wy_reply.specs.Certificates.{seal_of};
 ghost use Rattle.wy_reply.specs.Opening.{IsViewOf};
 ghost use Rattle.wy_reply.specs.Statuses.{code_of, is_of_files};
-ghost use Rattle.wy_reply.specs.Tellings.{DeniesAs, SaysAsTold, Tells, inquiry_of};
+ghost use Rattle.wy_reply.specs.Tellings.{DeniesAs, SaysAsTold, SaysScope, Tells, inquiry_of};
 ghost use Rattle.wy_reply.specs.Tellings as wanted;
+ghost use Rattle.wy_telling.specs.Scoped.{KeepsFaults};
 ghost use Rattle.wy_telling.specs.Untelling.{HasCause};
 ghost use Rattle.wy_view.specs.View.{Keeps, KeepsCounts, Told};
 
@@ -164,7 +165,17 @@ fn answer_to_scope<V: EventView>(
     ensures keeps { Keeps (V.tells opened.old.view) (V.tells opened.new.view) }
     ensures answers { KeepsCounts result (V.tells opened.old.view) (V.tells opened.new.view) }
 {
-    match scope_text(alloc, opened, statement, call) {
+    let told = scope_text(alloc, opened, statement, call);
+    answer_in_call(alloc, told)
+}
+
+/// What is told of a statement in a call, or why nothing is.
+fn answer_in_call(alloc: Global, told: Result<Vec<u8>, Unscoped>) -> Result<Answer, ViewError>
+    ensures says { IfOk result (SaysScope told) }
+    ensures settled { IfOk result (λ answer. is_of_files answer.status ≡ false) }
+    ensures answers { (old new : Told) → KeepsFaults told old new → KeepsCounts result old new }
+{
+    match told {
         Ok(text) => Ok(Answer::done(text)),
         Err(Unscoped::NotRead) => Ok(Answer::refused(alloc, Refusal::NotRead)?),
         Err(Unscoped::NoSuch(number)) => Ok(Answer::refused(alloc, Refusal::NoSuch { number })?),

@@ -1,6 +1,6 @@
 -- What is blocked in a scope, and the cut that it is.
 use Rattle.std.proofs.Common.{◌≡◌, ◌×◌, ◌<◌, ◌≤◌, ◌∙◌, ◌∷◌, [], ⊎_elim, ℕ, zero, suc, Bool, true, false, List, length, map, Option, Some, refl, sym, ap, ap₂, subst, arith, eqb-true, eq-eqb}
-use Rattle.std.specs.Prelude.{◌&&◌, ◌||◌, slice_get}
+use Rattle.std.specs.Prelude.{◌&&◌, ◌||◌, is_some, slice_get}
 use Rattle.std.specs.Prelude.{None as Absent}
 use Rattle.std.specs.List.{Contains}
 use Rattle.std.specs.Ordering.{is_eq}
@@ -30,7 +30,7 @@ use Rattle.wy_scope.specs.declared.region.Located.{Located}
 use Rattle.wy_scope.specs.Evidence.{Evidence, evidence}
 use Rattle.wy_scope.specs.Graph.{AreScopedLinks, IsScopedLink}
 use Rattle.wy_scope.specs.Items.{AreBlocked, AreItems, IsBlocked, IsCalledIn, IsCrossed, IsCrossedAs, IsMissed, links_of, region_of_statement}
-use Rattle.wy_scope.specs.Laws.{IsCallAt}
+use Rattle.wy_scope.specs.Laws.{calls_one, is_call_at}
 use Rattle.wy_scope.specs.Passing.{is_at, is_there, passed, passed_as, passed_by, passes, passes_at}
 use Rattle.wy_scope.specs.Regions.{regions_of}
 use Rattle.wy_scope.specs.Scope.{entry_called, entry_of, in_scope}
@@ -50,6 +50,10 @@ entity_is : (o : Option ℕ) (m : ℕ) → is_entity o m ≡ true → o ≡ Some
 unfolding is_entity
 entity_is Absent m h = absurd (cc)
 entity_is (Some n) m h = ap Some (eqb-true n m h)
+
+own_entity : (m : ℕ) (r : Recorded) → r.entity ≡ Some m → is_entity r.entity m ≡ true
+unfolding is_entity
+own_entity m r is = ap (λ o. is_entity o m) is ∙ eq-eqb m m refl
 
 call_kind : (k : Kind) → is_call k ≡ true → k ≡ event.Call
 call_kind k h = grind (arith)
@@ -117,13 +121,24 @@ module _ (p : Program) (rs : List Recorded) (call n : ℕ) where
       record { blocked = subst (AreBlocked p rs call n) (sym same) blocked; evident = is ∙ ap (map (evidence p rs call)) (sym same) }
 
   -- the entry of the method that is called is passed by the call
-  entry_met : IsCallAt rs call → met (entry_of rs call) ≡ true
-  entry_met c =
-      let parts = and_parts (is_call c.event.kind) (is_entity c.event.entity c.method) c.calls in
-      let entry : entry_of rs call ≡ point.Entry c.method = ap entry_called c.there ∙ ap (λ o. point.Entry (number o)) (entity_is c.event.entity c.method parts.1) in
-      ap met entry ∙ here_passed p rs call call (point.Entry c.method) c.event c.there (call_in rs call) (entry_passed c.event c.method c.calls)
+  entry_met : is_call_at rs call ≡ true → met (entry_of rs call) ≡ true
+  entry_met c = go (slice_get rs call) refl c
+    where
+      by_method : (r : Recorded) (o : Option ℕ) → slice_get rs call ≡ Some r → r.entity ≡ o → (is_call r.kind && is_some o) ≡ true → met (entry_of rs call) ≡ true
+      by_method r Absent at is h = true-false (is_call r.kind && false) h (no_and (is_call r.kind))
+        where
+          no_and : (b : Bool) → (b && false) ≡ false
+          no_and true = refl
+          no_and false = refl
+      by_method r (Some m) at is h =
+          let calls : is_call_of m r ≡ true = ap₂ (λ a b. a && b) (and_parts (is_call r.kind) true h).0 (own_entity m r is) in
+          ap met (ap entry_called at ∙ ap (λ o. point.Entry (number o)) is) ∙ here_passed p rs call call (point.Entry m) r at (call_in rs call) (entry_passed r m calls)
 
-  pub cut : IsCallAt rs call → IsMissed p rs call n → (chain : List Link) → Leads (IsScopedLink p) (entry_of rs call) chain goal_region
+      go : (o : Option Recorded) → slice_get rs call ≡ o → is_there calls_one o ≡ true → met (entry_of rs call) ≡ true
+      go Absent at h = absurd (cc)
+      go (Some r) at h = by_method r r.entity at refl h
+
+  pub cut : is_call_at rs call ≡ true → IsMissed p rs call n → (chain : List Link) → Leads (IsScopedLink p) (entry_of rs call) chain goal_region
       → (l : Link) × Contains chain l × IsBlocked p rs call n l
   cut is missed chain leads =
       let h = frontier_cut (IsScopedLink p) met (entry_of rs call) goal_region missed (entry_met is) chain leads in

@@ -20,7 +20,7 @@ use Rattle.wy_static.specs.Ways.{ways_of}
 use Rattle.wy_paths.proofs.Sorting.{in_cases, in_head, in_tail}
 use Rattle.wy_paths.proofs.Spreading.{nothing_in, only_in}
 use Rattle.wy_scope.specs.Kept.{Firsts, IsFirstBelow, comes_at, first_at, first_by_kind, first_of_arm, first_of_arms_from, goes_through, sooner}
-use Rattle.wy_scope.specs.Passing.{arm_along, arm_of_way, arm_to, arms_into, happens, is_at, is_there, passed, passed_by, passes, passes_at}
+use Rattle.wy_scope.specs.Passing.{IsFirstPass, arm_along, arm_of_way, arm_to, arms_into, happens, is_at, is_there, passed, passed_by, passes, passes_at}
 use Rattle.wy_scope.specs.Scope.{in_scope}
 use Rattle.wy_scope.proofs.Scoping.{none_at}
 
@@ -306,3 +306,16 @@ is_passed_where p rs call q (Some x) h = sym (in_range (passes_at p rs call q) 0
 pub passed_there : (p : Program) (rs : List Recorded) (call : ℕ) (q : Point) (x : ℕ) → x < length rs → passes_at p rs call q x ≡ true → passed p rs call q ≡ true
 unfolding passed
 passed_there p rs call q x lt h = in_range (passes_at p rs call q) 0 (length rs) x (omega arith) (omega (arith, lt)) h
+
+pub first_passed : (p : Program) (rs : List Recorded) (call : ℕ) (q : Point) (x : ℕ) → IsFirstPass p rs call q x → passed p rs call q ≡ true
+first_passed p rs call q x first = ⊎_elim
+    (λ (lt : x < length rs). passed_there p rs call q x lt first.passes)
+    (λ (ge : length rs ≤ x). absurd (let no : passes_at p rs call q x ≡ false = ap (λ o. in_scope rs call x && is_there (passes p q) o) (none_at rs x ge) ∙ nothing (in_scope rs call x) in clash (passes_at p rs call q x) first.passes no))
+    (cases_lt x (length rs))
+  where
+    nothing : (b : Bool) → (b && false) ≡ false
+    nothing true = refl
+    nothing false = refl
+
+    clash : (b : Bool) → b ≡ true → b ≡ false → ⊥
+    clash b h k = cc

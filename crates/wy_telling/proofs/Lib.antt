@@ -8,3 +8,4 @@ mod Rows
 mod Clauses
 mod Named
 mod One
+mod NamedIn

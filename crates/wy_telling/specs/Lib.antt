@@ -9,3 +9,4 @@ pub mod Questions
 pub mod Caught
 pub mod Items
 pub mod Whynot
+pub mod Scoped

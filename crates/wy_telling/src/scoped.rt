@@ -1,15 +1,16 @@
 //! Why the guards around a statement were not passed in a call, line by line.
 
-ghost use Rattle.std.specs.Prelude.{◌≡◌, ◌<◌, ◌++◌, IfOk, List, OnOk, Some, map};
+ghost use Rattle.std.specs.Prelude.{◌≡◌, ◌<◌, ◌++◌, IfOk, List, OnOk, Some, map, true};
 ghost use Rattle.std.specs.List.{flat_map};
 ghost use Rattle.wy_ask.specs.Opened.{IsOpenedOf, StaysOpened};
 ghost use Rattle.wy_event.specs.Record.{Recorded};
 ghost use Rattle.wy_kernel.specs.Parts.{program_of};
 ghost use Rattle.wy_kernel.specs.Statements.{statements_of as all_statements};
 ghost use Rattle.wy_scope.specs.Evidence.{evidence_in};
-ghost use Rattle.wy_static.specs.LookUps.{AreLinksOf};
+ghost use Rattle.wy_scope.specs.Laws.{is_call_at};
+ghost use Rattle.wy_view.specs.View.{Keeps, KeepsCounts};
 ghost use Rattle.wy_telling.specs.Caught.{AreClauses};
-ghost use Rattle.wy_telling.specs.Scoped.{HasCauseInScope, IsCallThere, TellsNamedIn, TellsScope, arm_text_in, class_text_in, crossing, item_line_in, items_text_in, reason_in, tests_text_in};
+ghost use Rattle.wy_telling.specs.Scoped.{KeepsFaults, TellsNamedIn, TellsScope, arm_text_in, class_text_in, crossing, item_line_in, items_text_in, reason_in, tests_text_in};
 
 use crate::caught::{Clause, clauses};
 use crate::item::{last_from, put_call, put_catch, put_tested, put_text, truth};
@@ -194,18 +195,24 @@ fn items_text(
 
 // ---- the answer
 
-/// Whether an event is a Call.
+/// Whether an event is there, and is a Call.
+#[tactic(auto, unfolding(wy_event::specs::Record::recorded))]
 fn is_call<V: EventView, L: Ledger>(
     view: &mut V,
-    event: u32,
+    number: u32,
     steps: &mut Steps<L>,
 ) -> Result<bool, ViewError>
+    ensures call { (rs : List Recorded) → (V.tells view.old).records ≡ Some rs
+        → IfOk result (λ is. is ≡ is_call_at rs number) }
+    ensures there { IfOk result (λ is. is ≡ true → number < (V.tells view.old).count) }
+    ensures keeps { Keeps (V.tells view.old) (V.tells view.new) }
+    ensures answers { KeepsCounts result (V.tells view.old) (V.tells view.new) }
 {
-    if event >= view.count() {
+    if number >= view.count() {
         return Ok(false);
     }
-    let event = view.event(event, steps)?;
-    Ok(matches!(event.kind, Kind::Call))
+    let event = view.event(number, steps)?;
+    Ok(matches!(event.kind, Kind::Call) && event.entity != NONE)
 }
 
 /// Why the guards around a statement were not passed in a call: a line for each link that was reached and not crossed.
@@ -215,6 +222,12 @@ pub fn scope_text<V: EventView>(
     word: &str,
     call: u32,
 ) -> Result<Vec<u8>, Unscoped>
+    requires { IsOpenedOf (V.tells opened.old.view) opened.old }
+    ensures told { (rs : List Recorded) → (V.tells opened.old.view).records ≡ Some rs
+        → TellsScope (program_of opened.old.program.now)
+        opened.old.program.now.lines.items rs word.now call result }
+    ensures faults { KeepsFaults result (V.tells opened.old.view) (V.tells opened.new.view) }
+    ensures stays { StaysOpened V.tells opened.old opened.new }
 {
     match statement(alloc, opened.program, word) {
         Ok(named) => scope_lines::<V, Brand>(alloc, opened, named, call, Blank::new(1)),
@@ -232,11 +245,39 @@ fn scope_lines<V: EventView, L: Ledger>(
     call: u32,
     blank: Blank,
 ) -> Result<Vec<u8>, Unscoped>
+    requires opened { IsOpenedOf (V.tells opened.old.view) opened.old }
+    requires name { blank.name ≡ L.name }
+    requires parts { blank.parts ≡ L.parts }
+    requires some { 0 < blank.parts }
+    ensures told { (rs : List Recorded) → (V.tells opened.old.view).records ≡ Some rs
+        → TellsNamedIn (program_of opened.old.program.now)
+        opened.old.program.now.lines.items rs named call result }
+    ensures faults { KeepsFaults result (V.tells opened.old.view) (V.tells opened.new.view) }
+    ensures stays { StaysOpened V.tells opened.old opened.new }
 {
     let mut steps = Steps::<L>::new(blank);
     if !is_call(&mut opened.view, call, &mut steps)? {
         return Err(Unscoped::NoSuch(call));
     }
+    lines_in_call(alloc, opened, named, call, &mut steps)
+}
+
+/// The lines of a statement in an event that is a Call.
+fn lines_in_call<V: EventView, L: Ledger>(
+    alloc: Global,
+    opened: &mut Opened<'_, V>,
+    named: NamedStatement,
+    call: u32,
+    steps: &mut Steps<L>,
+) -> Result<Vec<u8>, Unscoped>
+    requires opened { IsOpenedOf (V.tells opened.old.view) opened.old }
+    requires there { call < (V.tells opened.old.view).count }
+    ensures told { (rs : List Recorded) → (V.tells opened.old.view).records ≡ Some rs
+        → is_call_at rs call ≡ true → TellsNamedIn (program_of opened.old.program.now)
+        opened.old.program.now.lines.items rs named call result }
+    ensures faults { KeepsFaults result (V.tells opened.old.view) (V.tells opened.new.view) }
+    ensures stays { StaysOpened V.tells opened.old opened.new }
+{
     let links = links(alloc, opened.program)?;
     let found = scoped(
         alloc,
@@ -246,7 +287,7 @@ fn scope_lines<V: EventView, L: Ledger>(
         &opened.index,
         call,
         named.number,
-        &mut steps,
+        steps,
     );
     match found {
         Ok(items) => Ok(items_text(alloc, opened.program, &items)?),

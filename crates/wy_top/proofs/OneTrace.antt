@@ -39,11 +39,12 @@ use Rattle.wy_tree.specs.Tokens.{SpannedToken, Tokens}
 use Rattle.wy_reply.specs.Lines.{good_line, of_trace}
 use Rattle.wy_telling.specs.Questions.{questions_text}
 use Rattle.wy_telling.specs.Whynot.{OneAnswerToWhynot, WhynotIs}
+use Rattle.wy_telling.specs.Scoped.{OneAnswerToScope, ScopeIs}
 use Rattle.wy_session.specs.Desk.{scene_of}
 use Rattle.wy_session.specs.Laws.{OneTalk}
 use Rattle.wy_session.specs.Scene.{Scene}
 use Rattle.wy_session.specs.Talk.{Talks}
-use Rattle.wy_reply.specs.Tellings.{IsTraceLine, Wanted, Tells, DueUnder, covers_of, cut, damaged, bad_seal, output, questions, why, affects, certify, check, lacking, whynot, audit, explore, refused, told, answer_status, answer_text, whynot_status, whynot_answer, audit_status, audit_line}
+use Rattle.wy_reply.specs.Tellings.{IsTraceLine, Wanted, Tells, DueUnder, covers_of, cut, damaged, bad_seal, output, questions, why, affects, certify, check, lacking, whynot, scoped, audit, explore, refused, told, answer_status, answer_text, whynot_status, whynot_answer, scope_status, scope_answer, audit_status, audit_line}
 use Rattle.wy_top.specs.Causes.{IsNoProgram, IsSyntaxLine}
 use Rattle.wy_top.specs.Due.{DueForBytes, no_head, no_program, program}
 use Rattle.wy_program.specs.Programs.{IsProgramOf}
@@ -54,6 +55,7 @@ pub record Traces : Type 0 where
   pub reading : ReadsInOneWay
   pub answers : OneAnswerToQuestions
   pub statements : OneAnswerToWhynot
+  pub scopes : OneAnswerToScope
   pub audits : OneAuditIsDue
   pub certificates : OneCertifies
   pub verdicts : OneVerdictIsDue
@@ -189,6 +191,10 @@ one_telling known p q t _ _ _ _ _ parts lines (whynot word a first) (whynot aske
     let e : a ≡ b = known.statements (program_of p) p.lines.items (map recorded t.events) (covers_of t) word a b first
     (subst (λ (l : List ℕ). WhynotIs (program_of p) l (map recorded t.events) (covers_of t) word b) (sym lines) (subst (λ (z : Program). WhynotIs z q.lines.items (map recorded t.events) (covers_of t) word b) (sym parts) second)) in
     (ap whynot_status e, ap whynot_answer e)
+one_telling known p q t _ _ _ _ _ parts lines (scoped word call a first) (scoped said at b second) =
+    let e : a ≡ b = known.scopes (program_of p) p.lines.items (map recorded t.events) word call a b first
+    (subst (λ (l : List ℕ). ScopeIs (program_of p) l (map recorded t.events) word call b) (sym lines) (subst (λ (z : Program). ScopeIs z q.lines.items (map recorded t.events) word call b) (sym parts) second)) in
+    (ap scope_status e, ap scope_answer e)
 one_telling known p q t _ _ _ _ _ parts lines (explore input m a first) (explore also n b second) =
     known.sessions (scene_of p t.events (covers_of t)) input m n a b first
     (subst (λ (x : Scene). Talks x input n b) (λ i. record { program = sym parts i; lines = sym lines i; records = map recorded t.events; covers = covers_of t }) second)

@@ -72,6 +72,7 @@ by_run laws source p input steps (wanted.Affects question) text short of h = h
 by_run laws source p input steps (wanted.WhyNot word) text short of h = least laws source p p.lines.items input steps word text short of h
 by_run laws source p input steps wanted.Audit text short of h = tt
 by_run laws source p input steps (wanted.Certify question) text short of h = tt
+by_run laws source p input steps (wanted.Scope word call) text short of h = tt
 by_run laws source p input steps (wanted.Check given) text short of h = tt
 
 -- the answer says the same of two programs in memory that are one program
@@ -99,6 +100,7 @@ same_answer p q input steps (wanted.Affects question) text same lines h = same_a
 same_answer p q input steps (wanted.WhyNot word) text same lines h = same_whynot p q input steps word text same lines h
 same_answer p q input steps wanted.Audit text same lines h = tt
 same_answer p q input steps (wanted.Certify question) text same lines h = tt
+same_answer p q input steps (wanted.Scope word call) text same lines h = tt
 same_answer p q input steps (wanted.Check given) text same lines h = tt
 
 -- ---- bytes

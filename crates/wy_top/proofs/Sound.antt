@@ -26,25 +26,31 @@ use Rattle.wy_telling.specs.Affects.{affects_text}
 use Rattle.wy_telling.specs.Answers.{AnswerIs, Refused, Telling, answered}
 use Rattle.wy_telling.specs.Why.{why_text}
 use Rattle.wy_telling.specs.Whynot.{Denied, NamesStatement, WhynotIs}
+use Rattle.wy_telling.specs.Scoped.{ScopeIs}
+use Rattle.wy_telling.specs.Scoped as scope
+use Rattle.wy_scope.specs.Items.{region_of_statement}
+use Rattle.wy_scope.specs.Laws.{is_call_at}
+use Rattle.wy_scope.specs.Passing.{passed}
+use Rattle.wy_scope.proofs.Passes.{first_passed}
 use Rattle.wy_telling.specs.Whynot as denial
 use Rattle.wy_session.specs.Desk.{scene_of}
 use Rattle.wy_session.specs.Scene.{Scene}
 use Rattle.wy_session.specs.Talk.{Ends, Reaches, Talks, FirstLine, ended, last, line, long_input, long_line, over, quit, start, talks}
 use Rattle.wy_explore.specs.Session.{Session}
-use Rattle.wy_words.specs.Words.{Asked, Command, Run, Record, Output, Questions, Why, Affects, Certify, Check, WhyNot, Audit, Explore, Gen, AskOneCommand}
+use Rattle.wy_words.specs.Words.{Asked, Command, Run, Record, Output, Questions, Why, Affects, Certify, Check, Scope, WhyNot, Audit, Explore, Gen, AskOneCommand}
 use Rattle.wy_gen.specs.Generated.{source as generated_source}
 use Rattle.wy_program.specs.Programs.{IsProgramOf}
 use Rattle.wy_reply.specs.Certificates.{CertifyIs, itself, verdict_status}
 use Rattle.wy_reply.specs.Report.{report, recorded_report}
 use Rattle.wy_reply.specs.Generated.{generated_report}
-use Rattle.wy_reply.specs.Tellings.{Bytes, DueUnder, Given, Tells, Wanted, answer_status, audit_status, covers_of, whynot_status}
+use Rattle.wy_reply.specs.Tellings.{Bytes, DueUnder, Given, Tells, Wanted, answer_status, audit_status, covers_of, scope_status, whynot_status}
 use Rattle.wy_reply.specs.Tellings as wanted
 use Rattle.wy_top.specs.Causes.{IsNoProgram}
 use Rattle.wy_top.specs.Due.{Due, DueFor, DueForBytes, DueForRun, DueForTrace, DueTo, WithCertificate}
 use Rattle.wy_top.specs.Due as due
 use Rattle.wy_top.specs.Held.{Gives, Holds, IsInput, certificate_limit}
 use Rattle.wy_top.specs.Held as file
-use Rattle.wy_top.specs.Sound.{EndsWell, IsSound, IsThere, KeepsLimits, NamesEvent, NamesUnbegun, RunIsThere, SoundCallsSucceed, TraceIsThere}
+use Rattle.wy_top.specs.Sound.{EndsWell, IsSound, IsThere, KeepsLimits, NamesEvent, NamesMissed, NamesUnbegun, RunIsThere, SoundCallsSucceed, TraceIsThere}
 use Rattle.wy_top.proofs.FileReads.{not_lacking, one_file}
 use Rattle.wy_top.proofs.OneText.{Known, one_program, program_or_cause}
 use Rattle.wy_top.proofs.OneTrace.{Traces, failed, no_head_at, one_head, read_alike, same_ranges, says}
@@ -90,6 +96,20 @@ unbegun p rs covers word _ u (denial.not_there m j names short) =
     (subst (λ z. IsPlaced (numbers_on p.lines.items m (statements_of (program_of p))) z u.number) same.1
     (subst (λ z. IsPlaced (numbers_on p.lines.items z (statements_of (program_of p))) u.place u.number) same.0 u.names.placed)) short)
 unbegun p rs covers word _ u (denial.not_read unread) = absurd (unread u.line u.place u.names.names.spelled)
+
+met_in_call : (p : memory.Program) (rs : List Recorded) (word : List ℕ) (call : ℕ) (a : Result (List ℕ) scope.Refused) → (u : NamesMissed p rs word call)
+    → ScopeIs (program_of p) p.lines.items rs word call a → scope_status a ≡ 0
+met_in_call p rs word call _ u (scope.answered m j o items also is missed are) = refl
+met_in_call p rs word call _ u (scope.passed m j o event also is first) =
+    absurd (let at : passed (program_of p) rs call (region_of_statement (program_of p) o) ≡ true = first_passed (program_of p) rs call (region_of_statement (program_of p) o) event first in
+    let no : passed (program_of p) rs call (region_of_statement (program_of p) o) ≡ false = u.missed m j o also in cc)
+met_in_call p rs word call _ u (scope.no_call m j o also none) = absurd (let yes : is_call_at rs call ≡ true = u.calls in cc)
+met_in_call p rs word call _ u (scope.not_there m j names short) =
+    let same = names.only u.line u.place u.names.names.spelled in
+    absurd (placed_within (numbers_on p.lines.items m (statements_of (program_of p))) j u.number
+    (subst (λ z. IsPlaced (numbers_on p.lines.items m (statements_of (program_of p))) z u.number) same.1
+    (subst (λ z. IsPlaced (numbers_on p.lines.items z (statements_of (program_of p))) u.place u.number) same.0 u.names.placed)) short)
+met_in_call p rs word call _ u (scope.not_read unread) = absurd (unread u.line u.place u.names.names.spelled)
 
 -- ---- sessions
 
@@ -141,6 +161,10 @@ told_well known p q t _ _ _ parts lines there (wanted.whynot word a is) =
     unbegun p (map recorded t.events) (covers_of t) word a there
     (subst (λ (l : List ℕ). WhynotIs (program_of p) l (map recorded t.events) (covers_of t) word a) (sym lines)
     (subst (λ (z : Program). WhynotIs z q.lines.items (map recorded t.events) (covers_of t) word a) (sym parts) is))
+told_well known p q t _ _ _ parts lines there (wanted.scoped word call a is) =
+    met_in_call p (map recorded t.events) word call a there
+    (subst (λ (l : List ℕ). ScopeIs (program_of p) l (map recorded t.events) word call a) (sym lines)
+    (subst (λ (z : Program). ScopeIs z q.lines.items (map recorded t.events) word call a) (sym parts) is))
 told_well known p q t _ _ _ parts lines there (wanted.explore input status text is) = talked (scene_of q t.events (covers_of t)) input status text there is
 told_well known p q t _ _ _ parts lines there (wanted.audit v is) = audited v
 told_well known p q t _ _ _ parts lines there (wanted.check given r is judged) = checked r
@@ -207,6 +231,7 @@ command_well known traces files keys (Why trace question) status text x d = trac
 command_well known traces files keys (Affects trace question) status text x d = trace_well known traces files trace (wanted.Affects question) status text x d
 command_well known traces files keys (Certify trace question) status text x d = trace_well known traces files trace (wanted.Certify question) status text x d
 command_well known traces files keys (WhyNot trace word) status text x d = trace_well known traces files trace (wanted.WhyNot word) status text x d
+command_well known traces files keys (Scope trace word call) status text x d = trace_well known traces files trace (wanted.Scope word call) status text x d
 command_well known traces files keys (Audit trace) status text x d = trace_well known traces files trace wanted.Audit status text x d
 command_well known traces files keys (Check trace name) status text x d = check_well known traces files trace name x.0 status text x.1 x.2 d
 command_well known traces files keys (Explore trace) status text x d = absurd d

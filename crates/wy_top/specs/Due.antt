@@ -7,7 +7,7 @@ use Rattle.wy_outside.specs.Shelf.{Files}
 use Rattle.wy_tree.specs.Tokens.{SpannedToken, Tokens}
 use Rattle.wy_frames.specs.Heads.{head_of}
 use Rattle.wy_frames.specs.declared.error.TraceError.{TraceError}
-use Rattle.wy_words.specs.Words.{Asked, Asks, Command, Run, Record, Output, Questions, Why, Affects, Certify, Check, WhyNot, Audit, Explore, Gen, IsNoCommand}
+use Rattle.wy_words.specs.Words.{Asked, Asks, Command, Run, Record, Output, Questions, Why, Affects, Certify, Check, Scope, WhyNot, Audit, Explore, Gen, IsNoCommand}
 use Rattle.wy_reply.specs.Lines.{usage_line, of_trace}
 use Rattle.wy_gen.specs.Generated.{source}
 use Rattle.wy_reply.specs.Report.{report, recorded_report}
@@ -60,6 +60,8 @@ DueTo files (Check trace name) status text = WithCertificate files name (DueForT
 DueTo files (Questions trace) status text = DueForTrace files trace wanted.Questions status text
 DueTo files (WhyNot trace statement) status text =
     DueForTrace files trace (wanted.WhyNot statement) status text
+DueTo files (Scope trace statement call) status text =
+    DueForTrace files trace (wanted.Scope statement call) status text
 DueTo files (Audit trace) status text = DueForTrace files trace wanted.Audit status text
 DueTo files (Explore trace) status text = ⊥
 DueTo files (Gen n) status text = ⊥
@@ -88,6 +90,7 @@ trace_of (Certify trace question) = Some trace
 trace_of (Check trace name) = Some trace
 trace_of (Questions trace) = Some trace
 trace_of (WhyNot trace statement) = Some trace
+trace_of (Scope trace statement call) = Some trace
 trace_of (Audit trace) = Some trace
 trace_of (Explore trace) = Some trace
 trace_of _ = None

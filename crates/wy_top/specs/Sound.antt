@@ -10,9 +10,11 @@ use Rattle.wy_outside.specs.Shelf.{Files}
 use Rattle.wy_ask.specs.Asked.{event_of}
 use Rattle.wy_ask.specs.Questions.{Asked as Question, Asks as AsksEvent}
 use Rattle.wy_whynot.specs.Executed.{cover_of}
+use Rattle.wy_scope.specs.Items.{IsMissed}
+use Rattle.wy_scope.specs.Laws.{is_call_at}
 use Rattle.wy_telling.specs.Whynot.{NamesStatement}
 use Rattle.wy_session.specs.Talk.{FirstLine, most_in_all, most_in_line}
-use Rattle.wy_words.specs.Words.{Asked, Asks, Command, Run, Record, Output, Questions, Why, Affects, Certify, Check, WhyNot, Audit, Explore, Gen}
+use Rattle.wy_words.specs.Words.{Asked, Asks, Command, Run, Record, Output, Questions, Why, Affects, Certify, Check, Scope, WhyNot, Audit, Explore, Gen}
 use Rattle.wy_gen.specs.Generated.{source as generated_source}
 use Rattle.wy_program.specs.Programs.{IsProgramOf}
 use Rattle.wy_reply.specs.Tellings.{Bytes, Lacking, Wanted, covers_of}
@@ -45,6 +47,17 @@ pub record NamesUnbegun (p : Program) (covers : List Cover) (word : List ℕ) : 
   pub names : NamesStatement (program_of p) p.lines.items word line place number
   pub never : (l k n : ℕ) → NamesStatement (program_of p) p.lines.items word l k n → (cover_of covers n).begins ≡ 0
 
+-- a word names a statement, and an event is a Call, in which the region of no statement that the word
+-- names is passed
+pub record NamesMissed (p : Program) (rs : List Recorded) (word : List ℕ) (call : ℕ) : Type 0 where
+  pub line : ℕ
+  pub place : ℕ
+  pub number : ℕ
+  pub names : NamesStatement (program_of p) p.lines.items word line place number
+  pub calls : is_call_at rs call ≡ true
+  pub missed : (l k n : ℕ) → NamesStatement (program_of p) p.lines.items word l k n
+      → IsMissed (program_of p) rs call n
+
 -- each line of an input is within its limit, and so are all of them
 pub record KeepsLimits (input : List ℕ) : Type 0 where
   pub lines : (before rest bytes line behind : List ℕ) → input ≡ before ++ rest → FirstLine rest bytes line behind → length bytes ≤ most_in_line
@@ -56,6 +69,7 @@ IsThere p t (wanted.Why question) = NamesEvent p (map recorded t.events) questio
 IsThere p t (wanted.Affects question) = NamesEvent p (map recorded t.events) question
 IsThere p t (wanted.Certify question) = NamesEvent p (map recorded t.events) question
 IsThere p t (wanted.WhyNot word) = NamesUnbegun p (covers_of t) word
+IsThere p t (wanted.Scope word call) = NamesMissed p (map recorded t.events) word call
 IsThere p t (wanted.Explore input) = KeepsLimits input
 IsThere p t (wanted.Check (Lacking status text)) = ⊥
 IsThere p t _ = Unit {0}
@@ -77,6 +91,7 @@ IsSound files keys (Why trace question) = TraceIsThere files trace (wanted.Why q
 IsSound files keys (Affects trace question) = TraceIsThere files trace (wanted.Affects question)
 IsSound files keys (Certify trace question) = TraceIsThere files trace (wanted.Certify question)
 IsSound files keys (WhyNot trace word) = TraceIsThere files trace (wanted.WhyNot word)
+IsSound files keys (Scope trace word call) = TraceIsThere files trace (wanted.Scope word call)
 IsSound files keys (Audit trace) = TraceIsThere files trace wanted.Audit
 IsSound files keys (Check trace name) =
     (certificate : List ℕ) × Holds files name certificate_limit certificate × TraceIsThere files trace (wanted.Check (Bytes certificate))

@@ -31,7 +31,7 @@ use wy_machine::one_audit_is_due;
 use wy_parser::laws::a_token_list_has_one_tree;
 use wy_program::texts_are_programs;
 use wy_session::laws::one_talk;
-use wy_telling::laws::{one_answer_to_questions, one_answer_to_whynot};
+use wy_telling::laws::{one_answer_to_questions, one_answer_to_scope, one_answer_to_whynot};
 use wy_tree::laws::{
     a_refused_text_has_no_tokens, a_text_has_one_token_list, tokens_stand_in_order,
 };
@@ -51,6 +51,7 @@ pub fn one_answer_is_due()
     bytes_are_read_in_one_way();
     one_answer_to_questions();
     one_answer_to_whynot();
+    one_answer_to_scope();
     one_audit_is_due();
     one_certificate_is_made();
     one_verdict_is_due();
@@ -70,6 +71,7 @@ pub fn sound_calls_succeed()
     bytes_are_read_in_one_way();
     one_answer_to_questions();
     one_answer_to_whynot();
+    one_answer_to_scope();
     one_audit_is_due();
     one_certificate_is_made();
     one_verdict_is_due();

@@ -1,6 +1,6 @@
 use Rattle.std.proofs.Common.{refl}
 use Rattle.wy_words.specs.Views.{asked_of}
-use Rattle.wy_words.specs.Words.{Run, Record, Output, Questions, Why, Affects, Certify, Check, WhyNot, Audit, Gen}
+use Rattle.wy_words.specs.Words.{Run, Record, Output, Questions, Why, Affects, Certify, Check, Scope, WhyNot, Audit, Gen}
 use Rattle.wy_top.proofs.RunAnswers.{affects_carries, no_command_carries, no_command_cuts, other_command_carries, other_command_cuts, why_carries, whynot_cuts}
 use Rattle.wy_top.proofs.AnswerLemmas.{usage_due, command_due, fault_named, generated_due, generated_settled, traces_due, traces_none, traces_other}
 use Rattle.wy_top.proofs.LeftLemmas.{finishes, finishes_none, finishes_other, leaves, leaves_none, leaves_other, some_untouched, unstarted_untouched}
@@ -295,6 +295,10 @@ pub returns-in-Certify-clause-due : goal.returns-in-Certify-clause-due
 returns-in-Certify-clause-due g c = λ words keys asked.
     command_due c.words_ask_one_command.ensures words _ keys (Certify c.in-Certify.trace.now c.in-Certify.question.now) _ _ c.answer_from-in-Certify.result (rw (c.in-Some.is, c.in-Certify.is) at asked) (λ n e. cc) (c.answer_from-in-Certify.ensures.due _)
 
+pub returns-in-Scope-clause-due : goal.returns-in-Scope-clause-due
+returns-in-Scope-clause-due g c = λ words keys asked.
+    command_due c.words_ask_one_command.ensures words _ keys (Scope c.in-Scope.trace.now c.in-Scope.statement.now c.in-Scope.call) _ _ c.answer_from-in-Scope.result (rw (c.in-Some.is, c.in-Scope.is) at asked) (λ n e. cc) (c.answer_from-in-Scope.ensures.due _)
+
 pub returns-in-Check-clause-due : goal.returns-in-Check-clause-due
 returns-in-Check-clause-due g c = λ words keys asked.
     command_due c.words_ask_one_command.ensures words _ keys (Check c.in-Check.trace.now c.in-Check.certificate.now) _ _ c.answer_to_check.result (rw (c.in-Some.is, c.in-Check.is) at asked) (λ n e. cc) (c.answer_to_check.ensures.due _)
@@ -302,11 +306,17 @@ returns-in-Check-clause-due g c = λ words keys asked.
 pub returns-in-Certify-clause-fault : goal.returns-in-Certify-clause-fault
 returns-in-Certify-clause-fault g c = fault_named _ (Certify c.in-Certify.trace.now c.in-Certify.question.now) _ _ c.answer_from-in-Certify.result (c.answer_from-in-Certify.ensures.due _)
 
+pub returns-in-Scope-clause-fault : goal.returns-in-Scope-clause-fault
+returns-in-Scope-clause-fault g c = fault_named _ (Scope c.in-Scope.trace.now c.in-Scope.statement.now c.in-Scope.call) _ _ c.answer_from-in-Scope.result (c.answer_from-in-Scope.ensures.due _)
+
 pub returns-in-Check-clause-fault : goal.returns-in-Check-clause-fault
 returns-in-Check-clause-fault g c = fault_named _ (Check c.in-Check.trace.now c.in-Check.certificate.now) _ _ c.answer_to_check.result (c.answer_to_check.ensures.due _)
 
 pub returns-in-Certify-clause-carried : goal.returns-in-Certify-clause-carried
 returns-in-Certify-clause-carried g c = λ words asked. other_command_carries c.words_ask_one_command.ensures words _ (Certify c.in-Certify.trace.now c.in-Certify.question.now) c.answer_from-in-Certify.result (rw (c.in-Some.is, c.in-Certify.is) at asked) (λ trace word e. cc) (λ trace word e. cc)
+
+pub returns-in-Scope-clause-carried : goal.returns-in-Scope-clause-carried
+returns-in-Scope-clause-carried g c = λ words asked. other_command_carries c.words_ask_one_command.ensures words _ (Scope c.in-Scope.trace.now c.in-Scope.statement.now c.in-Scope.call) c.answer_from-in-Scope.result (rw (c.in-Some.is, c.in-Scope.is) at asked) (λ trace word e. cc) (λ trace word e. cc)
 
 pub returns-in-Check-clause-carried : goal.returns-in-Check-clause-carried
 returns-in-Check-clause-carried g c = λ words asked. other_command_carries c.words_ask_one_command.ensures words _ (Check c.in-Check.trace.now c.in-Check.certificate.now) c.answer_to_check.result (rw (c.in-Some.is, c.in-Check.is) at asked) (λ trace word e. cc) (λ trace word e. cc)
@@ -314,11 +324,17 @@ returns-in-Check-clause-carried g c = λ words asked. other_command_carries c.wo
 pub returns-in-Certify-clause-cut : goal.returns-in-Certify-clause-cut
 returns-in-Certify-clause-cut g c = λ words asked. other_command_cuts c.words_ask_one_command.ensures words _ (Certify c.in-Certify.trace.now c.in-Certify.question.now) c.answer_from-in-Certify.result (rw (c.in-Some.is, c.in-Certify.is) at asked) (λ trace word e. cc)
 
+pub returns-in-Scope-clause-cut : goal.returns-in-Scope-clause-cut
+returns-in-Scope-clause-cut g c = λ words asked. other_command_cuts c.words_ask_one_command.ensures words _ (Scope c.in-Scope.trace.now c.in-Scope.statement.now c.in-Scope.call) c.answer_from-in-Scope.result (rw (c.in-Some.is, c.in-Scope.is) at asked) (λ trace word e. cc)
+
 pub returns-in-Check-clause-cut : goal.returns-in-Check-clause-cut
 returns-in-Check-clause-cut g c = λ words asked. other_command_cuts c.words_ask_one_command.ensures words _ (Check c.in-Check.trace.now c.in-Check.certificate.now) c.answer_to_check.result (rw (c.in-Some.is, c.in-Check.is) at asked) (λ trace word e. cc)
 
 pub returns-in-Certify-clause-traces : goal.returns-in-Certify-clause-traces
 returns-in-Certify-clause-traces g c = λ words asked. traces_other c.words_ask_one_command.ensures _ words _ (Certify c.in-Certify.trace.now c.in-Certify.question.now) _ _ c.answer_from-in-Certify.result (rw (c.in-Some.is, c.in-Certify.is) at asked) (λ a trace e. cc)
+
+pub returns-in-Scope-clause-traces : goal.returns-in-Scope-clause-traces
+returns-in-Scope-clause-traces g c = λ words asked. traces_other c.words_ask_one_command.ensures _ words _ (Scope c.in-Scope.trace.now c.in-Scope.statement.now c.in-Scope.call) _ _ c.answer_from-in-Scope.result (rw (c.in-Some.is, c.in-Scope.is) at asked) (λ a trace e. cc)
 
 pub returns-in-Check-clause-traces : goal.returns-in-Check-clause-traces
 returns-in-Check-clause-traces g c = λ words asked. traces_other c.words_ask_one_command.ensures _ words _ (Check c.in-Check.trace.now c.in-Check.certificate.now) _ _ c.answer_to_check.result (rw (c.in-Some.is, c.in-Check.is) at asked) (λ a trace e. cc)
@@ -326,11 +342,17 @@ returns-in-Check-clause-traces g c = λ words asked. traces_other c.words_ask_on
 pub returns-in-Certify-clause-left : goal.returns-in-Certify-clause-left
 returns-in-Certify-clause-left g c = λ words asked. leaves_other c.words_ask_one_command.ensures _ words _ (Certify c.in-Certify.trace.now c.in-Certify.question.now) _ _ _ (rw (c.in-Some.is, c.in-Certify.is) at asked) (λ a trace e. cc)
 
+pub returns-in-Scope-clause-left : goal.returns-in-Scope-clause-left
+returns-in-Scope-clause-left g c = λ words asked. leaves_other c.words_ask_one_command.ensures _ words _ (Scope c.in-Scope.trace.now c.in-Scope.statement.now c.in-Scope.call) _ _ _ (rw (c.in-Some.is, c.in-Scope.is) at asked) (λ a trace e. cc)
+
 pub returns-in-Check-clause-left : goal.returns-in-Check-clause-left
 returns-in-Check-clause-left g c = λ words asked. leaves_other c.words_ask_one_command.ensures _ words _ (Check c.in-Check.trace.now c.in-Check.certificate.now) _ _ _ (rw (c.in-Some.is, c.in-Check.is) at asked) (λ a trace e. cc)
 
 pub returns-in-Certify-clause-left_some : goal.returns-in-Certify-clause-left_some
 returns-in-Certify-clause-left_some g c = some_untouched _ _ _ c.requires.ready
+
+pub returns-in-Scope-clause-left_some : goal.returns-in-Scope-clause-left_some
+returns-in-Scope-clause-left_some g c = some_untouched _ _ _ c.requires.ready
 
 pub returns-in-Check-clause-left_some : goal.returns-in-Check-clause-left_some
 returns-in-Check-clause-left_some g c = some_untouched _ _ _ c.requires.ready
@@ -338,11 +360,17 @@ returns-in-Check-clause-left_some g c = some_untouched _ _ _ c.requires.ready
 pub returns-in-Certify-clause-unstarted : goal.returns-in-Certify-clause-unstarted
 returns-in-Certify-clause-unstarted g c = unstarted_untouched _ c.answer_from-in-Certify.result
 
+pub returns-in-Scope-clause-unstarted : goal.returns-in-Scope-clause-unstarted
+returns-in-Scope-clause-unstarted g c = unstarted_untouched _ c.answer_from-in-Scope.result
+
 pub returns-in-Check-clause-unstarted : goal.returns-in-Check-clause-unstarted
 returns-in-Check-clause-unstarted g c = unstarted_untouched _ c.answer_to_check.result
 
 pub returns-in-Certify-clause-finishes : goal.returns-in-Certify-clause-finishes
 returns-in-Certify-clause-finishes g c = λ words asked. finishes_other c.words_ask_one_command.ensures words _ (Certify c.in-Certify.trace.now c.in-Certify.question.now) _ _ _ _ _ c.answer_from-in-Certify.result (rw (c.in-Some.is, c.in-Certify.is) at asked) (λ a trace e. cc)
+
+pub returns-in-Scope-clause-finishes : goal.returns-in-Scope-clause-finishes
+returns-in-Scope-clause-finishes g c = λ words asked. finishes_other c.words_ask_one_command.ensures words _ (Scope c.in-Scope.trace.now c.in-Scope.statement.now c.in-Scope.call) _ _ _ _ _ c.answer_from-in-Scope.result (rw (c.in-Some.is, c.in-Scope.is) at asked) (λ a trace e. cc)
 
 pub returns-in-Check-clause-finishes : goal.returns-in-Check-clause-finishes
 returns-in-Check-clause-finishes g c = λ words asked. finishes_other c.words_ask_one_command.ensures words _ (Check c.in-Check.trace.now c.in-Check.certificate.now) _ _ _ _ _ c.answer_to_check.result (rw (c.in-Some.is, c.in-Check.is) at asked) (λ a trace e. cc)

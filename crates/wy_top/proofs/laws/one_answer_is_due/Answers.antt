@@ -1,7 +1,7 @@
 use Rattle.std.proofs.Common.{◌≡◌, ◌∙◌, sym, ap, subst, refl, inl, inr, ◌⊎◌, ℕ, List, length, Option, Some, None, arith}
 use Rattle.wy_kernel.specs.Program.{Program}
 use Rattle.wy_outside.specs.Shelf.{Files}
-use Rattle.wy_words.specs.Words.{Asked, Asks, Command, Run, Record, Output, Questions, Why, Affects, Certify, Check, WhyNot, Audit, Explore, Gen, AskOneCommand}
+use Rattle.wy_words.specs.Words.{Asked, Asks, Command, Run, Record, Output, Questions, Why, Affects, Certify, Check, Scope, WhyNot, Audit, Explore, Gen, AskOneCommand}
 use Rattle.wy_gen.specs.Generated.{source}
 use Rattle.wy_reply.specs.Generated.{generated_report}
 use Rattle.wy_reply.specs.Report.{report, recorded_report}
@@ -109,6 +109,8 @@ one_command known traces words held (Questions trace) f s t x y asks told first 
     trace_same words held (Questions trace) f trace s t x y asks told refl (one_trace known traces f trace wanted.Questions s t x y first second)
 one_command known traces words held (WhyNot trace statement) f s t x y asks told first second =
     trace_same words held (WhyNot trace statement) f trace s t x y asks told refl (one_trace known traces f trace (wanted.WhyNot statement) s t x y first second)
+one_command known traces words held (Scope trace statement call) f s t x y asks told first second =
+    trace_same words held (Scope trace statement call) f trace s t x y asks told refl (one_trace known traces f trace (wanted.Scope statement call) s t x y first second)
 one_command known traces words held (Audit trace) f s t x y asks told first second =
     trace_same words held (Audit trace) f trace s t x y asks told refl (one_trace known traces f trace wanted.Audit s t x y first second)
 one_command known traces words held (Explore trace) f s t x y asks told first second = absurd first
@@ -167,4 +169,4 @@ returns c =
       utf8 = c.a_refused_text_has_no_tokens.ensures.utf8;
       trees = c.a_token_list_has_one_tree.ensures;
       programs = c.a_text_has_one_program.ensures;
-    }) (record { reading = c.bytes_are_read_in_one_way.ensures; answers = c.one_answer_to_questions.ensures; statements = c.one_answer_to_whynot.ensures; audits = c.one_audit_is_due.ensures; certificates = c.one_certificate_is_made.ensures; verdicts = c.one_verdict_is_due.ensures; sessions = c.one_talk.ensures }) c.words_ask_one_command.ensures
+    }) (record { reading = c.bytes_are_read_in_one_way.ensures; answers = c.one_answer_to_questions.ensures; statements = c.one_answer_to_whynot.ensures; scopes = c.one_answer_to_scope.ensures; audits = c.one_audit_is_due.ensures; certificates = c.one_certificate_is_made.ensures; verdicts = c.one_verdict_is_due.ensures; sessions = c.one_talk.ensures }) c.words_ask_one_command.ensures

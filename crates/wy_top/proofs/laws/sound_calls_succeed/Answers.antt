@@ -10,4 +10,4 @@ returns c =
       utf8 = c.a_refused_text_has_no_tokens.ensures.utf8;
       trees = c.a_token_list_has_one_tree.ensures;
       programs = c.a_text_has_one_program.ensures;
-    }) (record { reading = c.bytes_are_read_in_one_way.ensures; answers = c.one_answer_to_questions.ensures; statements = c.one_answer_to_whynot.ensures; audits = c.one_audit_is_due.ensures; certificates = c.one_certificate_is_made.ensures; verdicts = c.one_verdict_is_due.ensures; sessions = c.one_talk.ensures }) c.words_ask_one_command.ensures
+    }) (record { reading = c.bytes_are_read_in_one_way.ensures; answers = c.one_answer_to_questions.ensures; statements = c.one_answer_to_whynot.ensures; scopes = c.one_answer_to_scope.ensures; audits = c.one_audit_is_due.ensures; certificates = c.one_certificate_is_made.ensures; verdicts = c.one_verdict_is_due.ensures; sessions = c.one_talk.ensures }) c.words_ask_one_command.ensures
