@@ -27,7 +27,7 @@ _whyline() {
   local at=$((${#words[@]} - 1))
   local begun=${words[at]} command=${words[1]} replies=''
   if [ "$at" -eq 1 ]; then
-    replies=$(compgen -W 'run record output questions why affects certify check whynot explore audit gen' -- "$begun")
+    replies=$(compgen -W 'run record output questions why affects certify check whynot scope explore audit gen' -- "$begun")
   else
     case $command:${words[at - 1]} in
       run:-i | record:-i) replies=$(compgen -f -- "$begun") ;;
@@ -41,8 +41,8 @@ _whyline() {
         ;;
       *)
         case $command:$at in
-          output:2 | questions:2 | why:2 | affects:2 | certify:2 | check:2 | whynot:2 | explore:2 | audit:2) replies=$(_whyline_files trace "$begun") ;;
-          why:3 | affects:3 | certify:3 | whynot:3) replies=$(_whyline_asked "${words[0]/#\~/$HOME}" "${words[2]}" "$command" "$begun") ;;
+          output:2 | questions:2 | why:2 | affects:2 | certify:2 | check:2 | whynot:2 | scope:2 | explore:2 | audit:2) replies=$(_whyline_files trace "$begun") ;;
+          why:3 | affects:3 | certify:3 | whynot:3 | scope:3) replies=$(_whyline_asked "${words[0]/#\~/$HOME}" "${words[2]}" "$command" "$begun") ;;
           check:3) replies=$(_whyline_files cert "$begun") ;;
         esac
         ;;

@@ -22,7 +22,7 @@ offer() { # FUNCTION LINE WANTED: the words that are offered at the end of the l
 
 "$program" record examples/discount.java -o "$scratch/discount.trace" >/dev/null 2>&1
 "$program" record examples/overridden.java -o "$scratch/overridden.trace" >/dev/null 2>&1
-offer _whyline 'whyline ' 'affects audit certify check explore gen output questions record run why whynot'
+offer _whyline 'whyline ' 'affects audit certify check explore gen output questions record run scope why whynot'
 offer _whyline 'whyline re' 'record'
 offer _whyline './whyline wh' 'why whynot'
 offer _whyline 'whyline run examples/co' 'examples/collatz.java examples/coupon.java'

@@ -125,6 +125,16 @@ expect_line "what a test affects" 0 $'#7 line 6 set y = 5\n#8 line 8 print 5' af
 expect_line "what a value affects" 0 $'#6 line 5 test true *\n#7 line 6 set y = 5 *\n#8 line 8 print 5 *' affects "$trace" e4
 expect_line "what is used no more" 0 'nothing later' affects "$trace" e5
 expect_line "what no event affects" 6 'question: no such 10' affects "$trace" e10
+printf 'class Main {\nstatic void f(int n) {\nif (n > 1) {\nSystem.out.println(n);\n}\n}\npublic static void main(String[] a) {\nf(1);\nf(2);\n}\n}\n' >"$scratch/guarded.java"
+guarded=$scratch/guarded.trace
+"$program" record "$scratch/guarded.java" -o "$guarded" >/dev/null 2>&1
+expect_line "a statement that ran in another call" 6 'question: line 4.1 ran 1 times, first before #11' whynot "$guarded" 4
+expect_line "a guard that was false in a call" 0 'line 3 arm true not taken: 1 tested false, first #6, last #6' scope "$guarded" 4 4
+expect_line "a guard that was passed in a call" 6 'question: line 4.1 passed at #10' scope "$guarded" 4 8
+expect_line "a guard that was passed further in" 6 'question: line 4.1 passed at #10' scope "$guarded" 4 2
+expect_line "a statement to which the call leads no way" 0 'no call leads here' scope "$guarded" 8 4
+expect_line "an event that is no call" 6 'question: no such 6' scope "$guarded" 4 6
+expect_line "no event" 6 'question: no such 14' scope "$guarded" 4 14
 certificate=$scratch/first.cert
 "$program" certify "$trace" p0 >"$certificate" 2>/dev/null
 expect_line "the certificate of a print" 0 "whycert 1 $(tail -c 32 "$trace" | od -An -v -tx1 | tr -d ' \n') 8 5"$'\n2\n4 c:2\n6 c:2 d:4\n7 d:4 c:6\n8 c:2 d:7' certify "$trace" p0

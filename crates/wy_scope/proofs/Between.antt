@@ -1,5 +1,5 @@
 -- What the links between regions are.
-use Rattle.std.proofs.Common.{◌≡◌, ◌∙◌, ◌×◌, true, List, map, sym, subst}
+use Rattle.std.proofs.Common.{◌≡◌, ◌∙◌, true, List, map, sym, subst}
 use Rattle.std.specs.Prelude.{◌↔◌, filter}
 use Rattle.std.specs.List.{Contains}
 use Rattle.wy_kernel.specs.Program.{Program}

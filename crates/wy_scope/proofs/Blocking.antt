@@ -1,5 +1,5 @@
 -- What is blocked in a scope, and the cut that it is.
-use Rattle.std.proofs.Common.{◌≡◌, ◌×◌, ◌<◌, ◌≤◌, ◌∙◌, ◌∷◌, [], ⊎_elim, ℕ, zero, suc, Bool, true, false, List, length, map, Option, Some, refl, sym, ap, ap₂, subst, arith, eqb-true, eq-eqb}
+use Rattle.std.proofs.Common.{◌≡◌, ◌<◌, ◌≤◌, ◌∙◌, ◌∷◌, [], ⊎_elim, ℕ, zero, suc, Bool, true, false, List, length, map, Option, Some, refl, sym, ap, ap₂, subst, arith, eqb-true, eq-eqb}
 use Rattle.std.specs.Prelude.{◌&&◌, ◌||◌, is_some, slice_get}
 use Rattle.std.specs.Prelude.{None as Absent}
 use Rattle.std.specs.List.{Contains}

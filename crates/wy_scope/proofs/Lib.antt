@@ -5,3 +5,5 @@ pub mod Scoping
 pub mod Passes
 pub mod Evident
 pub mod Blocking
+pub mod Answering
+mod Rows

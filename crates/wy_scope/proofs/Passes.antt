@@ -1,5 +1,5 @@
 -- The first events that pass regions.
-use Rattle.std.proofs.Common.{◌≡◌, ◌×◌, ◌<◌, ◌≤◌, ◌∙◌, ◌∷◌, ◌++◌, [], ⊎_elim, ℕ, zero, suc, Bool, true, false, cond, List, length, map, Option, Some, refl, sym, ap, ap₂, subst, arith, eqb-true, eq-eqb}
+use Rattle.std.proofs.Common.{◌≡◌, ◌<◌, ◌≤◌, ◌∙◌, ◌∷◌, ◌++◌, [], ⊎_elim, ℕ, zero, suc, Bool, true, false, cond, List, length, map, Option, Some, refl, sym, ap, ap₂, subst, arith, eqb-true, eq-eqb}
 use Rattle.std.specs.Prelude.{◌&&◌, ◌||◌, ◌+◌, is_some, nat_eq, nat_lt, slice_get}
 use Rattle.std.specs.Prelude.{None as Absent}
 use Rattle.std.specs.List.{Contains, flat_map, list_any, range_with_len}

@@ -38,14 +38,14 @@ same_option None (Some y) is = let long : zero ≡ suc zero = ap length is in ab
 same_option (Some x) None is = let long : suc zero ≡ zero = ap length is in absurd (omega (arith, long))
 same_option (Some x) (Some y) is = ap (λ xs. Some (first_or x xs)) is
 
--- one more operand makes at most two
-has_room : (xs rest all : List (List ℕ)) (word : List ℕ) → xs ++ (word ∷ rest) ≡ all → length all ≤ 2 → nat_lt (length xs) 2 ≡ true
+-- one more operand makes at most three
+has_room : (xs rest all : List (List ℕ)) (word : List ℕ) → xs ++ (word ∷ rest) ≡ all → length all ≤ 3 → nat_lt (length xs) 3 ≡ true
 has_room xs rest all word is few =
     let long : length xs + suc (length rest) ≡ length all = sym (length-append xs (word ∷ rest)) ∙ ap length is in
     lt-ltb _ _ (omega (arith, long, few))
 
 -- an operand with room for it leads on
-operand_taken : (xs : List (List ℕ)) (i t : Option (List ℕ)) (n : Option ℕ) (word : List ℕ) → nat_lt (length xs) 2 ≡ true
+operand_taken : (xs : List (List ℕ)) (i t : Option (List ℕ)) (n : Option ℕ) (word : List ℕ) → nat_lt (length xs) 3 ≡ true
     → with_part (naming xs i t n) (Operand word) ≡ Some (naming (xs ++ (word ∷ [])) i t n)
 unfolding with_part
 operand_taken xs i t n word room = ap (λ v. if v then Some (naming (xs ++ (word ∷ [])) i t n) else None) room
@@ -66,7 +66,7 @@ abbrev then_parts : List Part → Option Asking → Option Asking
 then_parts parts o = option_and_then (λ b. with_parts b parts) o
 
 led : (parts : List Part) (xs : List (List ℕ)) (i t : Option (List ℕ)) (n : Option ℕ) (ys : List (List ℕ)) (j u : Option (List ℕ)) (m : Option ℕ)
-    → length ys ≤ 2 → Leads xs i t n parts (naming ys j u m) → with_parts (naming xs i t n) parts ≡ Some (naming ys j u m)
+    → length ys ≤ 3 → Leads xs i t n parts (naming ys j u m) → with_parts (naming xs i t n) parts ≡ Some (naming ys j u m)
 led [] xs i t n ys j u m few h =
     let a : xs ≡ ys = sym (append-nil xs) ∙ h.to_operands in
     let b : i ≡ j = same_option i j h.to_input in
@@ -90,7 +90,7 @@ led (Steps k ∷ parts) xs i t None ys j u m few h =
     ∙ led parts xs i t (Some k) ys j u m few (record { to_operands = h.to_operands; to_input = h.to_input; to_trace = h.to_trace; to_steps = h.to_steps })
 led (Steps k ∷ parts) xs i t (Some first) ys j u m few h = absurd (twice first k (filter_map steps_of parts) m h.to_steps)
 
-pub held : (parts : List Part) (operands : List (List ℕ)) (input trace : Option (List ℕ)) (steps : Option ℕ) → length operands ≤ 2
+pub held : (parts : List Part) (operands : List (List ℕ)) (input trace : Option (List ℕ)) (steps : Option ℕ) → length operands ≤ 3
     → Holds parts operands input trace steps → with_parts nothing parts ≡ Some (naming operands input trace steps)
 held parts operands input trace steps few h =
     led parts [] None None None operands input trace steps few
@@ -101,7 +101,7 @@ held parts operands input trace steps few h =
 operand_only : (xs : List (List ℕ)) (i t : Option (List ℕ)) (n : Option ℕ) (word : List ℕ) (c : Asking)
     → with_part (naming xs i t n) (Operand word) ≡ Some c → naming (xs ++ (word ∷ [])) i t n ≡ c
 unfolding with_part
-operand_only xs i t n word c is = (cond_some (nat_lt (length xs) 2) (naming (xs ++ (word ∷ [])) i t n) c is).1
+operand_only xs i t n word c is = (cond_some (nat_lt (length xs) 3) (naming (xs ++ (word ∷ [])) i t n) c is).1
 
 input_twice : (xs : List (List ℕ)) (first : List ℕ) (t : Option (List ℕ)) (n : Option ℕ) (name : List ℕ) → with_part (naming xs (Some first) t n) (Input name) ≡ None
 unfolding with_part

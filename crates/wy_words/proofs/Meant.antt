@@ -7,9 +7,9 @@ use Rattle.wy_words.specs.Awaited.{Awaited}
 use Rattle.wy_words.specs.Awaited as awaited
 use Rattle.wy_words.specs.declared.commands.Command as memory
 use Rattle.wy_words.specs.Views.{command_of}
-use Rattle.wy_words.specs.Words.{Part, Spells, Holds, Command, Run, Record, Output, Why, WhyNot, Affects, Certify, Check, Questions, Explore, Audit, Gen, number_up_to, asked, Asks, IsNoCommand, AskOneCommand}
+use Rattle.wy_words.specs.Words.{Part, Spells, Holds, Command, Run, Record, Output, Why, WhyNot, Affects, Certify, Check, Scope, Questions, Explore, Audit, Gen, event_number, number_up_to, asked, Asks, IsNoCommand, AskOneCommand}
 use Rattle.wy_words.specs.Words as words
-use Rattle.wy_words.specs.Reading.{Asking, nothing, named, named_in, ended, command_named, over_trace, run, run_of, recording, is_bare, only_operand, two_operands, output, why, whynot, affects, certify, check, questions, explore, audit, generated}
+use Rattle.wy_words.specs.Reading.{Asking, nothing, named, named_in, ended, command_named, over_trace, run, run_of, recording, is_bare, only_operand, two_operands, three_operands, scope, scope_of, output, why, whynot, affects, certify, check, questions, explore, audit, generated}
 use Rattle.wy_words.proofs.Spelled.{spelled, named_spelled}
 use Rattle.wy_words.proofs.Held.{naming, held, holds}
 
@@ -20,7 +20,7 @@ read_as (name ∷ behind) = option_and_then (command_named name) (named_in behin
 
 -- ---- what is asked is read
 
-named_there : (behind : List (List ℕ)) (parts : List Part) (operands : List (List ℕ)) (input trace : Option (List ℕ)) (steps : Option ℕ) → length operands ≤ 2
+named_there : (behind : List (List ℕ)) (parts : List Part) (operands : List (List ℕ)) (input trace : Option (List ℕ)) (steps : Option ℕ) → length operands ≤ 3
     → Spells behind parts → Holds parts operands input trace steps → named_in behind ≡ Some (naming operands input trace steps)
 unfolding named_in ended
 named_there behind parts operands input trace steps few s h =
@@ -59,6 +59,10 @@ check_named : (trace certificate : List ℕ) → command_named (codes "check") (
 unfolding command_named over_trace check two_operands is_bare
 check_named trace certificate = refl
 
+scope_named : (trace statement word : List ℕ) (call : ℕ) → event_number word ≡ Some call → command_named (codes "scope") (naming (trace ∷ (statement ∷ (word ∷ []))) None None None) ≡ Some (Scope trace statement call)
+unfolding command_named over_trace scope scope_of three_operands is_bare
+scope_named trace statement word call number = ap (option_map (Scope trace statement)) number
+
 questions_named : (trace : List ℕ) → command_named (codes "questions") (naming (trace ∷ []) None None None) ≡ Some (Questions trace)
 unfolding command_named over_trace questions only_operand is_bare
 questions_named trace = refl
@@ -92,6 +96,8 @@ asked_read _ _ (words.certify {words = ws} {parts = ps} {trace = t} {question = 
     ap (option_and_then (command_named (codes "certify"))) (named_there ws ps (t ∷ (k ∷ [])) None None None (omega arith) s h) ∙ certify_named t k
 asked_read _ _ (words.check {words = ws} {parts = ps} {trace = t} {certificate = k} s h) =
     ap (option_and_then (command_named (codes "check"))) (named_there ws ps (t ∷ (k ∷ [])) None None None (omega arith) s h) ∙ check_named t k
+asked_read _ _ (words.scope {words = ws} {parts = ps} {trace = t} {statement = k} {word = w} {call = n} s h number) =
+    ap (option_and_then (command_named (codes "scope"))) (named_there ws ps (t ∷ (k ∷ (w ∷ []))) None None None (omega arith) s h) ∙ scope_named t k w n number
 asked_read _ _ (words.questions {words = ws} {parts = ps} {trace = t} s h) =
     ap (option_and_then (command_named (codes "questions"))) (named_there ws ps (t ∷ []) None None None (omega arith) s h) ∙ questions_named t
 asked_read _ _ (words.explore {words = ws} {parts = ps} {trace = t} s h) =
@@ -165,6 +171,18 @@ both behind (first ∷ (second ∷ [])) w (Some i) t n x s is = absurd (none-som
 both behind (first ∷ (second ∷ [])) w None (Some t) n x s is = absurd (none-some x is)
 both behind (first ∷ (second ∷ [])) w None None (Some n) x s is = absurd (none-some x is)
 both behind (first ∷ (second ∷ (third ∷ more))) w i t n x s is = absurd (none-some x is)
+
+all_three : (behind xs : List (List ℕ)) (w : Awaited) (i t : Option (List ℕ)) (n : Option ℕ) (x : List ℕ × List ℕ × List ℕ) → Stands behind xs i t n
+    → three_operands xs (record { awaited = w; operands = xs; input = i; trace = t; steps = n }) ≡ Some x → Stands behind (x.0 ∷ (x.1 ∷ (x.2 ∷ []))) None None None
+unfolding three_operands is_bare
+all_three behind [] w i t n x s is = absurd (none-some x is)
+all_three behind (first ∷ []) w i t n x s is = absurd (none-some x is)
+all_three behind (first ∷ (second ∷ [])) w i t n x s is = absurd (none-some x is)
+all_three behind (first ∷ (second ∷ (third ∷ []))) w None None None x s is = subst (λ v. Stands behind (v.0 ∷ (v.1 ∷ (v.2 ∷ []))) None None None) (same_Some (first, second, third) x is) s
+all_three behind (first ∷ (second ∷ (third ∷ []))) w (Some i) t n x s is = absurd (none-some x is)
+all_three behind (first ∷ (second ∷ (third ∷ []))) w None (Some t) n x s is = absurd (none-some x is)
+all_three behind (first ∷ (second ∷ (third ∷ []))) w None None (Some n) x s is = absurd (none-some x is)
+all_three behind (first ∷ (second ∷ (third ∷ (fourth ∷ more)))) w i t n x s is = absurd (none-some x is)
 
 -- what something is made into is made of it
 record Mapped {X Y : Type 0} (f : X → Y) (o : Option X) (y : Y) : Type 0 where
@@ -247,6 +265,15 @@ check_meant : (behind : List (List ℕ)) (a : Asking) (c : Command) → Stands b
 unfolding check
 check_meant behind a c s is = of_two (codes "check") behind a Check c (λ first second t. words.check t.spells t.hold) s is
 
+scope_meant : (behind : List (List ℕ)) (a : Asking) (c : Command) → Stands behind a.operands a.input a.trace a.steps
+    → scope a ≡ Some c → Asks (codes "scope" ∷ behind) c
+unfolding scope scope_of
+scope_meant behind a c s is =
+    option_and_then_some scope_of (three_operands a.operands a) c is (λ x there numbered.
+    let m = mapped (Scope x.0 x.1) (event_number x.2) c numbered in
+    let t = all_three behind a.operands a.awaited a.input a.trace a.steps x s there in
+    subst (Asks (codes "scope" ∷ behind)) m.made (words.scope t.spells t.hold m.there))
+
 -- a command by its name
 by_name : (name front : List ℕ) (behind : List (List ℕ)) (c : Command) → bytes_eq name front ≡ true → Asks (front ∷ behind) c → Asks (name ∷ behind) c
 by_name name front behind c same h = subst (λ n. Asks (n ∷ behind) c) (sym ((bytes_eq-Decides name front).0 same)) h
@@ -255,25 +282,26 @@ command_meant : (name : List ℕ) (behind : List (List ℕ)) (a : Asking) (c : C
     → command_named name a ≡ Some c → Asks (name ∷ behind) c
 unfolding command_named over_trace
 command_meant name behind a c s is =
-    go (bytes_eq name (codes "run")) (bytes_eq name (codes "record")) (bytes_eq name (codes "gen")) (bytes_eq name (codes "output")) (bytes_eq name (codes "why")) (bytes_eq name (codes "whynot")) (bytes_eq name (codes "affects")) (bytes_eq name (codes "certify")) (bytes_eq name (codes "check")) (bytes_eq name (codes "questions")) (bytes_eq name (codes "explore")) (bytes_eq name (codes "audit"))
-    refl refl refl refl refl refl refl refl refl refl refl refl is
+    go (bytes_eq name (codes "run")) (bytes_eq name (codes "record")) (bytes_eq name (codes "gen")) (bytes_eq name (codes "output")) (bytes_eq name (codes "why")) (bytes_eq name (codes "whynot")) (bytes_eq name (codes "affects")) (bytes_eq name (codes "certify")) (bytes_eq name (codes "check")) (bytes_eq name (codes "scope")) (bytes_eq name (codes "questions")) (bytes_eq name (codes "explore")) (bytes_eq name (codes "audit"))
+    refl refl refl refl refl refl refl refl refl refl refl refl refl is
   where
-    go : (b0 b1 b2 b3 b4 b5 b6 b7 b8 b9 b10 b11 : Bool) → bytes_eq name (codes "run") ≡ b0 → bytes_eq name (codes "record") ≡ b1 → bytes_eq name (codes "gen") ≡ b2 → bytes_eq name (codes "output") ≡ b3 → bytes_eq name (codes "why") ≡ b4 → bytes_eq name (codes "whynot") ≡ b5 → bytes_eq name (codes "affects") ≡ b6 → bytes_eq name (codes "certify") ≡ b7 → bytes_eq name (codes "check") ≡ b8 → bytes_eq name (codes "questions") ≡ b9 → bytes_eq name (codes "explore") ≡ b10 → bytes_eq name (codes "audit") ≡ b11
-        → (if b0 then run a else (if b1 then recording a.trace a else (if b2 then generated a else (if b3 then output a else (if b4 then why a else (if b5 then whynot a else (if b6 then affects a else (if b7 then certify a else (if b8 then check a else (if b9 then questions a else (if b10 then explore a else (if b11 then audit a else None)))))))))))) ≡ Some c
+    go : (b0 b1 b2 b3 b4 b5 b6 b7 b8 b9 b10 b11 b12 : Bool) → bytes_eq name (codes "run") ≡ b0 → bytes_eq name (codes "record") ≡ b1 → bytes_eq name (codes "gen") ≡ b2 → bytes_eq name (codes "output") ≡ b3 → bytes_eq name (codes "why") ≡ b4 → bytes_eq name (codes "whynot") ≡ b5 → bytes_eq name (codes "affects") ≡ b6 → bytes_eq name (codes "certify") ≡ b7 → bytes_eq name (codes "check") ≡ b8 → bytes_eq name (codes "scope") ≡ b9 → bytes_eq name (codes "questions") ≡ b10 → bytes_eq name (codes "explore") ≡ b11 → bytes_eq name (codes "audit") ≡ b12
+        → (if b0 then run a else (if b1 then recording a.trace a else (if b2 then generated a else (if b3 then output a else (if b4 then why a else (if b5 then whynot a else (if b6 then affects a else (if b7 then certify a else (if b8 then check a else (if b9 then scope a else (if b10 then questions a else (if b11 then explore a else (if b12 then audit a else None))))))))))))) ≡ Some c
         → Asks (name ∷ behind) c
-    go true b1 b2 b3 b4 b5 b6 b7 b8 b9 b10 b11 e0 e1 e2 e3 e4 e5 e6 e7 e8 e9 e10 e11 e = by_name name (codes "run") behind c e0 (run_meant behind a.operands a.awaited a.input a.trace a.steps c s e)
-    go false true b2 b3 b4 b5 b6 b7 b8 b9 b10 b11 e0 e1 e2 e3 e4 e5 e6 e7 e8 e9 e10 e11 e = by_name name (codes "record") behind c e1 (recording_meant behind a.operands a.awaited a.input a.trace a.steps c s e)
-    go false false true b3 b4 b5 b6 b7 b8 b9 b10 b11 e0 e1 e2 e3 e4 e5 e6 e7 e8 e9 e10 e11 e = by_name name (codes "gen") behind c e2 (gen_meant behind a c s e)
-    go false false false true b4 b5 b6 b7 b8 b9 b10 b11 e0 e1 e2 e3 e4 e5 e6 e7 e8 e9 e10 e11 e = by_name name (codes "output") behind c e3 (output_meant behind a c s e)
-    go false false false false true b5 b6 b7 b8 b9 b10 b11 e0 e1 e2 e3 e4 e5 e6 e7 e8 e9 e10 e11 e = by_name name (codes "why") behind c e4 (why_meant behind a c s e)
-    go false false false false false true b6 b7 b8 b9 b10 b11 e0 e1 e2 e3 e4 e5 e6 e7 e8 e9 e10 e11 e = by_name name (codes "whynot") behind c e5 (whynot_meant behind a c s e)
-    go false false false false false false true b7 b8 b9 b10 b11 e0 e1 e2 e3 e4 e5 e6 e7 e8 e9 e10 e11 e = by_name name (codes "affects") behind c e6 (affects_meant behind a c s e)
-    go false false false false false false false true b8 b9 b10 b11 e0 e1 e2 e3 e4 e5 e6 e7 e8 e9 e10 e11 e = by_name name (codes "certify") behind c e7 (certify_meant behind a c s e)
-    go false false false false false false false false true b9 b10 b11 e0 e1 e2 e3 e4 e5 e6 e7 e8 e9 e10 e11 e = by_name name (codes "check") behind c e8 (check_meant behind a c s e)
-    go false false false false false false false false false true b10 b11 e0 e1 e2 e3 e4 e5 e6 e7 e8 e9 e10 e11 e = by_name name (codes "questions") behind c e9 (questions_meant behind a c s e)
-    go false false false false false false false false false false true b11 e0 e1 e2 e3 e4 e5 e6 e7 e8 e9 e10 e11 e = by_name name (codes "explore") behind c e10 (explore_meant behind a c s e)
-    go false false false false false false false false false false false true e0 e1 e2 e3 e4 e5 e6 e7 e8 e9 e10 e11 e = by_name name (codes "audit") behind c e11 (audit_meant behind a c s e)
-    go false false false false false false false false false false false false e0 e1 e2 e3 e4 e5 e6 e7 e8 e9 e10 e11 e = absurd (none-some c e)
+    go true b1 b2 b3 b4 b5 b6 b7 b8 b9 b10 b11 b12 e0 e1 e2 e3 e4 e5 e6 e7 e8 e9 e10 e11 e12 e = by_name name (codes "run") behind c e0 (run_meant behind a.operands a.awaited a.input a.trace a.steps c s e)
+    go false true b2 b3 b4 b5 b6 b7 b8 b9 b10 b11 b12 e0 e1 e2 e3 e4 e5 e6 e7 e8 e9 e10 e11 e12 e = by_name name (codes "record") behind c e1 (recording_meant behind a.operands a.awaited a.input a.trace a.steps c s e)
+    go false false true b3 b4 b5 b6 b7 b8 b9 b10 b11 b12 e0 e1 e2 e3 e4 e5 e6 e7 e8 e9 e10 e11 e12 e = by_name name (codes "gen") behind c e2 (gen_meant behind a c s e)
+    go false false false true b4 b5 b6 b7 b8 b9 b10 b11 b12 e0 e1 e2 e3 e4 e5 e6 e7 e8 e9 e10 e11 e12 e = by_name name (codes "output") behind c e3 (output_meant behind a c s e)
+    go false false false false true b5 b6 b7 b8 b9 b10 b11 b12 e0 e1 e2 e3 e4 e5 e6 e7 e8 e9 e10 e11 e12 e = by_name name (codes "why") behind c e4 (why_meant behind a c s e)
+    go false false false false false true b6 b7 b8 b9 b10 b11 b12 e0 e1 e2 e3 e4 e5 e6 e7 e8 e9 e10 e11 e12 e = by_name name (codes "whynot") behind c e5 (whynot_meant behind a c s e)
+    go false false false false false false true b7 b8 b9 b10 b11 b12 e0 e1 e2 e3 e4 e5 e6 e7 e8 e9 e10 e11 e12 e = by_name name (codes "affects") behind c e6 (affects_meant behind a c s e)
+    go false false false false false false false true b8 b9 b10 b11 b12 e0 e1 e2 e3 e4 e5 e6 e7 e8 e9 e10 e11 e12 e = by_name name (codes "certify") behind c e7 (certify_meant behind a c s e)
+    go false false false false false false false false true b9 b10 b11 b12 e0 e1 e2 e3 e4 e5 e6 e7 e8 e9 e10 e11 e12 e = by_name name (codes "check") behind c e8 (check_meant behind a c s e)
+    go false false false false false false false false false true b10 b11 b12 e0 e1 e2 e3 e4 e5 e6 e7 e8 e9 e10 e11 e12 e = by_name name (codes "scope") behind c e9 (scope_meant behind a c s e)
+    go false false false false false false false false false false true b11 b12 e0 e1 e2 e3 e4 e5 e6 e7 e8 e9 e10 e11 e12 e = by_name name (codes "questions") behind c e10 (questions_meant behind a c s e)
+    go false false false false false false false false false false false true b12 e0 e1 e2 e3 e4 e5 e6 e7 e8 e9 e10 e11 e12 e = by_name name (codes "explore") behind c e11 (explore_meant behind a c s e)
+    go false false false false false false false false false false false false true e0 e1 e2 e3 e4 e5 e6 e7 e8 e9 e10 e11 e12 e = by_name name (codes "audit") behind c e12 (audit_meant behind a c s e)
+    go false false false false false false false false false false false false false e0 e1 e2 e3 e4 e5 e6 e7 e8 e9 e10 e11 e12 e = absurd (none-some c e)
 
 pub read_asked : (words : List (List ℕ)) (c : Command) → read_as words ≡ Some c → Asks words c
 read_asked [] c is = absurd (none-some c is)

@@ -107,6 +107,7 @@ asked_passes _ _ (words.whynot {words = ws} {parts = ps} s h) = one_passes false
 asked_passes _ _ (words.affects {words = ws} {parts = ps} s h) = one_passes false false (codes "affects") ws refl refl (parts_pass ws ps s)
 asked_passes _ _ (words.certify {words = ws} {parts = ps} s h) = one_passes false false (codes "certify") ws refl refl (parts_pass ws ps s)
 asked_passes _ _ (words.check {words = ws} {parts = ps} s h) = one_passes false false (codes "check") ws refl refl (parts_pass ws ps s)
+asked_passes _ _ (words.scope {words = ws} {parts = ps} s h number) = one_passes false false (codes "scope") ws refl refl (parts_pass ws ps s)
 asked_passes _ _ (words.questions {words = ws} {parts = ps} s h) = one_passes false false (codes "questions") ws refl refl (parts_pass ws ps s)
 asked_passes _ _ (words.explore {words = ws} {parts = ps} s h) = one_passes false false (codes "explore") ws refl refl (parts_pass ws ps s)
 asked_passes _ _ (words.audit {words = ws} {parts = ps} s h) = one_passes false false (codes "audit") ws refl refl (parts_pass ws ps s)

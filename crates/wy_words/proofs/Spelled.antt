@@ -31,7 +31,7 @@ goes_on f g same false b = refl
 behind_part : (f g : Asking → Option Asking) → ((b : Asking) → f (ready b) ≡ g (ready b)) → (a : Asking) (part : Part)
     → option_and_then f (with_part a part) ≡ option_and_then g (with_part a part)
 unfolding with_part
-behind_part f g same a (Operand word) = goes_on f g same (nat_lt (length a.operands) 2) (record a { operands = a.operands ++ (word ∷ []) })
+behind_part f g same a (Operand word) = goes_on f g same (nat_lt (length a.operands) 3) (record a { operands = a.operands ++ (word ∷ []) })
 behind_part f g same a (Input name) = goes_on f g same (is_none a.input) (record a { input = Some name })
 behind_part f g same a (Trace name) = goes_on f g same (is_none a.trace) (record a { trace = Some name })
 behind_part f g same a (Steps n) = goes_on f g same (is_none a.steps) (record a { steps = Some n })
@@ -115,7 +115,7 @@ is_ready v a b is = sym (ap (λ c. c.awaited) (cond_some v (ready a) b is).1)
 
 part_ready : (a b : Asking) (part : Part) → with_part a part ≡ Some b → b.awaited ≡ awaited.Word
 unfolding with_part
-part_ready a b (Operand word) is = is_ready (nat_lt (length a.operands) 2) (record a { operands = a.operands ++ (word ∷ []) }) b is
+part_ready a b (Operand word) is = is_ready (nat_lt (length a.operands) 3) (record a { operands = a.operands ++ (word ∷ []) }) b is
 part_ready a b (Input name) is = is_ready (is_none a.input) (record a { input = Some name }) b is
 part_ready a b (Trace name) is = is_ready (is_none a.trace) (record a { trace = Some name }) b is
 part_ready a b (Steps n) is = is_ready (is_none a.steps) (record a { steps = Some n }) b is

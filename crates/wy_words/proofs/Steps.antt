@@ -11,7 +11,7 @@ use Rattle.clap.specs.Walk.{Held, Rule, Row, Step, Text, Waiting, Walk, idle, op
 use Rattle.clap.specs.Walk.{after_step, bundle_met, long_or_other, plain_word, pushed, settled, settled_rows, short_or_plain, used, walked, word_met}
 use Rattle.clap.specs.Simple.{with_index, filled}
 use Rattle.clap.specs.declared.error.kind.ErrorKind.TheVariants as kind
-use Rattle.wy_words.specs.Table.{first, second, steps}
+use Rattle.wy_words.specs.Table.{first, second, third, steps}
 use Rattle.wy_words.proofs.Built.{rules, reader}
 
 abbrev pub held : List Row → Option (Text × List Text) → Held
@@ -50,6 +50,9 @@ the_first = with_index 1 (filled first)
 abbrev the_second : Rule
 the_second = with_index 2 (filled second)
 
+abbrev the_third : Rule
+the_third = with_index 3 (filled third)
+
 pub first_walked : (rows : List Row) (p : Option (Text × List Text)) (b : ℕ) (rest : Text) → nat_eq b 45 ≡ false
     → walked rules [] (at rows p idle 1) (b ∷ rest) ≡ at (settled_rows rules p rows) (Some (codes "first", (b ∷ rest) ∷ [])) idle 2
 unfolding walked
@@ -63,6 +66,13 @@ unfolding walked
 second_walked rows p b rest far =
     ap (λ m. after_step rules (b ∷ rest) (at rows p idle 2) m.0 m.1) (plain_idle b rest 2 (held rows p) far)
     ∙ ap (λ v. record (at rows p idle 3) { held = pushed (codes "second") (b ∷ rest) (if v then held rows p else settled rules (held rows p)) }) (and_false (is_pending the_second p))
+
+pub third_walked : (rows : List Row) (p : Option (Text × List Text)) (b : ℕ) (rest : Text) → nat_eq b 45 ≡ false
+    → walked rules [] (at rows p idle 3) (b ∷ rest) ≡ at (settled_rows rules p rows) (Some (codes "third", (b ∷ rest) ∷ [])) idle 4
+unfolding walked
+third_walked rows p b rest far =
+    ap (λ m. after_step rules (b ∷ rest) (at rows p idle 3) m.0 m.1) (plain_idle b rest 3 (held rows p) far)
+    ∙ ap (λ v. record (at rows p idle 4) { held = pushed (codes "third") (b ∷ rest) (if v then held rows p else settled rules (held rows p)) }) (and_false (is_pending the_third p))
 
 abbrev step_then : Text → ℕ → Kinds → Held × Step → Kinds
 step_then name place word_kinds m = or_else word_kinds (step_fault (reader name) place m.0 m.1)
@@ -82,10 +92,17 @@ second_fault name rows p b rest far =
     ∙ ap (λ v. if v then [] else settle_fault rules false (held rows p)) (and_false (is_pending the_second p))
 
 pub third_fault : (name : Text) (rows : List Row) (p : Option (Text × List Text)) (b : ℕ) (rest : Text) → nat_eq b 45 ≡ false
-    → turn_fault (reader name) [] (at rows p idle 3) (b ∷ rest) ≡ kind.UnknownArgument ∷ []
+    → turn_fault (reader name) [] (at rows p idle 3) (b ∷ rest) ≡ settle_fault rules false (held rows p)
 third_fault name rows p b rest far =
     ap (step_then name 3 _) (plain_idle b rest 3 (held rows p) far)
     ∙ ap (λ x. step_then name 3 x (held rows p, value)) (plain_no_fault b rest (held rows p) far)
+    ∙ ap (λ v. if v then [] else settle_fault rules false (held rows p)) (and_false (is_pending the_third p))
+
+pub fourth_fault : (name : Text) (rows : List Row) (p : Option (Text × List Text)) (b : ℕ) (rest : Text) → nat_eq b 45 ≡ false
+    → turn_fault (reader name) [] (at rows p idle 4) (b ∷ rest) ≡ kind.UnknownArgument ∷ []
+fourth_fault name rows p b rest far =
+    ap (step_then name 4 _) (plain_idle b rest 4 (held rows p) far)
+    ∙ ap (λ x. step_then name 4 x (held rows p, value)) (plain_no_fault b rest (held rows p) far)
 
 -- ---- flags
 

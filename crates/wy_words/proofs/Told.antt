@@ -35,6 +35,10 @@ pub one_argument_more : (before middle after : Command) (r s : Rule) → Adds be
 one_argument_more before middle after r s x y =
     record { told = y.told ∙ ap (λ a. with_rule a s) x.told; globals = y.globals ∙ x.globals }
 
+pub arguments_more : (before middle after : Command) (r s t : Rule) → Adds before (r ∷ (s ∷ [])) middle → Adds middle (t ∷ []) after → Adds before (r ∷ (s ∷ (t ∷ []))) after
+arguments_more before middle after r s t x y =
+    record { told = y.told ∙ ap (λ a. with_rule a t) x.told; globals = y.globals ∙ x.globals }
+
 pub all_arguments : (name : Text) (a b c d : Command) → app_of a ≡ new_app name → Adds a operands b → Adds b files c → Adds c (steps ∷ []) d → (app_of d).top ≡ sub name
 all_arguments name a b c d new x y z =
     ap (λ (v : App). v.top) (z.told

@@ -22,7 +22,7 @@ use Rattle.wy_words.specs.Found.{asking_in, command_in, operands_in, steps_in}
 use Rattle.wy_words.specs.Table.{names, table}
 use Rattle.wy_words.proofs.Built.{built_table, reader}
 use Rattle.wy_words.proofs.Steps.{and_false}
-use Rattle.wy_words.proofs.Walking.{Agrees, IsNumber, Kind, Stand, Taken, asking, first_of_taken, input_option, joined_steps, left_of, nothing, one, operands, plain, ready, second_of_taken, some_kind, steps_option, trace_option, two}
+use Rattle.wy_words.proofs.Walking.{Agrees, IsNumber, Kind, Stand, Taken, asking, first_of_taken, input_option, joined_steps, left_of, nothing, one, operands, plain, ready, second_of_taken, third_of_taken, three, some_kind, steps_option, trace_option, two}
 use Rattle.wy_words.proofs.Whole.{Verdict, fault_from, kind_of_word, not_taken, rows_from, spelled_parts, taken, verdict}
 use Rattle.wy_words.proofs.Meant.{read_as, read_asked}
 
@@ -68,6 +68,7 @@ asked_known _ _ _ (words.whynot s h) = refl
 asked_known _ _ _ (words.affects s h) = refl
 asked_known _ _ _ (words.certify s h) = refl
 asked_known _ _ _ (words.check s h) = refl
+asked_known _ _ _ (words.scope s h number) = refl
 asked_known _ _ _ (words.questions s h) = refl
 asked_known _ _ _ (words.explore s h) = refl
 asked_known _ _ _ (words.audit s h) = refl
@@ -169,8 +170,8 @@ faults_unknown word rest kind unknown is = unknown_turn word kind unknown (left_
 
 -- ---- the reading
 
-abbrev now_reading : Option Text → Option Text → Option Text → Option Text → Option Text → Option Asking
-now_reading f g i o s = option_map (λ n. record { awaited = awaited.Word; operands = operands_in f g; input = i; trace = o; steps = n }) (steps_in s)
+abbrev now_reading : Option Text → Option Text → Option Text → Option Text → Option Text → Option Text → Option Asking
+now_reading f g h i o s = option_map (λ n. record { awaited = awaited.Word; operands = operands_in f g h; input = i; trace = o; steps = n }) (steps_in s)
 
 steps_number : (s : Option Text) (n : Option ℕ) → IsNumber s n → steps_in s ≡ Some n
 unfolding steps_in
@@ -179,21 +180,23 @@ steps_number (Some word) (Some n) is = ap (option_map Some) is
 steps_number None (Some n) is = absurd is
 steps_number (Some word) None is = absurd is
 
-operands_there : (t : Taken) → operands_in (first_of_taken t) (second_of_taken t) ≡ operands t
+operands_there : (t : Taken) → operands_in (first_of_taken t) (second_of_taken t) (third_of_taken t) ≡ operands t
 unfolding operands_in
 operands_there nothing = refl
 operands_there (one word) = refl
 operands_there (two word more) = refl
+operands_there (three word more last) = refl
 
 found_there : (rows : List Row) (t : Taken) (i o s : Option Text) (n : Option ℕ) → Agrees rows t i o s → IsNumber s n → asking_in rows ≡ Some (asking awaited.Word t i o n)
 unfolding asking_in
 found_there rows t i o s n h number =
-    ap (λ f. now_reading f (first_of (codes "second") rows) (first_of (codes "input") rows) (first_of (codes "trace") rows) (first_of (codes "steps") rows)) h.of_first.first
-    ∙ ap (λ g. now_reading (first_of_taken t) g (first_of (codes "input") rows) (first_of (codes "trace") rows) (first_of (codes "steps") rows)) h.of_second.first
-    ∙ ap (λ v. now_reading (first_of_taken t) (second_of_taken t) v (first_of (codes "trace") rows) (first_of (codes "steps") rows)) h.of_input.first
-    ∙ ap (λ v. now_reading (first_of_taken t) (second_of_taken t) i v (first_of (codes "steps") rows)) h.of_trace.first
-    ∙ ap (λ v. now_reading (first_of_taken t) (second_of_taken t) i o v) h.of_steps.first
-    ∙ ap (λ v. option_map (λ m. record { awaited = awaited.Word; operands = operands_in (first_of_taken t) (second_of_taken t); input = i; trace = o; steps = m }) v) (steps_number s n number)
+    ap (λ f. now_reading f (first_of (codes "second") rows) (first_of (codes "third") rows) (first_of (codes "input") rows) (first_of (codes "trace") rows) (first_of (codes "steps") rows)) h.of_first.first
+    ∙ ap (λ g. now_reading (first_of_taken t) g (first_of (codes "third") rows) (first_of (codes "input") rows) (first_of (codes "trace") rows) (first_of (codes "steps") rows)) h.of_second.first
+    ∙ ap (λ g. now_reading (first_of_taken t) (second_of_taken t) g (first_of (codes "input") rows) (first_of (codes "trace") rows) (first_of (codes "steps") rows)) h.of_third.first
+    ∙ ap (λ v. now_reading (first_of_taken t) (second_of_taken t) (third_of_taken t) v (first_of (codes "trace") rows) (first_of (codes "steps") rows)) h.of_input.first
+    ∙ ap (λ v. now_reading (first_of_taken t) (second_of_taken t) (third_of_taken t) i v (first_of (codes "steps") rows)) h.of_trace.first
+    ∙ ap (λ v. now_reading (first_of_taken t) (second_of_taken t) (third_of_taken t) i o v) h.of_steps.first
+    ∙ ap (λ v. option_map (λ m. record { awaited = awaited.Word; operands = operands_in (first_of_taken t) (second_of_taken t) (third_of_taken t); input = i; trace = o; steps = m }) v) (steps_number s n number)
     ∙ ap (λ xs. Some (record { awaited = awaited.Word; operands = xs; input = i; trace = o; steps = n })) (operands_there t)
 
 -- what the matches of these faults are, and what is read
@@ -211,6 +214,7 @@ no_row : Agrees [] nothing None None None
 no_row = record {
   of_first = record { first = refl; there = refl };
   of_second = record { first = refl; there = refl };
+  of_third = record { first = refl; there = refl };
   of_input = record { first = refl; there = refl };
   of_trace = record { first = refl; there = refl };
   of_steps = record { first = refl; there = refl };

@@ -19,7 +19,7 @@ use Rattle.wy_words.specs.Reading.{Asking, with_next, with_part, with_plain, wit
 use Rattle.wy_words.proofs.Spelled.{plain_next}
 use Rattle.wy_words.proofs.Built.{reader, rules}
 use Rattle.wy_words.proofs.Rows.{Has, has_added, has_kept, one_more, used_once}
-use Rattle.wy_words.proofs.Steps.{at, held, first_fault, first_walked, second_fault, second_walked, third_fault, input_fault, input_walked, trace_fault, trace_walked, steps_fault, steps_walked, joined_fault, joined_walked, option_walked_input, option_walked_trace, option_walked_steps, option_fault_input, option_fault_trace, option_fault_steps}
+use Rattle.wy_words.proofs.Steps.{at, held, first_fault, first_walked, second_fault, second_walked, third_fault, third_walked, fourth_fault, input_fault, input_walked, trace_fault, trace_walked, steps_fault, steps_walked, joined_fault, joined_walked, option_walked_input, option_walked_trace, option_walked_steps, option_fault_input, option_fault_trace, option_fault_steps}
 
 -- ---- what is named
 
@@ -28,26 +28,35 @@ pub data Taken : Type 0 where
   nothing : Taken
   one : (word : Text) → Taken
   two : (word more : Text) → Taken
+  three : (word more last : Text) → Taken
 
 abbrev pub operands : Taken → List Text
 operands nothing = []
 operands (one word) = word ∷ []
 operands (two word more) = word ∷ (more ∷ [])
+operands (three word more last) = word ∷ (more ∷ (last ∷ []))
 
 abbrev pub first_of_taken : Taken → Option Text
 first_of_taken nothing = None
 first_of_taken (one word) = Some word
 first_of_taken (two word more) = Some word
+first_of_taken (three word more last) = Some word
 
 abbrev pub second_of_taken : Taken → Option Text
 second_of_taken (two word more) = Some more
+second_of_taken (three word more last) = Some more
 second_of_taken _ = None
+
+abbrev pub third_of_taken : Taken → Option Text
+third_of_taken (three word more last) = Some last
+third_of_taken _ = None
 
 -- the place of the next operand
 abbrev pub place : Taken → ℕ
 place nothing = 1
 place (one word) = 2
 place (two word more) = 3
+place (three word more last) = 4
 
 abbrev pub asking : Awaited → Taken → Option Text → Option Text → Option ℕ → Asking
 asking w t i o n = record { awaited = w; operands = operands t; input = i; trace = o; steps = n }
@@ -62,6 +71,7 @@ IsNumber _ _ = ⊥
 pub record Agrees (rows : List Row) (t : Taken) (i o s : Option Text) : Type 0 where
   pub of_first : Has rows (codes "first") (first_of_taken t)
   pub of_second : Has rows (codes "second") (second_of_taken t)
+  pub of_third : Has rows (codes "third") (third_of_taken t)
   pub of_input : Has rows (codes "input") i
   pub of_trace : Has rows (codes "trace") o
   pub of_steps : Has rows (codes "steps") s
@@ -70,6 +80,7 @@ first_more : (rows : List Row) (i o s : Option Text) (word : Text) → Agrees ro
 first_more rows i o s word h = record {
   of_first = has_added (codes "first") word rows refl h.of_first;
   of_second = has_kept (codes "first") (codes "second") word rows None refl h.of_second;
+  of_third = has_kept (codes "first") (codes "third") word rows None refl h.of_third;
   of_input = has_kept (codes "first") (codes "input") word rows i refl h.of_input;
   of_trace = has_kept (codes "first") (codes "trace") word rows o refl h.of_trace;
   of_steps = has_kept (codes "first") (codes "steps") word rows s refl h.of_steps;
@@ -79,15 +90,27 @@ second_more : (rows : List Row) (i o s : Option Text) (first word : Text) → Ag
 second_more rows i o s first word h = record {
   of_first = has_kept (codes "second") (codes "first") word rows (Some first) refl h.of_first;
   of_second = has_added (codes "second") word rows refl h.of_second;
+  of_third = has_kept (codes "second") (codes "third") word rows None refl h.of_third;
   of_input = has_kept (codes "second") (codes "input") word rows i refl h.of_input;
   of_trace = has_kept (codes "second") (codes "trace") word rows o refl h.of_trace;
   of_steps = has_kept (codes "second") (codes "steps") word rows s refl h.of_steps;
+}
+
+third_more : (rows : List Row) (i o s : Option Text) (first second word : Text) → Agrees rows (two first second) i o s → Agrees (one_more (codes "third") word rows) (three first second word) i o s
+third_more rows i o s first second word h = record {
+  of_first = has_kept (codes "third") (codes "first") word rows (Some first) refl h.of_first;
+  of_second = has_kept (codes "third") (codes "second") word rows (Some second) refl h.of_second;
+  of_third = has_added (codes "third") word rows refl h.of_third;
+  of_input = has_kept (codes "third") (codes "input") word rows i refl h.of_input;
+  of_trace = has_kept (codes "third") (codes "trace") word rows o refl h.of_trace;
+  of_steps = has_kept (codes "third") (codes "steps") word rows s refl h.of_steps;
 }
 
 input_more : (rows : List Row) (t : Taken) (o s : Option Text) (word : Text) → Agrees rows t None o s → Agrees (one_more (codes "input") word rows) t (Some word) o s
 input_more rows t o s word h = record {
   of_first = has_kept (codes "input") (codes "first") word rows (first_of_taken t) refl h.of_first;
   of_second = has_kept (codes "input") (codes "second") word rows (second_of_taken t) refl h.of_second;
+  of_third = has_kept (codes "input") (codes "third") word rows (third_of_taken t) refl h.of_third;
   of_input = has_added (codes "input") word rows refl h.of_input;
   of_trace = has_kept (codes "input") (codes "trace") word rows o refl h.of_trace;
   of_steps = has_kept (codes "input") (codes "steps") word rows s refl h.of_steps;
@@ -97,6 +120,7 @@ trace_more : (rows : List Row) (t : Taken) (i s : Option Text) (word : Text) →
 trace_more rows t i s word h = record {
   of_first = has_kept (codes "trace") (codes "first") word rows (first_of_taken t) refl h.of_first;
   of_second = has_kept (codes "trace") (codes "second") word rows (second_of_taken t) refl h.of_second;
+  of_third = has_kept (codes "trace") (codes "third") word rows (third_of_taken t) refl h.of_third;
   of_input = has_kept (codes "trace") (codes "input") word rows i refl h.of_input;
   of_trace = has_added (codes "trace") word rows refl h.of_trace;
   of_steps = has_kept (codes "trace") (codes "steps") word rows s refl h.of_steps;
@@ -106,6 +130,7 @@ steps_more : (rows : List Row) (t : Taken) (i o : Option Text) (word : Text) →
 steps_more rows t i o word h = record {
   of_first = has_kept (codes "steps") (codes "first") word rows (first_of_taken t) refl h.of_first;
   of_second = has_kept (codes "steps") (codes "second") word rows (second_of_taken t) refl h.of_second;
+  of_third = has_kept (codes "steps") (codes "third") word rows (third_of_taken t) refl h.of_third;
   of_input = has_kept (codes "steps") (codes "input") word rows i refl h.of_input;
   of_trace = has_kept (codes "steps") (codes "trace") word rows o refl h.of_trace;
   of_steps = has_added (codes "steps") word rows refl h.of_steps;
@@ -116,6 +141,7 @@ steps_more rows t i o word h = record {
 pub data Which : Type 0 where
   first : Which
   second : Which
+  third : Which
   input : Which
   trace : Which
   steps : Which
@@ -123,6 +149,7 @@ pub data Which : Type 0 where
 abbrev pub id_of : Which → Text
 id_of first = codes "first"
 id_of second = codes "second"
+id_of third = codes "third"
 id_of input = codes "input"
 id_of trace = codes "trace"
 id_of steps = codes "steps"
@@ -134,6 +161,7 @@ conflict again = or_else (if again && true then kind.ArgumentConflict ∷ [] els
 use_settles : (k : Which) (rows : List Row) (word : Text) → settle_fault rules false (held rows (Some (id_of k, word ∷ []))) ≡ conflict (has_row (id_of k) rows)
 use_settles first rows word = refl
 use_settles second rows word = refl
+use_settles third rows word = refl
 use_settles input rows word = refl
 use_settles trace rows word = refl
 use_settles steps rows word = refl
@@ -142,6 +170,7 @@ use_rows : (k : Which) (rows : List Row) (word : Text)
     → settled_rows rules (Some (id_of k, word ∷ [])) rows ≡ with_values (id_of k) (reading_of vp.String) CommandLine (word ∷ []) (without (id_of k) rows)
 use_rows first rows word = refl
 use_rows second rows word = refl
+use_rows third rows word = refl
 use_rows input rows word = refl
 use_rows trace rows word = refl
 use_rows steps rows word = refl
@@ -243,7 +272,14 @@ plain_moved name (one head) i o s n rows p b rest far still h number =
     (ready {t = two head word} (quiet second before word h.of_second.there)
     (subst (λ x. Agrees x (two head word) i o s) (sym (used_rows second before word h.of_second.there)) (second_more before i o s head word h)) number)
 plain_moved name (two head more) i o s n rows p b rest far still h number =
-    refused (some_kind kind.UnknownArgument [] _ (third_fault name rows p b rest far)) (operand_next _ b rest _ far refl)
+    let word : Text = b ∷ rest in
+    let before : List Row = settled_rows rules p rows in
+    moved (asking awaited.Word (three head more word) i o n) _ (third_fault name rows p b rest far ∙ still) (third_walked rows p b rest far)
+    (operand_next _ b rest _ far refl) (no_steps b rest far)
+    (ready {t = three head more word} (quiet third before word h.of_third.there)
+    (subst (λ x. Agrees x (three head more word) i o s) (sym (used_rows third before word h.of_third.there)) (third_more before i o s head more word h)) number)
+plain_moved name (three head more last) i o s n rows p b rest far still h number =
+    refused (some_kind kind.UnknownArgument [] _ (fourth_fault name rows p b rest far)) (operand_next _ b rest _ far refl)
 
 abbrev joined : Text → Text
 joined word = codes "--steps=" ++ word
@@ -361,7 +397,8 @@ place_fault : (name : Text) (t : Taken) (rows : List Row) (p : Option (Text × L
     → turn_fault (reader name) [] (at rows p idle (place t)) (b ∷ rest) ≡ [] → settle_fault rules false (held rows p) ≡ []
 place_fault name nothing rows p b rest far is = sym (first_fault name rows p b rest far) ∙ is
 place_fault name (one word) rows p b rest far is = sym (second_fault name rows p b rest far) ∙ is
-place_fault name (two word more) rows p b rest far is = absurd (some_kind kind.UnknownArgument [] _ (third_fault name rows p b rest far) is)
+place_fault name (two word more) rows p b rest far is = sym (third_fault name rows p b rest far) ∙ is
+place_fault name (three word more last) rows p b rest far is = absurd (some_kind kind.UnknownArgument [] _ (fourth_fault name rows p b rest far) is)
 
 pub doomed_turn : (name : Text) (w : Walk) (word : Text) → Doomed w → Kind word → turn_fault (reader name) [] w word ≡ [] → ⊥
 doomed_turn name _ _ (doomed {rows = rows} {p = p} t bad) (plain {b = b} {rest = rest} far) is = bad (place_fault name t rows p b rest far is)

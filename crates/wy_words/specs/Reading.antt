@@ -1,7 +1,7 @@
 -- What stands in the words that are read so far, as the calls of this crate find it. No definition of a command rests on it.
 use Rattle.std.specs.Prelude.{ℕ, length, true, not, ◌||◌, is_some, List, [], ◌∷◌, ◌++◌, Bool, ◌&&◌, nat_eq, nat_lt, bytes_eq, if◌then◌else◌, Option, Some, None, is_none, option_and_then, option_map, codes, drop}
 use Rattle.std.specs.List.{starts_with}
-use Rattle.wy_words.specs.Words.{is_plain, number_up_to, Part, Operand, Input, Trace, Steps, Asked, Command, Run, Record, Output, Why, WhyNot, Affects, Certify, Check, Questions, Explore, Audit, Gen, asked}
+use Rattle.wy_words.specs.Words.{event_number, is_plain, number_up_to, Part, Operand, Input, Trace, Steps, Asked, Command, Run, Record, Output, Why, WhyNot, Affects, Certify, Check, Scope, Questions, Explore, Audit, Gen, asked}
 use Rattle.wy_words.specs.Awaited.{Awaited}
 use Rattle.wy_words.specs.Awaited as awaited
 
@@ -16,9 +16,9 @@ pub record Asking : Type 0 where
 abbrev pub nothing : Asking
 nothing = record { awaited = awaited.Word; operands = []; input = None; trace = None; steps = None }
 
--- a part more: no command takes three operands, or an option twice
+-- a part more: no command takes four operands, or an option twice
 unfoldable pub with_part : Asking → Part → Option Asking
-with_part a (Operand word) = if nat_lt (length a.operands) 2 then Some (record a { awaited = awaited.Word; operands = a.operands ++ (word ∷ []) }) else None
+with_part a (Operand word) = if nat_lt (length a.operands) 3 then Some (record a { awaited = awaited.Word; operands = a.operands ++ (word ∷ []) }) else None
 with_part a (Input name) = if is_none a.input then Some (record a { awaited = awaited.Word; input = Some name }) else None
 with_part a (Trace name) = if is_none a.trace then Some (record a { awaited = awaited.Word; trace = Some name }) else None
 with_part a (Steps n) = if is_none a.steps then Some (record a { awaited = awaited.Word; steps = Some n }) else None
@@ -125,6 +125,21 @@ certify a = option_map (λ w. Certify w.0 w.1) (two_operands a.operands a)
 unfoldable pub check : Asking → Option Command
 check a = option_map (λ w. Check w.0 w.1) (two_operands a.operands a)
 
+-- the three operands, where nothing else stands
+unfoldable pub three_operands : List (List ℕ) → Asking → Option (List ℕ × List ℕ × List ℕ)
+three_operands [] a = None
+three_operands (first ∷ []) a = None
+three_operands (first ∷ (second ∷ [])) a = None
+three_operands (first ∷ (second ∷ (third ∷ []))) a = if is_bare a then Some (first, second, third) else None
+three_operands (first ∷ (second ∷ (third ∷ (fourth ∷ more)))) a = None
+
+-- a statement in the call of a number
+unfoldable pub scope_of : List ℕ × List ℕ × List ℕ → Option Command
+scope_of w = option_map (Scope w.0 w.1) (event_number w.2)
+
+unfoldable pub scope : Asking → Option Command
+scope a = option_and_then scope_of (three_operands a.operands a)
+
 unfoldable pub questions : Asking → Option Command
 questions a = option_map Questions (only_operand a.operands a)
 
@@ -146,9 +161,10 @@ over_trace name a =
     else (if bytes_eq name (codes "affects") then affects a
     else (if bytes_eq name (codes "certify") then certify a
     else (if bytes_eq name (codes "check") then check a
+    else (if bytes_eq name (codes "scope") then scope a
     else (if bytes_eq name (codes "questions") then questions a
     else (if bytes_eq name (codes "explore") then explore a
-    else (if bytes_eq name (codes "audit") then audit a else None))))))))
+    else (if bytes_eq name (codes "audit") then audit a else None)))))))))
 
 -- the command of this name, where it takes what is named
 unfoldable pub command_named : List ℕ → Asking → Option Command

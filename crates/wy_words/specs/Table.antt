@@ -11,6 +11,9 @@ first = new_rule (codes "first")
 abbrev pub second : Rule
 second = new_rule (codes "second")
 
+abbrev pub third : Rule
+third = new_rule (codes "third")
+
 abbrev pub input : Rule
 input = record (new_rule (codes "input")) { short = Some 105 }
 
@@ -21,13 +24,13 @@ abbrev pub steps : Rule
 steps = record (new_rule (codes "steps")) { long = Some (codes "steps") }
 
 abbrev pub operands : List Rule
-operands = first ∷ (second ∷ [])
+operands = first ∷ (second ∷ (third ∷ []))
 
 abbrev pub files : List Rule
 files = input ∷ (trace ∷ [])
 
 abbrev pub given : List Rule
-given = first ∷ (second ∷ (input ∷ (trace ∷ (steps ∷ []))))
+given = first ∷ (second ∷ (third ∷ (input ∷ (trace ∷ (steps ∷ [])))))
 
 -- the command with these arguments more, none of which its subcommands take
 pub record Adds (before : Command) (rules : List Rule) (after : Command) : Type 0 where
@@ -38,7 +41,7 @@ abbrev pub sub : Text → Shape
 sub name = record (new_shape name) { rules = given }
 
 abbrev pub names : List Text
-names = codes "run" ∷ (codes "record" ∷ (codes "output" ∷ (codes "why" ∷ (codes "whynot" ∷ (codes "affects" ∷ (codes "certify" ∷ (codes "check" ∷ (codes "questions" ∷ (codes "explore" ∷ (codes "audit" ∷ (codes "gen" ∷ [])))))))))))
+names = codes "run" ∷ (codes "record" ∷ (codes "output" ∷ (codes "why" ∷ (codes "whynot" ∷ (codes "affects" ∷ (codes "certify" ∷ (codes "check" ∷ (codes "scope" ∷ (codes "questions" ∷ (codes "explore" ∷ (codes "audit" ∷ (codes "gen" ∷ []))))))))))))
 
 abbrev pub top : Shape
 top = record (new_shape (codes "whyline")) { no_binary_name = true; disable_help_flag = true; disable_help_subcommand = true }

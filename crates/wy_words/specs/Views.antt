@@ -5,21 +5,25 @@ use Rattle.wy_words.specs.Words as words
 use Rattle.wy_words.specs.Reading as reading
 use Rattle.wy_words.specs.Awaited as awaited
 use Rattle.wy_words.specs.declared.asking.Operands.{Operands}
-use Rattle.wy_words.specs.declared.asking.Operands.TheVariants.{Nothing, One, Two}
+use Rattle.wy_words.specs.declared.asking.Operands.TheVariants.{Nothing, One, Two, Three}
 use Rattle.wy_words.specs.declared.asking.Asking.{Asking}
 use Rattle.wy_words.specs.declared.commands.Asked.{Asked}
 use Rattle.wy_words.specs.declared.commands.Command.{Command}
 use Rattle.wy_words.specs.declared.commands.Command.TheVariants.{Once, Explore}
 use Rattle.wy_words.specs.declared.commands.Request.{Request}
-use Rattle.wy_words.specs.declared.commands.Request.TheVariants.{Run, Record, Output, Why, WhyNot, Affects, Certify, Check, Questions, Audit, Gen}
+use Rattle.wy_words.specs.declared.commands.Request.TheVariants.{Run, Record, Output, Why, WhyNot, Affects, Certify, Check, Scope, Questions, Audit, Gen}
 
 abbrev pub operands_of : Operands → List (List ℕ)
 operands_of Nothing = []
 operands_of (One word) = word.now ∷ []
 operands_of (Two first second) = first.now ∷ (second.now ∷ [])
+operands_of (Three first second third) = first.now ∷ (second.now ∷ (third.now ∷ []))
 
 abbrev pub pair_of : Bor (List ℕ) × Bor (List ℕ) → List ℕ × List ℕ
 pair_of x = (x.0.now, x.1.now)
+
+abbrev pub triple_of : Bor (List ℕ) × Bor (List ℕ) × Bor (List ℕ) → List ℕ × List ℕ × List ℕ
+triple_of x = (x.0.now, x.1.now, x.2.now)
 
 abbrev pub asking_of : Asking → reading.Asking
 asking_of a = record {
@@ -42,6 +46,7 @@ request_of (WhyNot trace statement) = words.WhyNot trace.now statement.now
 request_of (Affects trace question) = words.Affects trace.now question.now
 request_of (Certify trace question) = words.Certify trace.now question.now
 request_of (Check trace certificate) = words.Check trace.now certificate.now
+request_of (Scope trace statement call) = words.Scope trace.now statement.now call
 request_of (Questions trace) = words.Questions trace.now
 request_of (Audit trace) = words.Audit trace.now
 request_of (Gen number) = words.Gen number

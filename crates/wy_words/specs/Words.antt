@@ -16,6 +16,11 @@ unfoldable pub number_up_to : ℕ → List ℕ → Option ℕ
 number_up_to most word = let value = digits_value 10 word in
     if all_ascii_digits word && nat_le (length word) 8 && nat_le 1 value && nat_le value most then Some value else None
 
+-- the number of an event has one to ten decimal digits
+unfoldable pub event_number : List ℕ → Option ℕ
+event_number word = let value = digits_value 10 word in
+    if all_ascii_digits word && nat_le (length word) 10 && nat_le value 4294967295 then Some value else None
+
 -- the word is this number of steps
 abbrev pub IsSteps : List ℕ → ℕ → Type 0
 IsSteps word n = number_up_to 50000000 word ≡ Some n
@@ -88,6 +93,7 @@ pub data Command : Type 0 where
   Affects : (trace question : List ℕ) → Command
   Certify : (trace question : List ℕ) → Command
   Check : (trace certificate : List ℕ) → Command
+  Scope : (trace statement : List ℕ) (call : ℕ) → Command
   Questions : (trace : List ℕ) → Command
   Explore : (trace : List ℕ) → Command
   Audit : (trace : List ℕ) → Command
@@ -118,6 +124,9 @@ pub data Asks : List (List ℕ) → Command → Type 0 where
       → Holds parts (trace ∷ (question ∷ [])) None None None → Asks (codes "certify" ∷ words) (Certify trace question)
   check : {words : List (List ℕ)} {parts : List Part} {trace certificate : List ℕ} → Spells words parts
       → Holds parts (trace ∷ (certificate ∷ [])) None None None → Asks (codes "check" ∷ words) (Check trace certificate)
+  scope : {words : List (List ℕ)} {parts : List Part} {trace statement word : List ℕ} {call : ℕ} → Spells words parts
+      → Holds parts (trace ∷ (statement ∷ (word ∷ []))) None None None → event_number word ≡ Some call
+      → Asks (codes "scope" ∷ words) (Scope trace statement call)
   questions : {words : List (List ℕ)} {parts : List Part} {trace : List ℕ} → Spells words parts
       → Holds parts (trace ∷ []) None None None → Asks (codes "questions" ∷ words) (Questions trace)
   explore : {words : List (List ℕ)} {parts : List Part} {trace : List ℕ} → Spells words parts

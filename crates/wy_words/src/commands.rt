@@ -9,7 +9,7 @@ ghost use Rattle.wy_words.specs.Reading.{recording as recording_asked, run as ru
 ghost use Rattle.wy_words.specs.Reading.{questions as questions_asked, two_operands as both};
 ghost use Rattle.wy_words.specs.Reading.{affects as affects_asked, why as why_asked, whynot as whynot_asked};
 ghost use Rattle.wy_words.specs.Reading.{certify as certify_asked, check as check_asked};
-ghost use Rattle.wy_words.specs.Reading.{scope as scope_asked, three_operands as all_three};
+ghost use Rattle.wy_words.specs.Reading.{scope as scope_asked, scope_of as scope_of_so, three_operands as all_three};
 
 use crate::asking::{Asking, Operands};
 use crate::number::{event_number, number};
@@ -229,7 +229,18 @@ fn check(asking: Asking<'_>) -> Option<Command<'_>>
 fn scope(asking: Asking<'_>) -> Option<Command<'_>>
     ensures { option_map command_of result ≡ scope_asked (asking_of asking.entry) }
 {
-    let (trace, statement, word) = three_operands(asking)?;
+    match three_operands(asking) {
+        Some((trace, statement, word)) => scope_of(trace, statement, word),
+        None => None,
+    }
+}
+
+/// A statement in the call that a word numbers.
+#[tactic(auto, unfolding(crate::specs::Reading::scope_of))]
+fn scope_of<'a>(trace: &'a str, statement: &'a str, word: &str) -> Option<Command<'a>>
+    ensures { option_map command_of result
+        ≡ scope_of_so (trace.now, statement.now, word.now) }
+{
     match event_number(word) {
         Some(call) => Some(Command::Once(Request::Scope {
             trace,
