@@ -14,3 +14,4 @@ pub mod LeftLemmas
 mod OwnTraces
 mod Certified
 mod Sound
+pub mod Paging

@@ -1,6 +1,6 @@
 use Rattle.wy_top.proofs.RunAnswers.{file_answered, lack_answered}
 use Rattle.wy_top.proofs.AnswerLemmas.{trace_answers, trace_lack}
-use Rattle.wy_top.proofs.answer.answer_from.Goals as goal
+use Rattle.wy_top.proofs.answer.answer_by_reading.Goals as goal
 
 pub returns-in-Ok-clause-due : goal.returns-in-Ok-clause-due
 returns-in-Ok-clause-due g c = λ k.
