@@ -42,7 +42,7 @@ _whyline() {
       *)
         case $command:$at in
           output:2 | questions:2 | why:2 | affects:2 | certify:2 | check:2 | whynot:2 | scope:2 | explore:2 | audit:2) replies=$(_whyline_files trace "$begun") ;;
-          why:3 | affects:3 | certify:3 | whynot:3 | scope:3) replies=$(_whyline_asked "${words[0]/#\~/$HOME}" "${words[2]}" "$command" "$begun") ;;
+          why:3 | affects:3 | certify:3 | whynot:3) replies=$(_whyline_asked "${words[0]/#\~/$HOME}" "${words[2]}" "$command" "$begun") ;;
           check:3) replies=$(_whyline_files cert "$begun") ;;
         esac
         ;;

@@ -56,10 +56,34 @@ unfolding is_entity
 own_entity m r is = ap (λ o. is_entity o m) is ∙ eq-eqb m m refl
 
 call_kind : (k : Kind) → is_call k ≡ true → k ≡ event.Call
-call_kind k h = grind (arith)
+call_kind event.Init h = absurd (cc)
+call_kind event.New h = absurd (cc)
+call_kind event.Call h = refl
+call_kind event.Bind h = absurd (cc)
+call_kind event.Set h = absurd (cc)
+call_kind event.Test h = absurd (cc)
+call_kind event.Text h = absurd (cc)
+call_kind event.Read h = absurd (cc)
+call_kind event.Print h = absurd (cc)
+call_kind event.Return h = absurd (cc)
+call_kind event.Jump h = absurd (cc)
+call_kind event.Throw h = absurd (cc)
+call_kind event.Catch h = absurd (cc)
 
 init_kind : (k : Kind) → is_init k ≡ true → k ≡ event.Init
-init_kind k h = grind (arith)
+init_kind event.Init h = refl
+init_kind event.New h = absurd (cc)
+init_kind event.Call h = absurd (cc)
+init_kind event.Bind h = absurd (cc)
+init_kind event.Set h = absurd (cc)
+init_kind event.Test h = absurd (cc)
+init_kind event.Text h = absurd (cc)
+init_kind event.Read h = absurd (cc)
+init_kind event.Print h = absurd (cc)
+init_kind event.Return h = absurd (cc)
+init_kind event.Jump h = absurd (cc)
+init_kind event.Throw h = absurd (cc)
+init_kind event.Catch h = absurd (cc)
 
 pub entry_passed : (r : Recorded) (m : ℕ) → is_call_of m r ≡ true → is_at (passed_by r) (point.Entry m) ≡ true
 entry_passed r m h =

@@ -1,5 +1,5 @@
 -- The first events that pass regions.
-use Rattle.std.proofs.Common.{◌≡◌, ◌<◌, ◌≤◌, ◌∙◌, ◌∷◌, ◌++◌, [], ⊎_elim, ℕ, zero, suc, Bool, true, false, cond, List, length, map, Option, Some, refl, sym, ap, ap₂, subst, arith, eqb-true, eq-eqb}
+use Rattle.std.proofs.Common.{◌≡◌, ◌⊎◌, ◌<◌, ◌≤◌, ◌∙◌, ◌∷◌, ◌++◌, [], ⊎_elim, ℕ, zero, suc, Bool, true, false, cond, List, length, map, Option, Some, refl, sym, ap, ap₂, subst, arith, eqb-true, eq-eqb}
 use Rattle.std.specs.Prelude.{◌&&◌, ◌||◌, ◌+◌, is_some, nat_eq, nat_lt, slice_get}
 use Rattle.std.specs.Prelude.{None as Absent}
 use Rattle.std.specs.List.{Contains, flat_map, list_any, range_with_len}
@@ -319,3 +319,19 @@ first_passed p rs call q x first = ⊎_elim
 
     clash : (b : Bool) → b ≡ true → b ≡ false → ⊥
     clash b h k = cc
+
+-- a point that is no statement
+abbrev pub Itself : Point → Type 0
+Itself q = (q ≡ point.Start) ⊎ (((m : ℕ) × (q ≡ point.Entry m)) ⊎ (((c : ℕ) × (q ≡ point.Init c))
+    ⊎ (((site : ℕ) × (value : ℕ) × (q ≡ point.Arm site value)) ⊎ ((site : ℕ) × (q ≡ point.Catch site)))))
+
+module _ (p : Program) (rs : List Recorded) (call : ℕ) (firsts : Firsts) (known : (q : Point) → IsFirstBelow (goes_through rs call q) (length rs) (first_at firsts q)) where
+  abbrev Known : Point → Type 0
+  Known q = IsFirstBelow (passes_at p rs call q) (length rs) (first_at firsts q)
+
+  pub itself_first : (q : Point) → Itself q → Known q
+  itself_first q = ⊎_elim (λ e. subst Known (sym e) (known point.Start))
+      (⊎_elim (λ h. subst Known (sym h.1) (known (point.Entry h.0)))
+      (⊎_elim (λ h. subst Known (sym h.1) (known (point.Init h.0)))
+      (⊎_elim (λ h. subst Known (sym h.2) (known (point.Arm h.0 h.1)))
+      (λ h. subst Known (sym h.1) (known (point.Catch h.0))))))

@@ -168,6 +168,7 @@ module _ (rs : List Recorded) (call : ℕ) where
   goes_on k old new r at within frame h t =
       let mark : mark_by old.call old.marks.items r.frame ≡ in_scope rs call k =
       ap (λ n. mark_by n old.marks.items r.frame) h.its_call ∙ by_its_frame rs call k h.within h.below old.marks.items h.marks r at h.above frame in
+      let behind : k - call ≡ length old.marks.items = omega (arith, h.room, h.above) in
       let longer : new.marks.items ≡ old.marks.items ++ in_scope rs call k ∷ [] = t.marks ∙ ap (λ b. old.marks.items ++ b ∷ []) mark in
       record {
         its_call = t.call ∙ h.its_call;
@@ -181,7 +182,7 @@ module _ (rs : List Recorded) (call : ℕ) where
             (cases_eq x k);
         marks = λ x lt. ⊎_elim
             (λ (same : x ≡ k). ap (mark_at call new.marks.items) same ∙ mark_from call new.marks.items k (omega (arith, h.above))
-            ∙ ap₂ (λ ms n. slice_index_or ms n false) longer (omega (arith, h.room)) ∙ mark_behind old.marks.items 0 (in_scope rs call k) ∙ sym (ap (in_scope rs call) same))
+            ∙ ap₂ (λ ms n. slice_index_or ms n false) longer behind ∙ mark_behind old.marks.items 0 (in_scope rs call k) ∙ sym (ap (in_scope rs call) same))
             (λ ne. ⊎_elim
             (λ (low : x < call). mark_under call new.marks.items x low ∙ sym (lower_out rs call x low))
             (λ (high : call ≤ x). mark_from call new.marks.items x high ∙ ap (λ ms. slice_index_or ms (x - call) false) longer

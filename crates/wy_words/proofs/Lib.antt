@@ -10,3 +10,4 @@ pub mod Top
 pub mod Scan
 pub mod Parsed
 pub mod Told
+mod Digits

@@ -108,7 +108,7 @@ no_default_fault (a ∷ rest) rows none =
     ∙ no_default_fault rest (with_default rows a) none.1
 
 plain_rules : HaveNoDefaults rules
-plain_rules = (refl, (refl, (refl, (refl, (refl, tt)))))
+plain_rules = (refl, (refl, (refl, (refl, (refl, (refl, tt))))))
 
 -- what is named at the end
 at_end : (name : Text) (a : Asking) (w : Walk) → Stand a w → Verdict (outcome a []) (fault_from name w []) (rows_from w [])

@@ -19,7 +19,7 @@ number_up_to most word = let value = digits_value 10 word in
 -- the number of an event has one to ten decimal digits
 unfoldable pub event_number : List ℕ → Option ℕ
 event_number word = let value = digits_value 10 word in
-    if all_ascii_digits word && nat_le (length word) 10 && nat_le value 4294967295 then Some value else None
+    if all_ascii_digits word && nat_le 1 (length word) && nat_le (length word) 10 && nat_le value 4294967295 then Some value else None
 
 -- the word is this number of steps
 abbrev pub IsSteps : List ℕ → ℕ → Type 0

@@ -29,7 +29,10 @@ pub fn event_number(word: &str) -> Option<u32>
     if word.len() > MOST_EVENT_DIGITS || !is_all_digits(word.as_bytes()) {
         return None;
     }
-    word.parse::<u32>().ok()
+    match word.parse::<u32>() {
+        Ok(number) => Some(number),
+        Err(_) => None,
+    }
 }
 
 fn is_all_digits(word: &[u8]) -> bool

@@ -11,7 +11,7 @@ loop-link-preserved c =
     let i = c.loop-link.link-index in
     let firsts = c.args.scope.now.firsts in
     let rest = drop (i + 1) links in
-    ap (λ (o : Option ℕ). first_of_arms_from o firsts rest) (c.sooner.ensures ∙ ap (sooner c.loop-link.first) c.first_of_arm.ensures)
+    ap (λ (o : Option ℕ). first_of_arms_from o firsts rest) (c.sooner-first.ensures ∙ ap (sooner c.loop-link.first) c.first_of_arm.ensures)
     ∙ ap (λ (ls : List Link). first_of_arms_from c.loop-link.first firsts ls) (sym (drop_more links i some_link c.loop-link-test.true))
     ∙ c.loop-link.invariant
 

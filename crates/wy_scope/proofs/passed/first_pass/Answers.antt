@@ -15,3 +15,23 @@ returns-in-Statement c = λ p rs call are is.
     subst (λ q. IsFirstBelow (passes_at p rs call q) (length rs) c.first_of_arms.result) (sym c.in-Statement.is)
     (subst (IsFirstBelow (passes_at p rs call (point.Statement n)) (length rs)) (sym c.first_of_arms.ensures)
     (same_test _ _ (length rs) (first_of_arms c.args.scope.now.firsts links) (statement_taken p rs call n links into) (first_of_some rs call c.args.scope.now.firsts is.firsts links)))
+
+pub returns-in-Start : goal.returns-in-Start
+returns-in-Start c = λ p rs call are is.
+    subst (IsFirstBelow (passes_at p rs call c.args.region) (length rs)) (sym c.first.ensures) (itself_first p rs call c.args.scope.now.firsts is.firsts c.args.region c.in-Start.is)
+
+pub returns-in-Start-2 : goal.returns-in-Start-2
+returns-in-Start-2 c = λ p rs call are is.
+    subst (IsFirstBelow (passes_at p rs call c.args.region) (length rs)) (sym c.first.ensures) (itself_first p rs call c.args.scope.now.firsts is.firsts c.args.region c.in-Start.is)
+
+pub returns-in-Start-3 : goal.returns-in-Start-3
+returns-in-Start-3 c = λ p rs call are is.
+    subst (IsFirstBelow (passes_at p rs call c.args.region) (length rs)) (sym c.first.ensures) (itself_first p rs call c.args.scope.now.firsts is.firsts c.args.region c.in-Start.is)
+
+pub returns-in-Start-4 : goal.returns-in-Start-4
+returns-in-Start-4 c = λ p rs call are is.
+    subst (IsFirstBelow (passes_at p rs call c.args.region) (length rs)) (sym c.first.ensures) (itself_first p rs call c.args.scope.now.firsts is.firsts c.args.region c.in-Start.is)
+
+pub returns-in-Start-5 : goal.returns-in-Start-5
+returns-in-Start-5 c = λ p rs call are is.
+    subst (IsFirstBelow (passes_at p rs call c.args.region) (length rs)) (sym c.first.ensures) (itself_first p rs call c.args.scope.now.firsts is.firsts c.args.region c.in-Start.is)

@@ -2,13 +2,11 @@ use Rattle.std.proofs.Common.{◌≡◌, ℕ, ◌<◌, ◌≤◌, length, true, 
 use Rattle.std.specs.Str.{all_ascii_digits}
 use Rattle.std.specs.Str.Parse.{digits_value, ParsesUnsigned}
 use Rattle.std.specs.Result.{OkIff}
-use Rattle.std.proofs.lemmas.Str.Parse.{IsNumeralModel, numerals_by_value, tells_all_ascii_digits, parse_digits, digits_value_short}
+use Rattle.std.proofs.lemmas.Str.Parse.{parse_digits, digits_value_short}
 use Rattle.wy_words.specs.Words.{number_up_to}
+use Rattle.wy_words.proofs.Digits.{own, read_ok}
 use Rattle.wy_words.proofs.number.number.Goals as goal
 use Rattle.wy_words.proofs.number.number.Goals.{then-word-gt-MOST_DIGITS-via-then-word-gt-MOST_DIGITS, then-word-gt-MOST_DIGITS-via-else-word-gt-MOST_DIGITS+then-not-is_all_digits}
-
-own : IsNumeralModel (λ ds. all_ascii_digits ds ≡ true) (digits_value 10)
-own = numerals_by_value _ tells_all_ascii_digits
 
 no_digits : (most : ℕ) (word : List ℕ) → all_ascii_digits word ≡ false → None ≡ number_up_to most word
 unfolding number_up_to
@@ -30,13 +28,7 @@ within : (most : ℕ) (word : List ℕ) → all_ascii_digits word ≡ true → l
 unfolding number_up_to
 within most word digits short low high = grind (arith, digits, short, low, high)
 
--- a text of digits that is read has its value
-read_ok : {E : Type 0} (word : List ℕ) (r : Result ℕ E) (n : ℕ) → r ≡ Ok n → all_ascii_digits word ≡ true → ParsesUnsigned 32 10 word r → n ≡ digits_value 10 word
-read_ok {E} word r n is digits parses =
-    let Read : Result ℕ E → Type 0 = λ z. OkIff z ((0 < length word) × (digits_value 10 word < 2 ^ 32)) (digits_value 10 word) in
-    (subst Read is (parse_digits own 32 word r parses digits)).1
-
--- and a short one that isn't read is empty
+-- a short text of digits that isn't read is empty
 read_err : {E : Type 0} (most : ℕ) (word : List ℕ) (r : Result ℕ E) (e : E) → r ≡ Err e → all_ascii_digits word ≡ true → length word ≤ 8 → ParsesUnsigned 32 10 word r → None ≡ number_up_to most word
 read_err most [] r e is digits short parses = too_small most [] (omega arith)
 read_err {E} most (b ∷ bs) r e is digits short parses =
