@@ -143,10 +143,10 @@ any_lack held name error.NoMemory before after answer gives same tells = absurd 
 
 pub lack_caused : (e : FileError) (before after : ShelfCounts) (answer : Answer) → MatchBool (is_absent e) (Rose before.misses after.misses) (after.misses ≡ before.misses) →
     MatchBool (is_too_long e) (Rose before.fulls after.fulls) (after.fulls ≡ before.fulls) → Tells e answer → HasCause before after answer
-pub lack_caused (error.Absent lacking) before after answer absent long tells = record { absent = λ is. absent; too_long = λ is. absurd (let x = sym tells.0 ∙ is in cc); command = λ is. (let x = sym tells.0 ∙ is in cc) }
-pub lack_caused (error.TooLong lacking) before after answer absent long tells = record { absent = λ is. absurd (let x = sym tells.0 ∙ is in cc); too_long = λ is. long; command = λ is. (let x = sym tells.0 ∙ is in cc) }
-pub lack_caused error.Fault before after answer absent long tells = record { absent = λ is. absurd (let x = sym tells.0 ∙ is in cc); too_long = λ is. absurd (let x = sym tells.0 ∙ is in cc); command = λ is. (let x = sym tells.0 ∙ is in cc) }
-pub lack_caused error.NoMemory before after answer absent long tells = absurd tells
+lack_caused (error.Absent lacking) before after answer absent long tells = record { absent = λ is. absent; too_long = λ is. absurd (let x = sym tells.0 ∙ is in cc); command = λ is. (let x = sym tells.0 ∙ is in cc) }
+lack_caused (error.TooLong lacking) before after answer absent long tells = record { absent = λ is. absurd (let x = sym tells.0 ∙ is in cc); too_long = λ is. long; command = λ is. (let x = sym tells.0 ∙ is in cc) }
+lack_caused error.Fault before after answer absent long tells = record { absent = λ is. absurd (let x = sym tells.0 ∙ is in cc); too_long = λ is. absurd (let x = sym tells.0 ∙ is in cc); command = λ is. (let x = sym tells.0 ∙ is in cc) }
+lack_caused error.NoMemory before after answer absent long tells = absurd tells
 
 pub lacking_file : (held : Option Files) (name : List ℕ) (e : FileError) (before after : ShelfCounts) (answer : Answer) → GivesFile held name trace_limit (Err e) →
     MatchBool (is_fault e) (Rose before.faults after.faults) (after.faults ≡ before.faults) → MatchBool (is_absent e) (Rose before.misses after.misses) (after.misses ≡ before.misses) →

@@ -1,29 +1,48 @@
 -- What is answered from a trace that is looked at where it stays.
 use Rattle.std.proofs.Common.{◌≡◌, ◌⊎◌, ◌∙◌, sym, ap, subst, refl, inl, inr, ℕ, ◌+◌, ◌≤◌, ◌<◌, true, false, List, [], ◌++◌, length, map, take, drop, take-append-drop, Option, Some, None, Result, Ok, Err, IfOk, IfSome, Vec, Global, arith}
-use Rattle.std.specs.Prelude.{MatchBool, option_map, nat_le}
+use Rattle.std.specs.Prelude.{MatchBool, option_map, nat_le, string_bytes}
 use Rattle.std.specs.Borrow.{Bor}
 use Rattle.std.specs.declared.alloc.AllocError.{AllocError}
 use Rattle.std.proofs.lemmas.Bool.{leb-false, leb-true}
+use Rattle.std.specs.Option.{unwrap_or}
 use Rattle.wy_kernel.specs.Limits.{trace_limit}
+use Rattle.wy_kernel.specs.declared.program.Program.{Program}
+use Rattle.wy_event.specs.declared.record.Tail.{Tail}
+use Rattle.wy_fitting.specs.Fits.{EndFits}
+use Rattle.wy_frames.specs.Traces.{ReadsAs}
+use Rattle.wy_frames.specs.declared.error.TraceError.{TraceError}
+use Rattle.wy_frames.specs.declared.error.TraceError.TheVariants as trace
+use Rattle.law_reading.specs.Spelled.{TracesAreSpelled}
+use Rattle.wy_page.specs.Opening.{IsOpened, OpenCounts, Opens, OpensAs}
+use Rattle.wy_page.specs.declared.error.PageError.{PageError}
+use Rattle.wy_page.specs.declared.error.PageError.TheVariants as page
+use Rattle.wy_reply.specs.ByRun.{TellingsAreByRuns}
+use Rattle.wy_reply.proofs.Seals.{sealed_end}
 use Rattle.wy_outside.specs.Counts.{Rose}
 use Rattle.wy_outside.specs.Shelf.{Files, Reaches, ReadsFile, ReadsPart, LacksWhenAbsent, is_absent as is_missing, is_failed}
 use Rattle.wy_outside.specs.declared.shelf.ShelfError.{ShelfError}
 use Rattle.wy_outside.specs.declared.shelf.ShelfError.TheVariants as shelf
-use Rattle.wy_view.specs.View.{Lender}
+use Rattle.wy_view.specs.View.{KeepsCounts, RefusedFor, Told}
 use Rattle.wy_view.specs.declared.view.ViewError.{ViewError}
 use Rattle.wy_view.specs.declared.view.ViewError.TheVariants as view
 use Rattle.wy_reply.specs.declared.answer.Answer.{Answer}
 use Rattle.wy_reply.specs.declared.status.Status.TheVariants as status
 use Rattle.wy_reply.specs.Statuses.{code_of, is_of_files}
-use Rattle.wy_reply.specs.Tellings.{Wanted}
+use Rattle.wy_event.specs.declared.record.Cover.{Cover}
+use Rattle.wy_event.specs.declared.record.Trace.{Trace}
+use Rattle.wy_page.specs.declared.pages.Pages.{Pages}
+use Rattle.wy_page.specs.Paged.{records_of, records_told}
+use Rattle.wy_reply.specs.Opening.{IsDecoded, IsViewOf}
+use Rattle.wy_reply.specs.Tellings as tellings
+use Rattle.wy_reply.specs.Tellings.{DueUnder, IsTraceLine, RefusesTrace, Wanted}
 use Rattle.wy_top.specs.declared.files.FileError.{FileError}
 use Rattle.wy_top.specs.declared.files.FileError.TheVariants as error
-use Rattle.wy_top.specs.Answers.{counts}
+use Rattle.wy_top.specs.Answers.{Counts, counts}
 use Rattle.wy_top.specs.Due.{DueForTrace}
 use Rattle.wy_top.specs.Held.{Holds, absent, too_long}
-use Rattle.wy_top.specs.Paging.{AnswersFrom, BeginsFile, GivesFirst, GivesFront, RefusesView, TellsRefusal}
+use Rattle.wy_top.specs.Paging.{AnswersFrom, ArePagesOf, BeginsFile, DueInFile, DueInPages, GivesFirst, GivesFront, IsByRun, LooksUp, RefusesView, TellsRefusal}
 use Rattle.wy_top.specs.Reads.{GivesFile, Tells, is_absent, is_fault, is_too_long, lack}
-use Rattle.wy_top.specs.Replies.{HasCause, ShelfCounts}
+use Rattle.wy_top.specs.Replies.{AnswersBy, HasCause, ShelfCounts, at_shelf}
 use Rattle.wy_top.proofs.AnswerLemmas.{DueBy, no_fault, trace_lack}
 use Rattle.wy_top.proofs.Opened.{caused, lack_caused}
 
@@ -108,9 +127,9 @@ settled_from due held before after answer settled same is = record {
 pub lack_from : (held : Option Files) (name : List ℕ) (w : Wanted) (e : FileError) (before after : ShelfCounts) (answer : Answer) → GivesFile held name trace_limit (Err e)
     → MatchBool (is_fault e) (Rose before.faults after.faults) (after.faults ≡ before.faults) → MatchBool (is_absent e) (Rose before.misses after.misses) (after.misses ≡ before.misses)
     → MatchBool (is_too_long e) (Rose before.fulls after.fulls) (after.fulls ≡ before.fulls) → Tells e answer → AnswersFrom (λ files. DueForTrace files name w) held before after answer
-lack_from held name w e before after answer gives fault absent long tells = record {
-  caused = lack_caused e before after answer absent long tells;
-  is = λ n. trace_lack held name w e before.faults after.faults n (Ok answer) gives fault tells;
+lack_from held name w e before after answer gives failed missed full tells = record {
+  caused = lack_caused e before after answer missed full tells;
+  is = λ n. trace_lack held name w e before.faults after.faults n (Ok answer) gives failed tells;
 }
 
 -- where a view refused
@@ -133,15 +152,122 @@ view_from due held before after name view.NoMemory answer refuses tells = absurd
 
 pub mapped_from : (due for : DueBy) (held : Option Files) (before after : ShelfCounts) (r : Result Answer AllocError) → ((files : Files) → held ≡ Some files → (s : ℕ) (x : List ℕ) → due files s x → for files s x) → IfOk r (AnswersFrom due held before after) → IfOk r (AnswersFrom for held before after)
 mapped_from due for held before after (Ok answer) more from = record { caused = from.caused; is = λ n. by n (from.is n) } where
-  by : (n : ℕ) → _ → _
-  by n (inl fault) = inl fault
+  by : (n : ℕ) → AnswersBy due held (counts before.faults n) (counts after.faults n) answer → AnswersBy for held (counts before.faults n) (counts after.faults n) answer
+  by n (inl failed) = inl failed
   by n (inr (same, named, is)) = inr (same, named, λ files told. more files told (code_of answer.status) answer.text.items (is files told))
 mapped_from due for held before after (Err e) more from = tt
 
 pub moved_from : (due : DueBy) (held now : Option Files) (before middle after : ShelfCounts) (r : Result Answer AllocError) → now ≡ held → middle ≡ before → IfOk r (AnswersFrom due now middle after) → IfOk r (AnswersFrom due held before after)
 moved_from due held now before middle after r same counted from = subst (λ (h : Option Files). IfOk r (AnswersFrom due h before after)) same (subst (λ (b : ShelfCounts). IfOk r (AnswersFrom due now b after)) counted from)
 
--- ---- the lender of a view
+-- ---- through a view
 
-pub same_lender : (a b : Lender) → Some a ≡ Some b → (a.name ≡ b.name) × (a.holds ≡ b.holds)
-same_lender a b same = let one : a ≡ b = some_is same in (ap (λ (l : Lender). l.name) one, ap (λ (l : Lender). l.holds) one)
+refused_in : (e : ViewError) (old new : Told) (after : ShelfCounts) (fulls : ℕ) → after.faults ≡ new.faults → after.misses ≡ new.misses → RefusedFor e old new → RefusesView (old.records ≡ None) e (at_shelf old.faults old.misses fulls) after
+refused_in view.ReadFault old new after fulls faults misses rose = subst (Rose old.faults) (sym faults) rose
+refused_in view.Gone old new after fulls faults misses (rose, same, untold) = (subst (Rose old.misses) (sym misses) rose, faults ∙ same, untold)
+refused_in (view.Changed block kept found) old new after fulls faults misses (rose, differ, same, untold) = (faults ∙ same, untold)
+refused_in view.NoMemory old new after fulls faults misses same = tt
+
+-- what a view counts is what its shelf counts
+pub looked_up : {X : Type 0} (r : Result X ViewError) (old new : Told) (after : ShelfCounts) (fulls : ℕ) → after.faults ≡ new.faults → after.misses ≡ new.misses → KeepsCounts r old new → LooksUp (old.records ≡ None) r (at_shelf old.faults old.misses fulls) after
+looked_up (Ok x) old new after fulls faults misses same = faults ∙ same
+looked_up (Err e) old new after fulls faults misses refused = refused_in e old new after fulls faults misses refused
+
+-- where files are told, so are the records
+pub untold_all : (due : DueBy) (pages : Pages) (held : Option Files) → records_told pages held ≡ None → (files : Files) → held ≡ Some files → (s : ℕ) (x : List ℕ) → due files s x
+untold_all due pages held untold files told s x = absurd (let x = sym (ap (records_told pages) told) ∙ untold in cc)
+
+pub refusal_from : (due : DueBy) (pages : Pages) (held : Option Files) (e : ViewError) (before after : ShelfCounts) → RefusesView (records_told pages held ≡ None) e before after → RefusesView ((files : Files) → held ≡ Some files → (s : ℕ) (x : List ℕ) → due files s x) e before after
+refusal_from due pages held view.ReadFault before after rose = rose
+refusal_from due pages held view.Gone before after (rose, same, untold) = (rose, same, untold_all due pages held untold)
+refusal_from due pages held (view.Changed block kept found) before after (same, untold) = (same, untold_all due pages held untold)
+refusal_from due pages held view.NoMemory before after u = tt
+
+-- an answer that is refused for a view's refusal
+pub refused_from : (due : DueBy) (pages : Pages) (held : Option Files) (before after : ShelfCounts) (name : List ℕ) (e : ViewError) (r : Result Answer AllocError) → RefusesView (records_told pages held ≡ None) e before after → IfOk r (TellsRefusal name e) → IfOk r (AnswersFrom due held before after)
+refused_from due pages held before after name e (Ok answer) refuses tells = view_from due held before after name e answer (refusal_from due pages held e before after refuses) tells
+refused_from due pages held before after name e (Err x) refuses tells = tt
+
+-- the records of pages that a view tells
+pub view_of : (t : Trace) (pages : Pages) (listed : List Cover) (files : Files) (held : Option Files) (told : Told) → held ≡ Some files → told.records ≡ records_told pages held → ArePagesOf t pages listed files → IsViewOf t told listed
+view_of t pages listed files held told is shown are = record { records = shown ∙ ap (records_told pages) is ∙ are.records; covers = are.covers }
+
+-- what is due where an answer is done
+settled_due : (due : DueBy) (held : Option Files) (before after : Counts) (answer : Answer) → answer.status ≡ status.Done → AnswersBy due held before after answer → (files : Files) → held ≡ Some files → due files 0 answer.text.items
+settled_due due held before after answer done (inl fault) files told = absurd (let x = sym fault.0 ∙ done in cc)
+settled_due due held before after answer done (inr (same, named, is)) files told = subst (λ n. due files n answer.text.items) (ap code_of done) (is files told)
+
+-- ---- a trace that was opened
+
+open_at : (held : Option Files) (name : List ℕ) (p : Program) (r : Result (Pages × Tail) PageError) → Opens held name p r → (files : Files) → held ≡ Some files → (bytes : List ℕ) → files name ≡ Some bytes → OpensAs r p bytes
+open_at None name p r opens files told = absurd (cc)
+open_at (Some shelf) name p r opens files told = λ bytes found. let same : shelf ≡ files = some_is told in opens bytes (ap (λ (f : Files). f name) same ∙ found)
+
+decoded : (p : Program) (pages : Pages) (tail : Tail) (bytes : List ℕ) (o : IsOpened pages tail p bytes) → length bytes ≤ trace_limit → IsDecoded p bytes o.trace
+decoded p pages tail bytes o short = record { are_bytes = o.are_bytes; short = short; reads = o.read }
+
+-- what is kept is of the trace that the bytes of the file are read as
+pages_of : TracesAreSpelled → (p : Program) (pages : Pages) (tail : Tail) (files : Files) (name bytes : List ℕ) (o : IsOpened pages tail p bytes) → string_bytes pages.name ≡ name → Holds files name trace_limit bytes → ArePagesOf o.trace pages tail.coverage.statements files
+pages_of spelled p pages tail files name bytes o named holds =
+    let file : files (string_bytes pages.name) ≡ Some bytes = ap files named ∙ holds.found in
+    record {
+      records = ap (λ f. Some (records_of pages.starts pages.count (unwrap_or f []))) file ∙ ap Some o.records_are;
+      covers = ap (λ (x : Tail). x.coverage.statements) o.tail_is;
+      seal = sym o.seal_is.1 ∙ (sealed_end spelled p bytes o.trace (decoded p pages tail bytes o holds.within)).1;
+    }
+
+pub opened_due : TracesAreSpelled → (held : Option Files) (name : List ℕ) (p : Program) (w : Wanted) (pages : Pages) (tail : Tail) → Opens held name p (Ok (pages, tail)) → string_bytes pages.name ≡ name
+    → (files : Files) → held ≡ Some files → (s : ℕ) (x : List ℕ) → DueInPages p pages tail.coverage.statements w files s x → DueInFile name p w files s x
+opened_due spelled held name p w pages tail opens named files told s x due = λ bytes holds.
+    let o : IsOpened pages tail p bytes = open_at held name p (Ok (pages, tail)) opens files told bytes holds.found in
+    tellings.told o.trace s x o.read (due o.trace (pages_of spelled p pages tail files name bytes o named holds))
+
+-- what is told is by each run whose trace it is
+pub opened_by_run : TracesAreSpelled → TellingsAreByRuns → (held : Option Files) (name : List ℕ) (p : Program) (w : Wanted) (pages : Pages) (tail : Tail) (before after : ShelfCounts) (r : Result Answer AllocError)
+    → EndFits tail → Opens held name p (Ok (pages, tail)) → string_bytes pages.name ≡ name
+    → IfOk r (AnswersFrom (DueInPages p pages tail.coverage.statements w) held before after) → IfOk r (λ answer. answer.status ≡ status.Done → IsByRun held name p w answer.text.items)
+opened_by_run spelled by_runs held name p w pages tail before after (Err e) fits opens named from = tt
+opened_by_run spelled by_runs held name p w pages tail before after (Ok answer) fits opens named from = λ done files bytes told holds.
+    let o : IsOpened pages tail p bytes = open_at held name p (Ok (pages, tail)) opens files told bytes holds.found in
+    let laws = by_runs p bytes o.trace (decoded p pages tail bytes o holds.within) (subst EndFits o.tail_is fits) in
+    let due = settled_due (DueInPages p pages tail.coverage.statements w) held _ _ answer done (from.is 0) files told o.trace (pages_of spelled p pages tail files name bytes o named holds) in
+    (laws.0, laws.1 w answer.text.items due)
+
+-- bytes that are no trace
+pub untraced : (held : Option Files) (name : List ℕ) (p : Program) (w : Wanted) (e : TraceError) (before after : ShelfCounts) (r : Result Answer AllocError) → Opens held name p (Err (page.Trace e)) → after.faults ≡ before.faults
+    → IfOk r (λ answer. RefusesTrace e answer) → IfOk r (AnswersFrom (DueInFile name p w) held before after)
+untraced held name p w e before after (Err x) opens same refuses = tt
+untraced held name p w e before after (Ok answer) opens same (is, line) =
+    settled_from (DueInFile name p w) held before after answer (ap is_of_files is) same (λ files told bytes holds. rw (is) (refused_bytes e answer.text.items line (open_at held name p (Err (page.Trace e)) opens files told bytes holds.found))) where
+  refused_bytes : (e : TraceError) (x : List ℕ) → IsTraceLine e x → {bytes : List ℕ} → ReadsAs (Err e) p bytes → DueUnder p bytes w 5 x
+  refused_bytes (trace.Cut byte) x line reads = tellings.refused (trace.Cut byte) x reads line
+  refused_bytes (trace.Damaged byte rule) x line reads = tellings.refused (trace.Damaged byte rule) x reads line
+  refused_bytes trace.BadSeal x line reads = tellings.refused trace.BadSeal x reads line
+  refused_bytes trace.NoMemory x line reads = absurd (no_line line)
+  no_line : {x : List ℕ} → IsTraceLine trace.NoMemory x → ⊥
+  no_line line = absurd line
+
+-- a refusal of a trace is no answer
+pub not_done : (held : Option Files) (name : List ℕ) (p : Program) (w : Wanted) (e : TraceError) (r : Result Answer AllocError) → IfOk r (λ answer. RefusesTrace e answer) → IfOk r (λ answer. answer.status ≡ status.Done → IsByRun held name p w answer.text.items)
+not_done held name p w e (Err x) refuses = tt
+not_done held name p w e (Ok answer) (is, line) = λ done. absurd (let x = sym is ∙ done in cc)
+
+-- a view that could not be had
+unopened : (held : Option Files) (name : List ℕ) (p : Program) (w : Wanted) (e : ViewError) (before after : ShelfCounts) → Opens held name p (Err (page.View e)) → OpenCounts {Pages × Tail} (Err (page.View e)) before.faults after.faults before.misses after.misses
+    → RefusesView ((files : Files) → held ≡ Some files → (s : ℕ) (x : List ℕ) → DueInFile name p w files s x) e before after
+unopened held name p w view.ReadFault before after opens rose = rose
+unopened held name p w view.Gone before after opens (rose, same) = (rose, same, λ files told s x bytes holds. absurd (open_at held name p (Err (page.View view.Gone)) opens files told bytes holds.found))
+unopened held name p w (view.Changed block kept found) before after opens counts = absurd counts
+unopened held name p w view.NoMemory before after opens counts = tt
+
+pub unviewed : (held : Option Files) (name : List ℕ) (p : Program) (w : Wanted) (e : ViewError) (before after : ShelfCounts) (r : Result Answer AllocError) → Opens held name p (Err (page.View e)) → OpenCounts {Pages × Tail} (Err (page.View e)) before.faults after.faults before.misses after.misses
+    → IfOk r (TellsRefusal name e) → IfOk r (AnswersFrom (DueInFile name p w) held before after)
+unviewed held name p w e before after (Err x) opens counts tells = tt
+unviewed held name p w e before after (Ok answer) opens counts tells = view_from (DueInFile name p w) held before after name e answer (unopened held name p w e before after opens counts) tells
+
+pub refusal_not_done : (held : Option Files) (name : List ℕ) (p : Program) (w : Wanted) (e : ViewError) (r : Result Answer AllocError) → IfOk r (TellsRefusal name e) → IfOk r (λ answer. answer.status ≡ status.Done → IsByRun held name p w answer.text.items)
+refusal_not_done held name p w e (Err x) tells = tt
+refusal_not_done held name p w view.ReadFault (Ok answer) (is, line) = λ done. absurd (let x = sym is ∙ done in cc)
+refusal_not_done held name p w view.Gone (Ok answer) (is, line) = λ done. absurd (let x = sym is ∙ done in cc)
+refusal_not_done held name p w (view.Changed block kept found) (Ok answer) (is, line) = λ done. absurd (let x = sym is ∙ done in cc)
+refusal_not_done held name p w view.NoMemory (Ok answer) tells = absurd tells

@@ -69,6 +69,11 @@ RefusesView untold view.Gone before after = Rose before.misses after.misses × (
 RefusesView untold (view.Changed block kept found) before after = (after.faults ≡ before.faults) × untold
 RefusesView untold view.NoMemory before after = Unit {0}
 
+-- what was looked up was given, and the shelf did not fail; or a view refused
+abbrev pub LooksUp : {X : Type 0} → Type 0 → Result X ViewError → ShelfCounts → ShelfCounts → Type 0
+LooksUp untold (Ok x) before after = after.faults ≡ before.faults
+LooksUp untold (Err e) before after = RefusesView untold e before after
+
 -- each status that speaks of a file has its cause; and the shelf failed, or what is due by its files is answered, whatever a recorder counts
 pub record AnswersFrom (due : Files → ℕ → List ℕ → Type 0) (held : Option Files) (before after : ShelfCounts) (answer : Answer) : Type 0 where
   pub caused : HasCause before after answer

@@ -1,16 +1,19 @@
 //! What is looked up in a trace that stays on its shelf.
-ghost use Rattle.std.specs.Prelude.{◌≡◌, ◌<◌, ◌≤◌, ◌^◌, ℕ, IfOk, Ok, length};
+ghost use Rattle.std.specs.Prelude.{◌≡◌, ◌<◌, ◌≤◌, ◌^◌, ℕ, IfOk, None, Ok, Some, false, length};
 ghost use Rattle.wy_frames.specs.Heads.{head_of};
 ghost use Rattle.law_reading.specs.Spelled.{AreBytes};
 ghost use Rattle.wy_kernel.specs.Limits.{trace_limit};
 ghost use Rattle.wy_page.specs.Opening.{MayBeOpened};
-ghost use Rattle.wy_page.specs.Paged.{IsOfShelf};
+ghost use Rattle.wy_outside.specs.Shelf.{Files};
+ghost use Rattle.wy_page.specs.Paged.{IsOfShelf, records_told};
 ghost use Rattle.wy_reply.specs.declared.status.Status.TheVariants.{Done};
-ghost use Rattle.wy_reply.specs.Tellings.{inquiry_of};
+ghost use Rattle.wy_reply.specs.Statuses.{code_of, is_of_files};
+ghost use Rattle.wy_reply.specs.Tellings.{Tells, inquiry_of};
+ghost use Rattle.wy_event.specs.declared.record.Trace.{Trace};
 ghost use Rattle.wy_spelling.specs.Spelling.{opening};
 ghost use Rattle.wy_top.specs.Call.{AnswersRunOf};
 ghost use Rattle.wy_top.specs.Due.{DueForTrace};
-ghost use Rattle.wy_top.specs.Paging.{AnswersFrom, BeginsFile, DueInFile, DueInPages, IsByRun, TellsRefusal};
+ghost use Rattle.wy_top.specs.Paging.{AnswersFrom, ArePagesOf, BeginsFile, DueInFile, DueInPages, IsByRun, LooksUp, TellsRefusal};
 ghost use Rattle.wy_top.specs.Replies.{at_shelf};
 
 use crate::answer::{answer_by_reading, answer_to_lack};
@@ -48,6 +51,36 @@ fn answer_to_refusal(alloc: Global, name: &str, error: ViewError) -> Result<Answ
     }
 }
 
+/// What is looked up through a view of what is kept of a trace.
+fn look_up<S: Shelf>(
+    alloc: Global,
+    shelf: &mut S,
+    program: &Program,
+    pages: Pages,
+    tail: &Tail,
+    inquiry: Inquiry<'_>,
+) -> Result<Answer, ViewError>
+    requires fields { length program.now.fields.items < 2 ^ 32 }
+    requires fits { IsOfShelf pages (S.held shelf.old) }
+    ensures due { (t : Trace) (files : Files) → S.held shelf.old ≡ Some files
+        → ArePagesOf t pages tail.now.coverage.statements files
+        → IfOk result (λ answer. Tells program.now t (inquiry_of inquiry.entry)
+        (code_of answer.status) answer.text.items) }
+    ensures settled { IfOk result (λ answer. is_of_files answer.status ≡ false) }
+    ensures looks { LooksUp (records_told pages (S.held shelf.old) ≡ None) result
+        (at_shelf (S.faults shelf.old) (S.misses shelf.old) (S.fulls shelf.old))
+        (at_shelf (S.faults shelf.new) (S.misses shelf.new) (S.fulls shelf.new)) }
+    ensures files_stay { S.held shelf.new ≡ S.held shelf.old }
+{
+    let seal = *pages.seal();
+    let covers = tail.coverage.statements.as_slice();
+    let view = PagedView::over(shelf, pages);
+    let mut answer = None;
+    let view = answer_to_view(alloc, program, covers, view, &seal, inquiry, &mut answer);
+    view.close();
+    answer.unwrap()
+}
+
 /// The answer through a view of what is kept of the trace of a name.
 fn answer_in<S: Shelf>(
     alloc: Global,
@@ -67,12 +100,7 @@ fn answer_in<S: Shelf>(
         (at_shelf (S.faults shelf.new) (S.misses shelf.new) (S.fulls shelf.new))) }
     ensures files_stay { S.held shelf.new ≡ S.held shelf.old }
 {
-    let seal = *pages.seal();
-    let covers = tail.coverage.statements.as_slice();
-    let view = PagedView::over(shelf, pages);
-    let (view, answer) = answer_to_view(alloc, program, covers, view, &seal, inquiry);
-    view.close();
-    match answer {
+    match look_up(alloc, shelf, program, pages, tail, inquiry) {
         Ok(answer) => Ok(answer),
         Err(error) => answer_to_refusal(alloc, name, error),
     }

@@ -1,11 +1,14 @@
--- What a view of the pages tells is told, and the shelf comes back from the view as it is.
-use Rattle.std.proofs.Common.{rules, ◌≡◌, ◌∙◌}
-use Rattle.wy_top.proofs.Paging.{same_lender}
+use Rattle.std.proofs.Common.{ap}
+use Rattle.wy_top.specs.Paging.{DueInPages}
+use Rattle.wy_reply.specs.Tellings.{inquiry_of}
+use Rattle.wy_top.proofs.Paging.{refused_from, settled_from}
 use Rattle.wy_top.proofs.paged.answer_in.Goals as goal
 
-pub returns-in-Ok-clause-files_stay : goal.returns-in-Ok-clause-files_stay
-returns-in-Ok-clause-files_stay g c =
-    let same = same_lender _ _ c.answer_to_view-view.ensures.keeps.lender in
-    let name = same.0 in
-    let holds = same.1 in
-    search (rules, name, holds, c.over-view.ensures.shelf, c.over-view.ensures.same_reference, c.close.ensures)
+pub returns-in-Ok-clause-answers : goal.returns-in-Ok-clause-answers
+returns-in-Ok-clause-answers g c =
+    settled_from (DueInPages c.args.program.now c.args.pages c.args.tail.now.coverage.statements (inquiry_of c.args.inquiry)) (g.S.Shelf.held c.args.shelf.now) _ _ c.in-Ok.answer c.in-Ok.ensures.settled c.in-Ok.ensures.looks
+    (λ files told t are. c.in-Ok.ensures.due t files told are)
+
+pub returns-in-Err-clause-answers : goal.returns-in-Err-clause-answers
+returns-in-Err-clause-answers g c =
+    refused_from (DueInPages c.args.program.now c.args.pages c.args.tail.now.coverage.statements (inquiry_of c.args.inquiry)) c.args.pages (g.S.Shelf.held c.args.shelf.now) _ _ c.args.name.now c.in-Err.error c.answer_to_refusal.result c.in-Err.ensures.looks c.answer_to_refusal.ensures
