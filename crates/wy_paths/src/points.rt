@@ -11,12 +11,7 @@ use std::alloc::{AllocError, Global};
 use wy_static::point::{Link, Point};
 
 /// The ends of links, the start and the goal, as they come.
-fn ends(
-    alloc: Global,
-    links: &[Link],
-    start: Point,
-    goal: Point,
-) -> Result<Vec<Point>, AllocError>
+fn ends(alloc: Global, links: &[Link], start: Point, goal: Point) -> Result<Vec<Point>, AllocError>
     ensures { IfOk result (λ points. HasEnds links.now start goal points.items) }
 {
     let mut points = Vec::new(alloc);

@@ -22,7 +22,9 @@ use wy_ask::Opened;
 use wy_event::record::Cover;
 use wy_index::Index;
 use wy_kernel::program::Program;
-use wy_telling::{Unanswered, Unscoped, Untold, affects_text, questions_text, scope_text, why_text, whynot_text};
+use wy_telling::{
+    Unanswered, Unscoped, Untold, affects_text, questions_text, scope_text, why_text, whynot_text,
+};
 use wy_view::{EventView, Steps, ViewError};
 
 /// The answer to a question: what is told of its event, or why nothing is.
@@ -235,8 +237,9 @@ pub fn answer_to_view<V: EventView>(
     ensures answers { IfSome answer.new (λ r. KeepsCounts r (V.tells view) (V.tells result)) }
 {
     let blank = Blank::new(1);
-    let (view, found) =
-        answer_indexed::<V, Brand>(alloc, program, coverage, view, seal, inquiry, blank);
+    let (view, found) = answer_indexed::<V, Brand>(
+        alloc, program, coverage, view, seal, inquiry, blank,
+    );
     *answer = Some(found);
     view
 }

@@ -42,12 +42,7 @@ fn tests_of(alloc: Global, hits: &[Hit], link: &Link) -> Result<Vec<u32>, AllocE
 }
 
 /// The methods that were called there, where a link calls one.
-fn made_of(
-    alloc: Global,
-    hits: &[Hit],
-    link: &Link,
-    body: u32,
-) -> Result<Vec<Made>, AllocError>
+fn made_of(alloc: Global, hits: &[Hit], link: &Link, body: u32) -> Result<Vec<Made>, AllocError>
     ensures { IfOk result (λ made. made.items ≡ made_of hits.now link.now body) }
 {
     if !calls_method(link) {

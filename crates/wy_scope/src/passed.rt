@@ -55,11 +55,8 @@ pub(crate) fn first_pass(scope: &Scope, links: &Links, region: Point) -> Option<
 {
     match region {
         Point::Statement(_) => first_of_arms(scope, links.into(region)),
-        Point::Start
-        | Point::Entry(_)
-        | Point::Init(_)
-        | Point::Arm { .. }
-        | Point::Catch(_) => scope.first(region),
+        Point::Start | Point::Entry(_) | Point::Init(_) | Point::Arm { .. } | Point::Catch(_) =>
+            scope.first(region),
     }
 }
 

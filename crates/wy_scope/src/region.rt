@@ -104,11 +104,7 @@ fn put_arm(out: &mut Vec<Located>, arm: &Option<Box<Stmt>>) -> Result<(), AllocE
 }
 
 #[cycle(regions)]
-fn put_other(
-    out: &mut Vec<Located>,
-    region: Point,
-    s: &Option<Box<Stmt>>,
-) -> Result<(), AllocError>
+fn put_other(out: &mut Vec<Located>, region: Point, s: &Option<Box<Stmt>>) -> Result<(), AllocError>
     ensures { OnOk result (out.new.items
         ≡ out.old.items ++ regions_of_other region (other s.now)) }
 {
@@ -142,11 +138,7 @@ fn put_clauses(out: &mut Vec<Located>, clauses: &[Catch]) -> Result<(), AllocErr
 
 // ---- the program
 
-fn put_in_body(
-    out: &mut Vec<Located>,
-    region: Point,
-    body: Option<&Body>,
-) -> Result<(), AllocError>
+fn put_in_body(out: &mut Vec<Located>, region: Point, body: Option<&Body>) -> Result<(), AllocError>
     ensures { OnOk result (out.new.items ≡ out.old.items
         ++ regions_of_body region (option_map (λ b. body_of b.now) body.entry)) }
 {

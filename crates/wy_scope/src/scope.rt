@@ -46,11 +46,7 @@ fn keep_first(
 }
 
 /// Keeps an event under the point that it passes.
-fn note(
-    firsts: &mut BTreeMap<(u8, u32, u32), u32>,
-    event: &Event,
-    n: u32,
-) -> Result<(), AllocError>
+fn note(firsts: &mut BTreeMap<(u8, u32, u32), u32>, event: &Event, n: u32) -> Result<(), AllocError>
     ensures { OnOk result ((q : AnyPoint)
         → first_at firsts.new q ≡ option_or (first_at firsts.old q) (noted (comes_at q (recorded event.now)) n)) }
 {

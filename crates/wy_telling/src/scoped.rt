@@ -175,11 +175,7 @@ fn put_each(
 
 /// A line an item, or that no call leads to the statement where there are none.
 #[tactic(auto, unfolding(crate::specs::Scoped::items_text_in, crate::specs::Items::no_call_line))]
-fn items_text(
-    alloc: Global,
-    program: &Program,
-    items: &[ScopeItem],
-) -> Result<Vec<u8>, AllocError>
+fn items_text(alloc: Global, program: &Program, items: &[ScopeItem]) -> Result<Vec<u8>, AllocError>
     ensures { IfOk result (λ text. text.items ≡ items_text_in (program_of program.now)
         program.now.lines.items (map evidence_in items.now)) }
 {
