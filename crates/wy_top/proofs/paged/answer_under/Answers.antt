@@ -28,13 +28,18 @@ returns-in-Ok-clause-by_run g c =
     opened_by_run c.traces_are_spelled.ensures c.tellings_are_by_runs.ensures held c.args.name.now p w pages tail _ _ c.answer_in.result c.end_fits.ensures c.in-Ok.ensures.trace c.in-Ok.ensures.named moved
 
 pub returns-in-Err-Trace-clause-answers : goal.returns-in-Err-Trace-clause-answers
-returns-in-Err-Trace-clause-answers g c = ?
+returns-in-Err-Trace-clause-answers g c =
+    let counts = rw (c.in-Err-Trace.field-0-is) at c.in-Err-Trace.ensures.counts in
+    untraced (g.S.Shelf.held c.args.shelf.now) c.args.name.now c.args.program.now (inquiry_of c.args.inquiry) c.in-Err-Trace.error _ _ c.answer_to_trace_error.result (rw (c.in-Err-Trace.field-0-is) at c.in-Err-Trace.ensures.trace) counts.0 c.answer_to_trace_error.ensures
 
 pub returns-in-Err-Trace-clause-by_run : goal.returns-in-Err-Trace-clause-by_run
-returns-in-Err-Trace-clause-by_run g c = ?
+returns-in-Err-Trace-clause-by_run g c =
+    not_done (g.S.Shelf.held c.args.shelf.now) c.args.name.now c.args.program.now (inquiry_of c.args.inquiry) c.in-Err-Trace.error c.answer_to_trace_error.result c.answer_to_trace_error.ensures
 
 pub returns-in-Err-View-clause-answers : goal.returns-in-Err-View-clause-answers
-returns-in-Err-View-clause-answers g c = ?
+returns-in-Err-View-clause-answers g c =
+    unviewed (g.S.Shelf.held c.args.shelf.now) c.args.name.now c.args.program.now (inquiry_of c.args.inquiry) c.in-Err-View.error _ _ c.answer_to_refusal.result (rw (c.in-Err-View.field-0-is) at c.in-Err-View.ensures.trace) (rw (c.in-Err-View.field-0-is) at c.in-Err-View.ensures.counts) c.answer_to_refusal.ensures
 
 pub returns-in-Err-View-clause-by_run : goal.returns-in-Err-View-clause-by_run
-returns-in-Err-View-clause-by_run g c = ?
+returns-in-Err-View-clause-by_run g c =
+    refusal_not_done (g.S.Shelf.held c.args.shelf.now) c.args.name.now c.args.program.now (inquiry_of c.args.inquiry) c.in-Err-View.error c.answer_to_refusal.result c.answer_to_refusal.ensures
