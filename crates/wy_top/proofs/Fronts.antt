@@ -78,8 +78,8 @@ front_refused held name front head w e before (Ok answer) f file cause (is, line
     let there = file_at held name front file files told in
     let bytes : List ℕ = front ++ there.0 in
     let read = (begins front head f there.0 there.1.within).read in
-    let said : DueForBytes bytes w 5 (of_trace no.0) = due.no_program head (length (opening head)) no.0 read no.1.0 in
-    rw (is, no.1.1) (due.read bytes 5 (of_trace no.0) there.1 said))
+    let said : DueForBytes bytes w 5 (of_trace no.0) = due.no_program head (length (opening head)) no.0 read no.1 in
+    rw (is, no.2) (due.read bytes 5 (of_trace no.0) there.1 said))
 
 -- ---- by a run
 
