@@ -272,3 +272,23 @@ refusal_not_done held name p w view.ReadFault (Ok answer) (is, line) = λ done. 
 refusal_not_done held name p w view.Gone (Ok answer) (is, line) = λ done. absurd (let x = sym is ∙ done in cc)
 refusal_not_done held name p w (view.Changed block kept found) (Ok answer) (is, line) = λ done. absurd (let x = sym is ∙ done in cc)
 refusal_not_done held name p w view.NoMemory (Ok answer) tells = absurd tells
+
+-- ---- an answer by its clauses
+
+pub lacks_from : (held : Option Files) (name : List ℕ) (w : Wanted) (e : FileError) (before after : ShelfCounts) (r : Result Answer AllocError) → GivesFile held name trace_limit (Err e)
+    → MatchBool (is_fault e) (Rose before.faults after.faults) (after.faults ≡ before.faults) → MatchBool (is_absent e) (Rose before.misses after.misses) (after.misses ≡ before.misses)
+    → MatchBool (is_too_long e) (Rose before.fulls after.fulls) (after.fulls ≡ before.fulls) → IfOk r (λ answer. Tells e answer) → IfOk r (AnswersFrom (λ files. DueForTrace files name w) held before after)
+lacks_from held name w e before after (Ok answer) gives failed missed full tells = lack_from held name w e before after answer gives failed missed full tells
+lacks_from held name w e before after (Err x) gives failed missed full tells = tt
+
+pub from_clauses : (due : DueBy) (held : Option Files) (before after : ShelfCounts) (r : Result Answer AllocError) → ((n : ℕ) → IfOk r (AnswersBy due held (counts before.faults n) (counts after.faults n))) → IfOk r (HasCause before after) → IfOk r (AnswersFrom due held before after)
+from_clauses due held before after (Ok answer) is caused = record { caused = caused; is = is }
+from_clauses due held before after (Err x) is caused = tt
+
+pub clause_due : (due : DueBy) (held : Option Files) (before after : ShelfCounts) (r : Result Answer AllocError) → IfOk r (AnswersFrom due held before after) → (n : ℕ) → IfOk r (AnswersBy due held (counts before.faults n) (counts after.faults n))
+clause_due due held before after (Ok answer) from n = from.is n
+clause_due due held before after (Err x) from n = tt
+
+pub clause_causes : (due : DueBy) (held : Option Files) (before after : ShelfCounts) (r : Result Answer AllocError) → IfOk r (AnswersFrom due held before after) → IfOk r (HasCause before after)
+clause_causes due held before after (Ok answer) from = from.caused
+clause_causes due held before after (Err x) from = tt
