@@ -15,3 +15,4 @@ mod OwnTraces
 mod Certified
 mod Sound
 pub mod Paging
+pub mod Fronts

@@ -160,6 +160,9 @@ mapped_from due for held before after (Err e) more from = tt
 pub moved_from : (due : DueBy) (held now : Option Files) (before middle after : ShelfCounts) (r : Result Answer AllocError) → now ≡ held → middle ≡ before → IfOk r (AnswersFrom due now middle after) → IfOk r (AnswersFrom due held before after)
 moved_from due held now before middle after r same counted from = subst (λ (h : Option Files). IfOk r (AnswersFrom due h before after)) same (subst (λ (b : ShelfCounts). IfOk r (AnswersFrom due now b after)) counted from)
 
+pub same_counts : (a b c x y z : ℕ) → a ≡ x → b ≡ y → c ≡ z → at_shelf a b c ≡ at_shelf x y z
+same_counts a b c x y z first second third = rw (first, second, third) refl
+
 -- ---- through a view
 
 refused_in : (e : ViewError) (old new : Told) (after : ShelfCounts) (fulls : ℕ) → after.faults ≡ new.faults → after.misses ≡ new.misses → RefusedFor e old new → RefusesView (old.records ≡ None) e (at_shelf old.faults old.misses fulls) after
@@ -234,18 +237,16 @@ opened_by_run spelled by_runs held name p w pages tail before after (Ok answer) 
     (laws.0, laws.1 w answer.text.items due)
 
 -- bytes that are no trace
+refused_bytes : (p : Program) (bytes : List ℕ) (w : Wanted) (e : TraceError) (x : List ℕ) → IsTraceLine e x → ReadsAs (Err e) p bytes → DueUnder p bytes w 5 x
+refused_bytes p bytes w _ _ (tellings.cut byte) reads = tellings.refused (trace.Cut byte) _ reads (tellings.cut byte)
+refused_bytes p bytes w _ _ (tellings.damaged byte rule) reads = tellings.refused (trace.Damaged byte rule) _ reads (tellings.damaged byte rule)
+refused_bytes p bytes w _ _ tellings.bad_seal reads = tellings.refused trace.BadSeal _ reads tellings.bad_seal
+
 pub untraced : (held : Option Files) (name : List ℕ) (p : Program) (w : Wanted) (e : TraceError) (before after : ShelfCounts) (r : Result Answer AllocError) → Opens held name p (Err (page.Trace e)) → after.faults ≡ before.faults
     → IfOk r (λ answer. RefusesTrace e answer) → IfOk r (AnswersFrom (DueInFile name p w) held before after)
 untraced held name p w e before after (Err x) opens same refuses = tt
 untraced held name p w e before after (Ok answer) opens same (is, line) =
-    settled_from (DueInFile name p w) held before after answer (ap is_of_files is) same (λ files told bytes holds. rw (is) (refused_bytes e answer.text.items line (open_at held name p (Err (page.Trace e)) opens files told bytes holds.found))) where
-  refused_bytes : (e : TraceError) (x : List ℕ) → IsTraceLine e x → {bytes : List ℕ} → ReadsAs (Err e) p bytes → DueUnder p bytes w 5 x
-  refused_bytes (trace.Cut byte) x line reads = tellings.refused (trace.Cut byte) x reads line
-  refused_bytes (trace.Damaged byte rule) x line reads = tellings.refused (trace.Damaged byte rule) x reads line
-  refused_bytes trace.BadSeal x line reads = tellings.refused trace.BadSeal x reads line
-  refused_bytes trace.NoMemory x line reads = absurd (no_line line)
-  no_line : {x : List ℕ} → IsTraceLine trace.NoMemory x → ⊥
-  no_line line = absurd line
+    settled_from (DueInFile name p w) held before after answer (ap is_of_files is) same (λ files told bytes holds. rw (is) (refused_bytes p bytes w e answer.text.items line (open_at held name p (Err (page.Trace e)) opens files told bytes holds.found)))
 
 -- a refusal of a trace is no answer
 pub not_done : (held : Option Files) (name : List ℕ) (p : Program) (w : Wanted) (e : TraceError) (r : Result Answer AllocError) → IfOk r (λ answer. RefusesTrace e answer) → IfOk r (λ answer. answer.status ≡ status.Done → IsByRun held name p w answer.text.items)
@@ -253,14 +254,14 @@ not_done held name p w e (Err x) refuses = tt
 not_done held name p w e (Ok answer) (is, line) = λ done. absurd (let x = sym is ∙ done in cc)
 
 -- a view that could not be had
-unopened : (held : Option Files) (name : List ℕ) (p : Program) (w : Wanted) (e : ViewError) (before after : ShelfCounts) → Opens held name p (Err (page.View e)) → OpenCounts {Pages × Tail} (Err (page.View e)) before.faults after.faults before.misses after.misses
+unopened : (held : Option Files) (name : List ℕ) (p : Program) (w : Wanted) (e : ViewError) (before after : ShelfCounts) → Opens held name p (Err (page.View e)) → OpenCounts {X = Pages × Tail} (Err (page.View e)) before.faults after.faults before.misses after.misses
     → RefusesView ((files : Files) → held ≡ Some files → (s : ℕ) (x : List ℕ) → DueInFile name p w files s x) e before after
 unopened held name p w view.ReadFault before after opens rose = rose
 unopened held name p w view.Gone before after opens (rose, same) = (rose, same, λ files told s x bytes holds. absurd (open_at held name p (Err (page.View view.Gone)) opens files told bytes holds.found))
 unopened held name p w (view.Changed block kept found) before after opens counts = absurd counts
 unopened held name p w view.NoMemory before after opens counts = tt
 
-pub unviewed : (held : Option Files) (name : List ℕ) (p : Program) (w : Wanted) (e : ViewError) (before after : ShelfCounts) (r : Result Answer AllocError) → Opens held name p (Err (page.View e)) → OpenCounts {Pages × Tail} (Err (page.View e)) before.faults after.faults before.misses after.misses
+pub unviewed : (held : Option Files) (name : List ℕ) (p : Program) (w : Wanted) (e : ViewError) (before after : ShelfCounts) (r : Result Answer AllocError) → Opens held name p (Err (page.View e)) → OpenCounts {X = Pages × Tail} (Err (page.View e)) before.faults after.faults before.misses after.misses
     → IfOk r (TellsRefusal name e) → IfOk r (AnswersFrom (DueInFile name p w) held before after)
 unviewed held name p w e before after (Err x) opens counts tells = tt
 unviewed held name p w e before after (Ok answer) opens counts tells = view_from (DueInFile name p w) held before after name e answer (unopened held name p w e before after opens counts) tells
@@ -271,3 +272,23 @@ refusal_not_done held name p w view.ReadFault (Ok answer) (is, line) = λ done. 
 refusal_not_done held name p w view.Gone (Ok answer) (is, line) = λ done. absurd (let x = sym is ∙ done in cc)
 refusal_not_done held name p w (view.Changed block kept found) (Ok answer) (is, line) = λ done. absurd (let x = sym is ∙ done in cc)
 refusal_not_done held name p w view.NoMemory (Ok answer) tells = absurd tells
+
+-- ---- an answer by its clauses
+
+pub lacks_from : (held : Option Files) (name : List ℕ) (w : Wanted) (e : FileError) (before after : ShelfCounts) (r : Result Answer AllocError) → GivesFile held name trace_limit (Err e)
+    → MatchBool (is_fault e) (Rose before.faults after.faults) (after.faults ≡ before.faults) → MatchBool (is_absent e) (Rose before.misses after.misses) (after.misses ≡ before.misses)
+    → MatchBool (is_too_long e) (Rose before.fulls after.fulls) (after.fulls ≡ before.fulls) → IfOk r (λ answer. Tells e answer) → IfOk r (AnswersFrom (λ files. DueForTrace files name w) held before after)
+lacks_from held name w e before after (Ok answer) gives failed missed full tells = lack_from held name w e before after answer gives failed missed full tells
+lacks_from held name w e before after (Err x) gives failed missed full tells = tt
+
+pub from_clauses : (due : DueBy) (held : Option Files) (before after : ShelfCounts) (r : Result Answer AllocError) → ((n : ℕ) → IfOk r (AnswersBy due held (counts before.faults n) (counts after.faults n))) → IfOk r (HasCause before after) → IfOk r (AnswersFrom due held before after)
+from_clauses due held before after (Ok answer) is caused = record { caused = caused; is = is }
+from_clauses due held before after (Err x) is caused = tt
+
+pub clause_due : (due : DueBy) (held : Option Files) (before after : ShelfCounts) (r : Result Answer AllocError) → IfOk r (AnswersFrom due held before after) → (n : ℕ) → IfOk r (AnswersBy due held (counts before.faults n) (counts after.faults n))
+clause_due due held before after (Ok answer) from n = from.is n
+clause_due due held before after (Err x) from n = tt
+
+pub clause_causes : (due : DueBy) (held : Option Files) (before after : ShelfCounts) (r : Result Answer AllocError) → IfOk r (AnswersFrom due held before after) → IfOk r (HasCause before after)
+clause_causes due held before after (Ok answer) from = from.caused
+clause_causes due held before after (Err x) from = tt
