@@ -38,6 +38,7 @@ use Rattle.wy_reply.specs.Tellings.{DueUnder, IsTraceLine, RefusesTrace, Wanted}
 use Rattle.wy_top.specs.declared.files.FileError.{FileError}
 use Rattle.wy_top.specs.declared.files.FileError.TheVariants as error
 use Rattle.wy_top.specs.Answers.{Counts, counts}
+use Rattle.wy_top.specs.Call.{AnswersRunOf}
 use Rattle.wy_top.specs.Due.{DueForTrace}
 use Rattle.wy_top.specs.Held.{Holds, absent, too_long}
 use Rattle.wy_top.specs.Paging.{AnswersFrom, ArePagesOf, BeginsFile, DueInFile, DueInPages, GivesFirst, GivesFront, IsByRun, LooksUp, RefusesView, TellsRefusal}
@@ -292,3 +293,8 @@ clause_due due held before after (Err x) from n = tt
 pub clause_causes : (due : DueBy) (held : Option Files) (before after : ShelfCounts) (r : Result Answer AllocError) → IfOk r (AnswersFrom due held before after) → IfOk r (HasCause before after)
 clause_causes due held before after (Ok answer) from = from.caused
 clause_causes due held before after (Err x) from = tt
+
+-- an answer by the runs of files that stayed
+pub moved_run : (held now : Option Files) (name : List ℕ) (w : Wanted) (r : Result Answer AllocError) → now ≡ held → IfOk r (λ answer. answer.status ≡ status.Done → AnswersRunOf now name w answer.text.items)
+    → IfOk r (λ answer. answer.status ≡ status.Done → AnswersRunOf held name w answer.text.items)
+moved_run held now name w r same is = subst (λ (h : Option Files). IfOk r (λ answer. answer.status ≡ status.Done → AnswersRunOf h name w answer.text.items)) same is

@@ -201,8 +201,9 @@ pub(crate) fn answer_by_pages<S: Shelf>(
         Ok(front) => front,
         Err(error) => return answer_to_lack(alloc, error),
     };
-    match read_head(alloc, front.as_slice()) {
-        Ok((head, _)) => answer_by_head(alloc, shelf, name, front.as_slice(), &head, inquiry),
+    let front = front.as_slice();
+    match read_head(alloc, front) {
+        Ok((head, _)) => answer_by_head(alloc, shelf, name, front, &head, inquiry),
         Err(_) => answer_by_reading(alloc, shelf, name, Wanted::Inquiry(inquiry)),
     }
 }
