@@ -1,4 +1,4 @@
-use Rattle.std.proofs.Common.{◌+◌, sym, subst, Err}
+use Rattle.std.proofs.Common.{◌≡◌, ◌+◌, sym, subst, true, Err}
 use Rattle.wy_kernel.specs.Limits.{trace_limit}
 use Rattle.wy_top.specs.Reads.{GivesFile}
 use Rattle.wy_top.specs.declared.files.FileError.{FileError}
@@ -6,7 +6,10 @@ use Rattle.wy_top.proofs.Paging.{lacking, long_one, reach_lacks}
 use Rattle.wy_top.proofs.files.check_length.Goals as goal
 
 pub returns-in-Ok-true-clause-content : goal.returns-in-Ok-true-clause-content
-returns-in-Ok-true-clause-content g c = long_one (g.S.Shelf.held c.args.shelf.now) c.args.name trace_limit (rw (c.in-Ok-true.is, c.in-Ok-true.field-0-is) at c.reaches.ensures.content)
+returns-in-Ok-true-clause-content g c =
+    let test = c.in-Ok-true.field-0-test in
+    let same : c.in-Ok-true.field-0 ≡ true = cc in
+    long_one (g.S.Shelf.held c.args.shelf.now) c.args.name trace_limit (rw (same) at c.in-Ok-true.ensures.content)
 
 pub returns-in-Err-clause-content : goal.returns-in-Err-clause-content
 returns-in-Err-clause-content g c =

@@ -30,12 +30,12 @@ pub returns-in-Ok-read_head-clause-by_run : goal.returns-in-Ok-read_head-clause-
 returns-in-Ok-read_head-clause-by_run g c =
     moved_run (g.S.Shelf.held c.args.shelf.now) _ c.args.name.now (inquiry_of c.args.inquiry) c.answer_by_head.result c.read_front.ensures.files_stay c.answer_by_head.ensures.by_run
 
-pub returns-in-Err-read_head-clause-answers : goal.returns-in-Err-read_head-clause-answers
-returns-in-Err-read_head-clause-answers g c =
+pub returns-clause-answers : goal.returns-clause-answers
+returns-clause-answers g c =
     let same = same_counts _ _ _ _ _ _ c.in-Ok.ensures.fault c.in-Ok.ensures.absent c.in-Ok.ensures.too_long in
     moved_from (λ files. DueForTrace files c.args.name.now (inquiry_of c.args.inquiry)) (g.S.Shelf.held c.args.shelf.now) _ _ _ _ c.answer_by_reading.result c.read_front.ensures.files_stay same
     (from_clauses (λ files. DueForTrace files c.args.name.now (inquiry_of c.args.inquiry)) _ _ _ c.answer_by_reading.result c.answer_by_reading.ensures.due c.answer_by_reading.ensures.causes)
 
-pub returns-in-Err-read_head-clause-by_run : goal.returns-in-Err-read_head-clause-by_run
-returns-in-Err-read_head-clause-by_run g c =
+pub returns-clause-by_run : goal.returns-clause-by_run
+returns-clause-by_run g c =
     moved_run (g.S.Shelf.held c.args.shelf.now) _ c.args.name.now (inquiry_of c.args.inquiry) c.answer_by_reading.result c.read_front.ensures.files_stay c.answer_by_reading.ensures.by_run
