@@ -1,4 +1,4 @@
-use Rattle.std.proofs.Common.{◌∙◌, sym, subst, Option}
+use Rattle.std.proofs.Common.{◌∙◌, subst, Option}
 use Rattle.wy_outside.specs.Shelf.{Files}
 use Rattle.wy_top.specs.Paging.{GivesFirst}
 use Rattle.wy_top.proofs.Paging.{front_of}

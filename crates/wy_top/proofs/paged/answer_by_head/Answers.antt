@@ -1,4 +1,3 @@
-use Rattle.wy_event.specs.declared.record.Head.{Head}
 use Rattle.wy_reply.specs.Tellings.{inquiry_of}
 use Rattle.wy_top.specs.Due.{DueForTrace}
 use Rattle.wy_top.specs.Paging.{DueInFile}

@@ -1,4 +1,4 @@
-use Rattle.std.proofs.Common.{sym, subst, List, Option}
+use Rattle.std.proofs.Common.{sym, subst, Option}
 use Rattle.wy_outside.specs.Shelf.{Files}
 use Rattle.wy_reply.specs.Tellings.{inquiry_of}
 use Rattle.wy_top.specs.Due.{DueForTrace}

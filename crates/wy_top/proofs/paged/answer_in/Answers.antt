@@ -1,4 +1,3 @@
-use Rattle.std.proofs.Common.{ap}
 use Rattle.wy_top.specs.Paging.{DueInPages}
 use Rattle.wy_reply.specs.Tellings.{inquiry_of}
 use Rattle.wy_top.proofs.Paging.{refused_from, settled_from}

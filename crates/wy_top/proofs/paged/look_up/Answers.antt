@@ -1,6 +1,5 @@
 -- What a view of the pages tells is told, and the shelf comes back from the view as it is.
-use Rattle.std.proofs.Common.{rules, ◌≡◌, ◌∙◌, sym, subst, refl, List}
-use Rattle.wy_event.specs.declared.record.Cover.{Cover}
+use Rattle.std.proofs.Common.{rules, ◌≡◌, ◌∙◌, sym, subst, refl}
 use Rattle.wy_page.specs.Paged.{records_told, told_by}
 use Rattle.wy_view.specs.View.{KeepsCounts, Told}
 use Rattle.wy_reply.specs.Opening.{IsViewOf}
