@@ -25,7 +25,7 @@ use Rattle.wy_reply.specs.declared.status.Status.TheVariants.{Done}
 use Rattle.wy_reply.specs.Statuses.{code_of}
 use Rattle.wy_reply.specs.Recordings.{IsTraceOf, trace_spelling}
 use Rattle.wy_reply.specs.Tellings.{Wanted, Output, Explore, Questions, Why, Affects, Certify, Check, WhyNot, Scope, Audit, Tells, covers_of}
-use Rattle.wy_reply.specs.ByRun.{AnswersByRun, HasSource, TellsRun}
+use Rattle.wy_reply.specs.ByRun.{AnswersByRun, HasSource, TellingsAreByRuns, TellsRun}
 use Rattle.wy_reply.proofs.Affecting.{told_affected}
 use Rattle.wy_reply.proofs.Carrying.{Runs, all_told, told_carried}
 use Rattle.wy_reply.proofs.Blocking.{covers_read, told_blocked}
@@ -103,3 +103,6 @@ pub under_source : Laws → (p : memory.Program) (bytes : List ℕ) (x : Trace) 
     IfOk r (λ answer. answer.status ≡ Done → HasSource bytes)
 under_source laws p bytes x (Ok answer) are short reads = λ done. has_source laws p bytes x are short reads
 under_source laws p bytes x (Err e) are short reads = tt
+
+pub by_runs : Laws → TellingsAreByRuns
+by_runs laws p bytes t is fit = (has_source laws p bytes t is.are_bytes is.short is.reads, λ w text tells. tells_run laws p bytes w t 0 text is.are_bytes is.short fit is.reads tells refl)

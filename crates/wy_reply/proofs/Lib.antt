@@ -9,4 +9,4 @@ pub mod Referring
 pub mod Answering
 pub mod Opening
 pub mod Certifying
-mod Seals
+pub mod Seals

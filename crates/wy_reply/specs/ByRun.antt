@@ -4,11 +4,14 @@ use Rattle.wy_kernel.specs.Program.{Program}
 use Rattle.wy_kernel.specs.declared.program.Program as memory
 use Rattle.wy_kernel.specs.Parts.{program_of}
 use Rattle.wy_event.specs.declared.record.Head.{Head}
+use Rattle.wy_event.specs.declared.record.Trace.{Trace}
+use Rattle.wy_fitting.specs.Fits.{EndFits}
 use Rattle.wy_frames.specs.Heads.{head_of}
 use Rattle.wy_reply.specs.Blocked.{BlockedAnswer}
 use Rattle.wy_reply.specs.Carried.{AffectedAnswer, CarriedAnswer}
+use Rattle.wy_reply.specs.Opening.{IsDecoded}
 use Rattle.wy_reply.specs.Recordings.{IsTraceOf, trace_spelling}
-use Rattle.wy_reply.specs.Tellings.{Wanted, Why, Affects, WhyNot}
+use Rattle.wy_reply.specs.Tellings.{Tells, Wanted, Why, Affects, WhyNot}
 
 -- a why tells what the run carried, an affects to what it carried the event, and a whynot what it reached and did not cross
 abbrev pub AnswersByRun : Program → List ℕ → List ℕ → ℕ → Wanted → List ℕ → Type 0
@@ -24,3 +27,8 @@ TellsRun p bytes w text = (source input : List ℕ) (steps : ℕ) → IsTraceOf 
 -- the head that the bytes of a run's trace are read to begin with has the source of the run
 abbrev pub HasSource : List ℕ → Type 0
 HasSource bytes = (p : Program) (source input : List ℕ) (steps : ℕ) → IsTraceOf trace_spelling p source input steps bytes → (head : Head) (end : ℕ) → head_of bytes ≡ Ok (head, end) → head.source ≡ source
+
+-- what a trace tells that bytes are read as is so by each run whose trace they are, and their head has its source
+abbrev pub TellingsAreByRuns : Type 0
+TellingsAreByRuns = (p : memory.Program) (bytes : List ℕ) (t : Trace) → IsDecoded p bytes t → EndFits t.tail
+    → HasSource bytes × ((w : Wanted) (text : List ℕ) → Tells p t w 0 text → TellsRun p bytes w text)

@@ -48,6 +48,9 @@ damaged_line byte r = damaged_as byte (damage_name r)
 abbrev pub bad_seal_line : List ℕ
 bad_seal_line = line_of (codes "trace: BadSeal")
 
+abbrev pub changed_line : ℕ → List ℕ
+changed_line block = line_of (codes "trace: Changed block " ++ decimal block)
+
 -- ---- questions
 
 abbrev pub not_read_line : List ℕ

@@ -1,8 +1,8 @@
 -- The status and the line of each refusal.
 use Rattle.std.specs.Prelude.{ℕ, List}
-use Rattle.wy_reply.specs.Lines.{usage_line, absent_line, of_trace, cut_line, damaged_line, bad_seal_line, not_read_line, no_such_line, passed_line, ran_line, shelf_fault_line, recorder_fault_line, too_long_line, differs_line, tail_differs_line, certificate_not_read_line, other_trace_line, certificate_event_line}
+use Rattle.wy_reply.specs.Lines.{usage_line, absent_line, of_trace, cut_line, damaged_line, bad_seal_line, changed_line, not_read_line, no_such_line, passed_line, ran_line, shelf_fault_line, recorder_fault_line, too_long_line, differs_line, tail_differs_line, certificate_not_read_line, other_trace_line, certificate_event_line}
 use Rattle.wy_reply.specs.declared.lines.Refusal.{Refusal}
-use Rattle.wy_reply.specs.declared.lines.Refusal.TheVariants.{Usage, Absent, Program, Cut, Damaged, BadSeal, TraceProgram, NotRead, NoSuch, Ran, Passed, FaultShelf, FaultRecorder, LongFile, AuditEvent, AuditTail, CertificateNotRead, CertificateOfOther, CertificateEvent}
+use Rattle.wy_reply.specs.declared.lines.Refusal.TheVariants.{Usage, Absent, Program, Cut, Damaged, BadSeal, Changed, TraceProgram, NotRead, NoSuch, Ran, Passed, FaultShelf, FaultRecorder, LongFile, AuditEvent, AuditTail, CertificateNotRead, CertificateOfOther, CertificateEvent}
 use Rattle.wy_reply.specs.declared.status.Status.{Status}
 use Rattle.wy_reply.specs.declared.status.Status.TheVariants as status
 use Rattle.wy_reply.specs.Sources.{source_refusal_text}
@@ -14,6 +14,7 @@ refusal_status (Program refusal) = status.Program
 refusal_status (Cut byte) = status.Trace
 refusal_status (Damaged byte rule) = status.Trace
 refusal_status BadSeal = status.Trace
+refusal_status (Changed block) = status.Trace
 refusal_status (TraceProgram refusal) = status.Trace
 refusal_status NotRead = status.Question
 refusal_status (NoSuch number) = status.Question
@@ -35,6 +36,7 @@ refusal_text (Program refusal) = source_refusal_text refusal
 refusal_text (Cut byte) = cut_line byte
 refusal_text (Damaged byte rule) = damaged_line byte rule
 refusal_text BadSeal = bad_seal_line
+refusal_text (Changed block) = changed_line block
 refusal_text (TraceProgram refusal) = of_trace (source_refusal_text refusal)
 refusal_text NotRead = not_read_line
 refusal_text (NoSuch number) = no_such_line number

@@ -4,6 +4,7 @@
 pub mod answer;
 mod certified;
 pub mod generating;
+pub mod laws;
 pub mod lines;
 pub mod recording;
 pub mod running;

@@ -29,6 +29,10 @@ pub enum Refusal<'a> {
         rule: DamageRule,
     },
     BadSeal,
+    /// A block of the trace isn't what it was when the trace was opened.
+    Changed {
+        block: u32,
+    },
     /// Why the source of the trace is no program.
     TraceProgram(SourceRefusal),
     /// The word asks no question.
@@ -82,6 +86,7 @@ impl Refusal<'_> {
             Refusal::Cut { .. }
             | Refusal::Damaged { .. }
             | Refusal::BadSeal
+            | Refusal::Changed { .. }
             | Refusal::TraceProgram(_) => Status::Trace,
             Refusal::NotRead
             | Refusal::NoSuch { .. }
@@ -108,6 +113,7 @@ pub fn refusal_line(alloc: Global, refusal: Refusal<'_>) -> Result<Vec<u8>, Allo
         Refusal::Cut { byte } => numbered(alloc, "trace: Cut at byte ", byte),
         Refusal::Damaged { byte, rule } => damaged(alloc, byte, damage_name(rule)),
         Refusal::BadSeal => line(alloc, "trace: BadSeal", ""),
+        Refusal::Changed { block } => numbered(alloc, "trace: Changed block ", block),
         Refusal::TraceProgram(refusal) => source_refusal_line(alloc, "trace: ", refusal),
         Refusal::NotRead => line(alloc, "question: not read", ""),
         Refusal::NoSuch { number } => numbered(alloc, "question: no such ", number),

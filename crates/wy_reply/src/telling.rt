@@ -157,8 +157,9 @@ fn answer_from_memory(
     let view = MemoryView {
         events: events.into_vec(),
     };
-    let (_view, answer) = answer_to_view(alloc, program, covers, view, seal, inquiry);
-    match answer {
+    let mut answer = None;
+    answer_to_view(alloc, program, covers, view, seal, inquiry, &mut answer);
+    match answer.unwrap() {
         Ok(answer) => Ok(answer),
         Err(error) => Err(want_of_memory(error)),
     }

@@ -1,5 +1,5 @@
 //! What is looked up in a trace, over any view of it.
-ghost use Rattle.std.specs.Prelude.{◌≡◌, ◌<◌, ◌^◌, ℕ, List, IfOk, false, length};
+ghost use Rattle.std.specs.Prelude.{◌≡◌, ◌<◌, ◌^◌, ℕ, List, IfOk, IfSome, IsSome, false, length};
 ghost use Rattle.wy_ask.specs.Opened.{IsOpenedOf};
 ghost use Rattle.wy_event.specs.declared.record.Trace.{Trace};
 ghost use Rattle.wy_reply.specs.Certificates.{seal_of};
@@ -216,7 +216,7 @@ pub fn answer_to_opened<V: EventView>(
 }
 
 /// What is answered from a trace of a program, through a view of its events, with what it tells of the statements and its
-/// seal. The view is given back.
+/// seal. The view is given back alone, so that who lent it something has that back, and the answer is left beside it.
 pub fn answer_to_view<V: EventView>(
     alloc: Global,
     program: &Program,
@@ -224,16 +224,24 @@ pub fn answer_to_view<V: EventView>(
     view: V,
     seal: &[u8; 32],
     inquiry: Inquiry<'_>,
-) -> (V, Result<Answer, ViewError>)
+    answer: &mut Option<Result<Answer, ViewError>>,
+) -> V
     requires { length program.now.fields.items < 2 ^ 32 }
+    ensures answered { IsSome answer.new }
     ensures due { (t : Trace) → IsViewOf t (V.tells view) coverage.now → seal.now ≡ seal_of t
-        → IfOk result.1 (λ answer. Tells program.now t (inquiry_of inquiry.entry)
-        (code_of answer.status) answer.text.items) }
-    ensures settled { IfOk result.1 (λ answer. is_of_files answer.status ≡ false) }
-    ensures keeps { Keeps (V.tells view) (V.tells result.0) }
-    ensures answers { KeepsCounts result.1 (V.tells view) (V.tells result.0) }
+        → IfSome answer.new (λ r. IfOk r (λ given. Tells program.now t (inquiry_of inquiry.entry)
+        (code_of given.status) given.text.items)) }
+    ensures settled { IfSome answer.new (λ r.
+        IfOk r (λ given. is_of_files given.status ≡ false)) }
+    ensures keeps { Keeps (V.tells view) (V.tells result) }
+    ensures answers { IfSome answer.new (λ r. KeepsCounts r (V.tells view) (V.tells result)) }
 {
-    answer_indexed::<V, Brand>(alloc, program, coverage, view, seal, inquiry, Blank::new(1))
+    let blank = Blank::new(1);
+    let (view, found) = answer_indexed::<V, Brand>(
+        alloc, program, coverage, view, seal, inquiry, blank,
+    );
+    *answer = Some(found);
+    view
 }
 
 /// The same, with a ledger for the steps, which nobody reads.

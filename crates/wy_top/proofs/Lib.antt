@@ -14,3 +14,5 @@ pub mod LeftLemmas
 mod OwnTraces
 mod Certified
 mod Sound
+pub mod Paging
+pub mod Fronts

@@ -141,7 +141,7 @@ any_lack held name (error.TooLong lacking) before after answer gives same tells 
 any_lack held name error.Fault before after answer gives rose tells = inl (tells.0, tells.1, rose)
 any_lack held name error.NoMemory before after answer gives same tells = absurd tells
 
-lack_caused : (e : FileError) (before after : ShelfCounts) (answer : Answer) → MatchBool (is_absent e) (Rose before.misses after.misses) (after.misses ≡ before.misses) →
+pub lack_caused : (e : FileError) (before after : ShelfCounts) (answer : Answer) → MatchBool (is_absent e) (Rose before.misses after.misses) (after.misses ≡ before.misses) →
     MatchBool (is_too_long e) (Rose before.fulls after.fulls) (after.fulls ≡ before.fulls) → Tells e answer → HasCause before after answer
 lack_caused (error.Absent lacking) before after answer absent long tells = record { absent = λ is. absent; too_long = λ is. absurd (let x = sym tells.0 ∙ is in cc); command = λ is. (let x = sym tells.0 ∙ is in cc) }
 lack_caused (error.TooLong lacking) before after answer absent long tells = record { absent = λ is. absurd (let x = sym tells.0 ∙ is in cc); too_long = λ is. long; command = λ is. (let x = sym tells.0 ∙ is in cc) }

@@ -105,7 +105,7 @@ same_answer p q input steps (wanted.Check given) text same lines h = tt
 
 -- ---- bytes
 
-run_answered : Known → CutLaws → (source bytes : List ℕ) (w : Wanted) (p : memory.Program) (text : List ℕ) (head : Head) (end : ℕ) → length source ≤ source_limit → IsProgramOf source p → head_of bytes ≡ Ok (head, end) → head.source ≡ source →
+pub run_answered : Known → CutLaws → (source bytes : List ℕ) (w : Wanted) (p : memory.Program) (text : List ℕ) (head : Head) (end : ℕ) → length source ≤ source_limit → IsProgramOf source p → head_of bytes ≡ Ok (head, end) → head.source ≡ source →
     HasSource bytes → TellsRun p bytes w text → AnswersRun bytes w text
 run_answered known laws source bytes w p text head end short of at here has tells = λ text_of input steps q also is.
     let there : text_of ≡ source = sym (has (program_of q) text_of input steps is head end at) ∙ here in

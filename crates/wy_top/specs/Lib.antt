@@ -11,5 +11,6 @@ pub mod Replies
 pub mod Recorders
 pub mod Openings
 pub mod Left
+pub mod Paging
 pub mod OwnTraces
 pub mod Sound

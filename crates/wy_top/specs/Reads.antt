@@ -1,7 +1,10 @@
 -- What the reading of the files that the words name gives.
 use Rattle.std.specs.Prelude.{◌≡◌, ◌⊎◌, ℕ, List, Bool, true, false, Option, Some, None, Result, Ok, Err, Vec, ⊤}
 use Rattle.std.specs.declared.alloc.Global.{Global}
+use Rattle.std.specs.Borrow.{Bor}
 use Rattle.wy_outside.specs.Shelf.{Files}
+use Rattle.wy_outside.specs.declared.shelf.ShelfError.{ShelfError}
+use Rattle.wy_outside.specs.declared.shelf.ShelfError.TheVariants as shelf
 use Rattle.wy_reply.specs.declared.answer.Answer.{Answer}
 use Rattle.wy_top.specs.declared.files.Contents.{Contents}
 use Rattle.wy_top.specs.declared.files.FileError.{FileError}
@@ -22,6 +25,12 @@ is_too_long _ = false
 abbrev pub is_fault : FileError → Bool
 is_fault Fault = true
 is_fault _ = false
+
+-- a shelf failed at this name, had no such file, or memory ran out
+abbrev pub lack : Bor (List ℕ) → ShelfError → FileError
+lack name shelf.Failed = Fault
+lack name shelf.Absent = Absent name
+lack name shelf.NoMemory = NoMemory
 
 -- where the files are told, the text of the one of this name, or what is due where it is lacking
 abbrev pub GivesFile : Option Files → List ℕ → ℕ → Result (Vec ℕ Global) FileError → Type 0

@@ -18,6 +18,7 @@ ghost use Rattle.wy_words.specs.Views.{asked_of, request_of};
 
 use crate::checking::answer_to_check;
 use crate::files::{Contents, FileError, read_both, read_trace};
+use crate::paged::answer_by_pages;
 use crate::source::{record_source, run_generated, run_source};
 use crate::trace::answer_to_bytes;
 use std::alloc::{AllocError, Global};
@@ -106,8 +107,33 @@ fn answer_to_record<S: Shelf, R: Recorder>(
     }
 }
 
-/// The answer from the trace of a name.
+/// The answer from the trace of a name: what is looked up in it is read by pages.
 fn answer_from<S: Shelf>(
+    alloc: Global,
+    shelf: &mut S,
+    trace: &str,
+    wanted: Wanted<'_>,
+) -> Result<Answer, AllocError>
+    ensures due { (n : ℕ) → IfOk result (λ answer.
+        AnswersBy (λ files. DueForTrace files trace.now (wanted_of wanted.entry))
+        (S.held shelf.old) (counts (S.faults shelf.old) n) (counts (S.faults shelf.new) n) answer) }
+    ensures by_run { IfOk result (λ answer. answer.status ≡ Done → AnswersRunOf
+        (S.held shelf.old) trace.now (wanted_of wanted.entry) answer.text.items) }
+    ensures causes { IfOk result (λ answer. HasCause
+        (at_shelf (S.faults shelf.old) (S.misses shelf.old) (S.fulls shelf.old))
+        (at_shelf (S.faults shelf.new) (S.misses shelf.new) (S.fulls shelf.new)) answer) }
+    ensures files_stay { S.held shelf.new ≡ S.held shelf.old }
+{
+    match wanted {
+        Wanted::Inquiry(inquiry) => answer_by_pages(alloc, shelf, trace, inquiry),
+        Wanted::Output | Wanted::Audit | Wanted::Check { .. } => {
+            answer_by_reading(alloc, shelf, trace, wanted)
+        }
+    }
+}
+
+/// The answer from the trace of a name, which is read whole.
+pub(crate) fn answer_by_reading<S: Shelf>(
     alloc: Global,
     shelf: &mut S,
     trace: &str,

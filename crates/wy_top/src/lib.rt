@@ -9,6 +9,7 @@ mod exploring;
 mod files;
 pub mod laws;
 mod opening;
+mod paged;
 mod recorders;
 mod source;
 pub mod top;

@@ -1,0 +1,300 @@
+-- What is answered from a trace that is looked at where it stays.
+use Rattle.std.proofs.Common.{◌≡◌, ◌⊎◌, ◌∙◌, sym, ap, subst, refl, inl, inr, ℕ, ◌+◌, ◌≤◌, ◌<◌, true, false, List, [], ◌++◌, length, map, take, drop, take-append-drop, Option, Some, None, Result, Ok, Err, IfOk, IfSome, Vec, Global, arith}
+use Rattle.std.specs.Prelude.{MatchBool, option_map, nat_le, string_bytes}
+use Rattle.std.specs.Borrow.{Bor}
+use Rattle.std.specs.declared.alloc.AllocError.{AllocError}
+use Rattle.std.proofs.lemmas.Bool.{leb-false, leb-true}
+use Rattle.std.specs.Option.{unwrap_or}
+use Rattle.wy_kernel.specs.Limits.{trace_limit}
+use Rattle.wy_kernel.specs.declared.program.Program.{Program}
+use Rattle.wy_event.specs.declared.record.Tail.{Tail}
+use Rattle.wy_fitting.specs.Fits.{EndFits}
+use Rattle.wy_frames.specs.Traces.{ReadsAs}
+use Rattle.wy_frames.specs.declared.error.TraceError.{TraceError}
+use Rattle.wy_frames.specs.declared.error.TraceError.TheVariants as trace
+use Rattle.law_reading.specs.Spelled.{TracesAreSpelled}
+use Rattle.wy_page.specs.Opening.{IsOpened, OpenCounts, Opens, OpensAs}
+use Rattle.wy_page.specs.declared.error.PageError.{PageError}
+use Rattle.wy_page.specs.declared.error.PageError.TheVariants as page
+use Rattle.wy_reply.specs.ByRun.{TellingsAreByRuns}
+use Rattle.wy_reply.proofs.Seals.{sealed_end}
+use Rattle.wy_outside.specs.Counts.{Rose}
+use Rattle.wy_outside.specs.Shelf.{Files, Reaches, ReadsFile, ReadsPart, LacksWhenAbsent, is_absent as is_missing, is_failed}
+use Rattle.wy_outside.specs.declared.shelf.ShelfError.{ShelfError}
+use Rattle.wy_outside.specs.declared.shelf.ShelfError.TheVariants as shelf
+use Rattle.wy_view.specs.View.{KeepsCounts, RefusedFor, Told}
+use Rattle.wy_view.specs.declared.view.ViewError.{ViewError}
+use Rattle.wy_view.specs.declared.view.ViewError.TheVariants as view
+use Rattle.wy_reply.specs.declared.answer.Answer.{Answer}
+use Rattle.wy_reply.specs.declared.status.Status.TheVariants as status
+use Rattle.wy_reply.specs.Statuses.{code_of, is_of_files}
+use Rattle.wy_event.specs.declared.record.Cover.{Cover}
+use Rattle.wy_event.specs.declared.record.Trace.{Trace}
+use Rattle.wy_page.specs.declared.pages.Pages.{Pages}
+use Rattle.wy_page.specs.Paged.{records_of, records_told}
+use Rattle.wy_reply.specs.Opening.{IsDecoded, IsViewOf}
+use Rattle.wy_reply.specs.Tellings as tellings
+use Rattle.wy_reply.specs.Tellings.{DueUnder, IsTraceLine, RefusesTrace, Wanted}
+use Rattle.wy_top.specs.declared.files.FileError.{FileError}
+use Rattle.wy_top.specs.declared.files.FileError.TheVariants as error
+use Rattle.wy_top.specs.Answers.{Counts, counts}
+use Rattle.wy_top.specs.Call.{AnswersRunOf}
+use Rattle.wy_top.specs.Due.{DueForTrace}
+use Rattle.wy_top.specs.Held.{Holds, absent, too_long}
+use Rattle.wy_top.specs.Paging.{AnswersFrom, ArePagesOf, BeginsFile, DueInFile, DueInPages, GivesFirst, GivesFront, IsByRun, LooksUp, RefusesView, TellsRefusal}
+use Rattle.wy_top.specs.Reads.{GivesFile, Tells, is_absent, is_fault, is_too_long, lack}
+use Rattle.wy_top.specs.Replies.{AnswersBy, HasCause, ShelfCounts, at_shelf}
+use Rattle.wy_top.proofs.AnswerLemmas.{DueBy, no_fault, trace_lack}
+use Rattle.wy_top.proofs.Opened.{caused, lack_caused}
+
+-- ---- a shelf that gives nothing
+
+abbrev pub LacksAt : Option Files → List ℕ → ShelfError → Type 0
+LacksAt held name e = IfSome held (λ files. LacksWhenAbsent files name e)
+
+pub lacking : (held : Option Files) (name : Bor (List ℕ)) (limit : ℕ) (e : ShelfError) → LacksAt held name.now e → GivesFile held name.now limit (Err (lack name e))
+lacking None name limit e is = tt
+lacking (Some files) name limit shelf.Failed is = tt
+lacking (Some files) name limit shelf.Absent is = absent is
+lacking (Some files) name limit shelf.NoMemory is = tt
+
+pub read_lacks : (held : Option Files) (name : List ℕ) (max : ℕ) (e : ShelfError) → ReadsFile held name max (Err e) → LacksAt held name e
+read_lacks None name max e reads = tt
+read_lacks (Some files) name max shelf.Failed reads = tt
+read_lacks (Some files) name max shelf.Absent reads = reads
+read_lacks (Some files) name max shelf.NoMemory reads = tt
+
+pub part_lacks : (held : Option Files) (name : List ℕ) (from len : ℕ) (e : ShelfError) → ReadsPart held name from len (Err e) → LacksAt held name e
+part_lacks None name from len e reads = tt
+part_lacks (Some files) name from len e reads = reads
+
+pub reach_lacks : (held : Option Files) (name : List ℕ) (size : ℕ) (e : ShelfError) → Reaches held name size (Err e) → LacksAt held name e
+reach_lacks None name size e reads = tt
+reach_lacks (Some files) name size e reads = reads
+
+pub lack_fault : (name : Bor (List ℕ)) (e : ShelfError) (old new : ℕ) → MatchBool (is_failed e) (Rose old new) (new ≡ old) → MatchBool (is_fault (lack name e)) (Rose old new) (new ≡ old)
+lack_fault name shelf.Failed old new h = h
+lack_fault name shelf.Absent old new h = h
+lack_fault name shelf.NoMemory old new h = h
+
+pub lack_absent : (name : Bor (List ℕ)) (e : ShelfError) (old new : ℕ) → MatchBool (is_missing e) (Rose old new) (new ≡ old) → MatchBool (is_absent (lack name e)) (Rose old new) (new ≡ old)
+lack_absent name shelf.Failed old new h = h
+lack_absent name shelf.Absent old new h = h
+lack_absent name shelf.NoMemory old new h = h
+
+pub lack_long : (name : Bor (List ℕ)) (e : ShelfError) (old new : ℕ) → new ≡ old → MatchBool (is_too_long (lack name e)) (Rose old new) (new ≡ old)
+lack_long name shelf.Failed old new h = h
+lack_long name shelf.Absent old new h = h
+lack_long name shelf.NoMemory old new h = h
+
+-- ---- the front of a file
+
+some_is : {X : Type 0} {x y : X} → Some x ≡ Some y → x ≡ y
+some_is e = cc
+
+pub short_file : (held : Option Files) (name : List ℕ) (limit : ℕ) → Reaches held name (limit + 1) (Ok false) → IfSome held (λ files. (bytes : List ℕ) × Holds files name limit bytes)
+short_file None name limit reaches = tt
+short_file (Some files) name limit reaches = by (files name) refl reaches where
+  by : (o : Option (List ℕ)) → files name ≡ o → option_map (λ all. nat_le (limit + 1) (length all)) o ≡ Some false → (bytes : List ℕ) × Holds files name limit bytes
+  by None found is = absurd cc
+  by (Some bytes) found is = (bytes, record { found = found; within = omega (arith, leb-false (limit + 1) (length bytes) (some_is is)) })
+
+pub long_one : (held : Option Files) (name : Bor (List ℕ)) (limit : ℕ) → Reaches held name.now (limit + 1) (Ok true) → GivesFile held name.now limit (Err (error.TooLong name))
+long_one None name limit reaches = tt
+long_one (Some files) name limit reaches = by (files name.now) refl reaches where
+  by : (o : Option (List ℕ)) → files name.now ≡ o → option_map (λ all. nat_le (limit + 1) (length all)) o ≡ Some true → GivesFile (Some files) name.now limit (Err (error.TooLong name))
+  by None found is = absurd cc
+  by (Some bytes) found is = too_long bytes found (omega (arith, leb-true (limit + 1) (length bytes) (some_is is)))
+
+pub front_given : (held : Option Files) (name : List ℕ) (len : ℕ) (front : Vec ℕ Global) → IfSome held (λ files. (bytes : List ℕ) × Holds files name trace_limit bytes) → ReadsPart held name 0 len (Ok front) → BeginsFile held name front.items
+front_given None name len front short reads = tt
+front_given (Some files) name len front (bytes, holds) reads =
+    let read : take len bytes ≡ front.items = some_is (ap (option_map (λ all. take len (drop 0 all))) (sym holds.found) ∙ reads) in
+    let parts : bytes ≡ front.items ++ drop len bytes = sym (take-append-drop len bytes) ∙ ap (λ l. l ++ drop len bytes) read in
+    (drop len bytes, subst (λ (l : List ℕ). Holds files name trace_limit l) parts holds)
+
+pub front_of : (held : Option Files) (name : List ℕ) (len : ℕ) (r : Result (Vec ℕ Global) FileError) → IfSome held (λ files. (bytes : List ℕ) × Holds files name trace_limit bytes) → GivesFirst held name len r → GivesFront held name r
+front_of held name len (Ok front) short reads = front_given held name len front short reads
+front_of held name len (Err e) short reads = reads
+
+-- ---- answers
+
+pub settled_from : (due : DueBy) (held : Option Files) (before after : ShelfCounts) (answer : Answer) → is_of_files answer.status ≡ false → after.faults ≡ before.faults → ((files : Files) → held ≡ Some files → due files (code_of answer.status) answer.text.items) → AnswersFrom due held before after answer
+settled_from due held before after answer settled same is = record {
+  caused = caused before after answer settled;
+  is = λ n. inr (ap (λ k. counts k n) same, no_fault answer.status settled, is);
+}
+
+pub lack_from : (held : Option Files) (name : List ℕ) (w : Wanted) (e : FileError) (before after : ShelfCounts) (answer : Answer) → GivesFile held name trace_limit (Err e)
+    → MatchBool (is_fault e) (Rose before.faults after.faults) (after.faults ≡ before.faults) → MatchBool (is_absent e) (Rose before.misses after.misses) (after.misses ≡ before.misses)
+    → MatchBool (is_too_long e) (Rose before.fulls after.fulls) (after.fulls ≡ before.fulls) → Tells e answer → AnswersFrom (λ files. DueForTrace files name w) held before after answer
+lack_from held name w e before after answer gives failed missed full tells = record {
+  caused = lack_caused e before after answer missed full tells;
+  is = λ n. trace_lack held name w e before.faults after.faults n (Ok answer) gives failed tells;
+}
+
+-- where a view refused
+pub view_from : (due : DueBy) (held : Option Files) (before after : ShelfCounts) (name : List ℕ) (e : ViewError) (answer : Answer) → RefusesView ((files : Files) → held ≡ Some files → (s : ℕ) (x : List ℕ) → due files s x) e before after → TellsRefusal name e answer → AnswersFrom due held before after answer
+view_from due held before after name view.ReadFault answer rose (is, line) = record {
+  caused = record { absent = λ other. absurd (let x = sym is ∙ other in cc); too_long = λ other. absurd (let x = sym is ∙ other in cc); command = λ other. (let x = sym is ∙ other in cc) };
+  is = λ n. inl (is, inl (line, rose));
+}
+view_from due held before after name view.Gone answer (rose, same, untold) (is, line) = record {
+  caused = record { absent = λ other. rose; too_long = λ other. absurd (let x = sym is ∙ other in cc); command = λ other. (let x = sym is ∙ other in cc) };
+  is = λ n. inr (ap (λ k. counts k n) same, (λ other. (let x = sym is ∙ other in cc)), λ files told. untold files told (code_of answer.status) answer.text.items);
+}
+view_from due held before after name (view.Changed block kept found) answer (same, untold) (is, line) = record {
+  caused = record { absent = λ other. absurd (let x = sym is ∙ other in cc); too_long = λ other. absurd (let x = sym is ∙ other in cc); command = λ other. (let x = sym is ∙ other in cc) };
+  is = λ n. inr (ap (λ k. counts k n) same, (λ other. (let x = sym is ∙ other in cc)), λ files told. untold files told (code_of answer.status) answer.text.items);
+}
+view_from due held before after name view.NoMemory answer refuses tells = absurd tells
+
+-- ---- what is due is due for more, and counts that stayed
+
+pub mapped_from : (due for : DueBy) (held : Option Files) (before after : ShelfCounts) (r : Result Answer AllocError) → ((files : Files) → held ≡ Some files → (s : ℕ) (x : List ℕ) → due files s x → for files s x) → IfOk r (AnswersFrom due held before after) → IfOk r (AnswersFrom for held before after)
+mapped_from due for held before after (Ok answer) more from = record { caused = from.caused; is = λ n. by n (from.is n) } where
+  by : (n : ℕ) → AnswersBy due held (counts before.faults n) (counts after.faults n) answer → AnswersBy for held (counts before.faults n) (counts after.faults n) answer
+  by n (inl failed) = inl failed
+  by n (inr (same, named, is)) = inr (same, named, λ files told. more files told (code_of answer.status) answer.text.items (is files told))
+mapped_from due for held before after (Err e) more from = tt
+
+pub moved_from : (due : DueBy) (held now : Option Files) (before middle after : ShelfCounts) (r : Result Answer AllocError) → now ≡ held → middle ≡ before → IfOk r (AnswersFrom due now middle after) → IfOk r (AnswersFrom due held before after)
+moved_from due held now before middle after r same counted from = subst (λ (h : Option Files). IfOk r (AnswersFrom due h before after)) same (subst (λ (b : ShelfCounts). IfOk r (AnswersFrom due now b after)) counted from)
+
+pub same_counts : (a b c x y z : ℕ) → a ≡ x → b ≡ y → c ≡ z → at_shelf a b c ≡ at_shelf x y z
+same_counts a b c x y z first second third = rw (first, second, third) refl
+
+-- ---- through a view
+
+refused_in : (e : ViewError) (old new : Told) (after : ShelfCounts) (fulls : ℕ) → after.faults ≡ new.faults → after.misses ≡ new.misses → RefusedFor e old new → RefusesView (old.records ≡ None) e (at_shelf old.faults old.misses fulls) after
+refused_in view.ReadFault old new after fulls faults misses rose = subst (Rose old.faults) (sym faults) rose
+refused_in view.Gone old new after fulls faults misses (rose, same, untold) = (subst (Rose old.misses) (sym misses) rose, faults ∙ same, untold)
+refused_in (view.Changed block kept found) old new after fulls faults misses (rose, differ, same, untold) = (faults ∙ same, untold)
+refused_in view.NoMemory old new after fulls faults misses same = tt
+
+-- what a view counts is what its shelf counts
+pub looked_up : {X : Type 0} (r : Result X ViewError) (old new : Told) (after : ShelfCounts) (fulls : ℕ) → after.faults ≡ new.faults → after.misses ≡ new.misses → KeepsCounts r old new → LooksUp (old.records ≡ None) r (at_shelf old.faults old.misses fulls) after
+looked_up (Ok x) old new after fulls faults misses same = faults ∙ same
+looked_up (Err e) old new after fulls faults misses refused = refused_in e old new after fulls faults misses refused
+
+-- where files are told, so are the records
+pub untold_all : (due : DueBy) (pages : Pages) (held : Option Files) → records_told pages held ≡ None → (files : Files) → held ≡ Some files → (s : ℕ) (x : List ℕ) → due files s x
+untold_all due pages held untold files told s x = absurd (let x = sym (ap (records_told pages) told) ∙ untold in cc)
+
+pub refusal_from : (due : DueBy) (pages : Pages) (held : Option Files) (e : ViewError) (before after : ShelfCounts) → RefusesView (records_told pages held ≡ None) e before after → RefusesView ((files : Files) → held ≡ Some files → (s : ℕ) (x : List ℕ) → due files s x) e before after
+refusal_from due pages held view.ReadFault before after rose = rose
+refusal_from due pages held view.Gone before after (rose, same, untold) = (rose, same, untold_all due pages held untold)
+refusal_from due pages held (view.Changed block kept found) before after (same, untold) = (same, untold_all due pages held untold)
+refusal_from due pages held view.NoMemory before after u = tt
+
+-- an answer that is refused for a view's refusal
+pub refused_from : (due : DueBy) (pages : Pages) (held : Option Files) (before after : ShelfCounts) (name : List ℕ) (e : ViewError) (r : Result Answer AllocError) → RefusesView (records_told pages held ≡ None) e before after → IfOk r (TellsRefusal name e) → IfOk r (AnswersFrom due held before after)
+refused_from due pages held before after name e (Ok answer) refuses tells = view_from due held before after name e answer (refusal_from due pages held e before after refuses) tells
+refused_from due pages held before after name e (Err x) refuses tells = tt
+
+-- the records of pages that a view tells
+pub view_of : (t : Trace) (pages : Pages) (listed : List Cover) (files : Files) (held : Option Files) (told : Told) → held ≡ Some files → told.records ≡ records_told pages held → ArePagesOf t pages listed files → IsViewOf t told listed
+view_of t pages listed files held told is shown are = record { records = shown ∙ ap (records_told pages) is ∙ are.records; covers = are.covers }
+
+-- what is due where an answer is done
+settled_due : (due : DueBy) (held : Option Files) (before after : Counts) (answer : Answer) → answer.status ≡ status.Done → AnswersBy due held before after answer → (files : Files) → held ≡ Some files → due files 0 answer.text.items
+settled_due due held before after answer done (inl fault) files told = absurd (let x = sym fault.0 ∙ done in cc)
+settled_due due held before after answer done (inr (same, named, is)) files told = subst (λ n. due files n answer.text.items) (ap code_of done) (is files told)
+
+-- ---- a trace that was opened
+
+open_at : (held : Option Files) (name : List ℕ) (p : Program) (r : Result (Pages × Tail) PageError) → Opens held name p r → (files : Files) → held ≡ Some files → (bytes : List ℕ) → files name ≡ Some bytes → OpensAs r p bytes
+open_at None name p r opens files told = absurd (cc)
+open_at (Some shelf) name p r opens files told = λ bytes found. let same : shelf ≡ files = some_is told in opens bytes (ap (λ (f : Files). f name) same ∙ found)
+
+decoded : (p : Program) (pages : Pages) (tail : Tail) (bytes : List ℕ) (o : IsOpened pages tail p bytes) → length bytes ≤ trace_limit → IsDecoded p bytes o.trace
+decoded p pages tail bytes o short = record { are_bytes = o.are_bytes; short = short; reads = o.read }
+
+-- what is kept is of the trace that the bytes of the file are read as
+pages_of : TracesAreSpelled → (p : Program) (pages : Pages) (tail : Tail) (files : Files) (name bytes : List ℕ) (o : IsOpened pages tail p bytes) → string_bytes pages.name ≡ name → Holds files name trace_limit bytes → ArePagesOf o.trace pages tail.coverage.statements files
+pages_of spelled p pages tail files name bytes o named holds =
+    let file : files (string_bytes pages.name) ≡ Some bytes = ap files named ∙ holds.found in
+    record {
+      records = ap (λ f. Some (records_of pages.starts pages.count (unwrap_or f []))) file ∙ ap Some o.records_are;
+      covers = ap (λ (x : Tail). x.coverage.statements) o.tail_is;
+      seal = sym o.seal_is.1 ∙ (sealed_end spelled p bytes o.trace (decoded p pages tail bytes o holds.within)).1;
+    }
+
+pub opened_due : TracesAreSpelled → (held : Option Files) (name : List ℕ) (p : Program) (w : Wanted) (pages : Pages) (tail : Tail) → Opens held name p (Ok (pages, tail)) → string_bytes pages.name ≡ name
+    → (files : Files) → held ≡ Some files → (s : ℕ) (x : List ℕ) → DueInPages p pages tail.coverage.statements w files s x → DueInFile name p w files s x
+opened_due spelled held name p w pages tail opens named files told s x due = λ bytes holds.
+    let o : IsOpened pages tail p bytes = open_at held name p (Ok (pages, tail)) opens files told bytes holds.found in
+    tellings.told o.trace s x o.read (due o.trace (pages_of spelled p pages tail files name bytes o named holds))
+
+-- what is told is by each run whose trace it is
+pub opened_by_run : TracesAreSpelled → TellingsAreByRuns → (held : Option Files) (name : List ℕ) (p : Program) (w : Wanted) (pages : Pages) (tail : Tail) (before after : ShelfCounts) (r : Result Answer AllocError)
+    → EndFits tail → Opens held name p (Ok (pages, tail)) → string_bytes pages.name ≡ name
+    → IfOk r (AnswersFrom (DueInPages p pages tail.coverage.statements w) held before after) → IfOk r (λ answer. answer.status ≡ status.Done → IsByRun held name p w answer.text.items)
+opened_by_run spelled by_runs held name p w pages tail before after (Err e) fits opens named from = tt
+opened_by_run spelled by_runs held name p w pages tail before after (Ok answer) fits opens named from = λ done files bytes told holds.
+    let o : IsOpened pages tail p bytes = open_at held name p (Ok (pages, tail)) opens files told bytes holds.found in
+    let laws = by_runs p bytes o.trace (decoded p pages tail bytes o holds.within) (subst EndFits o.tail_is fits) in
+    let due = settled_due (DueInPages p pages tail.coverage.statements w) held _ _ answer done (from.is 0) files told o.trace (pages_of spelled p pages tail files name bytes o named holds) in
+    (laws.0, laws.1 w answer.text.items due)
+
+-- bytes that are no trace
+refused_bytes : (p : Program) (bytes : List ℕ) (w : Wanted) (e : TraceError) (x : List ℕ) → IsTraceLine e x → ReadsAs (Err e) p bytes → DueUnder p bytes w 5 x
+refused_bytes p bytes w _ _ (tellings.cut byte) reads = tellings.refused (trace.Cut byte) _ reads (tellings.cut byte)
+refused_bytes p bytes w _ _ (tellings.damaged byte rule) reads = tellings.refused (trace.Damaged byte rule) _ reads (tellings.damaged byte rule)
+refused_bytes p bytes w _ _ tellings.bad_seal reads = tellings.refused trace.BadSeal _ reads tellings.bad_seal
+
+pub untraced : (held : Option Files) (name : List ℕ) (p : Program) (w : Wanted) (e : TraceError) (before after : ShelfCounts) (r : Result Answer AllocError) → Opens held name p (Err (page.Trace e)) → after.faults ≡ before.faults
+    → IfOk r (λ answer. RefusesTrace e answer) → IfOk r (AnswersFrom (DueInFile name p w) held before after)
+untraced held name p w e before after (Err x) opens same refuses = tt
+untraced held name p w e before after (Ok answer) opens same (is, line) =
+    settled_from (DueInFile name p w) held before after answer (ap is_of_files is) same (λ files told bytes holds. rw (is) (refused_bytes p bytes w e answer.text.items line (open_at held name p (Err (page.Trace e)) opens files told bytes holds.found)))
+
+-- a refusal of a trace is no answer
+pub not_done : (held : Option Files) (name : List ℕ) (p : Program) (w : Wanted) (e : TraceError) (r : Result Answer AllocError) → IfOk r (λ answer. RefusesTrace e answer) → IfOk r (λ answer. answer.status ≡ status.Done → IsByRun held name p w answer.text.items)
+not_done held name p w e (Err x) refuses = tt
+not_done held name p w e (Ok answer) (is, line) = λ done. absurd (let x = sym is ∙ done in cc)
+
+-- a view that could not be had
+unopened : (held : Option Files) (name : List ℕ) (p : Program) (w : Wanted) (e : ViewError) (before after : ShelfCounts) → Opens held name p (Err (page.View e)) → OpenCounts {X = Pages × Tail} (Err (page.View e)) before.faults after.faults before.misses after.misses
+    → RefusesView ((files : Files) → held ≡ Some files → (s : ℕ) (x : List ℕ) → DueInFile name p w files s x) e before after
+unopened held name p w view.ReadFault before after opens rose = rose
+unopened held name p w view.Gone before after opens (rose, same) = (rose, same, λ files told s x bytes holds. absurd (open_at held name p (Err (page.View view.Gone)) opens files told bytes holds.found))
+unopened held name p w (view.Changed block kept found) before after opens counts = absurd counts
+unopened held name p w view.NoMemory before after opens counts = tt
+
+pub unviewed : (held : Option Files) (name : List ℕ) (p : Program) (w : Wanted) (e : ViewError) (before after : ShelfCounts) (r : Result Answer AllocError) → Opens held name p (Err (page.View e)) → OpenCounts {X = Pages × Tail} (Err (page.View e)) before.faults after.faults before.misses after.misses
+    → IfOk r (TellsRefusal name e) → IfOk r (AnswersFrom (DueInFile name p w) held before after)
+unviewed held name p w e before after (Err x) opens counts tells = tt
+unviewed held name p w e before after (Ok answer) opens counts tells = view_from (DueInFile name p w) held before after name e answer (unopened held name p w e before after opens counts) tells
+
+pub refusal_not_done : (held : Option Files) (name : List ℕ) (p : Program) (w : Wanted) (e : ViewError) (r : Result Answer AllocError) → IfOk r (TellsRefusal name e) → IfOk r (λ answer. answer.status ≡ status.Done → IsByRun held name p w answer.text.items)
+refusal_not_done held name p w e (Err x) tells = tt
+refusal_not_done held name p w view.ReadFault (Ok answer) (is, line) = λ done. absurd (let x = sym is ∙ done in cc)
+refusal_not_done held name p w view.Gone (Ok answer) (is, line) = λ done. absurd (let x = sym is ∙ done in cc)
+refusal_not_done held name p w (view.Changed block kept found) (Ok answer) (is, line) = λ done. absurd (let x = sym is ∙ done in cc)
+refusal_not_done held name p w view.NoMemory (Ok answer) tells = absurd tells
+
+-- ---- an answer by its clauses
+
+pub lacks_from : (held : Option Files) (name : List ℕ) (w : Wanted) (e : FileError) (before after : ShelfCounts) (r : Result Answer AllocError) → GivesFile held name trace_limit (Err e)
+    → MatchBool (is_fault e) (Rose before.faults after.faults) (after.faults ≡ before.faults) → MatchBool (is_absent e) (Rose before.misses after.misses) (after.misses ≡ before.misses)
+    → MatchBool (is_too_long e) (Rose before.fulls after.fulls) (after.fulls ≡ before.fulls) → IfOk r (λ answer. Tells e answer) → IfOk r (AnswersFrom (λ files. DueForTrace files name w) held before after)
+lacks_from held name w e before after (Ok answer) gives failed missed full tells = lack_from held name w e before after answer gives failed missed full tells
+lacks_from held name w e before after (Err x) gives failed missed full tells = tt
+
+pub from_clauses : (due : DueBy) (held : Option Files) (before after : ShelfCounts) (r : Result Answer AllocError) → ((n : ℕ) → IfOk r (AnswersBy due held (counts before.faults n) (counts after.faults n))) → IfOk r (HasCause before after) → IfOk r (AnswersFrom due held before after)
+from_clauses due held before after (Ok answer) is caused = record { caused = caused; is = is }
+from_clauses due held before after (Err x) is caused = tt
+
+pub clause_due : (due : DueBy) (held : Option Files) (before after : ShelfCounts) (r : Result Answer AllocError) → IfOk r (AnswersFrom due held before after) → (n : ℕ) → IfOk r (AnswersBy due held (counts before.faults n) (counts after.faults n))
+clause_due due held before after (Ok answer) from n = from.is n
+clause_due due held before after (Err x) from n = tt
+
+pub clause_causes : (due : DueBy) (held : Option Files) (before after : ShelfCounts) (r : Result Answer AllocError) → IfOk r (AnswersFrom due held before after) → IfOk r (HasCause before after)
+clause_causes due held before after (Ok answer) from = from.caused
+clause_causes due held before after (Err x) from = tt
+
+-- an answer by the runs of files that stayed
+pub moved_run : (held now : Option Files) (name : List ℕ) (w : Wanted) (r : Result Answer AllocError) → now ≡ held → IfOk r (λ answer. answer.status ≡ status.Done → AnswersRunOf now name w answer.text.items)
+    → IfOk r (λ answer. answer.status ≡ status.Done → AnswersRunOf held name w answer.text.items)
+moved_run held now name w r same is = subst (λ (h : Option Files). IfOk r (λ answer. answer.status ≡ status.Done → AnswersRunOf h name w answer.text.items)) same is
