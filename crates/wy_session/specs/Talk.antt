@@ -37,6 +37,10 @@ pub data Reaches (x : Scene) (input : List ℕ) : Session → List ℕ → List 
       → Fits input rest bytes line behind → Said x s line t (Some reply)
       → Reaches x input t behind (said ++ reply)
 
+-- some first lines of an input are answered so
+abbrev pub AnswersFirst : Scene → List ℕ → List ℕ → Type 0
+AnswersFirst x input said = (s : Session) × (rest : List ℕ) × Reaches x input s rest said
+
 abbrev pub long_line_text : List ℕ
 long_line_text = line_of (codes "too long: line")
 
