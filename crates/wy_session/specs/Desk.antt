@@ -27,11 +27,11 @@ scene_of p events covers = record {
 }
 
 -- a program, what is told of its statements and what a view tells are of this scene
-pub record IsSceneOf (p : memory.Program) (covers : List Cover) (told : Told) (x : Scene) : Type 0 where
+pub record IsSceneOf (p : memory.Program) (listed : List Cover) (told : Told) (x : Scene) : Type 0 where
   pub program : x.program ≡ program_of p
   pub lines : x.lines ≡ p.lines.items
   pub records : told.records ≡ Some x.records
-  pub covers : x.covers ≡ covers
+  pub covers : x.covers ≡ listed
 
 -- an opened trace is of this scene, by what its view tells
 abbrev pub IsSceneIn : {V : Type 0} → Told → Opened V → Scene → Type 0

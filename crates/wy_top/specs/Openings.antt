@@ -1,5 +1,5 @@
 -- A trace that a session is over: what its opening gives, and how the session ends.
-use Rattle.std.specs.Prelude.{◌≡◌, ◌⊎◌, ℕ, List, false, Option, Some, None, Ok, option_map}
+use Rattle.std.specs.Prelude.{◌≡◌, ◌≢◌, ◌⊎◌, ℕ, List, false, Option, Some, None, Ok, option_map}
 use Rattle.wy_event.specs.declared.record.Cover.{Cover}
 use Rattle.wy_event.specs.declared.record.Head.{Head}
 use Rattle.wy_event.specs.Record.{Recorded}
@@ -108,7 +108,7 @@ ClosedOver scene keys_before keys_after before after e =
 
 -- a view refused where a session ended by that, and else the shelf did not fail
 abbrev pub CountsBy : Type 0 → Ending → ShelfCounts → ShelfCounts → Type 0
-CountsBy untold (ending.View e) before after = RefusesView untold e before after
+CountsBy untold (ending.View e) before after = (e ≢ view.NoMemory) × RefusesView untold e before after
 CountsBy untold _ before after = after.faults ≡ before.faults
 
 -- the line of a refusal is written where a view refused, and memory may run out before; and else nothing more

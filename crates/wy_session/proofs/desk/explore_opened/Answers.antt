@@ -11,8 +11,8 @@ returns-in_default-clause-closed g c = nothing_closes _ _ _ _ _ NoMemory
 pub returns-in_default-open-clause-closed : goal.returns-in_default-open-clause-closed
 returns-in_default-open-clause-closed g c = nothing_closes _ _ _ _ _ NoMemory
 
-pub talk-requires : goal.talk-requires
-talk-requires g c = record { is_opened = c.requires; are_links = c.in-Ok.ensures; within = c.in-Ok-open.ensures.within _ }
+pub talk-ending-requires : goal.talk-requires
+talk-ending-requires g c = record { is_opened = c.requires; are_links = c.in-Ok.ensures; within = c.in-Ok-open.ensures.within _ }
 
 pub returns-clause-closed : goal.returns-clause-closed
 returns-clause-closed g c = closed_over _ _ _ _ _ _ c.talk.result
