@@ -24,8 +24,8 @@ use Rattle.wy_session.specs.Scene.{Said, Scene, over, replied, reply_text}
 -- ---- a view that was read
 
 -- of one scene while the view keeps its records
-pub scene_kept : (p : memory.Program) (covers : List Cover) (old new : Told) (x : Scene) → Keeps old new → IsSceneOf p covers new x → IsSceneOf p covers old x
-scene_kept p covers old new x keeps is = record { program = is.program; lines = is.lines; records = sym keeps.records ∙ is.records; covers = is.covers }
+pub scene_kept : (p : memory.Program) (covers : List Cover) (old new : Told) (x : Scene) → Keeps old new → IsSceneOf p covers old x → IsSceneOf p covers new x
+scene_kept p covers old new x keeps is = record { program = is.program; lines = is.lines; records = keeps.records ∙ is.records; covers = is.covers }
 
 scene_on : {V : Type 0} (tells : V → Told) (x : Scene) (old new : Opened V) → StaysOpened tells old new → IsSceneIn (tells old.view) old x → IsSceneIn (tells new.view) new x
 scene_on tells x old new stays is = record {

@@ -177,6 +177,9 @@ nothing_closes over told keys out old view.ReadFault = record { said = []; line 
 nothing_closes over told keys out old view.Gone = record { said = []; line = []; closes = (refl, refl, refl, λ x input at so. (begun, input, talk.start)); written = appended_nothing old }
 nothing_closes over told keys out old (view.Changed block kept found) = record { said = []; line = []; closes = (refl, refl, refl, λ x input at so. (begun, input, talk.start)); written = appended_nothing old }
 
+pub nothing_closed : (over : Scenes) (told : Option (List ℕ)) (keys out : ℕ) (old : Option (List ℕ)) (e : ViewError) (ending : Ending) → ending ≡ ending_of e → Closed over told (failures keys keys out out) old old ending
+nothing_closed over told keys out old e ending is = subst (Closed over told (failures keys keys out out) old old) (sym is) (nothing_closes over told keys out old e)
+
 -- ---- over fewer traces
 
 closes_over : (over for : Scenes) (told : Option (List ℕ)) (f : Failures) (e : Ending) (said line : List ℕ) → ((x : Scene) → for x → over x) → Closes over told f e said line → Closes for told f e said line
