@@ -1,12 +1,10 @@
 -- A desk once a line was answered.
 use Rattle.std.proofs.Common.{◌≡◌, ◌≢◌, ◌∙◌, sym, ap, refl, subst, ℕ, List, Some, None}
 use Rattle.wy_event.specs.declared.record.Cover.{Cover}
-use Rattle.std.specs.Prelude.{map}
-use Rattle.wy_event.specs.Record.{Recorded, recorded}
-use Rattle.wy_static.specs.LookUps.{AreLinksOf}
+use Rattle.wy_event.specs.Record.{Recorded}
 use Rattle.wy_static.specs.declared.answer.Links.{Links}
 use Rattle.wy_ask.specs.declared.opened.Opened.{Opened}
-use Rattle.wy_ask.specs.Opened.{IsOpenedOf, StaysOpened}
+use Rattle.wy_ask.specs.Opened.{StaysOpened}
 use Rattle.wy_ask.proofs.Opening.{still_opened}
 use Rattle.wy_kernel.specs.Program.{Program}
 use Rattle.wy_kernel.specs.Parts.{program_of}

@@ -1,5 +1,5 @@
 -- What is written of a reply, and what reading on does.
-use Rattle.std.proofs.Common.{◌≡◌, ◌∙◌, sym, ap, refl, subst, inl, inr, ℕ, List, [], ◌++◌, take, drop, append-nil, Option, Some, None, Result, Ok, Err}
+use Rattle.std.proofs.Common.{◌≡◌, sym, ap, refl, subst, inl, inr, ℕ, List, [], take, drop, append-nil, Option, Some, None, Result, Ok, Err}
 use Rattle.std.proofs.lemmas.List.{take-append-drop}
 use Rattle.wy_explore.specs.Session.{Session}
 use Rattle.wy_outside.specs.Sink.{appended}

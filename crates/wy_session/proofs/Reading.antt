@@ -1,13 +1,13 @@
 -- Reading on, line by line.
-use Rattle.std.proofs.Common.{◌≡◌, ◌≢◌, ◌∙◌, sym, ap, refl, subst, inl, inr, ℕ, ◌+◌, ◌-◌, ◌≤◌, ◌<◌, ◌⊎◌, nat_eq, eqb-true, zero, suc, Bool, true, false, List, [], ◌∷◌, ◌++◌, length, take, drop, append_assoc, append-nil, length-append, Option, Some, None, Result, Ok, Err, arith}
+use Rattle.std.proofs.Common.{◌≡◌, ◌≢◌, ◌∙◌, sym, ap, refl, subst, inl, inr, ℕ, ◌+◌, ◌≤◌, ◌<◌, ◌⊎◌, nat_eq, eqb-true, zero, suc, Bool, true, false, List, [], ◌∷◌, ◌++◌, length, append_assoc, append-nil, length-append, Option, Some, None, Result, Ok, Err, arith}
 use Rattle.std.specs.List.{Contains}
 use Rattle.std.proofs.lemmas.Bool.{eqb-false}
 use Rattle.std.proofs.lemmas.List.Elements.{Contains-append_cases}
 use Rattle.std.specs.Io.BufRead.{strip_last}
 use Rattle.wy_explore.specs.Session.{Session}
 use Rattle.wy_outside.specs.Sink.{appended}
-use Rattle.wy_session.specs.Scene.{Said, Scene}
-use Rattle.wy_session.specs.Line.{IsOpen, Reads, ReadsOn}
+use Rattle.wy_session.specs.Scene.{Scene}
+use Rattle.wy_session.specs.Line.{Reads, ReadsOn}
 use Rattle.wy_session.specs.Situation.{Situation}
 use Rattle.wy_session.specs.Talk.{BeginsTalk, Ends, FirstLine, Reaches, Talks, long_line_text, most_in_line}
 use Rattle.wy_session.specs.Talk as talk

@@ -1,16 +1,16 @@
 -- How a line ends a session, or leads it on.
-use Rattle.std.proofs.Common.{◌≡◌, ◌∙◌, sym, ap, refl, subst, inl, inr, ℕ, ◌+◌, ◌-◌, ◌≤◌, ◌<◌, ◌⊎◌, List, [], ◌∷◌, ◌++◌, length, take, drop, append_assoc, append-nil, length-append, Option, Some, None, Result, Ok, Err, arith}
+use Rattle.std.proofs.Common.{◌≡◌, ◌∙◌, sym, ap, subst, inl, inr, ℕ, ◌+◌, ◌-◌, ◌≤◌, ◌<◌, List, [], ◌∷◌, ◌++◌, length, take, drop, append_assoc, append-nil, length-append, Option, Result, Ok, Err, arith}
 use Rattle.std.specs.List.{Contains}
 use Rattle.std.specs.Io.BufRead.{strip_last}
 use Rattle.std.proofs.lemmas.List.{take-append-drop}
 use Rattle.wy_explore.specs.Session.{Session}
 use Rattle.wy_outside.specs.Sink.{appended}
-use Rattle.wy_session.specs.Scene.{Said, Scene}
-use Rattle.wy_session.specs.Line.{AnswersLine, IsOpen, Reads}
+use Rattle.wy_session.specs.Scene.{Scene}
+use Rattle.wy_session.specs.Line.{AnswersLine, Reads}
 use Rattle.wy_session.specs.Situation.{Situation}
 use Rattle.wy_session.specs.Talk.{AnswersFirst, BeginsTalk, Ends, FirstLine, Fits, IsPrefixOf, Reaches, Talks, long_input_text, long_line_text, most_in_all, most_in_line}
 use Rattle.wy_session.specs.Talk as talk
-use Rattle.wy_session.specs.Closings.{Answered, EndsWith, IsBroken, IsPrefixOfReply, IsLong, IsWithin, Leads, LongAt, OutFor, Stops, StopsAt}
+use Rattle.wy_session.specs.Closings.{Answered, EndsWith, IsBroken, IsPrefixOfReply, IsLong, IsWithin, Leads, LongAt, OutFor, StopsAt}
 use Rattle.wy_session.specs.declared.line.OpenLine.{OpenLine}
 use Rattle.wy_session.specs.declared.ending.Ending.{Ending}
 use Rattle.wy_session.specs.declared.ending.Ending.TheVariants.{Done, LongLine, LongInput, KeysFailed, OutFailed, View, NoMemory}

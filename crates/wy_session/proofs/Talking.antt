@@ -1,19 +1,18 @@
 -- The whole of a session, from its parts.
-use Rattle.std.proofs.Common.{◌≡◌, ◌≢◌, ◌∙◌, sym, ap, refl, subst, inl, inr, ℕ, ◌+◌, ◌-◌, ◌≤◌, ◌<◌, ◌⊎◌, List, [], ◌∷◌, ◌++◌, length, take, drop, append_assoc, append-nil, length-append, Option, Some, None, option_map, Result, Ok, Err, Vec, Global, arith}
-use Rattle.std.specs.Prelude.{min, vec_len}
+use Rattle.std.proofs.Common.{◌≡◌, ◌∙◌, sym, ap, refl, subst, inl, inr, ℕ, ◌+◌, ◌≤◌, List, [], ◌∷◌, ◌++◌, length, take, drop, append_assoc, append-nil, length-append, Option, Some, None, option_map, Ok, Err, Vec, Global, arith}
+use Rattle.std.specs.Prelude.{min}
 use Rattle.std.proofs.lemmas.List.{take-append-drop}
 use Rattle.std.specs.List.{Contains}
 use Rattle.wy_explore.specs.Session.{Session, begun}
-use Rattle.wy_outside.specs.Counts.{Rose, count_after, last_count}
+use Rattle.wy_outside.specs.Counts.{Rose}
 use Rattle.wy_outside.specs.Sink.{appended}
-use Rattle.wy_outside.specs.Source.{EndsExactly, Takes}
-use Rattle.wy_outside.specs.declared.source.SourceError.{SourceError}
+use Rattle.wy_outside.specs.Source.{EndsExactly}
 use Rattle.wy_session.specs.Scene.{Scene}
 use Rattle.wy_session.specs.Line.{Finishes, Reads, ReadsOn}
 use Rattle.wy_session.specs.Situation.{Scenes, Situation}
 use Rattle.wy_session.specs.Talk.{BeginsTalk, Reaches}
 use Rattle.wy_session.specs.Talk as talk
-use Rattle.wy_session.specs.Closings.{BreaksOff, Closed, Closes, EndsWith, Failures, IsBroken, KeysStayed, Leads, OutFor, OutStayed, StopsAt, WritesPart, failures, keys_fault_line}
+use Rattle.wy_session.specs.Closings.{BreaksOff, Closed, Closes, EndsWith, Failures, IsBroken, KeysStayed, Leads, OutFor, StopsAt, WritesPart, failures, keys_fault_line}
 use Rattle.wy_session.specs.Views.{ending_of}
 use Rattle.wy_view.specs.declared.view.ViewError.{ViewError}
 use Rattle.wy_view.specs.declared.view.ViewError.TheVariants as view

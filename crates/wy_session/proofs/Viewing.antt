@@ -1,6 +1,6 @@
 -- What a view counted while a session went on.
 use Rattle.std.proofs.Common.{◌≡◌, ◌∙◌, sym, subst, inl, inr, ℕ, List, Option, Result, Ok, Err}
-use Rattle.wy_view.specs.View.{Keeps, KeepsCounts, RefusedFor, Told}
+use Rattle.wy_view.specs.View.{Keeps, RefusedFor, Told}
 use Rattle.wy_view.specs.declared.view.ViewError.{ViewError}
 use Rattle.wy_view.specs.declared.view.ViewError.TheVariants as view
 use Rattle.wy_view.proofs.Views.{refused_since}

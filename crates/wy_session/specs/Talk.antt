@@ -1,5 +1,5 @@
 -- The lines of an input, what is written to them over a trace, and how that ends.
-use Rattle.std.specs.Prelude.{◌≡◌, ◌≢◌, ◌<◌, ◌≤◌, ◌-◌, ℕ, List, [], ◌∷◌, ◌++◌, length, codes, Option, Some}
+use Rattle.std.specs.Prelude.{◌≡◌, ◌≢◌, ◌<◌, ◌≤◌, ◌-◌, ℕ, List, [], ◌∷◌, ◌++◌, length, codes, Some}
 use Rattle.std.specs.Prelude.{None as Absent}
 use Rattle.std.specs.List.{Contains}
 use Rattle.std.specs.Io.BufRead.{strip_last}

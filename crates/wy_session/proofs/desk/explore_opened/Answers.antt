@@ -1,5 +1,3 @@
-use Rattle.std.proofs.Common.{sym}
-use Rattle.wy_view.proofs.Views.{keeps_itself}
 use Rattle.wy_view.specs.declared.view.ViewError.TheVariants.{NoMemory}
 use Rattle.wy_session.proofs.Desks.{opened_desk}
 use Rattle.wy_session.proofs.Talking.{closed_over, nothing_closes}

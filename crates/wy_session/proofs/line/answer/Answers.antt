@@ -1,4 +1,4 @@
-use Rattle.wy_session.proofs.Parts.{over_answers, put_answers, refused_answers}
+use Rattle.wy_session.proofs.Parts.{over_answers, put_answers}
 use Rattle.wy_session.proofs.Viewing.{put_counts}
 use Rattle.wy_session.proofs.line.answer.Goals as goal
 

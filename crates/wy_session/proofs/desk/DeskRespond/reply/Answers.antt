@@ -1,6 +1,5 @@
 use Rattle.std.proofs.Common.{◌∙◌}
 use Rattle.wy_explore.specs.Explorer.{session_of}
-use Rattle.wy_view.proofs.Views.{keeps_on}
 use Rattle.wy_ask.proofs.Opening.{stays_on}
 use Rattle.wy_session.proofs.Desks.{answered_here, desk_on, is_asked, ready_on, said_over, said_replied}
 use Rattle.wy_session.proofs.desk.DeskRespond.reply.Goals as goal
