@@ -1,36 +1,29 @@
 -- What is answered from a trace whose front was read first.
-use Rattle.std.proofs.Common.{◌≡◌, ◌∙◌, sym, ap, subst, refl, ℕ, ◌+◌, ◌≤◌, List, [], ◌++◌, length, length-append, Option, Some, None, Result, Ok, Err, IfOk, arith}
-use Rattle.std.specs.declared.alloc.AllocError.{AllocError}
-use Rattle.wy_kernel.specs.Limits.{source_limit, trace_limit}
+use Rattle.std.proofs.Common.{◌≡◌, ◌∙◌, sym, ap, subst, refl, ℕ, ◌+◌, ◌≤◌, List, [], ◌++◌, length, length-append, Option, Some, None, Ok, arith}
+use Rattle.wy_kernel.specs.Limits.{trace_limit}
 use Rattle.wy_kernel.specs.declared.program.Program as memory
 use Rattle.wy_event.specs.declared.record.Head.{Head}
 use Rattle.wy_spelling.specs.Spelling.{opening}
 use Rattle.wy_frames.specs.Heads.{head_of}
-use Rattle.law_reading.specs.Spelled.{AreBytes, HeadsAreShort}
+use Rattle.law_reading.specs.Spelled.{AreBytes}
 use Rattle.wy_outside.specs.Shelf.{Files}
 use Rattle.wy_page.specs.Opening.{BeginsWith, FrontsBeginTraces, MayBeOpened}
 use Rattle.wy_program.specs.Programs.{IsProgramOf}
 use Rattle.wy_program.specs.Sources.{IsCauseOf}
 use Rattle.wy_program.specs.declared.source.SourceError.{SourceError}
 use Rattle.wy_reply.specs.declared.answer.Answer.{Answer}
-use Rattle.wy_reply.specs.declared.status.Status.TheVariants as status
 use Rattle.wy_reply.specs.Lines.{of_trace}
 use Rattle.wy_reply.specs.Statuses.{is_of_files}
-use Rattle.wy_reply.specs.Tellings.{Wanted}
-use Rattle.wy_top.specs.Call.{AnswersRunOf}
-use Rattle.wy_top.specs.Due.{DueForBytes, DueForTrace}
+use Rattle.wy_top.specs.Due.{DueForBytes}
 use Rattle.wy_top.specs.Due as due
 use Rattle.wy_top.specs.Held.{Holds}
-use Rattle.wy_top.specs.Paging.{AnswersFrom, BeginsFile, DueInFile, IsByRun}
+use Rattle.wy_top.specs.Paging.{BeginsFile}
 use Rattle.wy_top.specs.Replies.{RefusesTrace, ShelfCounts}
-use Rattle.wy_top.proofs.OneText.{Known}
-use Rattle.wy_top.proofs.Paging.{settled_from}
-use Rattle.wy_top.proofs.RunAnswers.{CutLaws, run_answered}
+use Rattle.wy_top.proofs.Paging.{InPlace, IsHeaded, settled_any}
 
 -- a front from which a head is read
 pub record IsFront (front : List ℕ) (head : Head) : Type 0 where
   pub fronts : FrontsBeginTraces
-  pub short : HeadsAreShort
   pub are : AreBytes front
   pub end : ℕ
   pub read : head_of front ≡ Ok (head, end)

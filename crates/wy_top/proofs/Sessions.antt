@@ -1,5 +1,5 @@
 -- What a call promises of a session.
-use Rattle.std.proofs.Common.{◌≡◌, ◌≢◌, ◌∙◌, sym, ap, refl, subst, inl, inr, ℕ, ◌<◌, ◌⊎◌, List, [], ◌++◌, append-nil, Option, Some, None, IfSome, arith}
+use Rattle.std.proofs.Common.{◌≡◌, ◌≢◌, ◌∙◌, sym, ap, refl, subst, inl, inr, ℕ, ◌<◌, ◌⊎◌, List, [], ◌++◌, append-nil, append_assoc, take, drop, take-append-drop, Option, Some, None, IfSome, arith}
 use Rattle.std.specs.Borrow.{Bor}
 use Rattle.wy_kernel.specs.declared.program.Program.{Program}
 use Rattle.wy_event.specs.declared.record.Trace.{Trace}
@@ -11,14 +11,19 @@ use Rattle.wy_words.specs.declared.commands.Command.{Command}
 use Rattle.wy_words.specs.declared.commands.Command.TheVariants as asking
 use Rattle.wy_words.specs.Words.{Asks, AskOneCommand, Command as Request, Explore, Gen, IsNoCommand, Record, Why, Affects, WhyNot}
 use Rattle.wy_session.specs.Desk.{scene_of}
-use Rattle.wy_session.specs.Talk.{Talks}
-use Rattle.wy_session.specs.Closings.{BreaksOff, Closed, Closes, TakesManyFor, TookMany, WritesPart, keys_fault_line}
+use Rattle.wy_session.specs.Scene.{Scene}
+use Rattle.wy_session.specs.Situation.{Scenes}
+use Rattle.wy_session.specs.Talk.{AnswersFirst, BeginsTalk, IsPrefixOf, Talks, answered}
+use Rattle.wy_session.specs.Closings.{BreaksOff, keys_fault_line}
 use Rattle.wy_session.specs.Closings as session
 use Rattle.wy_session.specs.declared.ending.Ending.{Ending}
 use Rattle.wy_session.specs.declared.ending.Ending.TheVariants as ending
 use Rattle.wy_reply.specs.declared.answer.Answer.{Answer}
 use Rattle.wy_reply.specs.declared.status.Status.{Status}
-use Rattle.wy_reply.specs.declared.status.Status.TheVariants.{Done, Fault, TooLong}
+use Rattle.wy_reply.specs.declared.status.Status.TheVariants.{Done, Fault, NoMemory, TooLong}
+use Rattle.wy_reply.specs.Lines.{absent_line, changed_line, shelf_fault_line}
+use Rattle.wy_view.specs.declared.view.ViewError.{ViewError}
+use Rattle.wy_view.specs.declared.view.ViewError.TheVariants as view
 use Rattle.wy_reply.specs.Statuses.{code_of}
 use Rattle.wy_reply.specs.Tellings.{Wanted, covers_of}
 use Rattle.wy_reply.specs.Tellings as wanted
@@ -27,12 +32,12 @@ use Rattle.wy_record.specs.declared.recorder.Phase.{Phase}
 use Rattle.wy_reply.specs.Recordings.{Spelling}
 use Rattle.wy_top.specs.Answers.{AsksToExplore, IsAnswer, Knows, counts}
 use Rattle.wy_top.specs.Left.{FinishesProgram, Leaves}
-use Rattle.wy_top.specs.Call.{BeginsDue, AnswersEach, Carries, Cuts, Failures, IsFaultBehind, IsOpened, Traces, WritesAll, WritesCarried, WritesCut, WritesDue, WasRefused, WritesFaultLine, WritesPrefix, WritesRefusal, failures, of_keys}
+use Rattle.wy_top.specs.Call.{BeginsDue, AnswersEach, Carries, Cuts, Failures, IsFaultBehind, IsOpened, Traces, WritesAll, WritesCarried, WritesCut, WritesDue, WasRefused, WritesFaultLine, WritesPrefix, WritesRefusal, failures, of_keys, of_shelf}
 use Rattle.wy_top.specs.Call as call
-use Rattle.wy_top.specs.Deliveries.{Delivers}
+use Rattle.wy_top.specs.Deliveries.{Delivers, WritesPart}
 use Rattle.wy_top.specs.Due.{Due, DueForTrace}
 use Rattle.wy_top.specs.Due as due
-use Rattle.wy_top.specs.Openings.{AnswersAny, Explores, Keys, Output, refused, memory, status_of}
+use Rattle.wy_top.specs.Openings.{AnswersAny, ClosedOver, CountsBy, EndsBy, Explores, IsTold, Keys, Output, TellsRefusal, refused, memory}
 use Rattle.wy_top.specs.Openings as opening
 use Rattle.wy_top.specs.Replies.{ShelfCounts}
 use Rattle.wy_top.proofs.Delivered.{delivered_fault, prefix_of, part_of, written_alone}
@@ -79,7 +84,7 @@ answer_of words name held keys before after answer n x (inr (same, unfaulted, is
 
 -- ---- what was written at the end
 
-nothing_more : (before after : Option (List ℕ)) (said line : List ℕ) → line ≡ [] → after ≡ appended before (said ++ line) → after ≡ appended before said
+pub nothing_more : (before after : Option (List ℕ)) (said line : List ℕ) → line ≡ [] → after ≡ appended before (said ++ line) → after ≡ appended before said
 nothing_more before after said line none written = written ∙ ap (λ (l : List ℕ). appended before (said ++ l)) none ∙ ap (appended before) (append-nil said)
 
 -- the trace of a session whose scene is told
@@ -153,7 +158,7 @@ explored_due words name held sb sa kb ka b a _ code x (memory stayed kept) is sh
 
 -- ---- a prefix
 
-begins_session : (words : List (List ℕ)) (name : List ℕ) (held : Option Files) (keys : Option (List ℕ)) (scene : Option Scene) (part : List ℕ) → Session words name → IsTold held name scene →
+pub begins_session : (words : List (List ℕ)) (name : List ℕ) (held : Option Files) (keys : Option (List ℕ)) (scene : Option Scene) (part : List ℕ) → Session words name → IsTold held name scene →
     session.WritesPart (Over scene) keys part → Knows words held keys → BeginsDue words held keys part
 begins_session words name held keys scene part x told begins knows = of (given_by words name held keys x knows) where
   of : Given held keys → BeginsDue words held keys part
@@ -162,12 +167,12 @@ begins_session words name held keys scene part x told begins knows = of (given_b
       call.session name g.files g.input t.program t.trace x.asks g.told g.given t.opened (begins (scene_of t.program t.trace.events (covers_of t.trace)) g.input t.is g.given)
 
 -- what some first lines are answered begins what is due
-part_of_first : (scene : Option Scene) (keys : Option (List ℕ)) (said : List ℕ) → session.WritesFirst (Over scene) keys said → session.WritesPart (Over scene) keys said
+pub part_of_first : (scene : Option Scene) (keys : Option (List ℕ)) (said : List ℕ) → session.WritesFirst (Over scene) keys said → session.WritesPart (Over scene) keys said
 part_of_first scene keys said first x input over given = of (first x input over given) where
   of : AnswersFirst x input said → BeginsTalk x input said
   of (s, rest, reaches) = answered s rest said reaches ([], sym (append-nil said))
 
-abbrev Faults : ShelfCounts → ℕ → Keys → Failures
+abbrev pub Faults : ShelfCounts → ℕ → Keys → Failures
 Faults s n k = failures s.faults n k.faults
 
 no_faults : (sb sa : ShelfCounts) (n : ℕ) (kb ka : Keys) → sa.faults ≡ sb.faults → ka.faults ≡ kb.faults → Faults sa n ka ≡ Faults sb n kb
@@ -197,7 +202,7 @@ record Behind (said : List ℕ) (line : List ℕ) (before after : Option (List �
   pub prefix : IsPrefixOf part line
   pub written : after ≡ appended before (said ++ part)
 
-twice : (old mid new : Option (List ℕ)) (said more : List ℕ) → mid ≡ appended old said → new ≡ appended mid more → new ≡ appended old (said ++ more)
+pub twice : (old mid new : Option (List ℕ)) (said more : List ℕ) → mid ≡ appended old said → new ≡ appended mid more → new ≡ appended old (said ++ more)
 twice None mid new said more first second = second ∙ ap (λ (o : Option (List ℕ)). appended o more) first
 twice (Some text) mid new said more first second = second ∙ ap (λ (o : Option (List ℕ)). appended o more) first ∙ ap Some (append_assoc text said more)
 
@@ -261,24 +266,3 @@ explored_prefix words name held sb sa n kb ka b a _ x (refused answer s cause an
     prefix_of words held kb.left (Faults sb n kb) (Faults sa n ka) b.written a.written answer (ap (λ (k : Keys). k.faults) stayed) (answer_of words name held kb.left sb sa answer n x any) (part_of answer s b.faults a.faults b.written a.written delivers)
 explored_prefix words name held sb sa n kb ka b a _ x (opening.session scene e said s told closed takes counts ends) = session_prefix words name held sb sa n kb ka b said a scene e s x told closed counts ends
 explored_prefix words name held sb sa n kb ka b a _ x (memory stayed kept) = ([], ap (λ (o : Output). o.written) kept ∙ appended_none b.written, inl refl)
-
--- ---- the line of a fault
-
--- the status of what is written where a view refused
-refused_status : (name : List ℕ) (e : ViewError) (answer : Answer) → TellsRefusal name e answer → answer.status ≡ refusal_status e
-refused_status name view.ReadFault answer tells = tells.0
-refused_status name view.Gone answer tells = tells.0
-refused_status name (view.Changed block kept found) answer tells = tells.0
-refused_status name view.NoMemory answer tells = absurd tells
-
--- all of the line is written, or the output failed or memory ran out
-data Ended (name : List ℕ) (e : ViewError) (s : Status) (said after : Output) : Type 0 where
-  written : (answer : Answer) → TellsRefusal name e answer → s ≡ answer.status → s ≡ refusal_status e → after.faults ≡ said.faults → after.written ≡ appended said.written answer.text.items → Ended name e s said after
-  failed : s ≡ Fault → Rose said.faults after.faults → Ended name e s said after
-  lacking : s ≡ NoMemory → after.faults ≡ said.faults → Ended name e s said after
-
-ended : (name : List ℕ) (e : ViewError) (s : Status) (said after : Output) → EndsBy name (ending.View e) s said after → Ended name e s said after
-ended name e s said after (inl (answer, tells, inl (same, kept, all))) = written answer tells same (same ∙ refused_status name e answer tells) kept all
-ended name e s said after (inl (answer, tells, inr (inl (fault, rose, part)))) = failed fault rose
-ended name e s said after (inl (answer, tells, inr (inr (lack, kept, part)))) = lacking lack kept
-ended name e s said after (inr (lack, same)) = lacking lack (ap (λ (o : Output). o.faults) same)
