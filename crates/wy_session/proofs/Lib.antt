@@ -8,3 +8,4 @@ mod Saying
 mod Replying
 mod Framing
 mod Desks
+mod Viewing

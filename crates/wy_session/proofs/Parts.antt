@@ -1,5 +1,5 @@
 -- What is written of a reply, and what reading on does.
-use Rattle.std.proofs.Common.{◌≡◌, ◌∙◌, sym, ap, refl, inl, inr, ℕ, List, [], ◌++◌, take, drop, append-nil, Option, Some, None, Result, Ok, Err}
+use Rattle.std.proofs.Common.{◌≡◌, sym, ap, refl, subst, inl, inr, ℕ, List, [], take, drop, append-nil, Option, Some, None, Result, Ok, Err}
 use Rattle.std.proofs.lemmas.List.{take-append-drop}
 use Rattle.wy_explore.specs.Session.{Session}
 use Rattle.wy_outside.specs.Sink.{appended}
@@ -7,8 +7,11 @@ use Rattle.wy_session.specs.Scene.{Said, Scene}
 use Rattle.wy_session.specs.Line.{AnswersLine}
 use Rattle.wy_session.specs.Situation.{Situation}
 use Rattle.wy_session.specs.Closings.{Answered, IsBroken, IsPrefixOfReply, IsWithin, Puts}
+use Rattle.wy_session.specs.Views.{ending_of}
+use Rattle.wy_view.specs.declared.view.ViewError.{ViewError}
+use Rattle.wy_view.specs.declared.view.ViewError.TheVariants as view
 use Rattle.wy_session.specs.declared.ending.Ending.{Ending}
-use Rattle.wy_session.specs.declared.ending.Ending.TheVariants.{Done, LongLine, LongInput, KeysFailed, OutFailed, NoMemory}
+use Rattle.wy_session.specs.declared.ending.Ending.TheVariants.{Done, LongLine, LongInput, KeysFailed, OutFailed, View, NoMemory}
 
 -- nothing was written
 pub appended_nothing : (old : Option (List ℕ)) → old ≡ appended old []
@@ -25,6 +28,7 @@ broken_reply x s line part stands Done broken is = absurd broken
 broken_reply x s line part stands LongLine broken is = absurd broken
 broken_reply x s line part stands LongInput broken is = absurd broken
 broken_reply x s line part stands KeysFailed broken is = absurd broken
+broken_reply x s line part stands (View e) broken is = absurd broken
 
 unlimited : (e : Ending) → IsBroken e → IsWithin (Err e)
 unlimited OutFailed broken = tt
@@ -33,6 +37,7 @@ unlimited Done broken = absurd broken
 unlimited LongLine broken = absurd broken
 unlimited LongInput broken = absurd broken
 unlimited KeysFailed broken = absurd broken
+unlimited (View e) broken = absurd broken
 
 -- the reply to a line is written, or not all of it
 pub put_answers : (before after : Situation) (line text : List ℕ) (old new : Option (List ℕ)) (n m : ℕ) (r : Result Unit Ending)
@@ -57,3 +62,13 @@ over_answers before after line old n said = (nothing, ends, appended_nothing old
   ends x s at = of (said x s at) where
     of : (t : Session) × Said x s line t None × after x t → (t : Session) × Said x s line t None × (nothing ≡ nothing)
     of (t, is, then) = (t, is, refl)
+
+-- a view refuses, and nothing is written of the line
+pub view_answers : (before after : Situation) (line : List ℕ) (old : Option (List ℕ)) (n : ℕ) (e : ViewError) → AnswersLine before after line old old n n (Err (ending_of e))
+view_answers before after line old n view.ReadFault = ([], (λ x s at. refl), appended_nothing old, refl, tt)
+view_answers before after line old n view.Gone = ([], (λ x s at. refl), appended_nothing old, refl, tt)
+view_answers before after line old n (view.Changed block kept found) = ([], (λ x s at. refl), appended_nothing old, refl, tt)
+view_answers before after line old n view.NoMemory = ([], (λ x s at. inl refl), appended_nothing old, refl, tt)
+
+pub refused_answers : (before after : Situation) (line : List ℕ) (old : Option (List ℕ)) (n : ℕ) (r : Result Unit Ending) (e : ViewError) → r ≡ Err (ending_of e) → AnswersLine before after line old old n n r
+refused_answers before after line old n r e is = subst (AnswersLine before after line old old n n) (sym is) (view_answers before after line old n e)

@@ -10,6 +10,7 @@ mod files;
 pub mod laws;
 mod opening;
 mod paged;
+mod paging;
 mod recorders;
 mod source;
 pub mod top;
