@@ -7,6 +7,7 @@ use Rattle.std.proofs.lemmas.Bool.{leb-false, leb-true}
 use Rattle.std.specs.Option.{unwrap_or}
 use Rattle.wy_kernel.specs.Limits.{trace_limit}
 use Rattle.wy_kernel.specs.declared.program.Program.{Program}
+use Rattle.wy_event.specs.Record.{recorded}
 use Rattle.wy_event.specs.declared.record.Tail.{Tail}
 use Rattle.wy_fitting.specs.Fits.{EndFits}
 use Rattle.wy_frames.specs.Traces.{ReadsAs}
@@ -28,11 +29,10 @@ use Rattle.wy_view.specs.declared.view.ViewError.TheVariants as view
 use Rattle.wy_reply.specs.declared.answer.Answer.{Answer}
 use Rattle.wy_reply.specs.declared.status.Status.TheVariants as status
 use Rattle.wy_reply.specs.Statuses.{code_of, is_of_files}
-use Rattle.wy_event.specs.declared.record.Cover.{Cover}
 use Rattle.wy_event.specs.declared.record.Trace.{Trace}
 use Rattle.wy_page.specs.declared.pages.Pages.{Pages}
 use Rattle.wy_page.specs.Paged.{records_of, records_told}
-use Rattle.wy_reply.specs.Opening.{IsDecoded, IsViewOf}
+use Rattle.wy_reply.specs.Opening.{IsDecoded}
 use Rattle.wy_reply.specs.Tellings as tellings
 use Rattle.wy_reply.specs.Tellings.{DueUnder, IsTraceLine, RefusesTrace, Wanted}
 use Rattle.wy_top.specs.declared.files.FileError.{FileError}
@@ -193,8 +193,8 @@ refused_from due pages held before after name e (Ok answer) refuses tells = view
 refused_from due pages held before after name e (Err x) refuses tells = tt
 
 -- the records of pages that a view tells
-pub view_of : (t : Trace) (pages : Pages) (listed : List Cover) (files : Files) (held : Option Files) (told : Told) → held ≡ Some files → told.records ≡ records_told pages held → ArePagesOf t pages listed files → IsViewOf t told listed
-view_of t pages listed files held told is shown are = record { records = shown ∙ ap (records_told pages) is ∙ are.records; covers = are.covers }
+pub view_of : (t : Trace) (pages : Pages) (tail : Tail) (files : Files) (held : Option Files) (told : Told) → held ≡ Some files → told.records ≡ records_told pages held → ArePagesOf t pages tail files → told.records ≡ Some (map recorded t.events)
+view_of t pages tail files held told is shown are = shown ∙ ap (records_told pages) is ∙ are.records
 
 -- what is due where an answer is done
 settled_due : (due : DueBy) (held : Option Files) (before after : Counts) (answer : Answer) → answer.status ≡ status.Done → AnswersBy due held before after answer → (files : Files) → held ≡ Some files → due files 0 answer.text.items
@@ -211,17 +211,17 @@ decoded : (p : Program) (pages : Pages) (tail : Tail) (bytes : List ℕ) (o : Is
 decoded p pages tail bytes o short = record { are_bytes = o.are_bytes; short = short; reads = o.read }
 
 -- what is kept is of the trace that the bytes of the file are read as
-pages_of : TracesAreSpelled → (p : Program) (pages : Pages) (tail : Tail) (files : Files) (name bytes : List ℕ) (o : IsOpened pages tail p bytes) → string_bytes pages.name ≡ name → Holds files name trace_limit bytes → ArePagesOf o.trace pages tail.coverage.statements files
+pages_of : TracesAreSpelled → (p : Program) (pages : Pages) (tail : Tail) (files : Files) (name bytes : List ℕ) (o : IsOpened pages tail p bytes) → string_bytes pages.name ≡ name → Holds files name trace_limit bytes → ArePagesOf o.trace pages tail files
 pages_of spelled p pages tail files name bytes o named holds =
     let file : files (string_bytes pages.name) ≡ Some bytes = ap files named ∙ holds.found in
     record {
       records = ap (λ f. Some (records_of pages.starts pages.count (unwrap_or f []))) file ∙ ap Some o.records_are;
-      covers = ap (λ (x : Tail). x.coverage.statements) o.tail_is;
+      tail_is = o.tail_is;
       seal = sym o.seal_is.1 ∙ (sealed_end spelled p bytes o.trace (decoded p pages tail bytes o holds.within)).1;
     }
 
 pub opened_due : TracesAreSpelled → (held : Option Files) (name : List ℕ) (p : Program) (w : Wanted) (pages : Pages) (tail : Tail) → Opens held name p (Ok (pages, tail)) → string_bytes pages.name ≡ name
-    → (files : Files) → held ≡ Some files → (s : ℕ) (x : List ℕ) → DueInPages p pages tail.coverage.statements w files s x → DueInFile name p w files s x
+    → (files : Files) → held ≡ Some files → (s : ℕ) (x : List ℕ) → DueInPages p pages tail w files s x → DueInFile name p w files s x
 opened_due spelled held name p w pages tail opens named files told s x due = λ bytes holds.
     let o : IsOpened pages tail p bytes = open_at held name p (Ok (pages, tail)) opens files told bytes holds.found in
     tellings.told o.trace s x o.read (due o.trace (pages_of spelled p pages tail files name bytes o named holds))
@@ -229,12 +229,12 @@ opened_due spelled held name p w pages tail opens named files told s x due = λ 
 -- what is told is by each run whose trace it is
 pub opened_by_run : TracesAreSpelled → TellingsAreByRuns → (held : Option Files) (name : List ℕ) (p : Program) (w : Wanted) (pages : Pages) (tail : Tail) (before after : ShelfCounts) (r : Result Answer AllocError)
     → EndFits tail → Opens held name p (Ok (pages, tail)) → string_bytes pages.name ≡ name
-    → IfOk r (AnswersFrom (DueInPages p pages tail.coverage.statements w) held before after) → IfOk r (λ answer. answer.status ≡ status.Done → IsByRun held name p w answer.text.items)
+    → IfOk r (AnswersFrom (DueInPages p pages tail w) held before after) → IfOk r (λ answer. answer.status ≡ status.Done → IsByRun held name p w answer.text.items)
 opened_by_run spelled by_runs held name p w pages tail before after (Err e) fits opens named from = tt
 opened_by_run spelled by_runs held name p w pages tail before after (Ok answer) fits opens named from = λ done files bytes told holds.
     let o : IsOpened pages tail p bytes = open_at held name p (Ok (pages, tail)) opens files told bytes holds.found in
     let laws = by_runs p bytes o.trace (decoded p pages tail bytes o holds.within) (subst EndFits o.tail_is fits) in
-    let due = settled_due (DueInPages p pages tail.coverage.statements w) held _ _ answer done (from.is 0) files told o.trace (pages_of spelled p pages tail files name bytes o named holds) in
+    let due = settled_due (DueInPages p pages tail w) held _ _ answer done (from.is 0) files told o.trace (pages_of spelled p pages tail files name bytes o named holds) in
     (laws.0, laws.1 w answer.text.items due)
 
 -- bytes that are no trace

@@ -4,7 +4,7 @@ use Rattle.std.specs.declared.alloc.Global.{Global}
 use Rattle.wy_kernel.specs.Limits.{trace_limit}
 use Rattle.wy_kernel.specs.declared.program.Program.{Program}
 use Rattle.wy_event.specs.Record.{recorded}
-use Rattle.wy_event.specs.declared.record.Cover.{Cover}
+use Rattle.wy_event.specs.declared.record.Tail.{Tail}
 use Rattle.wy_event.specs.declared.record.Trace.{Trace}
 use Rattle.wy_outside.specs.Shelf.{Files, ReadsPart}
 use Rattle.wy_page.specs.declared.pages.Pages.{Pages}
@@ -16,7 +16,7 @@ use Rattle.wy_reply.specs.declared.status.Status.TheVariants as status
 use Rattle.wy_reply.specs.ByRun.{HasSource, TellsRun}
 use Rattle.wy_reply.specs.Certificates.{seal_of}
 use Rattle.wy_reply.specs.Lines.{absent_line, changed_line, shelf_fault_line}
-use Rattle.wy_reply.specs.Tellings.{DueUnder, Tells, Wanted, covers_of}
+use Rattle.wy_reply.specs.Tellings.{DueUnder, Tells, Wanted}
 use Rattle.wy_outside.specs.Counts.{Rose}
 use Rattle.wy_top.specs.declared.files.FileError.{FileError}
 use Rattle.wy_top.specs.Answers.{counts}
@@ -52,15 +52,15 @@ TellsRefusal name view.Gone answer = (answer.status ≡ status.Absent) × (answe
 TellsRefusal name (view.Changed block kept found) answer = (answer.status ≡ status.Trace) × (answer.text.items ≡ changed_line block)
 TellsRefusal name view.NoMemory answer = ⊥
 
--- what is kept of a trace on a shelf of these files, and what is told of its statements, is of this trace
-pub record ArePagesOf (t : Trace) (pages : Pages) (listed : List Cover) (files : Files) : Type 0 where
+-- what is kept of a trace on a shelf of these files, and what is told of its end, is of this trace
+pub record ArePagesOf (t : Trace) (pages : Pages) (tail : Tail) (files : Files) : Type 0 where
   pub records : records_told pages (Some files) ≡ Some (map recorded t.events)
-  pub covers : listed ≡ covers_of t
+  pub tail_is : tail ≡ t.tail
   pub seal : pages.seal ≡ seal_of t
 
 -- what each trace tells that is the one which is kept
-abbrev pub DueInPages : Program → Pages → List Cover → Wanted → Files → ℕ → List ℕ → Type 0
-DueInPages p pages listed w files status text = (t : Trace) → ArePagesOf t pages listed files → Tells p t w status text
+abbrev pub DueInPages : Program → Pages → Tail → Wanted → Files → ℕ → List ℕ → Type 0
+DueInPages p pages tail w files status text = (t : Trace) → ArePagesOf t pages tail files → Tells p t w status text
 
 -- a view refused: the shelf failed; or the trace was gone or had changed, which never is where its bytes are told
 abbrev pub RefusesView : Type 0 → ViewError → ShelfCounts → ShelfCounts → Type 0

@@ -1,4 +1,4 @@
-//! What is looked up in a trace that stays on its shelf.
+//! What is told from a trace that stays on its shelf.
 ghost use Rattle.std.specs.Prelude.{◌≡◌, ◌<◌, ◌≤◌, ◌^◌, ℕ, IfOk, None, Ok, Some, false, length};
 ghost use Rattle.wy_frames.specs.Heads.{head_of};
 ghost use Rattle.law_reading.specs.Spelled.{AreBytes};
@@ -51,7 +51,7 @@ fn answer_to_refusal(alloc: Global, name: &str, error: ViewError) -> Result<Answ
     }
 }
 
-/// What is looked up through a view of what is kept of a trace.
+/// What is told through a view of what is kept of a trace.
 fn look_up<S: Shelf>(
     alloc: Global,
     shelf: &mut S,
@@ -63,7 +63,7 @@ fn look_up<S: Shelf>(
     requires fields { length program.now.fields.items < 2 ^ 32 }
     requires fits { IsOfShelf pages (S.held shelf.old) }
     ensures due { (t : Trace) (files : Files) → S.held shelf.old ≡ Some files
-        → ArePagesOf t pages tail.now.coverage.statements files
+        → ArePagesOf t pages tail.now files
         → IfOk result (λ answer. Tells program.now t (inquiry_of inquiry.entry)
         (code_of answer.status) answer.text.items) }
     ensures settled { IfOk result (λ answer. is_of_files answer.status ≡ false) }
@@ -73,10 +73,9 @@ fn look_up<S: Shelf>(
     ensures files_stay { S.held shelf.new ≡ S.held shelf.old }
 {
     let seal = *pages.seal();
-    let covers = tail.coverage.statements.as_slice();
     let view = PagedView::over(shelf, pages);
     let mut answer = None;
-    let view = answer_to_view(alloc, program, covers, view, &seal, inquiry, &mut answer);
+    let view = answer_to_view(alloc, program, tail, view, &seal, inquiry, &mut answer);
     view.close();
     answer.unwrap()
 }
@@ -94,7 +93,7 @@ fn answer_in<S: Shelf>(
     requires fields { length program.now.fields.items < 2 ^ 32 }
     requires fits { IsOfShelf pages (S.held shelf.old) }
     ensures answers { IfOk result (AnswersFrom
-        (DueInPages program.now pages tail.now.coverage.statements (inquiry_of inquiry.entry))
+        (DueInPages program.now pages tail.now (inquiry_of inquiry.entry))
         (S.held shelf.old)
         (at_shelf (S.faults shelf.old) (S.misses shelf.old) (S.fulls shelf.old))
         (at_shelf (S.faults shelf.new) (S.misses shelf.new) (S.fulls shelf.new))) }

@@ -12,8 +12,8 @@ returns-in-Ok-clause-answers g c =
     let tail = c.in-Ok.tail in
     let counts = c.in-Ok.ensures.counts in
     let same = same_counts _ _ _ _ _ _ counts.0 counts.1 c.open.ensures.fulls in
-    let moved = moved_from (DueInPages p pages tail.coverage.statements w) held _ _ _ _ c.answer_in.result c.open.ensures.held same c.answer_in.ensures.answers in
-    mapped_from (DueInPages p pages tail.coverage.statements w) (DueInFile c.args.name.now p w) held _ _ c.answer_in.result (opened_due c.traces_are_spelled.ensures held c.args.name.now p w pages tail c.in-Ok.ensures.trace c.in-Ok.ensures.named) moved
+    let moved = moved_from (DueInPages p pages tail w) held _ _ _ _ c.answer_in.result c.open.ensures.held same c.answer_in.ensures.answers in
+    mapped_from (DueInPages p pages tail w) (DueInFile c.args.name.now p w) held _ _ c.answer_in.result (opened_due c.traces_are_spelled.ensures held c.args.name.now p w pages tail c.in-Ok.ensures.trace c.in-Ok.ensures.named) moved
 
 pub returns-in-Ok-clause-by_run : goal.returns-in-Ok-clause-by_run
 returns-in-Ok-clause-by_run g c =
@@ -24,7 +24,7 @@ returns-in-Ok-clause-by_run g c =
     let tail = c.in-Ok.tail in
     let counts = c.in-Ok.ensures.counts in
     let same = same_counts _ _ _ _ _ _ counts.0 counts.1 c.open.ensures.fulls in
-    let moved = moved_from (DueInPages p pages tail.coverage.statements w) held _ _ _ _ c.answer_in.result c.open.ensures.held same c.answer_in.ensures.answers in
+    let moved = moved_from (DueInPages p pages tail w) held _ _ _ _ c.answer_in.result c.open.ensures.held same c.answer_in.ensures.answers in
     opened_by_run c.traces_are_spelled.ensures c.tellings_are_by_runs.ensures held c.args.name.now p w pages tail _ _ c.answer_in.result c.end_fits.ensures c.in-Ok.ensures.trace c.in-Ok.ensures.named moved
 
 pub returns-in-Err-Trace-clause-answers : goal.returns-in-Err-Trace-clause-answers
