@@ -1,5 +1,5 @@
 //! A walk through the prints of a run, as far as they are what was expected.
-ghost use Rattle.std.specs.Prelude.{◌≡◌, ◌++◌, ◌≤◌, ◌<◌, ◌↔◌, IsTrue, IfOk, List, None, OnOk, Some, length, map, slice_get, take};
+ghost use Rattle.std.specs.Prelude.{◌≡◌, ◌++◌, ◌≤◌, ◌<◌, ◌↔◌, IsTrue, IfOk, None, OnOk, Some, length, map, slice_get, take};
 ghost use Rattle.wy_ask.specs.Opened.{StaysOpened};
 ghost use Rattle.wy_event.specs.Record.{Recorded, recorded};
 ghost use Rattle.wy_expect.specs.Expected.{Begins, IsWalk, without_returns};
@@ -41,22 +41,24 @@ fn goes_on(expected: &[u8], printed: &[u8], before: usize) -> bool
 }
 
 /// Puts what event n printed, but for carriage returns.
-fn put_plain<V: EventView, L: Ledger>(
+fn put_plain<L: Ledger>(
     alloc: Global,
     printed: &mut Vec<u8>,
     program: &Program,
     ends: &LineEnds,
-    view: &mut V,
+    view: &mut MemoryView,
     n: u32,
     steps: &mut Steps<L>,
 ) -> Result<(), ViewError>
-    requires there { n < (V.tells view.old).count }
-    ensures printed { (rs : List Recorded) (e : Recorded) → (V.tells view.old).records ≡ Some rs
-        → slice_get rs n ≡ Some e → AreLineEnds (program_of program.now) ends.now
+    requires there { n < length view.old.events.items }
+    ensures printed { (e : Recorded) → slice_get (map recorded view.old.events.items) n ≡ Some e
+        → AreLineEnds (program_of program.now) ends.now
         → OnOk result (printed.new.items ≡ printed.old.items
-        ++ without_returns (printed_by (program_of program.now) rs e)) }
-    ensures keeps { Keeps (V.tells view.old) (V.tells view.new) }
-    ensures answers { KeepsCounts result (V.tells view.old) (V.tells view.new) }
+        ++ without_returns (printed_by (program_of program.now)
+        (map recorded view.old.events.items) e)) }
+    ensures keeps { Keeps (whole view.old.events.items None) (whole view.new.events.items None) }
+    ensures answers { KeepsCounts result
+        (whole view.old.events.items None) (whole view.new.events.items None) }
 {
     let mut own = Vec::new(alloc);
     put_printed(alloc, &mut own, program, ends, view, n, steps)?;
@@ -65,21 +67,22 @@ fn put_plain<V: EventView, L: Ledger>(
     Ok(())
 }
 
-/// Goes through the events of a view until one printed something else, with a ledger for the steps, which nobody reads.
-fn walk_in<V: EventView, L: Ledger>(
+/// Goes through the events until one printed something else, with a ledger for the steps, which nobody reads.
+fn walk_by<L: Ledger>(
     alloc: Global,
     program: &Program,
-    view: &mut V,
+    view: &mut MemoryView,
     expected: &[u8],
     blank: Blank,
 ) -> Result<Walked, ViewError>
     requires name { blank.name ≡ L.name }
     requires parts { blank.parts ≡ L.parts }
     requires some { 0 < blank.parts }
-    ensures walk { (rs : List Recorded) → (V.tells view.old).records ≡ Some rs
-        → IfOk result (IsWalk (program_of program.now) rs expected.now) }
-    ensures keeps { Keeps (V.tells view.old) (V.tells view.new) }
-    ensures answers { KeepsCounts result (V.tells view.old) (V.tells view.new) }
+    ensures walk { IfOk result (IsWalk (program_of program.now)
+        (map recorded view.old.events.items) expected.now) }
+    ensures keeps { Keeps (whole view.old.events.items None) (whole view.new.events.items None) }
+    ensures answers { KeepsCounts result
+        (whole view.old.events.items None) (whole view.new.events.items None) }
 {
     let mut steps = Steps::<L>::new(blank);
     let ends = LineEnds::of(alloc, program)?;
@@ -111,7 +114,7 @@ pub fn walk(
     ensures stays { StaysOpened (λ v. whole v.events.items None) opened.old opened.new }
 {
     let view = &mut opened.view;
-    match walk_in::<MemoryView, Brand>(alloc, opened.program, view, expected, Blank::new(1)) {
+    match walk_by::<Brand>(alloc, opened.program, view, expected, Blank::new(1)) {
         Ok(walked) => Ok(walked),
         Err(error) => Err(want_of_memory(error)),
     }

@@ -1,5 +1,5 @@
 -- What the prints of a trace wrote, one event after another.
-use Rattle.std.proofs.Common.{◌≡◌, ◌∙◌, ◌<◌, ◌≤◌, ◌+◌, ℕ, Bool, true, false, List, [], ◌++◌, length, take, Option, Some, ⊎_elim, refl, sym, ap, subst, arith}
+use Rattle.std.proofs.Common.{◌≡◌, ◌∙◌, ◌<◌, ◌+◌, ℕ, Bool, true, false, List, [], ◌++◌, length, take, Option, Some, ⊎_elim, refl, sym, ap, subst, arith}
 use Rattle.std.specs.List.{flat_map}
 use Rattle.std.specs.Prelude.{IfSome, if◌then◌else◌, slice_get}
 use Rattle.std.proofs.lemmas.List.{append_assoc, append-nil}
@@ -17,7 +17,7 @@ use Rattle.wy_telling.proofs.Asked.{one_line}
 
 -- ---- an event
 
-pub not_print : (kind : Kind) → ¬ (kind ≡ Print) → is_print kind ≡ false
+pub not_print : (k : Kind) → ¬ (k ≡ Print) → is_print k ≡ false
 not_print Print other = absurd (other refl)
 not_print _ other = refl
 
@@ -25,10 +25,10 @@ pub one_record : (o : Option Recorded) (a e : Recorded) → o ≡ Some a → o �
 one_record o a e first second = same_Some a e (sym first ∙ second)
 
 -- a Print wrote its value, and a line feed where its site ends a line
-pub print_wrote : (p : Program) (rs : List Recorded) (e : Recorded) (kind : Kind) (site : ℕ) (value : Value) (ends : Bool) (old mid new : List ℕ) → is_print kind ≡ true → kind ≡ e.kind → site ≡ e.site → value ≡ e.value
+pub print_wrote : (p : Program) (rs : List Recorded) (e : Recorded) (k : Kind) (site : ℕ) (value : Value) (ends : Bool) (old mid new : List ℕ) → is_print k ≡ true → k ≡ e.kind → site ≡ e.site → value ≡ e.value
     → ends ≡ ends_line p site → mid ≡ old ++ utf8_of (printed_units p rs value) → new ≡ mid ++ line_end ends → new ≡ old ++ printed_by p rs e
 unfolding printed_by
-print_wrote p rs e kind site value ends old mid new prints kind_is site_is value_is ends_is first second =
+print_wrote p rs e k site value ends old mid new prints kind_is site_is value_is ends_is first second =
     let wrote : Value → List ℕ = λ v. utf8_of (printed_units p rs v) in
     let all : List ℕ = wrote e.value ++ line_end (ends_line p e.site) in
     second ∙ ap (λ xs. xs ++ line_end ends) first ∙ append_assoc old (wrote value) (line_end ends)
@@ -37,9 +37,9 @@ print_wrote p rs e kind site value ends old mid new prints kind_is site_is value
     ∙ ap (λ b. old ++ (if b then all else [])) (sym prints ∙ ap is_print kind_is)
 
 -- and another event wrote nothing
-pub other_wrote : (p : Program) (rs : List Recorded) (e : Recorded) (kind : Kind) (old new : List ℕ) → is_print kind ≡ false → kind ≡ e.kind → new ≡ old → new ≡ old ++ printed_by p rs e
+pub other_wrote : (p : Program) (rs : List Recorded) (e : Recorded) (k : Kind) (old new : List ℕ) → is_print k ≡ false → k ≡ e.kind → new ≡ old → new ≡ old ++ printed_by p rs e
 unfolding printed_by
-other_wrote p rs e kind old new other kind_is same =
+other_wrote p rs e k old new other kind_is same =
     let all : List ℕ = utf8_of (printed_units p rs e.value) ++ line_end (ends_line p e.site) in
     same ∙ sym (append-nil old) ∙ ap (λ b. old ++ (if b then all else [])) (sym other ∙ ap is_print kind_is)
 
