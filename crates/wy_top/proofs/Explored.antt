@@ -93,8 +93,8 @@ explored_shelf_fault held name sb sa kb ka b a _ (opening.session scene e said s
     fault_code (written answer tells same is kept all) = inl (ap code_of is)
     fault_code (failed fault rose) = inl (ap code_of fault)
     fault_code (lacking lack kept) = inr (ap code_of lack)
-  of (ending.View view.Gone) counts ends = absurd (omega (arith, less, counts.2))
-  of (ending.View (view.Changed block kept found)) counts ends = absurd (omega (arith, less, counts.1))
+  of (ending.View view.Gone) counts ends = absurd (omega (arith, less, counts.1.1))
+  of (ending.View (view.Changed block kept found)) counts ends = absurd (omega (arith, less, counts.1.0))
   of (ending.View view.NoMemory) counts ends = absurd (counts.0 refl)
 explored_shelf_fault held name sb sa kb ka b a _ (memory stayed kept) less = inr refl
 
@@ -228,8 +228,8 @@ explored_alone words name held sb sa kb ka b a _ code x (opening.session scene e
   of (ending.View e) c counts ends = by (ended name e s said a ends) where
     at : (e : ViewError) → CountsBy (held ≡ None) (ending.View e) sb sa → s ≡ refusal_status e → ⊥
     at view.ReadFault counts same = session_ends (is ∙ ap code_of same)
-    at view.Gone counts same = ((was.2 (name, x.asks)).2 counts.3).0 (is ∙ ap code_of same)
-    at (view.Changed block kept found) counts same = ((was.2 (name, x.asks)).2 counts.2).1 (is ∙ ap code_of same)
+    at view.Gone counts same = ((was.2 (name, x.asks)).2 counts.1.2).0 (is ∙ ap code_of same)
+    at (view.Changed block kept found) counts same = ((was.2 (name, x.asks)).2 counts.1.1).1 (is ∙ ap code_of same)
     at view.NoMemory counts same = counts.0 refl
 
     by : Ended name e s said a → ⊥
@@ -303,7 +303,7 @@ explored_absent name held sb sa kb ka b a _ (opening.session scene e said s told
   of (ending.View e) counts ends = by (ended name e s said a ends) where
     at : (e : ViewError) → CountsBy (held ≡ None) (ending.View e) sb sa → s ≡ refusal_status e → Rose sb.misses sa.misses
     at view.ReadFault counts same = absurd (let z = sym same ∙ is in cc)
-    at view.Gone counts same = counts.1
+    at view.Gone counts same = counts.1.0
     at (view.Changed block kept found) counts same = absurd (let z = sym same ∙ is in cc)
     at view.NoMemory counts same = absurd (counts.0 refl)
 

@@ -17,4 +17,4 @@ mod Certified
 mod Sound
 pub mod Paging
 pub mod Fronts
-pub mod Exploring
+pub mod Scenes

@@ -47,7 +47,7 @@ use Rattle.wy_top.specs.Due as due
 use Rattle.wy_top.specs.Openings.{AnswersAny, RefusesView, TellsRefusal}
 use Rattle.wy_top.specs.Held.{Holds, absent, too_long}
 use Rattle.wy_top.specs.Paging.{AnswersFrom, ArePagesOf, BeginsFile, DueInPages, GivesFirst, GivesFront, IsPaged, LooksUp, OpensPages}
-use Rattle.wy_top.specs.declared.paging.Paging.TheVariants.{Refused}
+use Rattle.wy_top.specs.declared.shelved.Shelved.TheVariants.{Refused}
 use Rattle.wy_top.specs.Reads.{GivesFile, Tells, is_absent, is_fault, is_too_long, lack}
 use Rattle.wy_top.specs.Replies.{AnswersBy, HasCause, ShelfCounts, at_shelf}
 use Rattle.wy_top.proofs.AnswerLemmas.{DueBy, no_fault}
@@ -166,7 +166,7 @@ same_counts a b c x y z first second third = rw (first, second, third) refl
 
 -- ---- through a view
 
-refused_in : (e : ViewError) (old new : Told) (after : ShelfCounts) (fulls : ℕ) → after.faults ≡ new.faults → after.misses ≡ new.misses → RefusedFor e old new → RefusesView (old.records ≡ None) e (at_shelf old.faults old.misses fulls) after
+pub refused_in : (e : ViewError) (old new : Told) (after : ShelfCounts) (fulls : ℕ) → after.faults ≡ new.faults → after.misses ≡ new.misses → RefusedFor e old new → RefusesView (old.records ≡ None) e (at_shelf old.faults old.misses fulls) after
 refused_in view.ReadFault old new after fulls faults misses rose = subst (Rose old.faults) (sym faults) rose
 refused_in view.Gone old new after fulls faults misses (rose, same, untold) = (subst (Rose old.misses) (sym misses) rose, faults ∙ same, untold)
 refused_in (view.Changed block kept found) old new after fulls faults misses (rose, differ, same, untold) = (faults ∙ same, untold)

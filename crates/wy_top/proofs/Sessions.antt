@@ -133,8 +133,8 @@ session_due words name held sb sa kb ka b said a scene ending.LongInput s x told
 session_due words name held sb sa kb ka b said a scene ending.KeysFailed s x told c counts ends shelf keys out knows some = absurd (keys c.closes.1)
 session_due words name held sb sa kb ka b said a scene ending.OutFailed s x told c counts ends shelf keys out knows some = absurd (out (subst (λ (o : Output). Rose b.faults o.faults) (sym ends.1) c.closes.1))
 session_due words name held sb sa kb ka b said a scene (ending.View view.ReadFault) s x told c counts ends shelf keys out knows some = absurd (shelf counts.1)
-session_due words name held sb sa kb ka b said a scene (ending.View view.Gone) s x told c counts ends shelf keys out knows some = absurd (untold words name held kb.left x counts.3 knows)
-session_due words name held sb sa kb ka b said a scene (ending.View (view.Changed block kept found)) s x told c counts ends shelf keys out knows some = absurd (untold words name held kb.left x counts.2 knows)
+session_due words name held sb sa kb ka b said a scene (ending.View view.Gone) s x told c counts ends shelf keys out knows some = absurd (untold words name held kb.left x counts.1.2 knows)
+session_due words name held sb sa kb ka b said a scene (ending.View (view.Changed block kept found)) s x told c counts ends shelf keys out knows some = absurd (untold words name held kb.left x counts.1.1 knows)
 session_due words name held sb sa kb ka b said a scene (ending.View view.NoMemory) s x told c counts ends shelf keys out knows some = absurd (counts.0 refl)
 session_due words name held sb sa kb ka b said a scene ending.NoMemory s x told c counts ends shelf keys out knows some = absurd (some (ap code_of ends.0))
 
@@ -229,10 +229,10 @@ refused_prefix words name held sb sa n kb ka b said a scene view.ReadFault s x t
     (c.said ++ p.part, p.written, inr (inl (c.said, shelf_fault_line, p.part, of_shelf c.said (name, x.asks) counts.1 (begins_session words name held kb.left scene c.said x told (part_of_first scene kb.left c.said c.closes.3)), p.prefix, refl)))
 refused_prefix words name held sb sa n kb ka b said a scene view.Gone s x told c counts ends =
     let p = behind name view.Gone s said a c.said (absent_line name) b.written (nothing_more b.written said.written c.said c.line c.closes.0 c.written) (λ answer tells. tells.1) ends in
-    (c.said ++ p.part, p.written, inr (inr (no_faults sb sa n kb ka counts.2 c.closes.1, λ knows. absurd (untold words name held kb.left x counts.3 knows))))
+    (c.said ++ p.part, p.written, inr (inr (no_faults sb sa n kb ka counts.1.1 c.closes.1, λ knows. absurd (untold words name held kb.left x counts.1.2 knows))))
 refused_prefix words name held sb sa n kb ka b said a scene (view.Changed block kept found) s x told c counts ends =
     let p = behind name (view.Changed block kept found) s said a c.said (changed_line block) b.written (nothing_more b.written said.written c.said c.line c.closes.0 c.written) (λ answer tells. tells.1) ends in
-    (c.said ++ p.part, p.written, inr (inr (no_faults sb sa n kb ka counts.1 c.closes.1, λ knows. absurd (untold words name held kb.left x counts.2 knows))))
+    (c.said ++ p.part, p.written, inr (inr (no_faults sb sa n kb ka counts.1.0 c.closes.1, λ knows. absurd (untold words name held kb.left x counts.1.1 knows))))
 refused_prefix words name held sb sa n kb ka b said a scene view.NoMemory s x told c counts ends = absurd (counts.0 refl)
 
 session_prefix : (words : List (List ℕ)) (name : List ℕ) (held : Option Files) (sb sa : ShelfCounts) (n : ℕ) (kb ka : Keys) (b said a : Output) (scene : Option Scene) (e : Ending) (s : Status) → Session words name → IsTold held name scene →

@@ -19,8 +19,8 @@ use Rattle.wy_reply.specs.declared.status.Status.TheVariants as status
 use Rattle.wy_reply.specs.Certificates.{seal_of}
 use Rattle.wy_reply.specs.Tellings.{Tells, Wanted, covers_of}
 use Rattle.wy_top.specs.declared.files.FileError.{FileError}
-use Rattle.wy_top.specs.declared.paging.Paging.{Paging}
-use Rattle.wy_top.specs.declared.paging.Paging.TheVariants.{Open, Refused, Headless}
+use Rattle.wy_top.specs.declared.shelved.Shelved.{Shelved}
+use Rattle.wy_top.specs.declared.shelved.Shelved.TheVariants.{Open, Refused, Headless}
 use Rattle.wy_top.specs.Answers.{counts}
 use Rattle.wy_top.specs.Call.{IsOpened}
 use Rattle.wy_top.specs.Held.{Holds}
@@ -80,7 +80,7 @@ pub record IsPaged (files : Files) (name : List ℕ) (p : Program) (pages : Page
   pub end_fits : EndFits trace.tail
 
 -- the pages of a trace of a name are open, and no count rose; or what is answered in place of whatever is wanted
-abbrev pub OpensPages : Option Files → List ℕ → ShelfCounts → ShelfCounts → Paging → Type 0
+abbrev pub OpensPages : Option Files → List ℕ → ShelfCounts → ShelfCounts → Shelved → Type 0
 OpensPages held name before after (Open typed pages tail) = (after ≡ before) × IsOfShelf pages held
     × ((files : Files) → held ≡ Some files → IsPaged files name typed.program pages tail)
 OpensPages held name before after (Refused answer) =

@@ -10,7 +10,7 @@ ghost use Rattle.wy_top.specs.Replies.{ShelfCounts, at_shelf};
 
 use crate::delivery::deliver;
 use crate::opening::{Opening, open_trace};
-use crate::paging::{Paging, answer_to_refusal, open_pages};
+use crate::shelved::{Shelved, answer_to_refusal, open_pages};
 use std::alloc::Global;
 use wy_event::record::{Cover, Trace};
 use wy_kernel::program::Program;
@@ -97,8 +97,7 @@ fn explore_whole<K: Source, O: Sink>(
         (output_at (O.written out.old) (O.faults out.old))
         (output_at (O.written out.new) (O.faults out.new)) result }
     ensures taken { TakesManyFor result (K.taken keys.old) (K.taken keys.new) }
-    ensures counts { (before : ShelfCounts) (untold : Type 0)
-        → CountsBy untold result before before }
+    ensures counts { (before : ShelfCounts) → CountsBy ⊥ result before before }
 {
     let Trace { events, tail, .. } = trace;
     let covers = tail.coverage.statements.as_slice();
@@ -156,13 +155,13 @@ pub fn explore_trace<S: Shelf, K: Source, O: Sink>(
     ensures files_stay { S.held shelf.new ≡ S.held shelf.old }
 {
     match open_pages(alloc, shelf, name) {
-        Ok(Paging::Open { typed, pages, tail }) => {
+        Ok(Shelved::Open { typed, pages, tail }) => {
             let covers = tail.coverage.statements.as_slice();
             let ending = explore_pages(alloc, shelf, &typed.program, pages, covers, keys, out);
             end(alloc, name, ending, out)
         }
-        Ok(Paging::Refused(answer)) => deliver(out, &answer),
-        Ok(Paging::Headless) => explore_by_reading(alloc, name, shelf, keys, out),
+        Ok(Shelved::Refused(answer)) => deliver(out, &answer),
+        Ok(Shelved::Headless) => explore_by_reading(alloc, name, shelf, keys, out),
         Err(_) => Status::NoMemory,
     }
 }

@@ -13,7 +13,7 @@ ghost use Rattle.wy_top.specs.Replies.{at_shelf};
 
 use crate::answer::answer_by_reading;
 use crate::laws::runs_of_texts;
-use crate::paging::{Paging, answer_to_refusal, open_pages};
+use crate::shelved::{Shelved, answer_to_refusal, open_pages};
 use law_reading::heads_are_short;
 use std::alloc::{AllocError, Global};
 use wy_elab_stmt::laws::a_text_has_one_program;
@@ -112,10 +112,10 @@ pub(crate) fn answer_by_pages<S: Shelf>(
     heads_are_short();
     tellings_are_by_runs();
     match open_pages(alloc, shelf, name)? {
-        Paging::Open { typed, pages, tail } => {
+        Shelved::Open { typed, pages, tail } => {
             answer_in(alloc, shelf, name, &typed.program, pages, &tail, inquiry)
         }
-        Paging::Refused(answer) => Ok(answer),
-        Paging::Headless => answer_by_reading(alloc, shelf, name, Wanted::Inquiry(inquiry)),
+        Shelved::Refused(answer) => Ok(answer),
+        Shelved::Headless => answer_by_reading(alloc, shelf, name, Wanted::Inquiry(inquiry)),
     }
 }

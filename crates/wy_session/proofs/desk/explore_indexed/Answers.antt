@@ -1,5 +1,6 @@
 use Rattle.wy_session.proofs.Desks.{scene_kept}
-use Rattle.wy_session.proofs.Talking.{closed_over, nothing_closed}
+use Rattle.wy_session.proofs.Fewer.{closed_over}
+use Rattle.wy_session.proofs.Talking.{nothing_closed}
 use Rattle.wy_session.proofs.desk.explore_indexed.Goals as goal
 
 pub returns-in-Err-clause-closed : goal.returns-in-Err-clause-closed

@@ -1,6 +1,7 @@
 use Rattle.wy_view.specs.declared.view.ViewError.TheVariants.{NoMemory}
 use Rattle.wy_session.proofs.Desks.{opened_desk}
-use Rattle.wy_session.proofs.Talking.{closed_over, nothing_closes}
+use Rattle.wy_session.proofs.Fewer.{closed_over}
+use Rattle.wy_session.proofs.Talking.{nothing_closes}
 use Rattle.wy_session.proofs.desk.explore_opened.Goals as goal
 
 pub returns-in_default-clause-closed : goal.returns-in_default-clause-closed

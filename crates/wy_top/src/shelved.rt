@@ -1,9 +1,10 @@
 //! The opening of a trace that stays on its shelf: its front is read first.
-ghost use Rattle.std.specs.Prelude.{◌≡◌, ◌×◌, ◌≤◌, ℕ, IfOk, Ok, length};
+ghost use Rattle.std.specs.Prelude.{◌≡◌, ◌≤◌, ℕ, IfOk, Ok, length};
 ghost use Rattle.wy_frames.specs.Heads.{head_of};
 ghost use Rattle.law_reading.specs.Spelled.{AreBytes};
 ghost use Rattle.wy_kernel.specs.Limits.{trace_limit};
-ghost use Rattle.wy_top.specs.Paging.{BeginsFile, OpensPages, TellsRefusal};
+ghost use Rattle.wy_top.specs.Openings.{TellsRefusal};
+ghost use Rattle.wy_top.specs.Paging.{BeginsFile, OpensPages};
 ghost use Rattle.wy_top.specs.Replies.{at_shelf};
 
 use crate::answer::answer_to_lack;
@@ -23,7 +24,7 @@ use wy_view::ViewError;
 /// What is kept of a trace that stays on its shelf, with its end and the typed program of its head; or what is answered where there
 /// is no such trace.
 #[derive(Drop)]
-pub enum Paging {
+pub enum Shelved {
     Open {
         typed: TypedProgram,
         pages: Pages,
@@ -61,7 +62,7 @@ fn open_by_head<S: Shelf>(
     name: &str,
     front: &[u8],
     head: &Head,
-) -> Result<Paging, AllocError>
+) -> Result<Shelved, AllocError>
     requires front { BeginsFile (S.held shelf.old) name.now front.now }
     requires short { length front.now ≤ trace_limit }
     requires head { (end : ℕ) × (head_of front.now ≡ Ok (head.now, end)) }
@@ -76,16 +77,16 @@ fn open_by_head<S: Shelf>(
     are_bytes(front);
     let typed = match program_of_source(alloc, head.source.as_slice()) {
         Ok(typed) => typed,
-        Err(error) => return Ok(Paging::Refused(answer_to_error(alloc, error)?)),
+        Err(error) => return Ok(Shelved::Refused(answer_to_error(alloc, error)?)),
     };
     match Pages::open(alloc, shelf, name, head, &typed.program) {
         Ok((pages, tail)) => {
             end_fits(&tail);
-            Ok(Paging::Open { typed, pages, tail })
+            Ok(Shelved::Open { typed, pages, tail })
         }
-        Err(PageError::Trace(error)) => Ok(Paging::Refused(answer_to_trace_error(alloc, error)?)),
+        Err(PageError::Trace(error)) => Ok(Shelved::Refused(answer_to_trace_error(alloc, error)?)),
         Err(PageError::View(error)) => {
-            Ok(Paging::Refused(answer_to_refusal(alloc, name, error)?))
+            Ok(Shelved::Refused(answer_to_refusal(alloc, name, error)?))
         }
     }
 }
@@ -95,7 +96,7 @@ pub(crate) fn open_pages<S: Shelf>(
     alloc: Global,
     shelf: &mut S,
     name: &str,
-) -> Result<Paging, AllocError>
+) -> Result<Shelved, AllocError>
     ensures opens { IfOk result (OpensPages (S.held shelf.old) name.now
         (at_shelf (S.faults shelf.old) (S.misses shelf.old) (S.fulls shelf.old))
         (at_shelf (S.faults shelf.new) (S.misses shelf.new) (S.fulls shelf.new))) }
@@ -103,11 +104,11 @@ pub(crate) fn open_pages<S: Shelf>(
 {
     let front = match read_front(alloc, shelf, name) {
         Ok(front) => front,
-        Err(error) => return Ok(Paging::Refused(answer_to_lack(alloc, error)?)),
+        Err(error) => return Ok(Shelved::Refused(answer_to_lack(alloc, error)?)),
     };
     let front = front.as_slice();
     match read_head(alloc, front) {
         Ok((head, _)) => open_by_head(alloc, shelf, name, front, &head),
-        Err(_) => Ok(Paging::Headless),
+        Err(_) => Ok(Shelved::Headless),
     }
 }

@@ -104,6 +104,12 @@ never_refused view.Gone old new rs first second told h = let z = sym h.2 ∙ tol
 never_refused (view.Changed block kept found) old new rs first second told h = let z = sym h.3 ∙ told in cc
 never_refused view.NoMemory old new rs first second told h = h
 
+none_refused : (e : ViewError) → CountsBy ⊥ (ending.View e) (at_shelf 0 0 0) (at_shelf 0 0 0) → ⊥
+none_refused view.ReadFault h = never_rose h.1
+none_refused view.Gone h = h.1.2
+none_refused (view.Changed block kept found) h = h.1.1
+none_refused view.NoMemory h = h.0 refl
+
 -- it refuses for want of memory alone
 pub counted_whole : (e : Ending) (old new : Told) (rs : List Recorded) (untold : Type 0) (before : ShelfCounts) → old.faults ≡ 0 → new.faults ≡ 0 → old.records ≡ Some rs → CountsFor e old new → CountsBy untold e before before
 counted_whole ending.Done old new rs untold before first second told h = refl
@@ -113,3 +119,14 @@ counted_whole ending.KeysFailed old new rs untold before first second told h = r
 counted_whole ending.OutFailed old new rs untold before first second told h = refl
 counted_whole ending.NoMemory old new rs untold before first second told h = refl
 counted_whole (ending.View e) old new rs untold before first second told h = absurd (never_refused e old new rs first second told h)
+
+
+-- a shelf that did not fail before
+pub counts_of_memory : (held : Option Files) (before after : ShelfCounts) (e : Ending) → after.faults ≡ before.faults → ((s : ShelfCounts) → CountsBy ⊥ e s s) → CountsBy (held ≡ None) e before after
+counts_of_memory held before after ending.Done same h = same
+counts_of_memory held before after ending.LongLine same h = same
+counts_of_memory held before after ending.LongInput same h = same
+counts_of_memory held before after ending.KeysFailed same h = same
+counts_of_memory held before after ending.OutFailed same h = same
+counts_of_memory held before after ending.NoMemory same h = same
+counts_of_memory held before after (ending.View e) same h = absurd (none_refused e (h (at_shelf 0 0 0)))
