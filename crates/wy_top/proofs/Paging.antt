@@ -31,11 +31,11 @@ use Rattle.wy_view.specs.declared.view.ViewError.TheVariants as view
 use Rattle.wy_reply.specs.declared.answer.Answer.{Answer}
 use Rattle.wy_reply.specs.declared.status.Status.TheVariants as status
 use Rattle.wy_reply.specs.Statuses.{code_of, is_of_files}
-use Rattle.wy_event.specs.declared.record.Cover.{Cover}
+use Rattle.wy_event.specs.Record.{recorded}
 use Rattle.wy_event.specs.declared.record.Trace.{Trace}
 use Rattle.wy_page.specs.declared.pages.Pages.{Pages}
 use Rattle.wy_page.specs.Paged.{records_of, records_told}
-use Rattle.wy_reply.specs.Opening.{IsDecoded, IsViewOf}
+use Rattle.wy_reply.specs.Opening.{IsDecoded}
 use Rattle.wy_reply.specs.Tellings as tellings
 use Rattle.wy_reply.specs.Tellings.{DueUnder, IsTraceLine, RefusesTrace, Wanted}
 use Rattle.wy_top.specs.declared.files.FileError.{FileError}
@@ -193,8 +193,8 @@ refused_from due pages held before after name e (Ok answer) refuses tells = view
 refused_from due pages held before after name e (Err x) refuses tells = tt
 
 -- the records of pages that a view tells
-pub view_of : (t : Trace) (pages : Pages) (listed : List Cover) (files : Files) (held : Option Files) (told : Told) → held ≡ Some files → told.records ≡ records_told pages held → ArePagesOf t pages listed files → IsViewOf t told listed
-view_of t pages listed files held told is shown are = record { records = shown ∙ ap (records_told pages) is ∙ are.records; covers = are.covers }
+pub view_of : (t : Trace) (pages : Pages) (tail : Tail) (files : Files) (held : Option Files) (told : Told) → held ≡ Some files → told.records ≡ records_told pages held → ArePagesOf t pages tail files → told.records ≡ Some (map recorded t.events)
+view_of t pages tail files held told is shown are = shown ∙ ap (records_told pages) is ∙ are.records
 
 -- what is due where an answer is done
 settled_due : (due : DueBy) (held : Option Files) (before after : Counts) (answer : Answer) → answer.status ≡ status.Done → AnswersBy due held before after answer → (files : Files) → held ≡ Some files → due files 0 answer.text.items
@@ -211,12 +211,12 @@ decoded : (p : Program) (pages : Pages) (tail : Tail) (bytes : List ℕ) (o : Is
 decoded p pages tail bytes o short = record { are_bytes = o.are_bytes; short = short; reads = o.read }
 
 -- what is kept is of the trace that the bytes of the file are read as
-pages_of : TracesAreSpelled → (p : Program) (pages : Pages) (tail : Tail) (files : Files) (name bytes : List ℕ) (o : IsOpened pages tail p bytes) → string_bytes pages.name ≡ name → Holds files name trace_limit bytes → ArePagesOf o.trace pages tail.coverage.statements files
+pages_of : TracesAreSpelled → (p : Program) (pages : Pages) (tail : Tail) (files : Files) (name bytes : List ℕ) (o : IsOpened pages tail p bytes) → string_bytes pages.name ≡ name → Holds files name trace_limit bytes → ArePagesOf o.trace pages tail files
 pages_of spelled p pages tail files name bytes o named holds =
     let file : files (string_bytes pages.name) ≡ Some bytes = ap files named ∙ holds.found in
     record {
       records = ap (λ f. Some (records_of pages.starts pages.count (unwrap_or f []))) file ∙ ap Some o.records_are;
-      covers = ap (λ (x : Tail). x.coverage.statements) o.tail_is;
+      tail_is = o.tail_is;
       seal = sym o.seal_is.1 ∙ (sealed_end spelled p bytes o.trace (decoded p pages tail bytes o holds.within)).1;
     }
 
@@ -244,7 +244,7 @@ paged_by spelled held name p pages tail opens named fits headed files told =
 
 -- what is due of the pages is due of the file
 pub paged_due : (held : Option Files) (name : List ℕ) (p : Program) (w : Wanted) (pages : Pages) (tail : Tail) → ((files : Files) → held ≡ Some files → IsPaged files name p pages tail)
-    → (files : Files) → held ≡ Some files → (s : ℕ) (x : List ℕ) → DueInPages p pages tail.coverage.statements w files s x → DueForTrace files name w s x
+    → (files : Files) → held ≡ Some files → (s : ℕ) (x : List ℕ) → DueInPages p pages tail w files s x → DueForTrace files name w s x
 paged_due held name p w pages tail paged files told s x is =
     let f = paged files told in
     let o = f.opened in
@@ -252,7 +252,7 @@ paged_due held name p w pages tail paged files told s x is =
 
 -- what is told is by each run whose trace it is
 pub paged_answered : Known → CutLaws → HeadsAreShort → TellingsAreByRuns → (held : Option Files) (name : List ℕ) (p : Program) (w : Wanted) (pages : Pages) (tail : Tail) (before after : ShelfCounts) (r : Result Answer AllocError)
-    → ((files : Files) → held ≡ Some files → IsPaged files name p pages tail) → IfOk r (AnswersFrom (DueInPages p pages tail.coverage.statements w) held before after)
+    → ((files : Files) → held ≡ Some files → IsPaged files name p pages tail) → IfOk r (AnswersFrom (DueInPages p pages tail w) held before after)
     → IfOk r (λ answer. answer.status ≡ status.Done → AnswersRunOf held name w answer.text.items)
 paged_answered known laws short by_runs held name p w pages tail before after (Err e) paged from = tt
 paged_answered known laws short by_runs held name p w pages tail before after (Ok answer) paged from = λ done files bytes told found.
@@ -260,7 +260,7 @@ paged_answered known laws short by_runs held name p w pages tail before after (O
     let o = f.opened in
     let read : IsDecoded p o.bytes f.trace = record { are_bytes = f.are_bytes; short = o.holds.within; reads = o.is_read } in
     let by_run = by_runs p o.bytes f.trace read f.end_fits in
-    let tells = settled_due (DueInPages p pages tail.coverage.statements w) held _ _ answer done (from.is 0) files told f.trace f.pages_are in
+    let tells = settled_due (DueInPages p pages tail w) held _ _ answer done (from.is 0) files told f.trace f.pages_are in
     let same : o.bytes ≡ bytes = some_is (sym o.holds.found ∙ found) in
     subst (λ (b : List ℕ). AnswersRun b w answer.text.items) same
     (run_answered known laws o.head.source o.bytes w p answer.text.items o.head o.end (short o.bytes o.head o.end o.is_head) o.is_program o.is_head refl by_run.0 (by_run.1 w answer.text.items tells))

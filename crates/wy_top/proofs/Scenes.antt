@@ -47,7 +47,7 @@ pub paged_scene : (held now : Option Files) (name : List ℕ) (p : Program) (pag
 paged_scene held now name p pages tail covers same listed paged files told =
     let f = paged files told in
     let records : records_told pages now ≡ Some (map recorded f.trace.events) = ap (records_told pages) (same ∙ told) ∙ f.pages_are.records in
-    (p, f.trace, f.opened, ap (λ (r : Option (List Recorded)). scene_told p covers r) records ∙ ap (λ (cs : List Cover). scene_told p cs (Some (map recorded f.trace.events))) (listed ∙ f.pages_are.covers))
+    (p, f.trace, f.opened, ap (λ (r : Option (List Recorded)). scene_told p covers r) records ∙ ap (λ (cs : List Cover). scene_told p cs (Some (map recorded f.trace.events))) (listed ∙ ap (λ (x : Tail). x.coverage.statements) f.pages_are.tail_is))
 
 -- and that of a trace in memory
 pub whole_scene : (held : Option Files) (name : List ℕ) (p : Program) (t : Trace) → ((files : Files) → held ≡ Some files → IsOpened files name p t) → IsTold held name (scene_told p (covers_of t) (Some (map recorded t.events)))
@@ -119,7 +119,6 @@ counted_whole ending.KeysFailed old new rs untold before first second told h = r
 counted_whole ending.OutFailed old new rs untold before first second told h = refl
 counted_whole ending.NoMemory old new rs untold before first second told h = refl
 counted_whole (ending.View e) old new rs untold before first second told h = absurd (never_refused e old new rs first second told h)
-
 
 -- a shelf that did not fail before
 pub counts_of_memory : (held : Option Files) (before after : ShelfCounts) (e : Ending) → after.faults ≡ before.faults → ((s : ShelfCounts) → CountsBy ⊥ e s s) → CountsBy (held ≡ None) e before after

@@ -4,7 +4,6 @@ use Rattle.std.specs.declared.alloc.Global.{Global}
 use Rattle.wy_kernel.specs.Limits.{trace_limit}
 use Rattle.wy_kernel.specs.declared.program.Program.{Program}
 use Rattle.wy_event.specs.Record.{recorded}
-use Rattle.wy_event.specs.declared.record.Cover.{Cover}
 use Rattle.wy_event.specs.declared.record.Tail.{Tail}
 use Rattle.wy_event.specs.declared.record.Trace.{Trace}
 use Rattle.wy_fitting.specs.Fits.{EndFits}
@@ -17,7 +16,7 @@ use Rattle.wy_view.specs.declared.view.ViewError.TheVariants as view
 use Rattle.wy_reply.specs.declared.answer.Answer.{Answer}
 use Rattle.wy_reply.specs.declared.status.Status.TheVariants as status
 use Rattle.wy_reply.specs.Certificates.{seal_of}
-use Rattle.wy_reply.specs.Tellings.{Tells, Wanted, covers_of}
+use Rattle.wy_reply.specs.Tellings.{Tells, Wanted}
 use Rattle.wy_top.specs.declared.files.FileError.{FileError}
 use Rattle.wy_top.specs.declared.shelved.Shelved.{Shelved}
 use Rattle.wy_top.specs.declared.shelved.Shelved.TheVariants.{Open, Refused, Headless}
@@ -49,15 +48,15 @@ GivesFront held name (Err error) = GivesFile held name trace_limit (Err error)
 
 -- ---- through a view
 
--- what is kept of a trace on a shelf of these files, and what is told of its statements, is of this trace
-pub record ArePagesOf (t : Trace) (pages : Pages) (listed : List Cover) (files : Files) : Type 0 where
+-- what is kept of a trace on a shelf of these files, and what is told of its end, is of this trace
+pub record ArePagesOf (t : Trace) (pages : Pages) (tail : Tail) (files : Files) : Type 0 where
   pub records : records_told pages (Some files) ≡ Some (map recorded t.events)
-  pub covers : listed ≡ covers_of t
+  pub tail_is : tail ≡ t.tail
   pub seal : pages.seal ≡ seal_of t
 
 -- what each trace tells that is the one which is kept
-abbrev pub DueInPages : Program → Pages → List Cover → Wanted → Files → ℕ → List ℕ → Type 0
-DueInPages p pages listed w files status text = (t : Trace) → ArePagesOf t pages listed files → Tells p t w status text
+abbrev pub DueInPages : Program → Pages → Tail → Wanted → Files → ℕ → List ℕ → Type 0
+DueInPages p pages tail w files status text = (t : Trace) → ArePagesOf t pages tail files → Tells p t w status text
 
 -- what was looked up was given, and the shelf did not fail; or a view refused
 abbrev pub LooksUp : {X : Type 0} → Type 0 → Result X ViewError → ShelfCounts → ShelfCounts → Type 0
@@ -76,7 +75,7 @@ pub record IsPaged (files : Files) (name : List ℕ) (p : Program) (pages : Page
   pub trace : Trace
   pub opened : IsOpened files name p trace
   pub are_bytes : AreBytes opened.bytes
-  pub pages_are : ArePagesOf trace pages tail.coverage.statements files
+  pub pages_are : ArePagesOf trace pages tail files
   pub end_fits : EndFits trace.tail
 
 -- the pages of a trace of a name are open, and no count rose; or what is answered in place of whatever is wanted

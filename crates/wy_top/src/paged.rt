@@ -1,4 +1,4 @@
-//! What is looked up in a trace that stays on its shelf.
+//! What is told from a trace that stays on its shelf.
 ghost use Rattle.std.specs.Prelude.{◌≡◌, ◌<◌, ◌^◌, IfOk, None, Some, false, length};
 ghost use Rattle.wy_outside.specs.Shelf.{Files};
 ghost use Rattle.wy_page.specs.Paged.{IsOfShelf, records_told};
@@ -30,7 +30,7 @@ use wy_tree::laws::{
 use wy_view::ViewError;
 use wy_whynot::laws::items_are_a_cut;
 
-/// What is looked up through a view of what is kept of a trace.
+/// What is told through a view of what is kept of a trace.
 fn look_up<S: Shelf>(
     alloc: Global,
     shelf: &mut S,
@@ -42,7 +42,7 @@ fn look_up<S: Shelf>(
     requires fields { length program.now.fields.items < 2 ^ 32 }
     requires fits { IsOfShelf pages (S.held shelf.old) }
     ensures due { (t : Trace) (files : Files) → S.held shelf.old ≡ Some files
-        → ArePagesOf t pages tail.now.coverage.statements files
+        → ArePagesOf t pages tail.now files
         → IfOk result (λ answer. Tells program.now t (inquiry_of inquiry.entry)
         (code_of answer.status) answer.text.items) }
     ensures settled { IfOk result (λ answer. is_of_files answer.status ≡ false) }
@@ -52,10 +52,9 @@ fn look_up<S: Shelf>(
     ensures files_stay { S.held shelf.new ≡ S.held shelf.old }
 {
     let seal = *pages.seal();
-    let covers = tail.coverage.statements.as_slice();
     let view = PagedView::over(shelf, pages);
     let mut answer = None;
-    let view = answer_to_view(alloc, program, covers, view, &seal, inquiry, &mut answer);
+    let view = answer_to_view(alloc, program, tail, view, &seal, inquiry, &mut answer);
     view.close();
     answer.unwrap()
 }
@@ -73,7 +72,7 @@ fn answer_in<S: Shelf>(
     requires fields { length program.now.fields.items < 2 ^ 32 }
     requires fits { IsOfShelf pages (S.held shelf.old) }
     ensures answers { IfOk result (AnswersFrom
-        (DueInPages program.now pages tail.now.coverage.statements (inquiry_of inquiry.entry))
+        (DueInPages program.now pages tail.now (inquiry_of inquiry.entry))
         (S.held shelf.old)
         (at_shelf (S.faults shelf.old) (S.misses shelf.old) (S.fulls shelf.old))
         (at_shelf (S.faults shelf.new) (S.misses shelf.new) (S.fulls shelf.new))) }

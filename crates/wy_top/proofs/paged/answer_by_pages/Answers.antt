@@ -12,8 +12,8 @@ returns-in-Open-clause-answers g c =
     let pages = c.in-Open.pages in
     let tail = c.in-Open.tail in
     let opens = rw (c.in-Open.is) at c.in_ok-open_pages.ensures.opens in
-    let moved = moved_from (DueInPages typed.program pages tail.coverage.statements w) held _ _ _ _ c.answer_in.result c.open_pages.ensures.files_stay opens.0 c.answer_in.ensures.answers in
-    mapped_from (DueInPages typed.program pages tail.coverage.statements w) (λ files. DueForTrace files c.args.name.now w) held _ _ c.answer_in.result (paged_due held c.args.name.now typed.program w pages tail opens.2) moved
+    let moved = moved_from (DueInPages typed.program pages tail w) held _ _ _ _ c.answer_in.result c.open_pages.ensures.files_stay opens.0 c.answer_in.ensures.answers in
+    mapped_from (DueInPages typed.program pages tail w) (λ files. DueForTrace files c.args.name.now w) held _ _ c.answer_in.result (paged_due held c.args.name.now typed.program w pages tail opens.2) moved
 
 pub returns-in-Open-clause-by_run : goal.returns-in-Open-clause-by_run
 returns-in-Open-clause-by_run g c =
@@ -23,7 +23,7 @@ returns-in-Open-clause-by_run g c =
     let pages = c.in-Open.pages in
     let tail = c.in-Open.tail in
     let opens = rw (c.in-Open.is) at c.in_ok-open_pages.ensures.opens in
-    let moved = moved_from (DueInPages typed.program pages tail.coverage.statements w) held _ _ _ _ c.answer_in.result c.open_pages.ensures.files_stay opens.0 c.answer_in.ensures.answers in
+    let moved = moved_from (DueInPages typed.program pages tail w) held _ _ _ _ c.answer_in.result c.open_pages.ensures.files_stay opens.0 c.answer_in.ensures.answers in
     paged_answered (record {
       lists = c.a_text_has_one_token_list.ensures;
       tokens = c.a_refused_text_has_no_tokens.ensures.tokens;
