@@ -120,7 +120,6 @@ counted_whole ending.OutFailed old new rs untold before first second told h = re
 counted_whole ending.NoMemory old new rs untold before first second told h = refl
 counted_whole (ending.View e) old new rs untold before first second told h = absurd (never_refused e old new rs first second told h)
 
-
 -- a shelf that did not fail before
 pub counts_of_memory : (held : Option Files) (before after : ShelfCounts) (e : Ending) → after.faults ≡ before.faults → ((s : ShelfCounts) → CountsBy ⊥ e s s) → CountsBy (held ≡ None) e before after
 counts_of_memory held before after ending.Done same h = same
