@@ -1,5 +1,5 @@
 -- What is written of a reply, and what reading on does.
-use Rattle.std.proofs.Common.{◌≡◌, sym, ap, refl, subst, inl, inr, ℕ, List, [], take, drop, append-nil, Option, Some, None, Result, Ok, Err}
+use Rattle.std.proofs.Common.{◌≡◌, sym, ap, refl, inl, inr, ℕ, List, [], take, drop, append-nil, Option, Some, None, Result, Ok, Err}
 use Rattle.std.proofs.lemmas.List.{take-append-drop}
 use Rattle.wy_explore.specs.Session.{Session}
 use Rattle.wy_outside.specs.Sink.{appended}
@@ -7,9 +7,6 @@ use Rattle.wy_session.specs.Scene.{Said, Scene}
 use Rattle.wy_session.specs.Line.{AnswersLine}
 use Rattle.wy_session.specs.Situation.{Situation}
 use Rattle.wy_session.specs.Closings.{Answered, IsBroken, IsPrefixOfReply, IsWithin, Puts}
-use Rattle.wy_session.specs.Views.{ending_of}
-use Rattle.wy_view.specs.declared.view.ViewError.{ViewError}
-use Rattle.wy_view.specs.declared.view.ViewError.TheVariants as view
 use Rattle.wy_session.specs.declared.ending.Ending.{Ending}
 use Rattle.wy_session.specs.declared.ending.Ending.TheVariants.{Done, LongLine, LongInput, KeysFailed, OutFailed, View, NoMemory}
 
@@ -62,13 +59,3 @@ over_answers before after line old n said = (nothing, ends, appended_nothing old
   ends x s at = of (said x s at) where
     of : (t : Session) × Said x s line t None × after x t → (t : Session) × Said x s line t None × (nothing ≡ nothing)
     of (t, is, then) = (t, is, refl)
-
--- a view refuses, and nothing is written of the line
-pub view_answers : (before after : Situation) (line : List ℕ) (old : Option (List ℕ)) (n : ℕ) (e : ViewError) → AnswersLine before after line old old n n (Err (ending_of e))
-view_answers before after line old n view.ReadFault = ([], (λ x s at. refl), appended_nothing old, refl, tt)
-view_answers before after line old n view.Gone = ([], (λ x s at. refl), appended_nothing old, refl, tt)
-view_answers before after line old n (view.Changed block kept found) = ([], (λ x s at. refl), appended_nothing old, refl, tt)
-view_answers before after line old n view.NoMemory = ([], (λ x s at. inl refl), appended_nothing old, refl, tt)
-
-pub refused_answers : (before after : Situation) (line : List ℕ) (old : Option (List ℕ)) (n : ℕ) (r : Result Unit Ending) (e : ViewError) → r ≡ Err (ending_of e) → AnswersLine before after line old old n n r
-refused_answers before after line old n r e is = subst (AnswersLine before after line old old n n) (sym is) (view_answers before after line old n e)

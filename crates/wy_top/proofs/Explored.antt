@@ -1,5 +1,6 @@
 -- What comes of a session, by its status.
 use Rattle.std.proofs.Common.{◌≡◌, ◌≢◌, ◌∙◌, sym, ap, refl, subst, inl, inr, ℕ, ◌<◌, ◌⊎◌, List, [], ◌++◌, Option, Some, None, arith}
+use Rattle.std.proofs.Math.Logic.{∥∥₁_map}
 use Rattle.wy_outside.specs.Counts.{Rose}
 use Rattle.wy_outside.specs.Shelf.{Files}
 use Rattle.wy_outside.specs.Sink.{appended}
@@ -123,6 +124,19 @@ explored_out_fault held name sb sa kb ka b a _ (opening.session scene e said s t
     by (failed fault rose) = inl (ap code_of fault)
     by (lacking lack kept) = inr (ap code_of lack)
 explored_out_fault held name sb sa kb ka b a _ (memory stayed kept) less = inr refl
+
+pub explored_keys_fault : (held : Option Files) (name : List ℕ) (sb sa : ShelfCounts) (kb ka : Keys) (b a : Output) (s : Status) → Explores held name sb sa kb ka b a s → kb.faults < ka.faults → (code_of s ≡ 7) ⊎ (code_of s ≡ 9)
+explored_keys_fault held name sb sa kb ka b a _ (refused answer s cause any stayed delivers) less = absurd (omega (arith, less, ap (λ (k : Keys). k.faults) stayed))
+explored_keys_fault held name sb sa kb ka b a _ (opening.session scene e said s told closed takes counts ends) less = of e closed ends where
+  of : (e : Ending) → ClosedOver scene kb ka b said e → EndsBy name e s said a → (code_of s ≡ 7) ⊎ (code_of s ≡ 9)
+  of ending.Done c ends = absurd (omega (arith, less, c.closes.1))
+  of ending.LongLine c ends = absurd (omega (arith, less, c.closes.1))
+  of ending.LongInput c ends = absurd (omega (arith, less, c.closes.1))
+  of ending.KeysFailed c ends = inl (ap code_of ends.0)
+  of ending.OutFailed c ends = inl (ap code_of ends.0)
+  of ending.NoMemory c ends = inr (ap code_of ends.0)
+  of (ending.View e) c ends = absurd (omega (arith, less, c.closes.1))
+explored_keys_fault held name sb sa kb ka b a _ (memory stayed kept) less = inr refl
 
 -- ---- the line of a fault
 
