@@ -11,15 +11,9 @@ returns-in-Open-clause-answers g c =
     let typed = c.in-Open.typed in
     let pages = c.in-Open.pages in
     let tail = c.in-Open.tail in
-<<<<<<< HEAD
-    let opens = rw (c.in-Open.is) at c.in_ok-open_pages.ensures.opens in
+    let opens = rw (c.in-Open.is) at c.in_ok-typed.ensures.opens in
     let moved = moved_from (DueInPages typed.program pages tail w) held _ _ _ _ c.answer_in.result c.open_pages.ensures.files_stay opens.0 c.answer_in.ensures.answers in
     mapped_from (DueInPages typed.program pages tail w) (λ files. DueForTrace files c.args.name.now w) held _ _ c.answer_in.result (paged_due held c.args.name.now typed.program w pages tail opens.2) moved
-=======
-    let opens = rw (c.in-Open.is) at c.in_ok-typed.ensures.opens in
-    let moved = moved_from (DueInPages typed.program pages tail.coverage.statements w) held _ _ _ _ c.answer_in.result c.open_pages.ensures.files_stay opens.0 c.answer_in.ensures.answers in
-    mapped_from (DueInPages typed.program pages tail.coverage.statements w) (λ files. DueForTrace files c.args.name.now w) held _ _ c.answer_in.result (paged_due held c.args.name.now typed.program w pages tail opens.2) moved
->>>>>>> 6b75dd142c7bf9b098c3d7ae1e04b058d3927078
 
 pub returns-in-Open-clause-by_run : goal.returns-in-Open-clause-by_run
 returns-in-Open-clause-by_run g c =
@@ -28,13 +22,8 @@ returns-in-Open-clause-by_run g c =
     let typed = c.in-Open.typed in
     let pages = c.in-Open.pages in
     let tail = c.in-Open.tail in
-<<<<<<< HEAD
-    let opens = rw (c.in-Open.is) at c.in_ok-open_pages.ensures.opens in
-    let moved = moved_from (DueInPages typed.program pages tail w) held _ _ _ _ c.answer_in.result c.open_pages.ensures.files_stay opens.0 c.answer_in.ensures.answers in
-=======
     let opens = rw (c.in-Open.is) at c.in_ok-typed.ensures.opens in
-    let moved = moved_from (DueInPages typed.program pages tail.coverage.statements w) held _ _ _ _ c.answer_in.result c.open_pages.ensures.files_stay opens.0 c.answer_in.ensures.answers in
->>>>>>> 6b75dd142c7bf9b098c3d7ae1e04b058d3927078
+    let moved = moved_from (DueInPages typed.program pages tail w) held _ _ _ _ c.answer_in.result c.open_pages.ensures.files_stay opens.0 c.answer_in.ensures.answers in
     paged_answered (record {
       lists = c.a_text_has_one_token_list.ensures;
       tokens = c.a_refused_text_has_no_tokens.ensures.tokens;
