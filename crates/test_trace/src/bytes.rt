@@ -60,10 +60,11 @@ fn a_trace_is_read(rt: HostRuntime) -> Result<(), Fail> {
 
 /// The head, if its input and its source are short.
 #[tactic(auto, using(crate::proofs::Opening::opening_is_short))]
-fn short_head(head: Head) -> Option<Head>
-    ensures { IfSome result (λ head. length (opening head) ≤ trace_limit) }
+pub fn short_head(head: Head) -> Option<Head>
+    ensures short { IfSome result (λ head. length (opening head) ≤ trace_limit) }
+    ensures source { IfSome result (λ head. length head.source ≤ 1000) }
 {
-    if head.input.as_slice().len() > 100 || head.source.as_slice().len() > 100 {
+    if head.input.as_slice().len() > 1000 || head.source.as_slice().len() > 1000 {
         return None;
     }
     Some(head)

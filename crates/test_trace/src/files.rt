@@ -1,17 +1,17 @@
-//! Each command over files and an output of which a call fails: one of the shelf that fails is answered by its line, and a
-//! write that fails leaves a prefix of the text.
+//! Each command over files and an output of which a call fails: a read that fails is answered by its line, and a write
+//! that fails leaves a prefix of the text.
 
 use crate::call::{Fails, Left, NOTHING, call};
 use crate::programs::PROGRAMS;
 use std::test::Fail;
 
-/// A command, and how many calls of the shelf it makes: one for a file that is read whole; and of a trace that is asked its length,
-/// its first bytes and its front, then all of it as it is opened, and its one block.
+/// A command, and how often it calls the shelf: for each file that it reads whole once, and for a trace that stays there five times.
+/// These ask whether it is too long, and for the first bytes, its front, what stands behind it, and its block of events.
 static COMMANDS: [(&str, u32); 10] = [
     ("run Main.java -i in", 2),
     ("run Main.java", 1),
     ("record Main.java -i in -o new", 2),
-    ("output old", 1),
+    ("output old", 5),
     ("audit old", 1),
     ("why old p0", 5),
     ("affects old e0", 5),
@@ -41,7 +41,7 @@ fn unwritten(left: &Left, whole: &Left) -> bool {
 }
 
 #[test]
-fn each_call_of_the_shelf_and_the_write_fail_in_turn(rt: HostRuntime) -> Result<(), Fail> {
+fn each_read_and_the_write_fail_in_turn(rt: HostRuntime) -> Result<(), Fail> {
     let alloc = rt.alloc();
     for &program in &PROGRAMS {
         let trace = call(
