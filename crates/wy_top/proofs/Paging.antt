@@ -7,7 +7,7 @@ use Rattle.std.proofs.lemmas.Bool.{leb-false, leb-true}
 use Rattle.std.specs.Option.{unwrap_or}
 use Rattle.wy_kernel.specs.Limits.{trace_limit}
 use Rattle.wy_kernel.specs.declared.program.Program.{Program}
-use Rattle.wy_event.specs.Record.{recorded}
+use Rattle.wy_event.specs.Record.{Recorded, recorded}
 use Rattle.wy_event.specs.declared.record.Tail.{Tail}
 use Rattle.wy_fitting.specs.Fits.{EndFits}
 use Rattle.wy_frames.specs.Traces.{ReadsAs}
@@ -193,7 +193,7 @@ refused_from due pages held before after name e (Ok answer) refuses tells = view
 refused_from due pages held before after name e (Err x) refuses tells = tt
 
 -- the records of pages that a view tells
-pub view_of : (t : Trace) (pages : Pages) (tail : Tail) (files : Files) (held : Option Files) (told : Told) → held ≡ Some files → told.records ≡ records_told pages held → ArePagesOf t pages tail files → told.records ≡ Some (map recorded t.events)
+pub view_of : (t : Trace) (pages : Pages) (tail : Tail) (files : Files) (held : Option Files) (told : Option (List Recorded)) → held ≡ Some files → told ≡ records_told pages held → ArePagesOf t pages tail files → told ≡ Some (map recorded t.events)
 view_of t pages tail files held told is shown are = shown ∙ ap (records_told pages) is ∙ are.records
 
 -- what is due where an answer is done
