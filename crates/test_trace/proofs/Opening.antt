@@ -4,7 +4,7 @@ use Rattle.wy_event.specs.declared.record.Head.{Head}
 use Rattle.wy_kernel.specs.Limits.{trace_limit}
 use Rattle.wy_spelling.specs.Spelling.{number, magic, frame, head_payload, head_frame, opening}
 
-pub opening_is_short : (head : Head) → length head.input ≤ 1000 → length head.source ≤ 1000 → length (opening head) ≤ trace_limit
+pub opening_is_short : (head : Head) → length head.input ≤ 100 → length head.source ≤ 100 → length (opening head) ≤ trace_limit
 unfolding opening head_frame head_payload
 opening_is_short head i s =
     let source = number (length head.source) ++ head.source in

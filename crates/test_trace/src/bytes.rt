@@ -61,10 +61,9 @@ fn a_trace_is_read(rt: HostRuntime) -> Result<(), Fail> {
 /// The head, if its input and its source are short.
 #[tactic(auto, using(crate::proofs::Opening::opening_is_short))]
 pub fn short_head(head: Head) -> Option<Head>
-    ensures short { IfSome result (λ head. length (opening head) ≤ trace_limit) }
-    ensures source { IfSome result (λ head. length head.source ≤ 1000) }
+    ensures { IfSome result (λ head. length (opening head) ≤ trace_limit) }
 {
-    if head.input.as_slice().len() > 1000 || head.source.as_slice().len() > 1000 {
+    if head.input.as_slice().len() > 100 || head.source.as_slice().len() > 100 {
         return None;
     }
     Some(head)

@@ -3,7 +3,7 @@
 ghost use Rattle.std.specs.Prelude.{◌≡◌, ◌<◌, IfOk, None};
 
 use crate::bytes::short_head;
-use crate::call::{NOTHING, call};
+use crate::call::{Left, NOTHING, call, call_over};
 use crate::programs::{LONG, PROGRAMS, Program};
 use std::alloc::{AllocError, Global};
 use std::marker::Brand;
@@ -11,12 +11,10 @@ use std::process::Abort;
 use std::sync::ledger::{Blank, Ledger};
 use std::test::Fail;
 use wy_frames::read_head;
-use wy_outside::memory::{MemorySink, MemorySource, SwapShelf};
+use wy_outside::memory::SwapShelf;
 use wy_outside::shelf::Shelf;
 use wy_page::{PagedView, Pages};
 use wy_program::program_of_source;
-use wy_record::{CompareRecorder, MemoryRecorder, QuietRecorder};
-use wy_top::{Recorders, whyline};
 use wy_view::{EventView, Steps};
 
 /// How many bytes are read of a trace at a time while it is opened.
@@ -73,35 +71,15 @@ fn shelf_of(alloc: Global, first: &[u8], second: &[u8], swap: u32) -> Result<Swa
     Ok(SwapShelf::new(vec![in alloc; before]?, after, swap))
 }
 
-/// The status of a line's command over two traces, of which the second is there from a call on, and what it writes.
+/// What the command of a line leaves over two traces, of which the second is there from a call on.
 fn told(
     alloc: Global,
     line: &str,
     traces: &(Vec<u8>, Vec<u8>),
     swap: u32,
-) -> Result<(u8, Vec<u8>), AllocError> {
+) -> Result<Left, AllocError> {
     let mut shelf = shelf_of(alloc, traces.0.as_slice(), traces.1.as_slice(), swap)?;
-    let mut words = Vec::new(alloc);
-    for word in line.split(' ') {
-        words.push(String::from_str(alloc, word)?)?;
-    }
-    let mut keys = MemorySource::new(Vec::new(alloc), Vec::new(alloc));
-    let mut out = MemorySink::new(alloc, Vec::new(alloc));
-    let mut recorders = Recorders {
-        write: QuietRecorder::new(alloc),
-        compare: CompareRecorder::new(alloc),
-        memory: MemoryRecorder::new(alloc),
-        quiet: QuietRecorder::new(alloc),
-    };
-    let status = whyline(
-        alloc,
-        words.as_slice(),
-        &mut shelf,
-        &mut keys,
-        &mut out,
-        &mut recorders,
-    );
-    Ok((status, Vec::from_slice(alloc, out.bytes())?))
+    call_over(alloc, line, &mut shelf, b"", NOTHING)
 }
 
 const WHY_PRINT: &str = "#2 line 2 call Main.main
@@ -129,10 +107,10 @@ fn a_block_that_changed_since_the_trace_was_opened_is_named(rt: HostRuntime) -> 
     let alloc = rt.alloc();
     let traces = two_traces(alloc, PROGRAMS[0])?;
     for &(line, swap, status, text) in &CHANGES {
-        let (found, written) = told(alloc, line, &traces, swap)?;
-        assert_eq!(rt; found, status, "{line}, call {swap}");
+        let left = told(alloc, line, &traces, swap)?;
+        assert_eq!(rt; left.status, status, "{line}, call {swap}");
         assert!(rt;
-            written.as_slice() == text.as_bytes(),
+            left.written.as_slice() == text.as_bytes(),
             "{line}, call {swap}"
         );
     }
@@ -147,7 +125,7 @@ static LATER: [(&str, u32, u8, &str); 5] = [
         "why t e4",
         198,
         0,
-        "#2 line 2 call Main.main\n#4 line 3 set i = 0 *\n",
+        "#2 line 1 call M.main\n#4 line 2 set i = 0 *\n",
     ),
     ("output t", 1, 5, "trace: Changed block 0\n"),
     ("output t", 2, 0, "100000\n-- finished\n"),
@@ -166,10 +144,10 @@ fn a_long_trace_is_read_by_blocks(rt: HostRuntime) -> Result<(), Fail> {
     let opening = (behind / PIECE) as u32;
     for &(line, calls, status, text) in &LATER {
         let swap = opening.saturating_add(4).saturating_add(calls);
-        let (found, written) = told(alloc, line, &traces, swap)?;
-        assert_eq!(rt; found, status, "{line}, call {calls}");
+        let left = told(alloc, line, &traces, swap)?;
+        assert_eq!(rt; left.status, status, "{line}, call {calls}");
         assert!(rt;
-            written.as_slice() == text.as_bytes(),
+            left.written.as_slice() == text.as_bytes(),
             "{line}, call {calls}"
         );
     }
@@ -225,6 +203,7 @@ fn a_block_is_read_again_once_64_others_were(rt: HostRuntime) -> Result<(), Fail
     let Some(head) = short_head(head) else {
         return Err(Fail::new("the head is long"));
     };
+    assert!(rt; head.source.as_slice().len() < 1000);
     let typed = program_of_source(alloc, head.source.as_slice())?;
     let mut shelf = shelf_of(alloc, trace.as_slice(), other.as_slice(), NEVER)?;
     let (pages, _) = Pages::open(alloc, &mut shelf, "t", &head, &typed.program)?;

@@ -28,16 +28,8 @@ pub static LONG: Program = Program {
     events: 200_008,
 };
 
-const LOOP: &str = "class Main {
-  public static void main(String[] args) {
-    int i = 0;
-    while (i < 100000) {
-      i = i + 1;
-    }
-    System.out.println(i);
-  }
-}
-";
+const LOOP: &str = "class M{public static void main(String[] a){
+int i=0;while(i<100000){i=i+1;}System.out.println(i);}}";
 
 const SMALL: &str = "class Main {
   public static void main(String[] args) {

@@ -265,8 +265,9 @@ pub fn answer_to_view<V: EventView>(
         return view;
     }
     let blank = Blank::new(1);
-    let (view, found) =
-        answer_indexed::<V, Brand>(alloc, program, tail, view, seal, inquiry, blank);
+    let (view, found) = answer_indexed::<V, Brand>(
+        alloc, program, tail, view, seal, inquiry, blank,
+    );
     *answer = Some(found);
     view
 }
