@@ -1,14 +1,12 @@
 -- A Call with its method, in memory and as contracts see it.
-use Rattle.std.proofs.Common.{◌≡◌, ◌∙◌, ℕ, Bool, true, false, not, cond, List, Some, refl, ap}
-use Rattle.std.specs.Prelude.{◌&&◌, is_some, nat_eq, slice_get}
+use Rattle.std.proofs.Common.{◌≡◌, ℕ, Bool, true, false, not, cond, List, Some, refl}
+use Rattle.std.specs.Prelude.{is_some, nat_eq, slice_get}
 use Rattle.std.specs.Prelude.{None as Absent}
 use Rattle.wy_event.specs.declared.record.Event.{Event}
 use Rattle.wy_event.specs.declared.record.Kind.TheVariants.{Call}
 use Rattle.wy_event.specs.Record.{Recorded, recorded}
-use Rattle.wy_index.specs.Found.{is_call}
 use Rattle.wy_kernel.specs.View.{NONE, present}
-use Rattle.wy_scope.specs.Laws.{calls_one, is_call_at}
-use Rattle.wy_scope.specs.Passing.{is_there}
+use Rattle.wy_scope.specs.Laws.{is_call_at}
 
 present_number : (m : ℕ) → not (nat_eq m NONE) ≡ is_some (present m)
 unfolding present
