@@ -1,5 +1,5 @@
 -- Answers of two views that tell the same records.
-use Rattle.std.proofs.Common.{◌≡◌, ◌∙◌, ◌<◌, ℕ, List, Option, Some, None, Result, Ok, Err, IfOk, IfErr, inl, inr, length, sym, refl, subst, arith}
+use Rattle.std.proofs.Common.{◌≡◌, ◌∙◌, ℕ, List, Option, Some, Result, Ok, Err, IfOk, IfErr, inl, inr, length, sym, refl, subst, arith}
 use Rattle.std.specs.Prelude.{IfSome}
 use Rattle.wy_event.specs.Record.{Recorded}
 use Rattle.wy_view.specs.Counts.{Rose}
@@ -10,14 +10,14 @@ use Rattle.wy_why.specs.declared.answer.Answer.{Answer}
 
 -- where the records are told and no fault came, a view refuses for want of memory alone
 refused : (e : ViewError) (old new : Told) (rs : List Recorded) → old.records ≡ Some rs → ¬ Rose old.faults new.faults → RefusedFor e old new → e ≡ NoMemory
-refused ReadFault old new rs told no h = absurd (no h)
-refused Gone old new rs told no h = absurd (let never = sym told ∙ h.2 in cc)
-refused (Changed block kept found) old new rs told no h = absurd (let never = sym told ∙ h.3 in cc)
-refused NoMemory old new rs told no h = refl
+refused ReadFault old new rs told unrisen h = absurd (unrisen h)
+refused Gone old new rs told unrisen h = absurd (let never = sym told ∙ h.2 in cc)
+refused (Changed block kept found) old new rs told unrisen h = absurd (let never = sym told ∙ h.3 in cc)
+refused NoMemory old new rs told unrisen h = refl
 
 pub only_memory : (r : Result Answer ViewError) (old new : Told) (rs : List Recorded) → old.records ≡ Some rs → ¬ Rose old.faults new.faults → KeepsCounts r old new → IfErr r (λ e. e ≡ NoMemory)
-only_memory (Ok answer) old new rs told no h = tt
-only_memory (Err e) old new rs told no h = refused e old new rs told no h
+only_memory (Ok answer) old new rs told unrisen h = tt
+only_memory (Err e) old new rs told unrisen h = refused e old new rs told unrisen h
 
 pub no_faults : ¬ Rose 0 0
 no_faults (inl less) = omega (arith, less)

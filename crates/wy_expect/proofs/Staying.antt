@@ -1,5 +1,5 @@
 -- An opened trace in memory that was looked at.
-use Rattle.std.proofs.Common.{◌≡◌, None, map}
+use Rattle.std.proofs.Common.{◌≡◌, Err, IfOk, None, Ok, Result, map}
 use Rattle.std.proofs.lemmas.Option.{same_Some}
 use Rattle.wy_event.specs.Record.{recorded}
 use Rattle.wy_view.specs.Whole.{whole}
@@ -14,3 +14,8 @@ module _ (old new : Opened MemoryView) (stays : StaysOpened (λ v. whole v.event
 
   pub opened_still : IsOpenedOf (whole old.view.events.items None) old → IsOpenedOf (whole new.view.events.items None) new
   opened_still is = still_opened (λ v. whole v.events.items None) old new stays is
+
+-- where one thing holds of an answer, so does what follows from it
+pub follows_ok : {X E : Type 0} (P Q : X → Type 0) (r : Result X E) → ((x : X) → P x → Q x) → IfOk r P → IfOk r Q
+follows_ok P Q (Ok x) follows h = follows x h
+follows_ok P Q (Err e) follows h = tt

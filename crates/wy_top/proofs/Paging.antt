@@ -31,7 +31,7 @@ use Rattle.wy_view.specs.declared.view.ViewError.TheVariants as view
 use Rattle.wy_reply.specs.declared.answer.Answer.{Answer}
 use Rattle.wy_reply.specs.declared.status.Status.TheVariants as status
 use Rattle.wy_reply.specs.Statuses.{code_of, is_of_files}
-use Rattle.wy_event.specs.Record.{recorded}
+use Rattle.wy_event.specs.Record.{Recorded, recorded}
 use Rattle.wy_event.specs.declared.record.Trace.{Trace}
 use Rattle.wy_page.specs.declared.pages.Pages.{Pages}
 use Rattle.wy_page.specs.Paged.{records_of, records_told}
@@ -193,7 +193,7 @@ refused_from due pages held before after name e (Ok answer) refuses tells = view
 refused_from due pages held before after name e (Err x) refuses tells = tt
 
 -- the records of pages that a view tells
-pub view_of : (t : Trace) (pages : Pages) (tail : Tail) (files : Files) (held : Option Files) (told : Told) → held ≡ Some files → told.records ≡ records_told pages held → ArePagesOf t pages tail files → told.records ≡ Some (map recorded t.events)
+pub view_of : (t : Trace) (pages : Pages) (tail : Tail) (files : Files) (held : Option Files) (told : Option (List Recorded)) → held ≡ Some files → told ≡ records_told pages held → ArePagesOf t pages tail files → told ≡ Some (map recorded t.events)
 view_of t pages tail files held told is shown are = shown ∙ ap (records_told pages) is ∙ are.records
 
 -- what is due where an answer is done
