@@ -30,6 +30,8 @@ mod real;
 #[cfg(test)]
 mod recorders;
 #[cfg(test)]
+mod sessions;
+#[cfg(test)]
 mod sinks;
 #[cfg(test)]
 mod travel;
