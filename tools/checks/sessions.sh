@@ -143,7 +143,7 @@ under() { # NAME STATUS LINE COMMAND..: the command is done to the trace once th
   pid=$!
   exec 4>"$scratch/keys"
   printf 'go 69000\n' >&4
-  for _ in $(seq 1200); do [ -s "$scratch/out" ] && break; sleep 0.05; done
+  for _ in $(seq 6000); do [ -s "$scratch/out" ] && break; sleep 0.05; done
   "$@"
   printf 'go 0\n' >&4
   exec 4>&-
