@@ -32,6 +32,8 @@ mod real;
 #[cfg(test)]
 mod recorders;
 #[cfg(test)]
+mod sessions;
+#[cfg(test)]
 mod sinks;
 #[cfg(test)]
 mod travel;
