@@ -132,6 +132,7 @@ printf '' | "$program" explore "$traces/first" >/dev/full 2>/dev/null
 [ "${PIPESTATUS[1]}" = 0 ] && report "nothing written to an output that is full" 1 || report "nothing written to an output that is full" 0
 
 # A trace that changes, goes or can't be read while a session is over it: what was said stands, and the line of the refusal is behind it.
+# Of its 69 blocks the last 64 are held once it is indexed, and block 0, where the frame begins; event 3000 is in block 2.
 printf 'class Loop { public static void main(String[] a) { int i = 0; while (i < 35000) { i = i + 1; } } }' >"$scratch/loop.java"
 record loop "$scratch/loop.java"
 mkfifo "$scratch/keys"
@@ -145,7 +146,7 @@ under() { # NAME STATUS LINE COMMAND..: the command is done to the trace once th
   printf 'go 69000\n' >&4
   for _ in $(seq 6000); do [ -s "$scratch/out" ] && break; sleep 0.05; done
   "$@"
-  printf 'go 0\n' >&4
+  printf 'go 3000\n' >&4
   exec 4>&-
   wait "$pid"
   [ $? = "$status" ] || same=0
@@ -154,9 +155,9 @@ $line" ] || same=0
   report "$name" "$same"
   rm -rf "$traces/live"
 }
-changed() { printf '\0' | dd of="$traces/live" bs=1 seek=5000 conv=notrunc 2>/dev/null; }
+changed() { printf '\377' | dd of="$traces/live" bs=1 seek=120000 conv=notrunc 2>/dev/null; }
 in_the_way() { rm "$traces/live" && mkdir "$traces/live"; }
-under "a trace that changes under a session" 5 'trace: Changed block 0' changed
+under "a trace that changes under a session" 5 'trace: Changed block 2' changed
 under "a trace that goes" 3 "absent: $traces/live" rm "$traces/live"
 under "a trace that can't be read any more" 7 'fault: shelf' in_the_way
 
