@@ -44,6 +44,7 @@ ValueFits (val.Long z) = FitsSigned w64 z
 ValueFits (val.Object n) = IsNumber n
 ValueFits (val.Text n) = IsNumber n
 ValueFits (val.Fixed n) = IsNumber n
+ValueFits (val.Arm n) = IsNumber n
 ValueFits _ = Unit {0}
 
 abbrev pub UseFits : Use → Type 0
