@@ -83,22 +83,23 @@ pub record EndFits (t : Tail) : Type 0 where
 
 -- ---- what bytes tell
 
--- version 1 spells an arm as a boolean: in a Test that is an arm, and else a boolean
-abbrev pub told_arm : Value → Value
-told_arm (val.Arm n) = val.Arm (if n == 1 then 1 else 0)
-told_arm (val.Bool b) = val.Arm (if b then 1 else 0)
-told_arm x = x
+-- version 1 spells an arm as a boolean, which tells an arm in a Test and else a boolean
+abbrev pub told_arm : Version → Value → Value
+told_arm version.One (val.Arm n) = val.Arm (if n == 1 then 1 else 0)
+told_arm version.One (val.Bool b) = val.Arm (if b then 1 else 0)
+told_arm version.One x = x
+told_arm version.Two x = x
 
-abbrev pub told_truth : Value → Value
-told_truth (val.Arm n) = val.Bool (n == 1)
-told_truth x = x
+abbrev pub told_truth : Version → Value → Value
+told_truth version.One (val.Arm n) = val.Bool (n == 1)
+told_truth version.One x = x
+told_truth version.Two x = x
 
 -- nothing of the value of a Text, and nothing of the units of any other event
 abbrev pub told_value : Version → Kind → Value → Value
 told_value v kind.Text x = val.None
-told_value version.One kind.Test x = told_arm x
-told_value version.One _ x = told_truth x
-told_value version.Two _ x = x
+told_value v kind.Test x = told_arm v x
+told_value v _ x = told_truth v x
 
 abbrev pub told_units : Kind → List ℕ → List ℕ
 told_units kind.Text units = units

@@ -12,6 +12,7 @@ use Rattle.wy_event.specs.declared.record.Kind.{Kind}
 use Rattle.wy_event.specs.declared.record.Kind.TheVariants as kind
 use Rattle.wy_event.specs.declared.record.Version.{Version}
 use Rattle.wy_event.specs.declared.record.Version.TheVariants as version
+use Rattle.wy_spelling.specs.Spelling.{arm_tag}
 use Rattle.wy_payload.specs.declared.fault.DamageRule.{DamageRule}
 use Rattle.wy_payload.specs.declared.ranges.Ranges.{Ranges}
 use Rattle.wy_payload.specs.declared.known.Known.{Known}
@@ -29,18 +30,11 @@ use Rattle.wy_payload.specs.Reading.{◌>>=◌, Read, passed, known_tag, number_
 abbrev pub value_tags : List ValueTag
 value_tags = tags.None ∷ tags.Bool ∷ tags.Byte ∷ tags.Short ∷ tags.Char ∷ tags.Int ∷ tags.Long ∷ tags.Null ∷ tags.Object ∷ tags.Text ∷ tags.Fixed ∷ []
 
--- the tag of a boolean, with which version 1 spells an arm, and that of an arm in version 2
-abbrev pub truth_tag : ℕ
-truth_tag = 1
-
-abbrev pub arm_tag : ℕ
-arm_tag = 12
-
--- version 1 has an arm where one is wanted, and version 2 by its tag
+-- the tag is that of an arm, which version 1 has only where an arm is wanted
 abbrev pub is_arm_tag : Version → ValueForm → ℕ → Bool
-is_arm_tag version.One form.Arm b = b == truth_tag
+is_arm_tag version.One form.Arm b = b == arm_tag version.One
 is_arm_tag version.One _ b = false
-is_arm_tag version.Two _ b = b == arm_tag
+is_arm_tag version.Two _ b = b == arm_tag version.Two
 
 abbrev pub value_tag : Version → ValueForm → ℕ → Option ValueTag
 value_tag v wanted b = if is_arm_tag v wanted b then Some tags.Arm else slice_get value_tags b

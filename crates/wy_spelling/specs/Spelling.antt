@@ -55,10 +55,15 @@ slot_bytes (slots.Static field) = 2 ∷ number field
 slot_bytes (slots.Field object field) = 3 ∷ number object ++ number field
 slot_bytes (slots.Elem array index) = 4 ∷ number array ++ number index
 
--- the arm of a test: in version 1 arm 1 is spelled as the boolean true and arm 0 as false, in version 2 an arm is a number behind a tag of its own
-abbrev pub arm_bytes : Version → ℕ → List ℕ
-arm_bytes version.One n = 1 ∷ (if n == 1 then 1 else 0) ∷ []
-arm_bytes version.Two n = 12 ∷ number n
+-- the tag of an arm, which is that of a boolean in version 1
+abbrev pub arm_tag : Version → ℕ
+arm_tag version.One = 1
+arm_tag version.Two = 12
+
+-- what stands behind it: in version 1 arm 1 is spelled as the boolean true and arm 0 as false, in version 2 an arm is a number
+abbrev pub arm_number : Version → ℕ → List ℕ
+arm_number version.One n = (if n == 1 then 1 else 0) ∷ []
+arm_number version.Two n = number n
 
 -- what version 1 can spell: of arms those of a truth
 abbrev pub FitsOne : Value → Type 0
@@ -78,7 +83,7 @@ value_bytes v val.Null = 7 ∷ []
 value_bytes v (val.Object n) = 8 ∷ number n
 value_bytes v (val.Text n) = 9 ∷ number n
 value_bytes v (val.Fixed n) = 10 ∷ number n
-value_bytes v (val.Arm n) = arm_bytes v n
+value_bytes v (val.Arm n) = arm_tag v ∷ arm_number v n
 
 -- what a Text made: a tag, how many units, and the units in two bytes each
 unfoldable pub units_bytes : List ℕ → List ℕ

@@ -3,7 +3,7 @@
 ghost use Rattle.std.specs.Prelude.{◌≡◌, ◌<◌, ◌^◌, ◌++◌, ◌∷◌, length, OnOk};
 ghost use Rattle.std.specs.Int.{w16, w64, to_be_bytes};
 ghost use Rattle.std.specs.List.{flat_map};
-ghost use Rattle.wy_spelling.specs.Spelling.{arm_bytes, content_bytes, cover_bytes, number, slot_bytes, units_bytes, use_bytes, uses_bytes, value_bytes};
+ghost use Rattle.wy_spelling.specs.Spelling.{arm_number, arm_tag, content_bytes, cover_bytes, number, slot_bytes, units_bytes, use_bytes, uses_bytes, value_bytes};
 
 use std::alloc::AllocError;
 use wy_event::record::{Cover, Kind, Slot, Use, Version};
@@ -70,7 +70,8 @@ fn put_long(out: &mut Vec<u8>, tag: u8, bits: u64) -> Result<(), AllocError>
 }
 
 fn put_arm(out: &mut Vec<u8>, version: Version, n: u32) -> Result<(), AllocError>
-    ensures { OnOk result (out.new.items ≡ out.old.items ++ arm_bytes version n) }
+    ensures { OnOk result (out.new.items
+        ≡ out.old.items ++ (arm_tag version ∷ arm_number version n)) }
 {
     match version {
         Version::One => out.extend_from_slice(&[1, u8::from(n == 1)]),
