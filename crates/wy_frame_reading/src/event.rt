@@ -129,6 +129,11 @@ fn read_content(alloc: Global, n: u32, kind: Kind, bytes: &[u8]) -> Result<(Cont
         }
         _ => {
             let (value, rest) = value(n, bytes)?;
+            let value = match (kind, value) {
+                (Kind::Test, Value::Bool(true)) => Value::Arm(1),
+                (Kind::Test, Value::Bool(false)) => Value::Arm(0),
+                _ => value,
+            };
             let units = Sequence::new(Vec::new(alloc));
             Ok((Content { value, units }, rest))
         }

@@ -127,6 +127,15 @@ pub fn truth(bytes: &[u8]) -> Result<(Value, &[u8]), Fault>
     Ok((Value::Bool(b == 1), rest))
 }
 
+/// What a Test gave, in place of the truth that spells it.
+fn as_arm(wanted: ValueForm, value: Value) -> Value {
+    match (wanted, value) {
+        (ValueForm::Truth, Value::Bool(true)) => Value::Arm(1),
+        (ValueForm::Truth, Value::Bool(false)) => Value::Arm(0),
+        _ => value,
+    }
+}
+
 #[tactic(auto, unfolding(crate::specs::Values::int_at))]
 fn int(wanted: ValueForm, bytes: &[u8]) -> Result<(Value, &[u8]), Fault>
     ensures { Gives (λ x. (x.0, x.1.now)) result (int_at wanted bytes.now) }
@@ -205,7 +214,10 @@ fn behind_tag<'a>(
         (value_of ranges.now earlier.now wanted tag rest.now) }
 {
     match tag {
-        ValueTag::Bool => truth(rest),
+        ValueTag::Bool => {
+            let (value, rest) = truth(rest)?;
+            Ok((as_arm(wanted, value), rest))
+        }
         ValueTag::Int => int(wanted, rest),
         ValueTag::Object => object(earlier, wanted, rest),
         ValueTag::Text => text(earlier, rest),

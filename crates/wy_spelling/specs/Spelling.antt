@@ -66,6 +66,7 @@ value_bytes val.Null = 7 ∷ []
 value_bytes (val.Object n) = 8 ∷ number n
 value_bytes (val.Text n) = 9 ∷ number n
 value_bytes (val.Fixed n) = 10 ∷ number n
+value_bytes (val.Arm n) = 1 ∷ (if n == 0 then 0 else 1) ∷ []
 
 -- what a Text made: a tag, how many units, and the units in two bytes each
 unfoldable pub units_bytes : List ℕ → List ℕ

@@ -85,6 +85,7 @@ fn put_value(out: &mut Vec<u8>, value: Value) -> Result<(), AllocError>
         Value::Object(n) => put_tagged(out, 8, n),
         Value::Text(n) => put_tagged(out, 9, n),
         Value::Fixed(n) => put_tagged(out, 10, n),
+        Value::Arm(n) => out.extend_from_slice(&[1, u8::from(n != 0)]),
     }
 }
 
