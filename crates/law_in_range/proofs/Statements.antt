@@ -1,5 +1,5 @@
 -- Each statement of a body keeps what is in range.
-use Rattle.std.proofs.Common.{◌≡◌, ℕ, Bool, true, false, [], List, ◌++◌, Option, Some, refl, sym, ap, subst}
+use Rattle.std.proofs.Common.{◌≡◌, ◌<◌, ℕ, Bool, true, false, [], List, ◌++◌, Option, Some, refl, sym, ap, subst}
 use Rattle.std.specs.Prelude.{slice_get}
 use Rattle.std.specs.List.{AllByRecursion}
 use Rattle.std.proofs.lemmas.Option.{slice_get_within}
@@ -18,7 +18,7 @@ use Rattle.wy_steps.specs.Steps.{code_of, note, note_write, event_in, value_of a
 use Rattle.wy_meaning.specs.World.{World, plain, into, is_null}
 use Rattle.wy_meaning.specs.Text.{to_string, shown_as, shown, print_value}
 use Rattle.wy_meaning.specs.Expression.{eval, eval_part, part_or}
-use Rattle.wy_meaning.specs.Statement.{tested, evaluated, if_form, for_test, for_form, return_form, throw_form, caught, handle, at_throw, finally, try_form, print_form, other_or, exec, exec_act, exec_other, exec_all, exec_catches}
+use Rattle.wy_meaning.specs.Statement.{armed, tested, evaluated, if_form, for_test, for_form, return_form, throw_form, caught, handle, at_throw, finally, try_form, print_form, other_or, exec, exec_act, exec_other, exec_all, exec_catches}
 use Rattle.wy_typing.specs.Types.{boolean_type, IsPrinted as IsPrintedType}
 use Rattle.wy_typing.specs.Expressions.{HasType, fitting}
 use Rattle.wy_typing.specs.Statements.{Within, IsTyped, Acts, OtherTyped, AllTyped, CatchesTyped, IsTest, IsResult, IsOperand}
@@ -47,7 +47,7 @@ use Rattle.law_in_range.proofs.Bare as bare
 use Rattle.law_in_range.proofs.Bare.{Bare}
 use Rattle.law_in_range.proofs.Forms as plain_form
 use Rattle.law_in_range.proofs.Texts as plain_text
-use Rattle.law_in_range.proofs.Expressions.{Inner, keeps, chosen_good, test_draft}
+use Rattle.law_in_range.proofs.Expressions.{Inner, keeps, chosen_good, test_draft, two_arms}
 use Rattle.law_in_range.proofs.Rules.{Full, bind, after, where_at, with_end, either, plainly, then_plainly, then_bare, bare_first, catches, numbered, OrTo, whiles, dos}
 
 module _ (G : Ground) (W : Text) (final : StringIsFinal (p G)) (M : Methods G) (L : Inner G W M) (i : FrameKind) (result : Option Ty) (back : GivesBack G M i result) where
@@ -110,10 +110,17 @@ module _ (G : Ground) (W : Text) (final : StringIsFinal (p G)) (M : Methods G) (
 
     -- ---- tests
 
+    arms : {P : Known G} (site reach n : ℕ) (v : K) → Ok site → n < 2 → Entails P (F v) → bare.Bare G W J (In i) P (armed site reach n v) (λ t. nothing)
+    unfolding armed
+    arms site reach n v s few f =
+        let draft = plain kind.Test site (val.Arm n) in
+        bare.bind G W J (bare.frames G W J) (λ b.
+        bare.bind G W J (bare.enters G W J (note draft v) (Through b reach) draft v (bare.note_adds G W J draft v) (test_draft G W J M L i site n s few) (before _ _ f)) (λ e. bare.gives G W J _ trivially))
+
     tests : (site reach : ℕ) (e : Expression) → Ok site → Sited Ok e → HasType (p G) (local_types (p G) i) e boolean_type → (P : Known G) → O P (tested site reach (eval w e)) (λ c. nothing)
     unfolding tested
-    tests site reach e s se t P = then_plainly G W J (((expression.typed G M i e).by boolean_type t).by P) (((keeps G W J M L i e).by se boolean_type t).by P) (λ v. bare.bind G W J (bare.frames G W J) (λ f.
-        bare.bind G W J (bare.enters G W J (note (plain kind.Test site v.value) v) (Through f reach) (plain kind.Test site v.value) v (bare.note_adds G W J (plain kind.Test site v.value) v) (test_draft G W J M L i site v.value s (before _ _ (before _ _ (newest _ _)))) (before _ _ (newest _ _))) (λ e. bare.gives G W J _ trivially)))
+    tests site reach e s se t P = then_plainly G W J (((expression.typed G M i e).by boolean_type t).by P) (((keeps G W J M L i e).by se boolean_type t).by P) (λ v.
+        bare.after G W J (arms site reach _ v s (two_arms G W J M L i _) (newest _ _)) (bare.gives G W J _ trivially))
 
     test_typed : (site reach : ℕ) (e : Expression) → HasType (p G) (local_types (p G) i) e boolean_type → Typed (tested site reach (eval w e))
     test_typed site reach e t P = (typed_statement.tests G M i result back site reach (eval w e) ((expression.typed G M i e).by boolean_type t)).by P

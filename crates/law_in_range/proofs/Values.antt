@@ -38,7 +38,7 @@ use Rattle.law_typed_states.proofs.Library.{object_is_top, text_below_object, ge
 use Rattle.wy_typing.proofs.Ranges.{all_at}
 use Rattle.law_typed_states.proofs.Bodies.{part_there}
 use Rattle.law_typed_states.proofs.Rules.{Ground, A, p}
-use Rattle.law_in_range.specs.InRange.{arrays_from, IsObject, IsSome, IsTruth, IsThrown, FixedInRange}
+use Rattle.law_in_range.specs.InRange.{arrays_from, IsObject, IsSome, IsThrown, FixedInRange}
 
 -- ---- operations
 
@@ -172,19 +172,6 @@ module _ (G : Ground) where
   some_value n ty (val.Object x) h i = tt
   some_value n ty (val.Text x) h i = tt
   some_value n ty (val.Fixed x) h i = tt
-
-  pub truth : (n : Moment) (v : Value) → Is (p G) n boolean_type v → IsTruth v
-  truth n (val.Bool c) h = tt
-  truth n (val.Byte z) h = absurd (cc h)
-  truth n (val.Short z) h = absurd (cc h)
-  truth n (val.Char z) h = absurd (cc h)
-  truth n (val.Int z) h = absurd (cc h)
-  truth n (val.Long z) h = absurd (cc h)
-  truth n val.Null h = ⊎_elim (λ q. absurd (cc q)) (λ q. absurd q) h
-  truth n (val.Object k) h = absurd h.stands.reference
-  truth n (val.Text k) h = absurd h.reference
-  truth n (val.Fixed k) h = absurd h.reference
-  truth n val.None h = absurd (cc h)
 
   pub primitive_fixed : (n : Moment) (q : Primitive) (v : Value) → Is (p G) n (primitive_type q) v → FixedInRange (p G) v
   primitive_fixed n q (val.Fixed k) h = absurd h.reference

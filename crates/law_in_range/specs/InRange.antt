@@ -132,9 +132,10 @@ abbrev pub IsSome : Value → Type 0
 IsSome val.None = ⊥
 IsSome _ = Unit {0}
 
-abbrev pub IsTruth : Value → Type 0
-IsTruth (val.Bool b) = Unit {0}
-IsTruth _ = ⊥
+-- an arm of a test that has two
+abbrev pub IsArm : Value → Type 0
+IsArm (val.Arm n) = n < 2
+IsArm _ = ⊥
 
 -- a byte, or -1
 abbrev pub IsByte : Value → Type 0
@@ -162,7 +163,7 @@ abbrev pub ValueInRange : Events → Kind → Option ℕ → Value → Type 0
 ValueInRange at kind.New entity v = IsLength (code_of entity) v
 ValueInRange at kind.Bind entity v = IsSome v
 ValueInRange at kind.Set entity v = IsSome v
-ValueInRange at kind.Test entity v = IsTruth v
+ValueInRange at kind.Test entity v = IsArm v
 ValueInRange at kind.Read entity v = IsByte v
 ValueInRange at kind.Print entity v = IsPrinted v
 ValueInRange at kind.Return entity v = Unit {0}
