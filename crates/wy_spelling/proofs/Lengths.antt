@@ -11,6 +11,7 @@ use Rattle.wy_event.specs.declared.record.Coverage.{Coverage}
 use Rattle.wy_event.specs.declared.record.Head.{Head}
 use Rattle.wy_event.specs.declared.record.Tail.{Tail}
 use Rattle.wy_event.specs.declared.record.Version.{Version}
+use Rattle.wy_event.specs.declared.record.Version.TheVariants as version
 use Rattle.wy_event.specs.Record.{Recorded, recorded}
 use Rattle.wy_kernel.specs.Limits.{trace_limit}
 use Rattle.wy_spelling.specs.Spelling.{number, origin_bytes, slot_bytes, content_bytes, units_bytes, use_bytes, uses_bytes, event_payload, event_frame, cover_bytes, coverage_payload, coverage_frame, end_frame, tail_frames, magic, head_payload, head_frame, opening, tail_payload, count_bytes}
@@ -73,6 +74,10 @@ covers_are_few c short = omega (arith, longer cover_bytes cover_is_some c.statem
 pub coverage_is_short : (t : Tail) → length (tail_frames t) ≤ trace_limit → length (coverage_payload t.coverage) < 2 ^ 32
 unfolding tail_frames coverage_frame
 coverage_is_short t short = omega (arith, length-append (coverage_frame t.coverage) (end_frame t), length-append (67 ∷ number (length (coverage_payload t.coverage))) (coverage_payload t.coverage), short)
+
+pub magic_long : (v : Version) → length (magic v) ≡ 8
+magic_long version.One = refl
+magic_long version.Two = refl
 
 pub head_is_short : (v : Version) (h : Head) → length (opening v h) ≤ trace_limit → length (head_payload h) < 2 ^ 32
 unfolding opening head_frame
