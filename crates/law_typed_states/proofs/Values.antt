@@ -181,6 +181,7 @@ module _ {A : Sets} (p : Program) (noted : List (Noted A)) where
   of_references o ty (val.Int z) b v n h e = absurd (nullable_basic ty prim.Int n h)
   of_references o ty (val.Long z) b v n h e = absurd (nullable_basic ty prim.Long n h)
   of_references o ty (val.Bool z) b v n h e = absurd (nullable_basic ty prim.Bool n h)
+  of_references o ty (val.Arm k) b v n h e = absurd h
 
   pub binary_is : (o : BinOp) (ta tb tc : Ty) (a b v : Value) → Operates p.classes o ta tb tc → I ta a → I tb b → binary_of o a b ≡ Some v → I tc v
   binary_is o ta tb tc a b v (numbers {p = q} s c p) ha hb e = (of_numbers o q a b v (number q a p ha) (number q b p hb) e).0 c
@@ -214,6 +215,7 @@ module _ {A : Sets} (p : Program) (noted : List (Noted A)) where
   converted_is to q (val.Text k) t n h = absurd h.reference
   converted_is to q (val.Fixed k) t n h = absurd h.reference
   converted_is to q val.None t n h = absurd (cc)
+  converted_is to q (val.Arm k) t n h = absurd h
 
   -- ---- a value where a type above its own is wanted
 
