@@ -14,7 +14,7 @@ use Rattle.wy_value.specs.declared.value.Value.TheVariants as val
 use Rattle.wy_event.specs.declared.record.Kind.TheVariants as kind
 use Rattle.wy_event.specs.declared.record.Slot.TheVariants as slot
 use Rattle.wy_steps.specs.State.{Run, Through, Reason, Jumped, Returned, Threw, ◌>>=◌, ◌>>◌, leave, catching}
-use Rattle.wy_steps.specs.Steps.{code_of, note, note_write, event_in, value_of as carried_of}
+use Rattle.wy_steps.specs.Steps.{code_of, constant, note, note_write, event_in, value_of as carried_of}
 use Rattle.wy_meaning.specs.World.{World, plain, into, is_null}
 use Rattle.wy_meaning.specs.Text.{to_string, shown_as, shown, print_value}
 use Rattle.wy_meaning.specs.Expression.{eval, eval_part, part_or}
