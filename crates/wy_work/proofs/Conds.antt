@@ -132,7 +132,7 @@ module _ (p : Program) (m : MachineState) (s : Shape) (x : Expression) (kind : C
         (put_as p m (decided (world p m.depth) (top m.values) yes no site) (test_noted >>= armed part) (under m.values) (Ok tt) n (decided_is part is)
         (first_went p m s test_noted (armed part) (under m.values) (made_of event) (Ok tt) n a same next))
 
-    -- an empty arm has the value of the Test
+    -- an empty arm has the value of the condition
     pub arm_empty : (us : Values) → plain.absent ≡ (if is_true value then yes else no) → us ≡ with_event 1 value event m.values → Deciding (Ok tt) (record m { state = s; values = us })
     unfolding arm eval_part value_of go_on return
     arm_empty us is values =
