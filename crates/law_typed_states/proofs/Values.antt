@@ -113,6 +113,8 @@ module _ {A : Sets} (p : Program) (noted : List (Noted A)) where
   number prim.Long (val.Fixed k) p h = absurd h.reference
   number prim.Long val.Null p (inl h) = absurd (cc)
   number prim.Long val.Null p (inr h) = absurd h
+  number prim.Int (val.Arm k) p h = absurd h
+  number prim.Long (val.Arm k) p h = absurd h
   number prim.Bool _ p h = absurd p
   number prim.Byte _ p h = absurd p
   number prim.Short _ p h = absurd p
@@ -130,6 +132,7 @@ module _ {A : Sets} (p : Program) (noted : List (Noted A)) where
   truth (val.Fixed k) h = absurd h.reference
   truth val.Null (inl h) = absurd (cc)
   truth val.Null (inr h) = absurd h
+  truth (val.Arm k) h = absurd h
   truth _ h = absurd (cc)
 
   -- an operation on numbers that compares gives a boolean, and each other a number
