@@ -106,15 +106,15 @@ module _ {A : Sets} (p : Program) (noted : List (Noted A)) where
   number prim.Int (val.Object k) p h = absurd h.stands.reference
   number prim.Int (val.Text k) p h = absurd h.reference
   number prim.Int (val.Fixed k) p h = absurd h.reference
+  number prim.Int (val.Arm k) p h = absurd h
   number prim.Int val.Null p (inl h) = absurd (cc)
   number prim.Int val.Null p (inr h) = absurd h
   number prim.Long (val.Object k) p h = absurd h.stands.reference
   number prim.Long (val.Text k) p h = absurd h.reference
   number prim.Long (val.Fixed k) p h = absurd h.reference
+  number prim.Long (val.Arm k) p h = absurd h
   number prim.Long val.Null p (inl h) = absurd (cc)
   number prim.Long val.Null p (inr h) = absurd h
-  number prim.Int (val.Arm k) p h = absurd h
-  number prim.Long (val.Arm k) p h = absurd h
   number prim.Bool _ p h = absurd p
   number prim.Byte _ p h = absurd p
   number prim.Short _ p h = absurd p
@@ -130,9 +130,9 @@ module _ {A : Sets} (p : Program) (noted : List (Noted A)) where
   truth (val.Object k) h = absurd h.stands.reference
   truth (val.Text k) h = absurd h.reference
   truth (val.Fixed k) h = absurd h.reference
+  truth (val.Arm k) h = absurd h
   truth val.Null (inl h) = absurd (cc)
   truth val.Null (inr h) = absurd h
-  truth (val.Arm k) h = absurd h
   truth _ h = absurd (cc)
 
   -- an operation on numbers that compares gives a boolean, and each other a number
