@@ -231,6 +231,7 @@ module _ (G : Ground) (W : Text) (J : ℕ → Type 0) (M : Methods G) (L : Inner
     object_good k md site r (val.Char x) vs s m f public e t u h a fr fa = where_at G W J (λ z at. absurd (let y = subst (λ (u : Value). Is (p G) z.noted (class_type md.class) u) e (h.by z.noted at.known) in cc y))
     object_good k md site r (val.Int x) vs s m f public e t u h a fr fa = where_at G W J (λ z at. absurd (let y = subst (λ (u : Value). Is (p G) z.noted (class_type md.class) u) e (h.by z.noted at.known) in cc y))
     object_good k md site r (val.Long x) vs s m f public e t u h a fr fa = where_at G W J (λ z at. absurd (let y = subst (λ (u : Value). Is (p G) z.noted (class_type md.class) u) e (h.by z.noted at.known) in cc y))
+    object_good k md site r (val.Arm n) vs s m f public e t u h a fr fa = where_at G W J (λ z at. absurd (subst (λ (u : Value). Is (p G) z.noted (class_type md.class) u) e (h.by z.noted at.known)))
 
     chosen_call_good : (k : ℕ) (md : Method) (receiver : Run (A G) K) (args : List (Run (A G) K)) (site : ℕ) (ty : Ty) → Ok site → IsMethod (p G) k md → md.form ≡ kinds.Instance → md.is_private ≡ false → T G M i receiver ty → Fits (p G).classes ty (class_type md.class) → AllTypes G M i args md.params → Good receiver → AllGood args → Good (call_on w call.Chosen k receiver args site)
     unfolding call_on call_form

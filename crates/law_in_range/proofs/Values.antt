@@ -38,7 +38,7 @@ use Rattle.law_typed_states.proofs.Library.{object_is_top, text_below_object, ge
 use Rattle.wy_typing.proofs.Ranges.{all_at}
 use Rattle.law_typed_states.proofs.Bodies.{part_there}
 use Rattle.law_typed_states.proofs.Rules.{Ground, A, p}
-use Rattle.law_in_range.specs.InRange.{arrays_from, IsObject, IsSome, IsThrown, FixedInRange}
+use Rattle.law_in_range.specs.InRange.{arrays_from, IsObject, IsSome, IsReturned, IsThrown, FixedInRange}
 
 -- ---- operations
 
@@ -172,6 +172,11 @@ module _ (G : Ground) where
   some_value n ty (val.Object x) h i = tt
   some_value n ty (val.Text x) h i = tt
   some_value n ty (val.Fixed x) h i = tt
+  some_value n ty (val.Arm k) h i = i
+
+  pub no_arm : (n : Moment) (ty : Ty) (v : Value) → Is (p G) n ty v → IsReturned v
+  no_arm n ty (val.Arm k) h = h
+  no_arm n ty _ h = tt
 
   pub primitive_fixed : (n : Moment) (q : Primitive) (v : Value) → Is (p G) n (primitive_type q) v → FixedInRange (p G) v
   primitive_fixed n q (val.Fixed k) h = absurd h.reference
@@ -185,6 +190,7 @@ module _ (G : Ground) where
   primitive_fixed n q (val.Object x) h = tt
   primitive_fixed n q (val.Text x) h = tt
   primitive_fixed n q val.None h = tt
+  primitive_fixed n q (val.Arm k) h = tt
 
   no_text : MayStand (p G) text_type (class_type throwable_class) → ⊥
   no_text s = ⊎_elim (λ e. cc e) (λ e. cc e)
@@ -204,6 +210,7 @@ module _ (G : Ground) where
   throwable n (val.Char x) e h = absurd (cc h)
   throwable n (val.Int x) e h = absurd (cc h)
   throwable n (val.Long x) e h = absurd (cc h)
+  throwable n (val.Arm k) e h = absurd h
 
   -- ---- what has a value
 

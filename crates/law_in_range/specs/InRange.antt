@@ -128,9 +128,16 @@ abbrev pub IsNone : Value → Type 0
 IsNone val.None = Unit {0}
 IsNone _ = ⊥
 
+-- a value of a type
 abbrev pub IsSome : Value → Type 0
 IsSome val.None = ⊥
+IsSome (val.Arm n) = ⊥
 IsSome _ = Unit {0}
+
+-- a value of a type, or the absence of one
+abbrev pub IsReturned : Value → Type 0
+IsReturned (val.Arm n) = ⊥
+IsReturned _ = Unit {0}
 
 -- an arm of a test that has two
 abbrev pub IsArm : Value → Type 0
@@ -148,6 +155,7 @@ abbrev pub IsPrinted : Value → Type 0
 IsPrinted (val.Byte z) = ⊥
 IsPrinted (val.Short z) = ⊥
 IsPrinted (val.Object n) = ⊥
+IsPrinted (val.Arm n) = ⊥
 IsPrinted _ = Unit {0}
 
 -- an object of a class
@@ -166,7 +174,7 @@ ValueInRange at kind.Set entity v = IsSome v
 ValueInRange at kind.Test entity v = IsArm v
 ValueInRange at kind.Read entity v = IsByte v
 ValueInRange at kind.Print entity v = IsPrinted v
-ValueInRange at kind.Return entity v = Unit {0}
+ValueInRange at kind.Return entity v = IsReturned v
 ValueInRange at kind.Throw entity v = IsThrown at v
 ValueInRange at kind.Catch entity v = IsThrown at v
 ValueInRange at _ entity v = IsNone v

@@ -210,6 +210,7 @@ module _ (G : Ground) (M : Methods G) (L : Links G M) where
       object_fine k md site ty r (val.Char x) vs m f public e t u h a g ways = where_at G (λ s at. absurd (let z = subst (λ (u : Value). Is (p G) s.noted (class_type md.class) u) e (h.by s.noted at.known) in cc z))
       object_fine k md site ty r (val.Int x) vs m f public e t u h a g ways = where_at G (λ s at. absurd (let z = subst (λ (u : Value). Is (p G) s.noted (class_type md.class) u) e (h.by s.noted at.known) in cc z))
       object_fine k md site ty r (val.Long x) vs m f public e t u h a g ways = where_at G (λ s at. absurd (let z = subst (λ (u : Value). Is (p G) s.noted (class_type md.class) u) e (h.by s.noted at.known) in cc z))
+      object_fine k md site ty r (val.Arm n) vs m f public e t u h a g ways = where_at G (λ s at. absurd (subst (λ (u : Value). Is (p G) s.noted (class_type md.class) u) e (h.by s.noted at.known)))
 
       chosen_call_fine : (k : ℕ) (md : Method) (receiver : Run (A G) C) (args : List (Run (A G) C)) (site : ℕ) (ty : Ty) → IsMethod (p G) k md → md.form ≡ kinds.Instance → md.is_private ≡ false → T G M i receiver ty → Fits (p G).classes ty (class_type md.class) → AllTypes G M i args md.params → F receiver → AllFine o.point args → Among (p G) (choosing (p G) o k ty site) → F (call_on w call.Chosen k receiver args site)
       unfolding call_on call_form
@@ -338,6 +339,7 @@ module _ (G : Ground) (M : Methods G) (L : Links G M) where
       is_boolean n (val.Text k) h = absurd h.reference
       is_boolean n (val.Fixed k) h = absurd h.reference
       is_boolean n val.None h = absurd (cc h)
+      is_boolean n (val.Arm k) h = absurd h
 
       true_as : (v : Value) (c : Bool) → v ≡ val.Bool c → is_true v ≡ c
       unfolding is_true

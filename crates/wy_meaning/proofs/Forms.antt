@@ -56,7 +56,7 @@ unfolding told
 test_in_a_catch_run = refl
 
 -- int x = args instanceof Object ? -2 : 3; boolean b = x == -2 || false; Object o = (Object) args; Throwable t = (Throwable) o;
--- A Test of an expression ends with the expression. What was not chosen leaves no use, and an empty arm has the value of the Test.
+-- A Test of an expression ends with the expression. What was not chosen leaves no use, and an empty arm has the value of the condition.
 abbrev choices_and_casts : Program
 choices_and_casts = program
     ((class_named (codes "Main") 1 (Some 0) ([])) ∷ [])

@@ -47,6 +47,7 @@ nothing_is val.Null h = absurd h
 nothing_is (val.Object n) h = absurd h
 nothing_is (val.Text n) h = absurd h
 nothing_is (val.Fixed n) h = absurd h
+nothing_is (val.Arm n) h = absurd h
 
 value_is : (k : Kind) (v : Value) → ValueOf k v → told_value k v ≡ v
 value_is kind.Text v h = nothing_is v h
