@@ -63,6 +63,7 @@ fn payload_length(head: &Head) -> u32
 }
 
 // The digest of the magic and the frame of a head, so far.
+#[tactic(auto, using(crate::proofs::Openings::payload_is_within))]
 fn hashed(version: Version, head: &Head) -> Sha256
     requires { length (opening version head.now) ≤ trace_limit }
     ensures { Holds256 result (opening version head.now) }
@@ -76,6 +77,7 @@ fn hashed(version: Version, head: &Head) -> Sha256
 }
 
 impl Past {
+    #[tactic(auto, using(crate::proofs::Openings::payload_is_within))]
     pub fn start(alloc: Global, version: Version, head: &Head) -> Past
         requires { length (opening version head.now) ≤ trace_limit }
         ensures { Holds result (start version head.now) }
