@@ -33,8 +33,14 @@ module _ (site reach arm : ℕ) (v : Value) (us : List Use) where
 
   -- an event is the same whatever value its operands have
   value_aside : (s : State nothing) → note (plain kind.Test site (Arm arm)) (given v us) s ≡ test_event s
-  unfolding note room_for noting next_event choose
-  value_aside s = refl
+  unfolding note room_for noting next_event choose stop
+  value_aside s = cases (nat_lt (length s.noted) event_limit) (nat_le (s.uses + length us) use_limit)
+    where
+      cases : (few fits : Bool) → choose few (choose fits (noting (plain kind.Test site (Arm arm)) (given v us)) (stop UseLimit)) (stop EventLimit) s ≡
+          choose few (choose fits (noting (plain kind.Test site (Arm arm)) (given (Arm arm) us)) (stop UseLimit)) (stop EventLimit) s
+      cases true true = refl
+      cases true false = refl
+      cases false fits = refl
 
   abbrev pub then_on : Made nothing → Run nothing (Unit {0})
   then_on e = activate_through e.number reach >>= (λ _. return tt)

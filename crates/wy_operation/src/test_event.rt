@@ -10,8 +10,6 @@ ghost use Rattle.wy_state.specs.Agrees.{shape, StepGives, itself};
 ghost use Rattle.wy_state.specs.Seen.{given, made_of};
 ghost use Rattle.wy_steps.specs.State.{Around, return};
 ghost use Rattle.wy_steps.specs.Steps.{activating, note};
-ghost use Rattle.wy_value.specs.declared.value.Value.{Value};
-ghost use Rattle.wy_value.specs.declared.value.Value.TheVariants.{Arm};
 
 use crate::operand::is_true;
 use wy_event::record::{Kind, Use};
@@ -74,7 +72,8 @@ pub fn test_around<R: Register>(
     uses: &[Use],
 ) -> Result<u32, Halt>
     ensures step { (p : Program) → StepGives p made_of result (shape R.keeps R.kept state.old)
-        (activating Around (note (plain kind.Test site (Arm (arm_of_truth (is_true value))))
+        (activating Around
+        (note (plain kind.Test site (Value.Arm (arm_of_truth (is_true value))))
         (given value uses.now))) (shape R.keeps R.kept state.new) }
     ensures around { Keeps result state.old.calls state.new.calls }
 {

@@ -1,4 +1,3 @@
-use Rattle.std.proofs.Common.{ap, ◌∙◌, subst}
 use Rattle.std.proofs.lemmas.Result.{err_from_is_err_and}
 use Rattle.wy_operation.proofs.Endings.{around_goes, around_halts}
 use Rattle.wy_operation.proofs.Runs.{note_as, note_as_done}
