@@ -20,7 +20,7 @@ const MAGIC_TWO: [u8; 8] = *b"WHYTRAC2";
 pub const MAGIC_LENGTH: u32 = 8;
 
 /// The version that is written.
-const WRITTEN: Version = Version::One;
+const WRITTEN: Version = Version::Two;
 
 /// The first bytes of a trace of a version.
 pub fn magic_of(version: Version) -> [u8; 8]
