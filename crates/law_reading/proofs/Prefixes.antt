@@ -306,7 +306,7 @@ module _ (p : Program) (bytes : List ℕ) (x : Trace) (are : AreBytes bytes) (n 
   with_head : (h : Result ReadHead TraceError) → head_of bytes ≡ h → MatchResult h (λ y. IsReadBehind y.2 p y.0 (drop y.1 bytes) (Ok x)) (λ e. Ok x ≡ Err e) → IsReadAs p (take n bytes) (Err (Cut n))
   unfolding head_of
   with_head (Ok y) is read =
-        let v = version_of bytes in
+      let v = version_of bytes in
       let count = agreeing (magic v) bytes in
       let r = refuses (eqb count magic_length) (head_in v (length bytes) (frame_of (drop magic_length bytes))) (eqb count (length bytes)) (Cut count) (Damaged count rule.Magic) y is in
       with_frame v y (frame_of (drop magic_length bytes)) refl (eqb-true count magic_length r.0) (head_spelled bytes y.0 y.1 y.2 are is) r.1 read (ltb n magic_length) refl

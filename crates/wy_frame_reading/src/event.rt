@@ -153,12 +153,7 @@ fn read_content(
 
 /// The event that a payload begins with, whose references are below n and whose moments are at most n.
 #[tactic(auto, unfolding(crate::specs::Fields::event_at))]
-pub fn event(
-    alloc: Global,
-    version: Version,
-    n: u32,
-    bytes: &[u8],
-) -> Result<(Event, &[u8]), Fault>
+pub fn event(alloc: Global, version: Version, n: u32, bytes: &[u8]) -> Result<(Event, &[u8]), Fault>
     ensures { Gives (λ x. (x.0, x.1.now)) result (event_at version n bytes.now) }
 {
     let (origin, rest) = read_origin(n, bytes)?;

@@ -53,12 +53,7 @@ fn payload(bytes: &[u8]) -> Result<(u32, &[u8]), Fault>
 
 /// The event whose frame stands at the front of bytes, and the length of the frame.
 #[tactic(auto, unfolding(crate::specs::Fields::frame_at))]
-fn front_event(
-    alloc: Global,
-    version: Version,
-    n: u32,
-    bytes: &[u8],
-) -> Result<(Event, u32), Fault>
+fn front_event(alloc: Global, version: Version, n: u32, bytes: &[u8]) -> Result<(Event, u32), Fault>
     ensures { Gives (λ x. x) result (frame_at version n bytes.now) }
 {
     let (length, payload) = payload(bytes)?;

@@ -64,12 +64,7 @@ fn arm(version: Version, bytes: &[u8]) -> Result<(Value, &[u8]), Fault>
 }
 
 #[tactic(auto, unfolding(crate::specs::Fields::value_of))]
-fn behind_tag(
-    version: Version,
-    n: u32,
-    tag: ValueTag,
-    rest: &[u8],
-) -> Result<(Value, &[u8]), Fault>
+fn behind_tag(version: Version, n: u32, tag: ValueTag, rest: &[u8]) -> Result<(Value, &[u8]), Fault>
     ensures { Gives (λ x. (x.0, x.1.now)) result (value_of version n tag rest.now) }
 {
     match tag {

@@ -37,12 +37,7 @@ impl<'a> Decoder<'a> {
     ghost use Rattle.wy_frames.specs.declared.error.TraceError.{TraceError};
 
     /// A decoder of what stands behind the frame of this head, in a version, by a program.
-    pub fn new(
-        alloc: Global,
-        head: Head,
-        version: Version,
-        program: &'a Program,
-    ) -> Decoder<'a>
+    pub fn new(alloc: Global, head: Head, version: Version, program: &'a Program) -> Decoder<'a>
         requires { length (opening version head) ≤ trace_limit }
         ensures { Decodes result version program.now head [] (start version head) }
     {

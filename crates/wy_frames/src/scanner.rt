@@ -49,12 +49,7 @@ impl<'a> Scanner<'a> {
     ghost use Rattle.wy_frames.specs.declared.error.TraceError.{TraceError};
 
     // Behind the frame of a head.
-    pub fn behind(
-        alloc: Global,
-        head: &Head,
-        version: Version,
-        program: &'a Program,
-    ) -> Scanner<'a>
+    pub fn behind(alloc: Global, head: &Head, version: Version, program: &'a Program) -> Scanner<'a>
         requires { length (opening version head.now) ≤ trace_limit }
         ensures { Scans result version program.now head.now [] (start version head.now) }
     {
@@ -71,12 +66,7 @@ impl<'a> Scanner<'a> {
     }
 
     /// A scanner of what stands behind the frame of this head, in a version, by a program.
-    pub fn new(
-        alloc: Global,
-        head: Head,
-        version: Version,
-        program: &'a Program,
-    ) -> Scanner<'a>
+    pub fn new(alloc: Global, head: Head, version: Version, program: &'a Program) -> Scanner<'a>
         requires { length (opening version head) ≤ trace_limit }
         ensures { Scans result version program.now head [] (start version head) }
     {

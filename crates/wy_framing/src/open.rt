@@ -8,10 +8,10 @@ use std::fs;
 use std::fs::{OpenFile, OpenOptions};
 use std::io::{ErrorKind, Read, Seek};
 use std::rt::Files;
+use wy_event::record::Version;
 use wy_outside::real::read_prefix;
 use wy_outside::shelf::ShelfError;
 use wy_outside::sink::SinkError;
-use wy_event::record::Version;
 use wy_spelling::{MAGIC_LENGTH, magic_of};
 
 // Nothing, or what begins as a trace of either version does.

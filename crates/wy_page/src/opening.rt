@@ -86,12 +86,7 @@ fn is_of_bytes(version: Version, head: &Head)
 
 impl<'a> Reading<'a> {
     /// Behind the frame of a head.
-    fn begin(
-        alloc: Global,
-        head: &Head,
-        version: Version,
-        program: &'a Program,
-    ) -> Reading<'a>
+    fn begin(alloc: Global, head: &Head, version: Version, program: &'a Program) -> Reading<'a>
         requires { length (opening version head.now) ≤ trace_limit }
         ensures { Reads result version program.now head.now [] (start version head.now) }
     {
