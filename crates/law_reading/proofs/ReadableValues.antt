@@ -1,7 +1,7 @@
 -- Values, units and uses are read.
 use Rattle.std.proofs.Common.{◌≡◌, ℕ, ◌<◌, ◌^◌, Bool, true, false, cond, eqb, List, ◌∷◌, ◌++◌, length, Some, Ok, refl, sym, ap, ◌∙◌, append_assoc, ℤ, FitsSigned, All}
 use Rattle.std.specs.Prelude.{None as Absent}
-use Rattle.std.specs.Prelude.{nat_lt, slice_get}
+use Rattle.std.specs.Prelude.{nat_lt}
 use Rattle.std.specs.List.{flat_map}
 use mir.Val.{bits}
 use mir.ValLaws as laws
@@ -29,7 +29,7 @@ use Rattle.wy_payload.specs.declared.event.UseTag.TheVariants as ways
 use Rattle.wy_payload.specs.Rules.{in_range}
 use Rattle.wy_payload.specs.Reading.{passed, number_at, reference_at, below_at, at_most_at}
 use Rattle.wy_payload.specs.Places.{slot_at}
-use Rattle.wy_payload.specs.Values.{arm_at, arm_limit, value_tag, value_tags, allows_value, int_rule, object_role, bool_at, int_at, plain_at, object_at, text_at, fixed_at, value_of, value_at, units_tag, units_at}
+use Rattle.wy_payload.specs.Values.{arm_at, arm_limit, value_tag, allows_value, int_rule, object_role, bool_at, int_at, plain_at, object_at, text_at, fixed_at, value_of, value_at, units_tag, units_at}
 use Rattle.wy_payload.specs.Events.{use_tag, place_at, use_of, use_at, uses_at}
 use Rattle.law_reading.specs.Readable.{Refers, ValueMayStand, UseMayStand}
 use Rattle.wy_payload.proofs.Tags.{listed_tag}

@@ -22,7 +22,7 @@ use Rattle.wy_payload.specs.declared.value.ValueTag.TheVariants as tags
 use Rattle.wy_payload.specs.declared.value.ValueForm.{ValueForm}
 use Rattle.wy_payload.specs.Rules.{in_range}
 use Rattle.wy_payload.specs.Reading.{passed, number_at, reference_at, rows_from}
-use Rattle.wy_payload.specs.Values.{arm_at, arm_limit, arm_width, value_tag, value_tags, allows_value, int_rule, object_role, bool_at, int_at, plain_at, object_at, text_at, fixed_at, value_of, value_at, units_tag, units_at}
+use Rattle.wy_payload.specs.Values.{arm_at, arm_limit, value_tag, value_tags, allows_value, int_rule, object_role, bool_at, int_at, plain_at, object_at, text_at, fixed_at, value_of, value_at, units_tag, units_at}
 use Rattle.law_reading.specs.Spelled.{AreBytes}
 use Rattle.law_reading.proofs.SpelledNumbers.{Spelled, one_after}
 use Rattle.law_reading.proofs.Tails.{rows_spelled}

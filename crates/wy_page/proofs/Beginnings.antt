@@ -4,7 +4,6 @@ use Rattle.std.specs.Prelude.{None as Absent}
 use Rattle.std.proofs.lemmas.Bool.{eqb-true}
 use Rattle.std.proofs.lemmas.List.{drop-append-le, length-drop, length-take}
 use Rattle.wy_event.specs.declared.record.Version.{Version}
-use Rattle.wy_event.specs.declared.record.Head.{Head}
 use Rattle.wy_spelling.specs.Spelling.{magic, opening}
 use Rattle.wy_payload.specs.declared.fault.DamageRule.TheVariants as rule
 use Rattle.wy_payload.specs.Reading.{all_of}
