@@ -221,12 +221,6 @@ cut_in_magic : (v : Version) (bytes : List ℕ) (n : ℕ) → agreeing (magic v)
 cut_in_magic v bytes n agrees short =
     ap (take n) (magic_stands v bytes agrees) ∙ take-append-le n (magic v) (drop magic_length bytes) (omega (arith, short, magic_long v))
 
-in_magic : (v : Version) (bytes : List ℕ) (n : ℕ) → agreeing (magic v) bytes ≡ magic_length → n < magic_length → take n bytes ≡ take n (magic v)
-cut_in_magic v bytes n agrees short =
-    let rest = drop magic_length bytes in
-    let none : n - length (magic v) ≡ 0 = omega (arith, short, magic_long v) in
-    ap (take n) (magic_stands v bytes agrees) ∙ take-append n (magic v) rest ∙ ap (λ (m : ℕ). take n (magic v) ++ take m rest) none ∙ append-nil (take n (magic v))
-
 in_magic : (v : Version) (bytes : List ℕ) (n : ℕ) → agreeing (magic v) bytes ≡ magic_length → n < magic_length → n < length bytes → head_of (take n bytes) ≡ Err (Cut n)
 unfolding head_of
 in_magic v bytes n agrees short less =
