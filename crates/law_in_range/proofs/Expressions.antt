@@ -62,7 +62,7 @@ use Rattle.law_typed_states.proofs.Expressions as expression
 use Rattle.wy_typing.specs.Sites.{Sited, PlaceSited, RowSited}
 use Rattle.law_in_range.specs.InRange.{Text, IsSite, FixedInRange}
 use Rattle.law_in_range.proofs.Facts.{C, always, fine, all_fine, spotted, drafted, constant_fine, with_value_fine, joined_fine, value_of_fine, chosen_fine}
-use Rattle.law_in_range.proofs.Values.{binary_gives, operated_gives, unary_gives, converted_fixed, some_value, primitive_fixed, locals_known, field_known, field_class, method_class}
+use Rattle.law_in_range.proofs.Values.{binary_gives, operated_gives, unary_gives, converted_fixed, some_value, locals_known, field_known, field_class, method_class}
 use Rattle.law_in_range.proofs.Bare as bare
 use Rattle.law_in_range.proofs.Bare.{Bare}
 use Rattle.law_in_range.proofs.Forms as plain_form

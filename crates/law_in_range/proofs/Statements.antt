@@ -289,7 +289,7 @@ module _ (G : Ground) (W : Text) (final : StringIsFinal (p G)) (M : Methods G) (
 
     nothing_returned : {P : Known G} → Entails P (returned (constant val.None))
     unfolding both constant
-    nothing_returned = record { by = λ n q. ((constant_fine G W val.None tt).by n q, tt) }
+    nothing_returned {P = P} = record { by = λ n q. ((constant_fine G W {P = P} val.None tt).by n q, tt) }
 
     returns_value : {P : Known G} (site : ℕ) (v : K) → Ok site → Entails P (returned v) → Bare G W J (In i) {X = Unit {0}} P (note (plain kind.Return site v.value) v >>= (λ e. leave (Returned e.number (carried_of e v.value)))) (λ u. nothing)
     unfolding plain drafted fine fair carried_of both

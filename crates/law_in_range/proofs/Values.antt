@@ -18,7 +18,7 @@ use Rattle.wy_kernel.specs.declared.types.Ty.TheVariants.{Void, Null as OfNull, 
 use Rattle.wy_kernel.specs.Builtin as builtin
 use Rattle.wy_kernel.specs.Builtin.{throwable_class}
 use Rattle.wy_kernel.specs.Program.{Program, Body, Field, Method, field, method, body, init_body, is_source, object_class, base_of, type_of_code}
-use Rattle.wy_kernel.specs.Subtyping.{class_type, primitive_type}
+use Rattle.wy_kernel.specs.Subtyping.{class_type}
 use Rattle.wy_kernel.specs.Table.{IsMethodOf, IsFieldOf}
 use Rattle.wy_value.specs.declared.value.Value.{Value}
 use Rattle.wy_value.specs.declared.value.Value.TheVariants as val
@@ -28,7 +28,7 @@ use Rattle.wy_steps.specs.State.{Noted}
 use Rattle.wy_steps.specs.Steps.{event_in, code_of}
 use Rattle.wy_meaning.specs.World.{is_null}
 use Rattle.wy_meaning.specs.Place.{primitive_of, operated}
-use Rattle.wy_typing.specs.Types.{boolean_type, text_type, IsVariableType}
+use Rattle.wy_typing.specs.Types.{text_type, IsVariableType}
 use Rattle.wy_typing.specs.Expressions.{IsMethod, IsField}
 use Rattle.wy_typing.specs.Programs.{types, IsTypeIn}
 use Rattle.law_induction.specs.Law.{FrameKind, OfCall, OfInit}
@@ -177,20 +177,6 @@ module _ (G : Ground) where
   pub no_arm : (n : Moment) (ty : Ty) (v : Value) → Is (p G) n ty v → IsReturned v
   no_arm n ty (val.Arm k) h = h
   no_arm n ty _ h = tt
-
-  pub primitive_fixed : (n : Moment) (q : Primitive) (v : Value) → Is (p G) n (primitive_type q) v → FixedInRange (p G) v
-  primitive_fixed n q (val.Fixed k) h = absurd h.reference
-  primitive_fixed n q (val.Bool x) h = tt
-  primitive_fixed n q (val.Byte x) h = tt
-  primitive_fixed n q (val.Short x) h = tt
-  primitive_fixed n q (val.Char x) h = tt
-  primitive_fixed n q (val.Int x) h = tt
-  primitive_fixed n q (val.Long x) h = tt
-  primitive_fixed n q val.Null h = tt
-  primitive_fixed n q (val.Object x) h = tt
-  primitive_fixed n q (val.Text x) h = tt
-  primitive_fixed n q val.None h = tt
-  primitive_fixed n q (val.Arm k) h = tt
 
   no_text : MayStand (p G) text_type (class_type throwable_class) → ⊥
   no_text s = ⊎_elim (λ e. cc e) (λ e. cc e)

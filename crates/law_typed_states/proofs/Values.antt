@@ -236,6 +236,7 @@ module _ {A : Sets} (p : Program) (noted : List (Noted A)) where
   fits_is a b (val.Object k) (inr r) h = refers_up k a b r.0 r.1 h
   fits_is a b (val.Text k) (inr r) h = stands_up _ a b r.0 r.1 h
   fits_is a b (val.Fixed k) (inr r) h = stands_up _ a b r.0 r.1 h
+  fits_is a b (val.Arm k) (inr r) h = absurd h
   fits_is a b val.Null (inr r) h = inr r.0
   fits_is a b val.None (inr r) h = absurd (low a b Void r h tt)
   fits_is a b (val.Bool x) (inr r) h = absurd (low a b boolean_type r h tt)
