@@ -2,7 +2,6 @@
 ghost use Rattle.std.specs.Prelude.{◌≡◌, ◌<◌, ◌^◌, ℕ, List, IfOk, IfSome, IsSome, false, length};
 ghost use Rattle.wy_ask.specs.Opened.{IsOpenedOf};
 ghost use Rattle.wy_event.specs.declared.record.Trace.{Trace};
-ghost use Rattle.wy_reply.specs.Certificates.{seal_of};
 ghost use Rattle.wy_reply.specs.Opening.{IsViewOf};
 ghost use Rattle.wy_reply.specs.Statuses.{code_of, is_of_files};
 ghost use Rattle.wy_reply.specs.Tellings.{DeniesAs, SaysAsTold, SaysScope, Tells, inquiry_of};
@@ -48,8 +47,9 @@ fn answer_to_why<V: EventView>(
     question: &str,
 ) -> Result<Answer, ViewError>
     requires { IsOpenedOf (V.tells opened.old.view) opened.old }
-    ensures due { (t : Trace) → IsViewOf t (V.tells opened.old.view) opened.old.coverage.now
-        → IfOk result (λ answer. Tells opened.old.program.now t (wanted.Why question.now)
+    ensures due { (seal : List ℕ) (t : Trace)
+        → IsViewOf t (V.tells opened.old.view) opened.old.coverage.now
+        → IfOk result (λ answer. Tells opened.old.program.now seal t (wanted.Why question.now)
         (code_of answer.status) answer.text.items) }
     ensures settled { IfOk result (λ answer. is_of_files answer.status ≡ false) }
     ensures keeps { Keeps (V.tells opened.old.view) (V.tells opened.new.view) }
@@ -65,8 +65,9 @@ fn answer_to_affects<V: EventView>(
     question: &str,
 ) -> Result<Answer, ViewError>
     requires { IsOpenedOf (V.tells opened.old.view) opened.old }
-    ensures due { (t : Trace) → IsViewOf t (V.tells opened.old.view) opened.old.coverage.now
-        → IfOk result (λ answer. Tells opened.old.program.now t (wanted.Affects question.now)
+    ensures due { (seal : List ℕ) (t : Trace)
+        → IsViewOf t (V.tells opened.old.view) opened.old.coverage.now
+        → IfOk result (λ answer. Tells opened.old.program.now seal t (wanted.Affects question.now)
         (code_of answer.status) answer.text.items) }
     ensures settled { IfOk result (λ answer. is_of_files answer.status ≡ false) }
     ensures keeps { Keeps (V.tells opened.old.view) (V.tells opened.new.view) }
@@ -84,8 +85,7 @@ fn answer_to_certify<V: EventView>(
 ) -> Result<Answer, ViewError>
     requires { IsOpenedOf (V.tells opened.old.view) opened.old }
     ensures due { (t : Trace) → IsViewOf t (V.tells opened.old.view) opened.old.coverage.now
-        → seal.now ≡ seal_of t
-        → IfOk result (λ answer. Tells opened.old.program.now t (wanted.Certify question.now)
+        → IfOk result (λ answer. Tells opened.old.program.now seal.now t (wanted.Certify question.now)
         (code_of answer.status) answer.text.items) }
     ensures settled { IfOk result (λ answer. is_of_files answer.status ≡ false) }
     ensures keeps { Keeps (V.tells opened.old.view) (V.tells opened.new.view) }
@@ -100,8 +100,9 @@ fn answer_to_questions<V: EventView>(
     opened: &mut Opened<'_, V>,
 ) -> Result<Answer, ViewError>
     requires { IsOpenedOf (V.tells opened.old.view) opened.old }
-    ensures due { (t : Trace) → IsViewOf t (V.tells opened.old.view) opened.old.coverage.now
-        → IfOk result (λ answer. Tells opened.old.program.now t wanted.Questions
+    ensures due { (seal : List ℕ) (t : Trace)
+        → IsViewOf t (V.tells opened.old.view) opened.old.coverage.now
+        → IfOk result (λ answer. Tells opened.old.program.now seal t wanted.Questions
         (code_of answer.status) answer.text.items) }
     ensures settled { IfOk result (λ answer. is_of_files answer.status ≡ false) }
     ensures keeps { Keeps (V.tells opened.old.view) (V.tells opened.new.view) }
@@ -116,8 +117,9 @@ fn answer_to_statement<V: EventView>(
     statement: &str,
 ) -> Result<Answer, AllocError>
     requires { IsOpenedOf (V.tells opened.now.view) opened.now }
-    ensures due { (t : Trace) → IsViewOf t (V.tells opened.now.view) opened.now.coverage.now
-        → IfOk result (λ answer. Tells opened.now.program.now t (wanted.WhyNot statement.now)
+    ensures due { (seal : List ℕ) (t : Trace)
+        → IsViewOf t (V.tells opened.now.view) opened.now.coverage.now
+        → IfOk result (λ answer. Tells opened.now.program.now seal t (wanted.WhyNot statement.now)
         (code_of answer.status) answer.text.items) }
     ensures settled { IfOk result (λ answer. is_of_files answer.status ≡ false) }
 {
@@ -198,8 +200,7 @@ pub fn answer_to_opened<V: EventView>(
 ) -> Result<Answer, ViewError>
     requires { IsOpenedOf (V.tells opened.old.view) opened.old }
     ensures due { (t : Trace) → IsViewOf t (V.tells opened.old.view) opened.old.coverage.now
-        → seal.now ≡ seal_of t
-        → IfOk result (λ answer. Tells opened.old.program.now t (inquiry_of inquiry.entry)
+        → IfOk result (λ answer. Tells opened.old.program.now seal.now t (inquiry_of inquiry.entry)
         (code_of answer.status) answer.text.items) }
     ensures settled { IfOk result (λ answer. is_of_files answer.status ≡ false) }
     ensures keeps { Keeps (V.tells opened.old.view) (V.tells opened.new.view) }
@@ -227,6 +228,7 @@ pub fn answer_to_view<V: EventView>(
     answer: &mut Option<Result<Answer, ViewError>>,
 ) -> V
     requires { length program.now.fields.items < 2 ^ 32 }
+<<<<<<< HEAD
     ensures answered { IsSome answer.new }
     ensures due { (t : Trace) → IsViewOf t (V.tells view) coverage.now → seal.now ≡ seal_of t
         → IfSome answer.new (λ r. IfOk r (λ given. Tells program.now t (inquiry_of inquiry.entry)
@@ -235,6 +237,14 @@ pub fn answer_to_view<V: EventView>(
         IfOk r (λ given. is_of_files given.status ≡ false)) }
     ensures keeps { Keeps (V.tells view) (V.tells result) }
     ensures answers { IfSome answer.new (λ r. KeepsCounts r (V.tells view) (V.tells result)) }
+=======
+    ensures due { (t : Trace) → IsViewOf t (V.tells view) coverage.now
+        → IfOk result.1 (λ answer. Tells program.now seal.now t (inquiry_of inquiry.entry)
+        (code_of answer.status) answer.text.items) }
+    ensures settled { IfOk result.1 (λ answer. is_of_files answer.status ≡ false) }
+    ensures keeps { Keeps (V.tells view) (V.tells result.0) }
+    ensures answers { KeepsCounts result.1 (V.tells view) (V.tells result.0) }
+>>>>>>> 9386d58bc114dca56af091fd1b8e250bcb186d34
 {
     let blank = Blank::new(1);
     let (view, found) = answer_indexed::<V, Brand>(
@@ -258,8 +268,8 @@ fn answer_indexed<V: EventView, L: Ledger>(
     requires name { blank.name ≡ L.name }
     requires parts { blank.parts ≡ L.parts }
     requires some { 0 < blank.parts }
-    ensures due { (t : Trace) → IsViewOf t (V.tells view) coverage.now → seal.now ≡ seal_of t
-        → IfOk result.1 (λ answer. Tells program.now t (inquiry_of inquiry.entry)
+    ensures due { (t : Trace) → IsViewOf t (V.tells view) coverage.now
+        → IfOk result.1 (λ answer. Tells program.now seal.now t (inquiry_of inquiry.entry)
         (code_of answer.status) answer.text.items) }
     ensures settled { IfOk result.1 (λ answer. is_of_files answer.status ≡ false) }
     ensures keeps { Keeps (V.tells view) (V.tells result.0) }

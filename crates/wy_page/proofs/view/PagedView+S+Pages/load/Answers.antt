@@ -29,7 +29,7 @@ pub returns-in-Ok-clause-told : goal.returns-in-Ok-clause-told
 returns-in-Ok-clause-told g c =
     let p = c.args.self.now.pages in
     told_if p (g.S.Shelf.held c.args.self.now.shelf.now) c.args.block c.in-Ok.bytes c.args.self.now.fits c.requires c.in-Ok.ensures.content c.events_of.result
-    (subst (λ (l : List ℕ). IfOk c.events_of.result (λ events. ReadAs (block_length * c.args.block) (size_of_block p.count c.args.block) l events.items)) c.as_slice.ensures.value c.events_of.ensures.read)
+    (subst (λ (l : List ℕ). IfOk c.events_of.result (λ events. ReadAs p.version (block_length * c.args.block) (size_of_block p.count c.args.block) l events.items)) c.as_slice.ensures.value c.events_of.ensures.read)
 
 pub returns-in-Ok-clause-counts : goal.returns-in-Ok-clause-counts
 returns-in-Ok-clause-counts g c =
