@@ -76,21 +76,6 @@ module _ (p : Program) (input : List ℕ) (steps : ℕ) (run : Runs p input step
 
 tells_affects : (p : memory.Program) (seal : List ℕ) (t : Trace) (w : Wanted) (s : ℕ) (x : List ℕ) → Tells p seal t w s x → (asks : List ℕ) → w ≡ Affects asks → s ≡ 0 →
     (r : Result (List ℕ) Refused) × (r ≡ Ok x) × AffectsIs (program_of p) p.lines.items (map recorded t.events) asks r
-<<<<<<< HEAD
-tells_affects p t _ _ _ output asks same zero_is = absurd (cc)
-tells_affects p t _ _ _ (affects question (Ok text) is) asks same zero_is = let e : question ≡ asks = cc in (Ok text, refl, subst (λ (q : List ℕ). AffectsIs (program_of p) p.lines.items (map recorded t.events) q (Ok text)) e is)
-tells_affects p t _ _ _ (affects question (Err NotRead) is) asks same zero_is = absurd (omega (arith, zero_is))
-tells_affects p t _ _ _ (affects question (Err (NoSuch n)) is) asks same zero_is = absurd (omega (arith, zero_is))
-tells_affects p t _ _ _ (why question answer is) asks same zero_is = absurd (cc)
-tells_affects p t _ _ _ questions asks same zero_is = absurd (cc)
-tells_affects p t _ _ _ (whynot word answer is) asks same zero_is = absurd (cc)
-tells_affects p t _ _ _ (explore input status text is) asks same zero_is = absurd (cc)
-tells_affects p t _ _ _ (audit v is) asks same zero_is = absurd (cc)
-tells_affects p t _ _ _ (certify question answer is) asks same zero_is = absurd (cc)
-tells_affects p t _ _ _ (scoped said call answer is) asks same zero_is = absurd (cc)
-tells_affects p t _ _ _ (check bytes r is judged) asks same zero_is = absurd (cc)
-tells_affects p t _ _ _ (lacking status text) asks same zero_is = absurd (cc)
-=======
 tells_affects p seal t _ _ _ output asks same zero_is = absurd (cc)
 tells_affects p seal t _ _ _ (affects question (Ok text) is) asks same zero_is = let e : question ≡ asks = cc in (Ok text, refl, subst (λ (q : List ℕ). AffectsIs (program_of p) p.lines.items (map recorded t.events) q (Ok text)) e is)
 tells_affects p seal t _ _ _ (affects question (Err NotRead) is) asks same zero_is = absurd (omega (arith, zero_is))
@@ -101,9 +86,9 @@ tells_affects p seal t _ _ _ (whynot word answer is) asks same zero_is = absurd 
 tells_affects p seal t _ _ _ (explore input status text is) asks same zero_is = absurd (cc)
 tells_affects p seal t _ _ _ (audit v is) asks same zero_is = absurd (cc)
 tells_affects p seal t _ _ _ (certify question answer is) asks same zero_is = absurd (cc)
+tells_affects p seal t _ _ _ (scoped said call answer is) asks same zero_is = absurd (cc)
 tells_affects p seal t _ _ _ (check bytes r is judged) asks same zero_is = absurd (cc)
 tells_affects p seal t _ _ _ (lacking status text) asks same zero_is = absurd (cc)
->>>>>>> 9386d58bc114dca56af091fd1b8e250bcb186d34
 
 pub told_affected : (p : memory.Program) (seal : List ℕ) (t : Trace) (w : Wanted) (s : ℕ) (x : List ℕ) (input : List ℕ) (steps : ℕ) → Runs (program_of p) input steps → map recorded t.events ≡ events nothing (program_of p) input steps →
     Tells p seal t w s x → s ≡ 0 → (asks : List ℕ) → w ≡ Affects asks → AffectedAnswer (program_of p) p.lines.items input steps asks x

@@ -42,26 +42,15 @@ tells_whynot p seal t _ _ _ questions word same zero_is = absurd (cc)
 tells_whynot p seal t _ _ _ (whynot asked (Ok text) is) word same zero_is =
     let e : asked ≡ word = cc in
     (Ok text, refl, subst (λ (q : List ℕ). WhynotIs (program_of p) p.lines.items (map recorded t.events) (covers_of t) q (Ok text)) e is)
-<<<<<<< HEAD
-tells_whynot p t _ _ _ (whynot asked (Err NotRead) is) word same zero_is = absurd (omega (arith, zero_is))
-tells_whynot p t _ _ _ (whynot asked (Err (NoSuch n)) is) word same zero_is = absurd (omega (arith, zero_is))
-tells_whynot p t _ _ _ (whynot asked (Err (Ran line place count first)) is) word same zero_is = absurd (omega (arith, zero_is))
-tells_whynot p t _ _ _ (explore input status text is) word same zero_is = absurd (cc)
-tells_whynot p t _ _ _ (audit v is) word same zero_is = absurd (cc)
-tells_whynot p t _ _ _ (certify question answer is) word same zero_is = absurd (cc)
-tells_whynot p t _ _ _ (scoped said call answer is) word same zero_is = absurd (cc)
-tells_whynot p t _ _ _ (check bytes r is judged) word same zero_is = absurd (cc)
-tells_whynot p t _ _ _ (lacking status text) word same zero_is = absurd (cc)
-=======
 tells_whynot p seal t _ _ _ (whynot asked (Err NotRead) is) word same zero_is = absurd (omega (arith, zero_is))
 tells_whynot p seal t _ _ _ (whynot asked (Err (NoSuch n)) is) word same zero_is = absurd (omega (arith, zero_is))
 tells_whynot p seal t _ _ _ (whynot asked (Err (Ran line place count first)) is) word same zero_is = absurd (omega (arith, zero_is))
 tells_whynot p seal t _ _ _ (explore input status text is) word same zero_is = absurd (cc)
 tells_whynot p seal t _ _ _ (audit v is) word same zero_is = absurd (cc)
 tells_whynot p seal t _ _ _ (certify question answer is) word same zero_is = absurd (cc)
+tells_whynot p seal t _ _ _ (scoped said call answer is) word same zero_is = absurd (cc)
 tells_whynot p seal t _ _ _ (check bytes r is judged) word same zero_is = absurd (cc)
 tells_whynot p seal t _ _ _ (lacking status text) word same zero_is = absurd (cc)
->>>>>>> 9386d58bc114dca56af091fd1b8e250bcb186d34
 
 pub told_blocked : (p : memory.Program) (seal : List ℕ) (t : Trace) (s : ℕ) (x : List ℕ) (input : List ℕ) (steps : ℕ) → map recorded t.events ≡ events nothing (program_of p) input steps → AreCovers (program_of p) input steps (covers_of t) →
     (word : List ℕ) → Tells p seal t (WhyNot word) s x → s ≡ 0 → BlockedAnswer (program_of p) p.lines.items input steps word x

@@ -25,13 +25,8 @@ use Rattle.wy_reply.specs.declared.answer.Answer.{Answer}
 use Rattle.wy_reply.specs.declared.status.Status.TheVariants.{Done}
 use Rattle.wy_reply.specs.Statuses.{code_of}
 use Rattle.wy_reply.specs.Recordings.{IsTraceOf, trace_spelling}
-<<<<<<< HEAD
 use Rattle.wy_reply.specs.Tellings.{Wanted, Output, Explore, Questions, Why, Affects, Certify, Check, WhyNot, Scope, Audit, Tells, covers_of}
-use Rattle.wy_reply.specs.ByRun.{AnswersByRun, HasSource, TellingsAreByRuns, TellsRun}
-=======
-use Rattle.wy_reply.specs.Tellings.{Wanted, Output, Explore, Questions, Why, Affects, Certify, Check, WhyNot, Audit, Tells, covers_of}
-use Rattle.wy_reply.specs.ByRun.{AnswersByRun, CanTell, HasSource, TellsRun}
->>>>>>> 9386d58bc114dca56af091fd1b8e250bcb186d34
+use Rattle.wy_reply.specs.ByRun.{AnswersByRun, CanTell, HasSource, TellingsAreByRuns, TellsRun}
 use Rattle.wy_reply.proofs.Affecting.{told_affected}
 use Rattle.wy_reply.proofs.Carrying.{Runs, told_carried, told_in}
 use Rattle.wy_reply.proofs.Blocking.{covers_read, told_blocked}
@@ -66,20 +61,6 @@ ends_back : Laws → (v : Version) (p q : memory.Program) (source input : List �
 ends_back laws v p q source input steps bytes x are short fit is reads =
     covers_read (program_of q) input steps x is.end (laws.ends v p is.head (events nothing (program_of q) input steps) is.end bytes x are short is.events_fit is.spelled reads is.end_fits fit) is.end_is
 
-<<<<<<< HEAD
-told_by_run : Laws → (p : memory.Program) (t : Trace) (s : ℕ) (x input : List ℕ) (steps : ℕ) → map recorded t.events ≡ events nothing (program_of p) input steps →
-    map covered_of (covers_of t) ≡ (meaning.tail nothing (program_of p) input steps).coverage → (w : Wanted) → Tells p t w s x → s ≡ 0 → AnswersByRun (program_of p) p.lines.items input steps w x
-told_by_run laws p t s x input steps read covers Output tells done = tt
-told_by_run laws p t s x input steps read covers (Explore keys) tells done = tt
-told_by_run laws p t s x input steps read covers Questions tells done = tt
-told_by_run laws p t s x input steps read covers (Why asks) tells done = told_carried p t (Why asks) s x input steps (run_of laws (program_of p) input steps) read tells done asks refl
-told_by_run laws p t s x input steps read covers (Affects asks) tells done = told_affected p t (Affects asks) s x input steps (run_of laws (program_of p) input steps) read tells done asks refl
-told_by_run laws p t s x input steps read covers (WhyNot word) tells done = told_blocked p t s x input steps read covers word tells done
-told_by_run laws p t s x input steps read covers Audit tells done = tt
-told_by_run laws p t s x input steps read covers (Certify asks) tells done = tt
-told_by_run laws p t s x input steps read covers (Scope word call) tells done = tt
-told_by_run laws p t s x input steps read covers (Check given) tells done = tt
-=======
 told_by_run : Laws → (p : memory.Program) (seal : List ℕ) (t : Trace) (s : ℕ) (x input : List ℕ) (steps : ℕ) → map recorded t.events ≡ events nothing (program_of p) input steps →
     map covered_of (covers_of t) ≡ (meaning.tail nothing (program_of p) input steps).coverage → (w : Wanted) → Tells p seal t w s x → s ≡ 0 → AnswersByRun (program_of p) p.lines.items input steps w x
 told_by_run laws p seal t s x input steps read covers Output tells done = tt
@@ -90,8 +71,8 @@ told_by_run laws p seal t s x input steps read covers (Affects asks) tells done 
 told_by_run laws p seal t s x input steps read covers (WhyNot word) tells done = told_blocked p seal t s x input steps read covers word tells done
 told_by_run laws p seal t s x input steps read covers Audit tells done = tt
 told_by_run laws p seal t s x input steps read covers (Certify asks) tells done = tt
+told_by_run laws p seal t s x input steps read covers (Scope word call) tells done = tt
 told_by_run laws p seal t s x input steps read covers (Check given) tells done = tt
->>>>>>> 9386d58bc114dca56af091fd1b8e250bcb186d34
 
 tells_run : Laws → (p : memory.Program) (bytes seal : List ℕ) (w : Wanted) (t : Trace) (s : ℕ) (text : List ℕ) → AreBytes bytes → length bytes ≤ trace_limit → EndFits t.tail → IsReadAs p bytes (Ok t) → Tells p seal t w s text → s ≡ 0 → TellsRun p bytes w text
 tells_run laws p bytes seal w t s text are short fit reads tells done = λ v source input steps can is.
@@ -125,4 +106,4 @@ under_source laws p bytes x (Ok answer) are short reads = λ done. has_source la
 under_source laws p bytes x (Err e) are short reads = tt
 
 pub by_runs : Laws → TellingsAreByRuns
-by_runs laws p bytes t is fit = (has_source laws p bytes t is.are_bytes is.short is.reads, λ w text tells. tells_run laws p bytes w t 0 text is.are_bytes is.short fit is.reads tells refl)
+by_runs laws p bytes t is fit = (has_source laws p bytes t is.are_bytes is.short is.reads, λ seal w text tells. tells_run laws p bytes seal w t 0 text is.are_bytes is.short fit is.reads tells refl)

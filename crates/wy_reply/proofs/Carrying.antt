@@ -32,12 +32,8 @@ use Rattle.wy_ask.specs.Questions as question
 use Rattle.wy_ask.proofs.Stores.{print_below}
 use Rattle.wy_telling.specs.Answers.{Refused, NotRead, NoSuch, answered, not_there, not_read, marked_lines}
 use Rattle.wy_telling.specs.Why.{WhyIs, why_text}
-<<<<<<< HEAD
-use Rattle.wy_reply.specs.Tellings.{Wanted, Why, Tells, affects, certify, check, lacking, scoped, why, whynot, questions, explore, audit, output}
-=======
 use Rattle.wy_reply.specs.ByRun.{CanTell}
-use Rattle.wy_reply.specs.Tellings.{Wanted, Why, Tells, affects, certify, check, lacking, why, whynot, questions, explore, audit, output}
->>>>>>> 9386d58bc114dca56af091fd1b8e250bcb186d34
+use Rattle.wy_reply.specs.Tellings.{Wanted, Why, Tells, affects, certify, check, lacking, scoped, why, whynot, questions, explore, audit, output}
 use Rattle.wy_reply.specs.Carried.{CarriedAnswer, Means, SameSets, static, field, element, local}
 
 -- ---- bytes tell all of a run's records
@@ -275,21 +271,6 @@ answer_carried p lines input steps asks text run _ same (not_read none) = absurd
 
 tells_why : (p : memory.Program) (seal : List ℕ) (t : Trace) (w : Wanted) (s : ℕ) (x : List ℕ) → Tells p seal t w s x → (asks : List ℕ) → w ≡ Why asks → s ≡ 0 →
     (r : Result (List ℕ) Refused) × (r ≡ Ok x) × WhyIs (program_of p) p.lines.items (map recorded t.events) asks r
-<<<<<<< HEAD
-tells_why p t _ _ _ output asks same zero_is = absurd (cc)
-tells_why p t _ _ _ (why question (Ok text) is) asks same zero_is = let e : question ≡ asks = cc in (Ok text, refl, subst (λ (q : List ℕ). WhyIs (program_of p) p.lines.items (map recorded t.events) q (Ok text)) e is)
-tells_why p t _ _ _ (why question (Err NotRead) is) asks same zero_is = absurd (omega (arith, zero_is))
-tells_why p t _ _ _ (why question (Err (NoSuch n)) is) asks same zero_is = absurd (omega (arith, zero_is))
-tells_why p t _ _ _ (affects question answer is) asks same zero_is = absurd (cc)
-tells_why p t _ _ _ questions asks same zero_is = absurd (cc)
-tells_why p t _ _ _ (whynot word answer is) asks same zero_is = absurd (cc)
-tells_why p t _ _ _ (explore input status text is) asks same zero_is = absurd (cc)
-tells_why p t _ _ _ (audit v is) asks same zero_is = absurd (cc)
-tells_why p t _ _ _ (certify question answer is) asks same zero_is = absurd (cc)
-tells_why p t _ _ _ (scoped said call answer is) asks same zero_is = absurd (cc)
-tells_why p t _ _ _ (check bytes r is judged) asks same zero_is = absurd (cc)
-tells_why p t _ _ _ (lacking status text) asks same zero_is = absurd (cc)
-=======
 tells_why p seal t _ _ _ output asks same zero_is = absurd (cc)
 tells_why p seal t _ _ _ (why question (Ok text) is) asks same zero_is = let e : question ≡ asks = cc in (Ok text, refl, subst (λ (q : List ℕ). WhyIs (program_of p) p.lines.items (map recorded t.events) q (Ok text)) e is)
 tells_why p seal t _ _ _ (why question (Err NotRead) is) asks same zero_is = absurd (omega (arith, zero_is))
@@ -300,9 +281,9 @@ tells_why p seal t _ _ _ (whynot word answer is) asks same zero_is = absurd (cc)
 tells_why p seal t _ _ _ (explore input status text is) asks same zero_is = absurd (cc)
 tells_why p seal t _ _ _ (audit v is) asks same zero_is = absurd (cc)
 tells_why p seal t _ _ _ (certify question answer is) asks same zero_is = absurd (cc)
+tells_why p seal t _ _ _ (scoped said call answer is) asks same zero_is = absurd (cc)
 tells_why p seal t _ _ _ (check bytes r is judged) asks same zero_is = absurd (cc)
 tells_why p seal t _ _ _ (lacking status text) asks same zero_is = absurd (cc)
->>>>>>> 9386d58bc114dca56af091fd1b8e250bcb186d34
 
 pub told_carried : (p : memory.Program) (seal : List ℕ) (t : Trace) (w : Wanted) (s : ℕ) (x : List ℕ) (input : List ℕ) (steps : ℕ) → Runs (program_of p) input steps → map recorded t.events ≡ events nothing (program_of p) input steps →
     Tells p seal t w s x → s ≡ 0 → (asks : List ℕ) → w ≡ Why asks → CarriedAnswer (program_of p) p.lines.items input steps asks x

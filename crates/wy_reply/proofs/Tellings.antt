@@ -102,11 +102,11 @@ told_under p bytes w t (Ok answer) reads tells = told t (code_of answer.status) 
 told_under p bytes w t (Err x) reads tells = tt
 
 -- what is told of a statement and a call is due
-pub told_scope : (p : Program) (t : Trace) (word : List ℕ) (call : ℕ) (said : Result (Vec ℕ Global) Unscoped) (r : Result Answer ViewError)
-    → TellsScope (program_of p) p.lines.items (map recorded t.events) word call said → IfOk r (SaysScope said) → IfOk r (Told p t (Scope word call))
-told_scope p t word call said (Err e) is h = h
-told_scope p t word call (Ok text) (Ok answer) is h = rw (h.0, h.1) (scoped word call (Ok text.items) is)
-told_scope p t word call (Err unscoped.NotRead) (Ok answer) is h = rw (h.0, h.1) (scoped word call (Err scope.NotRead) is)
-told_scope p t word call (Err (unscoped.NoSuch n)) (Ok answer) is h = rw (h.0, h.1) (scoped word call (Err (scope.NoSuch n)) is)
-told_scope p t word call (Err (unscoped.Passed line place event)) (Ok answer) is h = rw (h.0, h.1) (scoped word call (Err (scope.Passed line place event)) is)
-told_scope p t word call (Err (unscoped.View e)) (Ok answer) is h = absurd h
+pub told_scope : (p : Program) (seal : List ℕ) (t : Trace) (word : List ℕ) (call : ℕ) (said : Result (Vec ℕ Global) Unscoped) (r : Result Answer ViewError)
+    → TellsScope (program_of p) p.lines.items (map recorded t.events) word call said → IfOk r (SaysScope said) → IfOk r (Told p seal t (Scope word call))
+told_scope p seal t word call said (Err e) is h = h
+told_scope p seal t word call (Ok text) (Ok answer) is h = rw (h.0, h.1) (scoped word call (Ok text.items) is)
+told_scope p seal t word call (Err unscoped.NotRead) (Ok answer) is h = rw (h.0, h.1) (scoped word call (Err scope.NotRead) is)
+told_scope p seal t word call (Err (unscoped.NoSuch n)) (Ok answer) is h = rw (h.0, h.1) (scoped word call (Err (scope.NoSuch n)) is)
+told_scope p seal t word call (Err (unscoped.Passed line place event)) (Ok answer) is h = rw (h.0, h.1) (scoped word call (Err (scope.Passed line place event)) is)
+told_scope p seal t word call (Err (unscoped.View e)) (Ok answer) is h = absurd h

@@ -4,17 +4,13 @@ use Rattle.wy_kernel.specs.Program.{Program}
 use Rattle.wy_kernel.specs.declared.program.Program as memory
 use Rattle.wy_kernel.specs.Parts.{program_of}
 use Rattle.wy_event.specs.declared.record.Head.{Head}
-<<<<<<< HEAD
 use Rattle.wy_event.specs.declared.record.Trace.{Trace}
-use Rattle.wy_fitting.specs.Fits.{EndFits}
-=======
 use Rattle.wy_event.specs.declared.record.Version.{Version}
 use Rattle.wy_event.specs.declared.record.Version.TheVariants as version
 use Rattle.wy_event.specs.Record.{Recorded}
-use Rattle.wy_fitting.specs.Fits.{AllTold}
+use Rattle.wy_fitting.specs.Fits.{AllTold, EndFits}
 use Rattle.wy_steps.specs.Sets.{nothing}
 use Rattle.wy_meaning.specs.Run.{events}
->>>>>>> 9386d58bc114dca56af091fd1b8e250bcb186d34
 use Rattle.wy_frames.specs.Heads.{head_of}
 use Rattle.wy_reply.specs.Blocked.{BlockedAnswer}
 use Rattle.wy_reply.specs.Carried.{AffectedAnswer, CarriedAnswer}
@@ -41,14 +37,10 @@ TellsRun p bytes w text = (v : Version) (source input : List ℕ) (steps : ℕ) 
 
 -- the head that the bytes of a run's trace are read to begin with has the source of the run
 abbrev pub HasSource : List ℕ → Type 0
-<<<<<<< HEAD
-HasSource bytes = (p : Program) (source input : List ℕ) (steps : ℕ) → IsTraceOf trace_spelling p source input steps bytes → (head : Head) (end : ℕ) → head_of bytes ≡ Ok (head, end) → head.source ≡ source
+HasSource bytes = (v : Version) (p : Program) (source input : List ℕ) (steps : ℕ) → IsTraceOf (trace_spelling v) p source input steps bytes
+    → (head : Head) (end : ℕ) (u : Version) → head_of bytes ≡ Ok (head, end, u) → head.source ≡ source
 
 -- what a trace tells that bytes are read as is so by each run whose trace they are, and their head has its source
 abbrev pub TellingsAreByRuns : Type 0
 TellingsAreByRuns = (p : memory.Program) (bytes : List ℕ) (t : Trace) → IsDecoded p bytes t → EndFits t.tail
-    → HasSource bytes × ((w : Wanted) (text : List ℕ) → Tells p t w 0 text → TellsRun p bytes w text)
-=======
-HasSource bytes = (v : Version) (p : Program) (source input : List ℕ) (steps : ℕ) → IsTraceOf (trace_spelling v) p source input steps bytes
-    → (head : Head) (end : ℕ) (u : Version) → head_of bytes ≡ Ok (head, end, u) → head.source ≡ source
->>>>>>> 9386d58bc114dca56af091fd1b8e250bcb186d34
+    → HasSource bytes × ((seal : List ℕ) (w : Wanted) (text : List ℕ) → Tells p seal t w 0 text → TellsRun p bytes w text)

@@ -139,14 +139,10 @@ pub data Tells (p : Program) (seal : List ℕ) (t : Trace) : Wanted → ℕ → 
       (questions_text (program_of p) p.lines.items (map recorded t.events) (covers_of t))
   whynot : (word : List ℕ) (answer : Result (List ℕ) Denied)
       → WhynotIs (program_of p) p.lines.items (map recorded t.events) (covers_of t) word answer
-<<<<<<< HEAD
-      → Tells p t (WhyNot word) (whynot_status answer) (whynot_answer answer)
+      → Tells p seal t (WhyNot word) (whynot_status answer) (whynot_answer answer)
   scoped : (word : List ℕ) (call : ℕ) (answer : Result (List ℕ) scope.Refused)
       → ScopeIs (program_of p) p.lines.items (map recorded t.events) word call answer
-      → Tells p t (Scope word call) (scope_status answer) (scope_answer answer)
-=======
-      → Tells p seal t (WhyNot word) (whynot_status answer) (whynot_answer answer)
->>>>>>> 9386d58bc114dca56af091fd1b8e250bcb186d34
+      → Tells p seal t (Scope word call) (scope_status answer) (scope_answer answer)
   explore : (input : List ℕ) (status : ℕ) (text : List ℕ)
       → Talks (scene_of p t.events (covers_of t)) input status text → Tells p seal t (Explore input) status text
   audit : (v : Verdict) → AuditIs (program_of p) t.head (map recorded t.events) (kept_tail t.tail) v → Tells p seal t Audit (audit_status v) (audit_line v)

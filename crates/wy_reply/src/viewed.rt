@@ -162,9 +162,10 @@ fn answer_to_scope<V: EventView>(
     call: u32,
 ) -> Result<Answer, ViewError>
     requires { IsOpenedOf (V.tells opened.old.view) opened.old }
-    ensures due { (t : Trace) → IsViewOf t (V.tells opened.old.view) opened.old.coverage.now
-        → IfOk result (λ answer. Tells opened.old.program.now t (wanted.Scope statement.now call)
-        (code_of answer.status) answer.text.items) }
+    ensures due { (seal : List ℕ) (t : Trace)
+        → IsViewOf t (V.tells opened.old.view) opened.old.coverage.now
+        → IfOk result (λ answer. Tells opened.old.program.now seal t
+        (wanted.Scope statement.now call) (code_of answer.status) answer.text.items) }
     ensures settled { IfOk result (λ answer. is_of_files answer.status ≡ false) }
     ensures keeps { Keeps (V.tells opened.old.view) (V.tells opened.new.view) }
     ensures answers { KeepsCounts result (V.tells opened.old.view) (V.tells opened.new.view) }
@@ -228,23 +229,14 @@ pub fn answer_to_view<V: EventView>(
     answer: &mut Option<Result<Answer, ViewError>>,
 ) -> V
     requires { length program.now.fields.items < 2 ^ 32 }
-<<<<<<< HEAD
     ensures answered { IsSome answer.new }
-    ensures due { (t : Trace) → IsViewOf t (V.tells view) coverage.now → seal.now ≡ seal_of t
-        → IfSome answer.new (λ r. IfOk r (λ given. Tells program.now t (inquiry_of inquiry.entry)
-        (code_of given.status) given.text.items)) }
+    ensures due { (t : Trace) → IsViewOf t (V.tells view) coverage.now
+        → IfSome answer.new (λ r. IfOk r (λ given. Tells program.now seal.now t
+        (inquiry_of inquiry.entry) (code_of given.status) given.text.items)) }
     ensures settled { IfSome answer.new (λ r.
         IfOk r (λ given. is_of_files given.status ≡ false)) }
     ensures keeps { Keeps (V.tells view) (V.tells result) }
     ensures answers { IfSome answer.new (λ r. KeepsCounts r (V.tells view) (V.tells result)) }
-=======
-    ensures due { (t : Trace) → IsViewOf t (V.tells view) coverage.now
-        → IfOk result.1 (λ answer. Tells program.now seal.now t (inquiry_of inquiry.entry)
-        (code_of answer.status) answer.text.items) }
-    ensures settled { IfOk result.1 (λ answer. is_of_files answer.status ≡ false) }
-    ensures keeps { Keeps (V.tells view) (V.tells result.0) }
-    ensures answers { KeepsCounts result.1 (V.tells view) (V.tells result.0) }
->>>>>>> 9386d58bc114dca56af091fd1b8e250bcb186d34
 {
     let blank = Blank::new(1);
     let (view, found) = answer_indexed::<V, Brand>(

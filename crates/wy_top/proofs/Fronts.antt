@@ -4,6 +4,7 @@ use Rattle.std.specs.declared.alloc.AllocError.{AllocError}
 use Rattle.wy_kernel.specs.Limits.{source_limit, trace_limit}
 use Rattle.wy_kernel.specs.declared.program.Program as memory
 use Rattle.wy_event.specs.declared.record.Head.{Head}
+use Rattle.wy_event.specs.declared.record.Version.{Version}
 use Rattle.wy_spelling.specs.Spelling.{opening}
 use Rattle.wy_frames.specs.Heads.{head_of}
 use Rattle.law_reading.specs.Spelled.{AreBytes, HeadsAreShort}
@@ -27,23 +28,23 @@ use Rattle.wy_top.proofs.OneText.{Known}
 use Rattle.wy_top.proofs.Paging.{settled_from}
 use Rattle.wy_top.proofs.RunAnswers.{CutLaws, run_answered}
 
--- a front from which a head is read
-pub record IsFront (front : List ℕ) (head : Head) : Type 0 where
+-- a front from which a head is read in a version
+pub record IsFront (front : List ℕ) (head : Head) (v : Version) : Type 0 where
   pub fronts : FrontsBeginTraces
   pub short : HeadsAreShort
   pub are : AreBytes front
   pub end : ℕ
-  pub read : head_of front ≡ Ok (head, end)
+  pub read : head_of front ≡ Ok (head, end, v)
 
-begins : (front : List ℕ) (head : Head) (f : IsFront front head) (others : List ℕ) → length (front ++ others) ≤ trace_limit → BeginsWith head (front ++ others)
-begins front head f others within = (f.fronts front others head f.end f.are f.read within).0
+begins : (front : List ℕ) (head : Head) (v : Version) (f : IsFront front head v) (others : List ℕ) → length (front ++ others) ≤ trace_limit → BeginsWith v head (front ++ others)
+begins front head v f others within = (f.fronts front others head f.end v f.are f.read within).0
 
 -- the head's frame is no longer than the front
-pub front_short : (front : List ℕ) (head : Head) → IsFront front head → length front ≤ trace_limit → length (opening head) ≤ trace_limit
-front_short front head f within =
+pub front_short : (front : List ℕ) (head : Head) (v : Version) → IsFront front head v → length front ≤ trace_limit → length (opening v head) ≤ trace_limit
+front_short front head v f within =
     let all : length (front ++ []) ≡ length front + 0 = length-append front [] in
-    let b = begins front head f [] (omega (arith, all, within)) in
-    let parts : length (front ++ []) ≡ length (opening head) + length b.rest = ap length b.spelled ∙ length-append (opening head) b.rest in
+    let b = begins front head v f [] (omega (arith, all, within)) in
+    let parts : length (front ++ []) ≡ length (opening v head) + length b.rest = ap length b.spelled ∙ length-append (opening v head) b.rest in
     omega (arith, all, parts, within)
 
 -- the bytes of the file, which begins so
@@ -54,45 +55,45 @@ file_at (Some shelf) name front (others, holds) files told = let same : shelf �
 one_file : (files : Files) (name a b : List ℕ) → files name ≡ Some a → files name ≡ Some b → a ≡ b
 one_file files name a b first second = let both : Some a ≡ Some b = sym first ∙ second in cc
 
-pub may_be_opened : (held : Option Files) (name front : List ℕ) (head : Head) → IsFront front head → BeginsFile held name front → MayBeOpened held name head
-may_be_opened None name front head f file = tt
-may_be_opened (Some files) name front head f (others, holds) = λ bytes found. subst (BeginsWith head) (one_file files name (front ++ others) bytes holds.found found) (begins front head f others holds.within)
+pub may_be_opened : (held : Option Files) (name front : List ℕ) (head : Head) (v : Version) → IsFront front head v → BeginsFile held name front → MayBeOpened held name v head
+may_be_opened None name front head v f file = tt
+may_be_opened (Some files) name front head v f (others, holds) = λ bytes found. subst (BeginsWith v head) (one_file files name (front ++ others) bytes holds.found found) (begins front head v f others holds.within)
 
 -- ---- what is due
 
-pub front_due : (held : Option Files) (name front : List ℕ) (head : Head) (p : memory.Program) (w : Wanted) → IsFront front head → BeginsFile held name front → IsProgramOf head.source p
+pub front_due : (held : Option Files) (name front : List ℕ) (head : Head) (v : Version) (p : memory.Program) (w : Wanted) → IsFront front head v → BeginsFile held name front → IsProgramOf head.source p
     → (files : Files) → held ≡ Some files → (s : ℕ) (x : List ℕ) → DueInFile name p w files s x → DueForTrace files name w s x
-front_due held name front head p w f file of files told s x is =
+front_due held name front head v p w f file of files told s x is =
     let there = file_at held name front file files told in
     let bytes : List ℕ = front ++ there.0 in
-    let read = (begins front head f there.0 there.1.within).read in
-    due.read bytes s x there.1 (due.program head (length (opening head)) p s x read of (is bytes there.1))
+    let read = (begins front head v f there.0 there.1.within).read in
+    due.read bytes s x there.1 (due.program head (length (opening v head)) v p s x read of (is bytes there.1))
 
 -- the source of the head is no program
-pub front_refused : (held : Option Files) (name front : List ℕ) (head : Head) (w : Wanted) (e : SourceError) (before : ShelfCounts) (r : Result Answer AllocError) → IsFront front head → BeginsFile held name front → IsCauseOf head.source e
+pub front_refused : (held : Option Files) (name front : List ℕ) (head : Head) (v : Version) (w : Wanted) (e : SourceError) (before : ShelfCounts) (r : Result Answer AllocError) → IsFront front head v → BeginsFile held name front → IsCauseOf head.source e
     → IfOk r (λ answer. RefusesTrace e answer) → IfOk r (AnswersFrom (λ files. DueForTrace files name w) held before before)
-front_refused held name front head w e before (Err x) f file cause refuses = tt
-front_refused held name front head w e before (Ok answer) f file cause (is, line) =
+front_refused held name front head v w e before (Err x) f file cause refuses = tt
+front_refused held name front head v w e before (Ok answer) f file cause (is, line) =
     let no = line head.source cause in
     settled_from (λ files. DueForTrace files name w) held before before answer (ap is_of_files is) refl (λ files told.
     let there = file_at held name front file files told in
     let bytes : List ℕ = front ++ there.0 in
-    let read = (begins front head f there.0 there.1.within).read in
-    let said : DueForBytes bytes w 5 (of_trace no.0) = due.no_program head (length (opening head)) no.0 read no.1 in
+    let read = (begins front head v f there.0 there.1.within).read in
+    let said : DueForBytes bytes w 5 (of_trace no.0) = due.no_program head (length (opening v head)) v no.0 read no.1 in
     rw (is, no.2) (due.read bytes 5 (of_trace no.0) there.1 said))
 
 -- ---- by a run
 
-pub front_answered : Known → CutLaws → (held : Option Files) (name front : List ℕ) (head : Head) (p : memory.Program) (w : Wanted) (r : Result Answer AllocError) → IsFront front head → BeginsFile held name front → IsProgramOf head.source p
+pub front_answered : Known → CutLaws → (held : Option Files) (name front : List ℕ) (head : Head) (v : Version) (p : memory.Program) (w : Wanted) (r : Result Answer AllocError) → IsFront front head v → BeginsFile held name front → IsProgramOf head.source p
     → IfOk r (λ answer. answer.status ≡ status.Done → IsByRun held name p w answer.text.items) → IfOk r (λ answer. answer.status ≡ status.Done → AnswersRunOf held name w answer.text.items)
-front_answered known laws held name front head p w (Err x) f file of by_run = tt
-front_answered known laws held name front head p w (Ok answer) f file of by_run = λ done files bytes told found.
+front_answered known laws held name front head v p w (Err x) f file of by_run = tt
+front_answered known laws held name front head v p w (Ok answer) f file of by_run = λ done files bytes told found.
     let there = file_at held name front file files told in
     let same : front ++ there.0 ≡ bytes = one_file files name (front ++ there.0) bytes there.1.found found in
     let holds = subst (Holds files name trace_limit) same there.1 in
-    let read = (subst (BeginsWith head) same (begins front head f there.0 there.1.within)).read in
+    let read = (subst (BeginsWith v head) same (begins front head v f there.0 there.1.within)).read in
     let is = by_run done files bytes told holds in
-    run_answered known laws head.source bytes w p answer.text.items head (length (opening head)) (f.short front head f.end f.read) of read refl is.0 is.1
+    run_answered known laws head.source bytes w p answer.text.items head (length (opening v head)) v (f.short front head f.end v f.read) of read refl is.0 is.1
 
 pub refused_answered : (held : Option Files) (name : List ℕ) (w : Wanted) (e : SourceError) (r : Result Answer AllocError) → IfOk r (λ answer. RefusesTrace e answer) → IfOk r (λ answer. answer.status ≡ status.Done → AnswersRunOf held name w answer.text.items)
 refused_answered held name w e (Err x) refuses = tt

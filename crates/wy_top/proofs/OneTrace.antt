@@ -194,15 +194,11 @@ one_telling known p q seal t _ _ _ _ _ parts lines (whynot word a first) (whynot
     let e : a ≡ b = known.statements (program_of p) p.lines.items (map recorded t.events) (covers_of t) word a b first
     (subst (λ (l : List ℕ). WhynotIs (program_of p) l (map recorded t.events) (covers_of t) word b) (sym lines) (subst (λ (z : Program). WhynotIs z q.lines.items (map recorded t.events) (covers_of t) word b) (sym parts) second)) in
     (ap whynot_status e, ap whynot_answer e)
-<<<<<<< HEAD
-one_telling known p q t _ _ _ _ _ parts lines (scoped word call a first) (scoped said at b second) =
+one_telling known p q seal t _ _ _ _ _ parts lines (scoped word call a first) (scoped said at b second) =
     let e : a ≡ b = known.scopes (program_of p) p.lines.items (map recorded t.events) word call a b first
     (subst (λ (l : List ℕ). ScopeIs (program_of p) l (map recorded t.events) word call b) (sym lines) (subst (λ (z : Program). ScopeIs z q.lines.items (map recorded t.events) word call b) (sym parts) second)) in
     (ap scope_status e, ap scope_answer e)
-one_telling known p q t _ _ _ _ _ parts lines (explore input m a first) (explore also n b second) =
-=======
 one_telling known p q seal t _ _ _ _ _ parts lines (explore input m a first) (explore also n b second) =
->>>>>>> 9386d58bc114dca56af091fd1b8e250bcb186d34
     known.sessions (scene_of p t.events (covers_of t)) input m n a b first
     (subst (λ (x : Scene). Talks x input n b) (λ i. record { program = sym parts i; lines = sym lines i; records = map recorded t.events; covers = covers_of t }) second)
 one_telling known p q seal t _ _ _ _ _ parts lines (audit v first) (audit w second) =

@@ -33,6 +33,7 @@ use Rattle.wy_event.specs.declared.record.Trace.{Trace}
 use Rattle.wy_page.specs.declared.pages.Pages.{Pages}
 use Rattle.wy_page.specs.Paged.{records_of, records_told}
 use Rattle.wy_reply.specs.Opening.{IsDecoded, IsViewOf}
+use Rattle.wy_reply.specs.Certificates.{seal_of}
 use Rattle.wy_reply.specs.Tellings as tellings
 use Rattle.wy_reply.specs.Tellings.{DueUnder, IsTraceLine, RefusesTrace, Wanted}
 use Rattle.wy_top.specs.declared.files.FileError.{FileError}
@@ -215,16 +216,17 @@ pages_of : TracesAreSpelled → (p : Program) (pages : Pages) (tail : Tail) (fil
 pages_of spelled p pages tail files name bytes o named holds =
     let file : files (string_bytes pages.name) ≡ Some bytes = ap files named ∙ holds.found in
     record {
-      records = ap (λ f. Some (records_of pages.starts pages.count (unwrap_or f []))) file ∙ ap Some o.records_are;
+      records = ap (λ f. Some (records_of pages.version pages.starts pages.count (unwrap_or f []))) file ∙ ap Some o.records_are;
       covers = ap (λ (x : Tail). x.coverage.statements) o.tail_is;
-      seal = sym o.seal_is.1 ∙ (sealed_end spelled p bytes o.trace (decoded p pages tail bytes o holds.within)).1;
+      seal = sym o.seal_is.1 ∙ (sealed_end spelled p bytes o.trace (decoded p pages tail bytes o holds.within)).1 ∙ ap (λ v. seal_of v o.trace) (sym o.version_is);
     }
 
 pub opened_due : TracesAreSpelled → (held : Option Files) (name : List ℕ) (p : Program) (w : Wanted) (pages : Pages) (tail : Tail) → Opens held name p (Ok (pages, tail)) → string_bytes pages.name ≡ name
     → (files : Files) → held ≡ Some files → (s : ℕ) (x : List ℕ) → DueInPages p pages tail.coverage.statements w files s x → DueInFile name p w files s x
 opened_due spelled held name p w pages tail opens named files told s x due = λ bytes holds.
     let o : IsOpened pages tail p bytes = open_at held name p (Ok (pages, tail)) opens files told bytes holds.found in
-    tellings.told o.trace s x o.read (due o.trace (pages_of spelled p pages tail files name bytes o named holds))
+    let are = pages_of spelled p pages tail files name bytes o named holds in
+    tellings.told o.trace s x o.read (subst (λ (l : List ℕ). tellings.Tells p l o.trace w s x) (are.seal ∙ ap (λ v. seal_of v o.trace) o.version_is) (due o.trace are))
 
 -- what is told is by each run whose trace it is
 pub opened_by_run : TracesAreSpelled → TellingsAreByRuns → (held : Option Files) (name : List ℕ) (p : Program) (w : Wanted) (pages : Pages) (tail : Tail) (before after : ShelfCounts) (r : Result Answer AllocError)
@@ -235,7 +237,7 @@ opened_by_run spelled by_runs held name p w pages tail before after (Ok answer) 
     let o : IsOpened pages tail p bytes = open_at held name p (Ok (pages, tail)) opens files told bytes holds.found in
     let laws = by_runs p bytes o.trace (decoded p pages tail bytes o holds.within) (subst EndFits o.tail_is fits) in
     let due = settled_due (DueInPages p pages tail.coverage.statements w) held _ _ answer done (from.is 0) files told o.trace (pages_of spelled p pages tail files name bytes o named holds) in
-    (laws.0, laws.1 w answer.text.items due)
+    (laws.0, laws.1 pages.seal w answer.text.items due)
 
 -- bytes that are no trace
 refused_bytes : (p : Program) (bytes : List ℕ) (w : Wanted) (e : TraceError) (x : List ℕ) → IsTraceLine e x → ReadsAs (Err e) p bytes → DueUnder p bytes w 5 x

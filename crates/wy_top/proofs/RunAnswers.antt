@@ -106,11 +106,7 @@ same_answer p q input steps (wanted.Check given) text same lines h = tt
 
 -- ---- bytes
 
-<<<<<<< HEAD
-pub run_answered : Known → CutLaws → (source bytes : List ℕ) (w : Wanted) (p : memory.Program) (text : List ℕ) (head : Head) (end : ℕ) → length source ≤ source_limit → IsProgramOf source p → head_of bytes ≡ Ok (head, end) → head.source ≡ source →
-=======
-run_answered : Known → CutLaws → (source bytes : List ℕ) (w : Wanted) (p : memory.Program) (text : List ℕ) (head : Head) (end : ℕ) (u : Version) → length source ≤ source_limit → IsProgramOf source p → head_of bytes ≡ Ok (head, end, u) → head.source ≡ source →
->>>>>>> 9386d58bc114dca56af091fd1b8e250bcb186d34
+pub run_answered : Known → CutLaws → (source bytes : List ℕ) (w : Wanted) (p : memory.Program) (text : List ℕ) (head : Head) (end : ℕ) (u : Version) → length source ≤ source_limit → IsProgramOf source p → head_of bytes ≡ Ok (head, end, u) → head.source ≡ source →
     HasSource bytes → TellsRun p bytes w text → AnswersRun bytes w text
 run_answered known laws source bytes w p text head end u short of at here has tells = λ v text_of input steps q also can is.
     let there : text_of ≡ source = sym (has v (program_of q) text_of input steps is head end u at) ∙ here in

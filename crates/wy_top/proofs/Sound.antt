@@ -162,21 +162,14 @@ told_well known p q seal t _ _ _ parts lines there (wanted.whynot word a is) =
     unbegun p (map recorded t.events) (covers_of t) word a there
     (subst (λ (l : List ℕ). WhynotIs (program_of p) l (map recorded t.events) (covers_of t) word a) (sym lines)
     (subst (λ (z : Program). WhynotIs z q.lines.items (map recorded t.events) (covers_of t) word a) (sym parts) is))
-<<<<<<< HEAD
-told_well known p q t _ _ _ parts lines there (wanted.scoped word call a is) =
+told_well known p q seal t _ _ _ parts lines there (wanted.scoped word call a is) =
     met_in_call p (map recorded t.events) word call a there
     (subst (λ (l : List ℕ). ScopeIs (program_of p) l (map recorded t.events) word call a) (sym lines)
     (subst (λ (z : Program). ScopeIs z q.lines.items (map recorded t.events) word call a) (sym parts) is))
-told_well known p q t _ _ _ parts lines there (wanted.explore input status text is) = talked (scene_of q t.events (covers_of t)) input status text there is
-told_well known p q t _ _ _ parts lines there (wanted.audit v is) = audited v
-told_well known p q t _ _ _ parts lines there (wanted.check given r is judged) = checked r
-told_well known p q t _ _ _ parts lines there (wanted.lacking status text) = absurd there
-=======
 told_well known p q seal t _ _ _ parts lines there (wanted.explore input status text is) = talked (scene_of q t.events (covers_of t)) input status text there is
 told_well known p q seal t _ _ _ parts lines there (wanted.audit v is) = audited v
 told_well known p q seal t _ _ _ parts lines there (wanted.check given r is judged) = checked r
 told_well known p q seal t _ _ _ parts lines there (wanted.lacking status text) = absurd there
->>>>>>> 9386d58bc114dca56af091fd1b8e250bcb186d34
 
 -- ---- its bytes
 

@@ -56,11 +56,11 @@ TellsRefusal name view.NoMemory answer = ⊥
 pub record ArePagesOf (t : Trace) (pages : Pages) (listed : List Cover) (files : Files) : Type 0 where
   pub records : records_told pages (Some files) ≡ Some (map recorded t.events)
   pub covers : listed ≡ covers_of t
-  pub seal : pages.seal ≡ seal_of t
+  pub seal : pages.seal ≡ seal_of pages.version t
 
 -- what each trace tells that is the one which is kept
 abbrev pub DueInPages : Program → Pages → List Cover → Wanted → Files → ℕ → List ℕ → Type 0
-DueInPages p pages listed w files status text = (t : Trace) → ArePagesOf t pages listed files → Tells p t w status text
+DueInPages p pages listed w files status text = (t : Trace) → ArePagesOf t pages listed files → Tells p pages.seal t w status text
 
 -- a view refused: the shelf failed; or the trace was gone or had changed, which never is where its bytes are told
 abbrev pub RefusesView : Type 0 → ViewError → ShelfCounts → ShelfCounts → Type 0

@@ -23,7 +23,7 @@ use crate::trace::answer_to_error;
 use law_reading::{heads_are_short, traces_are_spelled};
 use std::alloc::{AllocError, Global};
 use wy_elab_stmt::laws::a_text_has_one_program;
-use wy_event::record::{Head, Tail};
+use wy_event::record::{Head, Tail, Version};
 use wy_fitting::end_fits;
 use wy_frames::read_head;
 use wy_kernel::program::Program;
@@ -64,7 +64,7 @@ fn look_up<S: Shelf>(
     requires fits { IsOfShelf pages (S.held shelf.old) }
     ensures due { (t : Trace) (files : Files) → S.held shelf.old ≡ Some files
         → ArePagesOf t pages tail.now.coverage.statements files
-        → IfOk result (λ answer. Tells program.now t (inquiry_of inquiry.entry)
+        → IfOk result (λ answer. Tells program.now pages.seal t (inquiry_of inquiry.entry)
         (code_of answer.status) answer.text.items) }
     ensures settled { IfOk result (λ answer. is_of_files answer.status ≡ false) }
     ensures looks { LooksUp (records_told pages (S.held shelf.old) ≡ None) result
@@ -106,18 +106,19 @@ fn answer_in<S: Shelf>(
     }
 }
 
-/// The answer from the trace of a name that begins with this head, under the program of its source.
+/// The answer from the trace of a name that begins with this head in this version, under the program of its source.
 fn answer_under<S: Shelf>(
     alloc: Global,
     shelf: &mut S,
     name: &str,
     head: &Head,
+    version: Version,
     program: &Program,
     inquiry: Inquiry<'_>,
 ) -> Result<Answer, AllocError>
     requires fields { length program.now.fields.items < 2 ^ 32 }
-    requires short { length (opening head.now) ≤ trace_limit }
-    requires file { MayBeOpened (S.held shelf.old) name.now head.now }
+    requires short { length (opening version head.now) ≤ trace_limit }
+    requires file { MayBeOpened (S.held shelf.old) name.now version head.now }
     ensures answers { IfOk result (AnswersFrom
         (DueInFile name.now program.now (inquiry_of inquiry.entry))
         (S.held shelf.old)
@@ -129,7 +130,7 @@ fn answer_under<S: Shelf>(
 {
     traces_are_spelled();
     tellings_are_by_runs();
-    match Pages::open(alloc, shelf, name, head, program) {
+    match Pages::open(alloc, shelf, name, head, version, program) {
         Ok((pages, tail)) => {
             end_fits(&tail);
             answer_in(alloc, shelf, name, program, pages, &tail, inquiry)
@@ -143,18 +144,19 @@ fn are_bytes(bytes: &[u8])
     ensures { AreBytes bytes.now }
 {}
 
-/// The answer from the trace of a name that begins with these bytes, from which this head is read.
+/// The answer from the trace of a name that begins with these bytes, from which this head is read in this version.
 fn answer_by_head<S: Shelf>(
     alloc: Global,
     shelf: &mut S,
     name: &str,
     front: &[u8],
     head: &Head,
+    version: Version,
     inquiry: Inquiry<'_>,
 ) -> Result<Answer, AllocError>
     requires front { BeginsFile (S.held shelf.old) name.now front.now }
     requires short { length front.now ≤ trace_limit }
-    requires head { (end : ℕ) × (head_of front.now ≡ Ok (head.now, end)) }
+    requires head { (end : ℕ) × (head_of front.now ≡ Ok (head.now, end, version)) }
     ensures answers { IfOk result (AnswersFrom
         (λ files. DueForTrace files name.now (inquiry_of inquiry.entry))
         (S.held shelf.old)
@@ -175,7 +177,7 @@ fn answer_by_head<S: Shelf>(
     fronts_begin_traces();
     are_bytes(front);
     match program_of_source(alloc, head.source.as_slice()) {
-        Ok(typed) => answer_under(alloc, shelf, name, head, &typed.program, inquiry),
+        Ok(typed) => answer_under(alloc, shelf, name, head, version, &typed.program, inquiry),
         Err(error) => answer_to_error(alloc, error),
     }
 }
@@ -203,7 +205,9 @@ pub(crate) fn answer_by_pages<S: Shelf>(
     };
     let front = front.as_slice();
     match read_head(alloc, front) {
-        Ok((head, _)) => answer_by_head(alloc, shelf, name, front, &head, inquiry),
+        Ok((head, _, version)) => {
+            answer_by_head(alloc, shelf, name, front, &head, version, inquiry)
+        }
         Err(_) => answer_by_reading(alloc, shelf, name, Wanted::Inquiry(inquiry)),
     }
 }
