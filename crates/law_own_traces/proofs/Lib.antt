@@ -1,9 +1,11 @@
 mod Known
 mod Slots
+mod Plain
 mod Values
 mod Records
 mod Ends
 mod TraceWhole
+mod Told
 pub mod Wider
 pub mod Standing
 pub mod Staying

@@ -23,6 +23,7 @@ use Rattle.wy_payload.specs.Values.{value_form, allows_value, int_rule, object_r
 use Rattle.law_shaped.specs.Shaped.{Shaped, ValueFits, EntityOf, IsNew, IsText}
 use Rattle.law_reading.specs.Readable.{or_none, Refers, tag_of_value, ValueIsThere, ValueMayStand}
 use Rattle.law_in_range.specs.InRange.{arrays_from, IsNone, IsSome, IsArm, IsReturned, IsByte, IsPrinted, IsThrown, IsLength, ValueInRange, FixedInRange}
+use Rattle.law_own_traces.proofs.Plain.{printed_plain, some_plain, thrown_plain}
 use Rattle.law_own_traces.proofs.Known.{earlier, front, below_refers, object_refers}
 
 module _ (V : Version) (P : memory.Program) (rs : List Recorded) (shaped : (n : ℕ) (e : Recorded) → slice_get rs n ≡ Some e → Shaped rs n e) (n : ℕ) where
@@ -54,19 +55,6 @@ module _ (V : Version) (P : memory.Program) (rs : List Recorded) (shaped : (n : 
   there_as wanted l (val.Long x) plain f h = tt
   there_as wanted l val.Null plain f h = tt
   there_as wanted l (val.Arm x) plain f h = absurd plain
-
-  -- none of these is an arm
-  some_plain : (v : Value) → IsSome v → IsReturned v
-  some_plain (val.Arm k) h = absurd h
-  some_plain _ h = tt
-
-  printed_plain : (v : Value) → IsPrinted v → IsReturned v
-  printed_plain (val.Arm k) h = absurd h
-  printed_plain _ h = tt
-
-  thrown_plain : (v : Value) → IsThrown (slice_get (front rs shaped n)) v → IsReturned v
-  thrown_plain (val.Object k) h = tt
-  thrown_plain _ h = absurd h
 
   any_loose : IsLoose form.Any
   any_loose = record { ints = λ z. refl; objects = refl }
@@ -186,4 +174,4 @@ module _ (V : Version) (P : memory.Program) (rs : List Recorded) (shaped : (n : 
   value_stands kind.Return entity v w h f s = record { form = returned_value v h; there = there_as form.Optional optional_loose v h f s }
   value_stands kind.Jump entity v w h f s = no_value v h
   value_stands kind.Throw entity v w h f s = thrown_value v h
-  value_stands kind.Catch entity v w h f s = record { form = caught_value v h; there = there_as form.Caught caught_loose v (thrown_plain v h) f s }
+  value_stands kind.Catch entity v w h f s = record { form = caught_value v h; there = there_as form.Caught caught_loose v (thrown_plain (slice_get (front rs shaped n)) v h) f s }

@@ -13,7 +13,7 @@ use Rattle.wy_meaning.specs.Run.{events, tail}
 use Rattle.wy_meaning.specs.Kept.{kept_tail}
 use Rattle.wy_typing.specs.Programs.{IsProgram}
 use Rattle.law_typed_states.specs.Typed.{KeepsLibrary}
-use Rattle.wy_fitting.specs.Fits.{AllFit, EndFits}
+use Rattle.wy_fitting.specs.Fits.{AllFit, AllTold, EndFits}
 use Rattle.wy_payload.specs.Bodies.{newlines_of}
 use Rattle.wy_kernel.specs.Limits.{trace_limit}
 use Rattle.wy_frames.specs.declared.error.TraceError.{TraceError}
@@ -51,6 +51,10 @@ OwnTracesAreRead = OfOwnBytes IsRead
 -- an answer that is no trace says that memory ran out
 abbrev pub OwnTracesAreNotRefused : Program → Type 0
 OwnTracesAreNotRefused = OfOwnBytes (λ v p head rs end bytes. (e : TraceError) → ReadsAs (Err e) p bytes → e ≡ NoMemory)
+
+-- the bytes of either version tell all events of each run
+abbrev pub OwnEventsAreTold : Program → Type 0
+OwnEventsAreTold p = (v : Version) (input : List ℕ) (steps : ℕ) → AllByRecursion IsByteOf input → AllTold v (events nothing (program_of p) input steps)
 
 -- it holds of each program that fits its types, keeps the library and fits its text
 abbrev pub OfFittingPrograms : (Program → Type 0) → Type 0

@@ -88,12 +88,12 @@ arm_told : (v : Version) (x : Value) → value_bytes v (told_arm v x) ≡ value_
 unfolding value_bytes
 arm_told version.One (val.Arm n) = by (eqb n 1)
   where
-    by : (b : Bool) → 1 ∷ cond (eqb (cond b 1 0) 1) 1 0 ∷ [] ≡ 1 ∷ cond b 1 0 ∷ []
+    by : (b : Bool) → ◌≡◌ {A = List ℕ} (1 ∷ cond (eqb (cond b 1 0) 1) 1 0 ∷ []) (1 ∷ cond b 1 0 ∷ [])
     by true = refl
     by false = refl
 arm_told version.One (val.Bool b) = by b
   where
-    by : (b : Bool) → 1 ∷ cond (eqb (cond b 1 0) 1) 1 0 ∷ [] ≡ 1 ∷ cond b 1 0 ∷ []
+    by : (b : Bool) → ◌≡◌ {A = List ℕ} (1 ∷ cond (eqb (cond b 1 0) 1) 1 0 ∷ []) (1 ∷ cond b 1 0 ∷ [])
     by true = refl
     by false = refl
 arm_told version.One _ = refl

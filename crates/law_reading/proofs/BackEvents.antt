@@ -106,7 +106,7 @@ valued rest x = (record { value = x; units = [] }, rest)
 
 content_back : (r : Ranges) (earlier : List Known) (k : Kind) (entity : ℕ) (v : Value) (units rest : List ℕ) → ValueFits v → All IsUnit units → length (content_bytes r.version k v units) < 2 ^ 32
     → Gives (record { value = told_value r.version k v; units = told_units k units }) rest (content_at r earlier k entity (content_bytes r.version k v units ++ rest))
-unfolding content_at
+unfolding content_at valued
 content_back r earlier kind.Text entity v units rest value fit short = then_back (units_at (content_bytes r.version kind.Text v units ++ rest)) _ (units, rest) _ (units_back units rest fit (units_are_few units short)) refl
 content_back r earlier k entity v units rest value fit short =
     then_back (value_at r earlier (value_form k entity) (content_bytes r.version k v units ++ rest)) _ (told_as r.version (value_form k entity) v, rest) _ (value_back r earlier (value_form k entity) v rest value)

@@ -1,5 +1,5 @@
 -- Values, units and uses are read back.
-use Rattle.std.proofs.Common.{◌≡◌, ℕ, ◌<◌, ◌^◌, Bool, true, false, cond, eqb, List, ◌∷◌, ◌++◌, length, Some, Ok, refl, sym, ap, subst, append_assoc, ℤ, FitsSigned, All}
+use Rattle.std.proofs.Common.{◌≡◌, ℕ, ◌<◌, ◌^◌, Bool, true, false, cond, eqb, List, ◌∷◌, ◌++◌, length, Some, Ok, refl, sym, ap, subst, append_assoc, ℤ, FitsSigned, All, arith}
 use Rattle.std.specs.Prelude.{nat_lt}
 use Rattle.std.specs.List.{flat_map}
 use mir.Val.{bits}

@@ -81,7 +81,7 @@ valued rest x = Ok (record { value = x; units = [] }, rest)
 
 content_is : (r : Ranges) (earlier : List Known) (k : Kind) (entity : ℕ) (v : Value) (units rest : List ℕ) → ValueFits v → All IsUnit units → ValueMayStand r earlier (value_form k entity) v → length (content_bytes r.version k v units) < 2 ^ 32
     → Reads (content_at r earlier k entity (content_bytes r.version k v units ++ rest)) (record { value = told_value r.version k v; units = told_units k units }) rest
-unfolding content_at
+unfolding content_at valued
 content_is r earlier kind.Text entity v units rest value fit may short = then_is (units_at (content_bytes r.version kind.Text v units ++ rest)) _ (units, rest) _ (units_are units rest fit (units_are_few units short)) refl
 content_is r earlier k entity v units rest value fit may short =
     then_is (value_at r earlier (value_form k entity) (content_bytes r.version k v units ++ rest)) _ (v, rest) _ (value_is r earlier (value_form k entity) v rest value may)

@@ -90,7 +90,7 @@ more_stood r head done s e h =
     let prints : List Known → ℕ = λ earlier. output_of r earlier e.kind e.site e.value in
     record {
       before = ap (λ l. l ++ bytes) h.before ∙ append_assoc (opening r.version head) (concat (map (event_frame r.version) done)) bytes ∙ ap (λ l. opening r.version head ++ l) (sym (frames_more r.version done e));
-      events = map-append event_in s.placed (placed ∷ []) ∙ ap (λ (l : List Event). l ++ event_of r.version e ∷ []) h.events ∙ sym (map-append event_of done (e ∷ []));
+      events = map-append event_in s.placed (placed ∷ []) ∙ ap (λ (l : List Event). l ++ event_of r.version e ∷ []) h.events ∙ sym (map-append (event_of r.version) done (e ∷ []));
       uses = omega (arith, h.uses, uses_more done e);
       output = ap (λ (l : List Known). s.output + prints l) (knowns_are r head done s h) ∙ ap (λ n. n + prints (map known_in done)) h.output ∙ sym (printed_one r done e);
       open_stage = refl;

@@ -61,7 +61,7 @@ turn_stands r steps all head s t rest others stands e = by_frame (frame_of rest)
   where
     by_frame : (o : Option Frame) → frame_of rest ≡ o → turn_frame (next_of r steps s) s rest o ≡ Goes t others → Stands all r.version head t others
     by_frame Absent is e = absurd (never_goes (length s.before) (is_passed s.stage rest) t others e)
-    by_frame (Some f) is e = let shown = whole_frame rest f stands.rest_bytes is in next_goes all v head s t rest others f (next_of r steps s f) shown stands (stage_grows r steps head s s.stage rest f shown stands.told) e
+    by_frame (Some f) is e = let shown = whole_frame rest f stands.rest_bytes is in next_goes all r.version head s t rest others f (next_of r steps s f) shown stands (stage_grows r steps head s s.stage rest f shown stands.told) e
 
 -- ---- all frames
 

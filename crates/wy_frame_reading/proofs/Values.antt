@@ -144,7 +144,7 @@ fixed = one ℕ ℕ Value (λ m. m < 2 ^ bits w32) number (λ m. m) (number_at w
 
 -- ---- arms
 
-IsArm : List ℕ → Value × List ℕ → Type 0
+abbrev IsArm : List ℕ → Value × List ℕ → Type 0
 IsArm bytes r = (m : ℕ) × (r.0 ≡ val.Arm m) × (m < 2) × Spelled bytes (cond (eqb m 1) 1 0 ∷ []) r.1
 
 arm_of : (bytes : List ℕ) (m : ℕ) (rest : List ℕ) → m < 2 → Spelled bytes (m ∷ []) rest → IsArm bytes (val.Arm m, rest)

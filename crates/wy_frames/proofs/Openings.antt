@@ -1,6 +1,7 @@
 -- The magic and the frame of a head, and how long they are.
 use Rattle.std.proofs.Common.{◌≡◌, ◌+◌, ◌≤◌, ◌∷◌, [], ◌++◌, length, length-append, refl, arith}
 use Rattle.wy_event.specs.declared.record.Version.{Version}
+use Rattle.wy_event.specs.declared.record.Version.TheVariants as version
 use Rattle.wy_event.specs.declared.record.Head.{Head}
 use Rattle.wy_kernel.specs.Limits.{trace_limit}
 use Rattle.wy_spelling.proofs.Lengths.{magic_long}
@@ -8,7 +9,8 @@ use Rattle.wy_spelling.specs.Spelling.{magic, number, head_payload, head_frame, 
 
 pub opening_is : (v : Version) (h : Head) → opening v h ≡ ((magic v ++ 72 ∷ []) ++ number (length (head_payload h))) ++ head_payload h
 unfolding opening head_frame
-opening_is v h = refl
+opening_is version.One h = refl
+opening_is version.Two h = refl
 
 pub payload_is_long : (h : Head) → length (head_payload h) ≡ 12 + length h.input + length h.source
 unfolding head_payload

@@ -1,5 +1,6 @@
 //! The recorder.
 ghost use Rattle.std.specs.Prelude.{◌≡◌, ◌<◌, ◌^◌, [], false, map, vec_len};
+ghost use Rattle.wy_event.specs.declared.record.Version.{Version};
 ghost use Rattle.wy_record.specs.declared.recorder.Phase.{Phase};
 ghost use Rattle.wy_record.specs.Recorders.{opened};
 ghost use Rattle.wy_spelling.specs.Spelling.{closing, event_frame, opening};

@@ -18,7 +18,7 @@ pub invariant_of-self : goal.invariant_of-self
 invariant_of-self g c =
     let old = c.args.self.now in
     let file = c.events_of.ensures.file in
-    record { fits = subst (λ (h : Option Files). ∥ IsOfShelf c.events_of.new.self h ∥₁) (sym c.read.ensures.held) (fits_same old.pages c.events_of.new.self (g.S.Shelf.held old.shelf.now) (record { name = file.name; starts = file.starts; digests = file.digests; seal = file.seal; count = file.count }) c.events_of.ensures.held old.fits) }
+    record { fits = subst (λ (h : Option Files). ∥ IsOfShelf c.events_of.new.self h ∥₁) (sym c.read.ensures.held) (fits_same old.pages c.events_of.new.self (g.S.Shelf.held old.shelf.now) (record { name = file.name; version = file.version; starts = file.starts; digests = file.digests; seal = file.seal; count = file.count }) c.events_of.ensures.held old.fits) }
 
 pub invariant_of-self-in-Err-1 : goal.invariant_of-self-in-Err-1
 invariant_of-self-in-Err-1 g c =
