@@ -6,6 +6,7 @@ mod Records
 mod Ends
 mod TraceWhole
 mod Told
+mod Input
 pub mod Wider
 pub mod Standing
 pub mod Staying

@@ -21,6 +21,7 @@ use Rattle.wy_frames.specs.declared.error.TraceError.TheVariants.{NoMemory}
 use Rattle.wy_frames.specs.Traces.{ReadsAs}
 use Rattle.law_reading.specs.Readable.{HeadMayStand, IsReadable}
 use Rattle.wy_spelling.specs.Spelling.{run_bytes}
+use Rattle.law_reading.specs.Spelled.{AreBytes}
 use Rattle.law_reading.specs.WithinRules.{IsRead}
 use Rattle.law_in_range.specs.InRange.{Text, FitsText, IsByteOf}
 
@@ -55,6 +56,10 @@ OwnTracesAreNotRefused = OfOwnBytes (λ v p head rs end bytes. (e : TraceError) 
 -- the bytes of either version tell all events of each run
 abbrev pub OwnEventsAreTold : Program → Type 0
 OwnEventsAreTold p = (v : Version) (input : List ℕ) (steps : ℕ) → AllByRecursion IsByteOf input → AllTold v (events nothing (program_of p) input steps)
+
+-- so they do where they are the trace of a run, whatever its input is
+abbrev pub OwnBytesTellEvents : Program → Type 0
+OwnBytesTellEvents p = (v : Version) (head : Head) (end : Tail) (bytes : List ℕ) → AreBytes bytes → let rs = events nothing (program_of p) head.input head.steps in bytes ≡ run_bytes v head rs end → AllTold v rs
 
 -- it holds of each program that fits its types, keeps the library and fits its text
 abbrev pub OfFittingPrograms : (Program → Type 0) → Type 0

@@ -9,7 +9,6 @@ use Rattle.std.proofs.lemmas.Result.{IfOk-at_ok}
 use Rattle.std.proofs.lemmas.Slice.Eq.{bytes_eq-Decides}
 use Rattle.sha2.specs.Sha256.{sha256}
 use Rattle.sha2.proofs.Facts256.{length-sha256}
-use Rattle.wy_kernel.specs.declared.program.Program.{Program}
 use Rattle.wy_event.specs.declared.record.Version.{Version}
 use Rattle.wy_event.specs.declared.record.Head.{Head}
 use Rattle.wy_event.specs.declared.record.Tail.{Tail}
@@ -26,7 +25,7 @@ use Rattle.wy_frames.specs.declared.stage.Stage.{Stage}
 use Rattle.wy_frames.specs.declared.stage.Stage.TheVariants as stages
 use Rattle.wy_frames.specs.Frames.{Frame, frame_of, frame_of_length, opening_length, said_length}
 use Rattle.wy_frames.specs.Progress.{Progress, Next, Violates, Unsealed, coverage_next, covered_next, end_next, ended_next, event_next, knowns, next_at, next_of, open_next, read_as, seal_length, seal_next, start, with_event, with_stage}
-use Rattle.wy_frames.specs.Scan.{Goes, Fails, Waits, Leaves, frame, is_passed, nothing, turn, turn_frame, turn_next, without_frame}
+use Rattle.wy_frames.specs.Scan.{Goes, Waits, Leaves, frame, is_passed, nothing, turn, turn_frame, turn_next, without_frame}
 use Rattle.wy_frames.proofs.Kept.{kept}
 use Rattle.wy_frames.proofs.Pieces.{next_goes, no_frame, turn_is}
 use Rattle.wy_frames.proofs.Scans.{inner_is, some_is}

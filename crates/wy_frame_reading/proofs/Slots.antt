@@ -1,5 +1,5 @@
 -- Slots are read as they are spelled.
-use Rattle.std.proofs.Common.{◌≡◌, ℕ, ◌<◌, ◌^◌, List, [], ◌∷◌, ◌++◌, Some, Ok, refl, arith}
+use Rattle.std.proofs.Common.{◌≡◌, ℕ, ◌<◌, ◌^◌, List, ◌∷◌, ◌++◌, Some, Ok, refl, arith}
 use Rattle.std.specs.Prelude.{IfOk, slice_get}
 use mir.Val.{bits}
 use Rattle.std.specs.Int.{w32}

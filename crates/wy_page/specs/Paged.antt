@@ -6,7 +6,7 @@ use Rattle.sha2.specs.Sha256.{sha256}
 use Rattle.wy_event.specs.Record.{Recorded, recorded}
 use Rattle.wy_outside.specs.Shelf.{Files}
 use Rattle.wy_view.specs.Counts.{Rose}
-use Rattle.wy_view.specs.View.{Lender, Told}
+use Rattle.wy_view.specs.View.{Told}
 use Rattle.wy_event.specs.declared.record.Event.{Event}
 use Rattle.wy_event.specs.declared.record.Version.{Version}
 use Rattle.std.specs.Borrow.{GName}
