@@ -131,6 +131,36 @@ printf 'ask p0\n' | "$program" explore "$traces/first" >/dev/full 2>/dev/null
 printf '' | "$program" explore "$traces/first" >/dev/full 2>/dev/null
 [ "${PIPESTATUS[1]}" = 0 ] && report "nothing written to an output that is full" 1 || report "nothing written to an output that is full" 0
 
+# A trace that changes, goes or can't be read while a session is over it: what was said stands, and the line of the refusal is behind it.
+# Of its 69 blocks the last 64 are held once it is indexed, and block 0, where the frame begins; event 3000 is in block 2.
+printf 'class Loop { public static void main(String[] a) { int i = 0; while (i < 35000) { i = i + 1; } } }' >"$scratch/loop.java"
+record loop "$scratch/loop.java"
+mkfifo "$scratch/keys"
+under() { # NAME STATUS LINE COMMAND..: the command is done to the trace once the first line is answered
+  local name=$1 status=$2 line=$3 pid same=1
+  shift 3
+  cp "$traces/loop" "$traces/live"
+  "$program" explore "$traces/live" <"$scratch/keys" >"$scratch/out" 2>/dev/null &
+  pid=$!
+  exec 4>"$scratch/keys"
+  printf 'go 69000\n' >&4
+  for _ in $(seq 6000); do [ -s "$scratch/out" ] && break; sleep 0.05; done
+  "$@"
+  printf 'go 3000\n' >&4
+  exec 4>&-
+  wait "$pid"
+  [ $? = "$status" ] || same=0
+  [ "$(sed 's/^#69000 .*/said/' "$scratch/out")" = "said
+$line" ] || same=0
+  report "$name" "$same"
+  rm -rf "$traces/live"
+}
+changed() { printf '\377' | dd of="$traces/live" bs=1 seek=120000 conv=notrunc 2>/dev/null; }
+in_the_way() { rm "$traces/live" && mkdir "$traces/live"; }
+under "a trace that changes under a session" 5 'trace: Changed block 2' changed
+under "a trace that goes" 3 "absent: $traces/live" rm "$traces/live"
+under "a trace that can't be read any more" 7 'fault: shelf' in_the_way
+
 # Another command leaves the keys as they are.
 left=$(printf 'left\n' | { "$program" output "$traces/first" >/dev/null && cat; })
 [ "$left" = left ] && report "keys of another command" 1 || report "keys of another command" 0

@@ -83,7 +83,7 @@ fn a_head_has_the_version_of_its_bytes(rt: HostRuntime) -> Result<(), Fail> {
 
 /// The head, if its input and its source are short, so that the trace of either version has room for it.
 #[tactic(auto, using(crate::proofs::Opening::opening_is_short))]
-fn short_head(head: Head) -> Option<Head>
+pub fn short_head(head: Head) -> Option<Head>
     ensures { IfSome result (λ head.
         (version : Version) → length (opening version head) ≤ trace_limit) }
 {

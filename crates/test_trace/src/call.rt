@@ -7,6 +7,7 @@ use crate::programs::Program;
 use std::alloc::{AllocError, Global};
 use wy_framing::{FrameRecorder, MemoryTraceSink, TraceSink};
 use wy_outside::memory::{MemoryShelf, MemorySink, MemorySource};
+use wy_outside::shelf::Shelf;
 use wy_record::{CompareRecorder, MemoryRecorder, QuietRecorder, Recorder};
 use wy_top::{Recorders, whyline};
 
@@ -36,7 +37,7 @@ pub struct Left {
 }
 
 /// The program's source and input, and a trace.
-fn files(
+pub fn files(
     alloc: Global,
     program: Program,
     trace: &[u8],
@@ -66,7 +67,7 @@ fn sink(alloc: Global, fails: u32) -> Result<MemoryTraceSink, AllocError>
     Ok(MemoryTraceSink::new(alloc, Vec::from_slice(alloc, &[fails])?))
 }
 
-/// Calls the program by the words of a line.
+/// Calls the program by the words of a line, over files in memory of which a call may fail, and with no keys.
 pub fn call(
     alloc: Global,
     line: &str,
@@ -74,15 +75,38 @@ pub fn call(
     trace: &[u8],
     fails: Fails,
 ) -> Result<Left, AllocError> {
-    let mut words = Vec::new(alloc);
-    for word in line.split(' ') {
-        words.push(String::from_str(alloc, word)?)?;
-    }
+    call_with(alloc, line, program, trace, b"", fails)
+}
+
+/// The same, with these keys.
+pub fn call_with(
+    alloc: Global,
+    line: &str,
+    program: Program,
+    trace: &[u8],
+    lines: &[u8],
+    fails: Fails,
+) -> Result<Left, AllocError> {
     let mut shelf = MemoryShelf::new(
         files(alloc, program, trace)?,
         Vec::from_slice(alloc, &[fails.shelf])?,
     );
-    let mut keys = MemorySource::new(Vec::new(alloc), Vec::new(alloc));
+    call_over(alloc, line, &mut shelf, lines, fails)
+}
+
+/// The same, over any files.
+pub fn call_over<S: Shelf>(
+    alloc: Global,
+    line: &str,
+    shelf: &mut S,
+    lines: &[u8],
+    fails: Fails,
+) -> Result<Left, AllocError> {
+    let mut words = Vec::new(alloc);
+    for word in line.split(' ') {
+        words.push(String::from_str(alloc, word)?)?;
+    }
+    let mut keys = MemorySource::new(Vec::from_slice(alloc, lines)?, Vec::new(alloc));
     let mut out = MemorySink::new(alloc, Vec::from_slice(alloc, &[fails.out])?);
     let mut mirrors: Vec<Box<dyn TraceSink>> = Vec::new(alloc);
     mirrors.push(Box::new(alloc, sink(alloc, fails.first)?)?)?;
@@ -96,7 +120,7 @@ pub fn call(
     let status = whyline(
         alloc,
         words.as_slice(),
-        &mut shelf,
+        shelf,
         &mut keys,
         &mut out,
         &mut recorders,

@@ -5,17 +5,18 @@ use crate::call::{Fails, Left, NOTHING, call};
 use crate::programs::PROGRAMS;
 use std::test::Fail;
 
-/// A command, and how many files it reads.
+/// A command, and how often it calls the shelf: for each file that it reads whole once, and for a trace that stays there five times.
+/// These ask whether it is too long, and for the first bytes, its front, what stands behind it, and its block of events.
 static COMMANDS: [(&str, u32); 10] = [
     ("run Main.java -i in", 2),
     ("run Main.java", 1),
     ("record Main.java -i in -o new", 2),
-    ("output old", 1),
+    ("output old", 5),
     ("audit old", 1),
-    ("why old p0", 1),
-    ("affects old e0", 1),
-    ("certify old p0", 1),
-    ("questions old", 1),
+    ("why old p0", 5),
+    ("affects old e0", 5),
+    ("certify old p0", 5),
+    ("questions old", 5),
     ("gen 3", 0),
 ];
 
@@ -51,16 +52,16 @@ fn each_read_and_the_write_fail_in_turn(rt: HostRuntime) -> Result<(), Fail> {
             NOTHING,
         )?
         .first;
-        for &(line, reads) in &COMMANDS {
+        for &(line, calls) in &COMMANDS {
             let whole = call(alloc, line, program, trace.as_slice(), NOTHING)?;
             assert!(rt; same(&whole, &whole), "{line}");
-            for shelf in 1..reads.saturating_add(2) {
+            for shelf in 1..calls.saturating_add(2) {
                 let fails = Fails { shelf, ..NOTHING };
                 let left = call(alloc, line, program, trace.as_slice(), fails)?;
-                if shelf <= reads {
-                    assert!(rt; unread(&left), "{line}, read {shelf}");
+                if shelf <= calls {
+                    assert!(rt; unread(&left), "{line}, call {shelf}");
                 } else {
-                    assert!(rt; same(&left, &whole), "{line}, no read {shelf}");
+                    assert!(rt; same(&left, &whole), "{line}, no call {shelf}");
                 }
             }
             let left = call(

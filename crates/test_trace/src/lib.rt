@@ -24,11 +24,15 @@ mod memory;
 #[cfg(test)]
 mod mirrors;
 #[cfg(test)]
+mod paged;
+#[cfg(test)]
 mod programs;
 #[cfg(test)]
 mod real;
 #[cfg(test)]
 mod recorders;
+#[cfg(test)]
+mod sessions;
 #[cfg(test)]
 mod sinks;
 #[cfg(test)]

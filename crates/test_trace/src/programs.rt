@@ -21,6 +21,16 @@ pub static PROGRAMS: [Program; 2] = [
     },
 ];
 
+/// A loop, whose trace has 196 blocks.
+pub static LONG: Program = Program {
+    source: LOOP,
+    input: "",
+    events: 200_008,
+};
+
+const LOOP: &str = "class M{public static void main(String[] a){
+int i=0;while(i<100000){i=i+1;}System.out.println(i);}}";
+
 const SMALL: &str = "class Main {
   public static void main(String[] args) {
     int x = 2;

@@ -3,6 +3,7 @@ pub mod Numbered
 pub mod One
 pub mod Prints
 pub mod Said
+pub mod Staying
 pub mod Telling
 pub mod Unbegun
 pub mod Walking

@@ -1,29 +1,46 @@
 -- A walk through the prints of a run.
-use Rattle.std.proofs.Common.{◌≡◌, ◌∙◌, ◌<◌, ◌≤◌, ◌+◌, ◌-◌, ◌==◌, ℕ, Bool, true, not, List, [], ◌∷◌, ◌++◌, length, take, drop, map, get_or, sym, ap, arith}
+use Rattle.std.proofs.Common.{◌≡◌, ◌∙◌, ◌<◌, ◌≤◌, ◌+◌, ◌-◌, ◌==◌, ℕ, Bool, true, not, List, [], ◌∷◌, ◌++◌, Some, ⊎_elim, length, take, drop, refl, slice_get, subst, sym, ap, arith}
 use Rattle.std.specs.List.{flat_map, starts_with}
-use Rattle.std.proofs.Math.Seq.{drop-append_seam}
+use Rattle.std.proofs.Math.Seq.{drop-append_seam, take-append_seam}
 use Rattle.std.proofs.lemmas.Bool.Decides.{Decides-eqb}
-use Rattle.std.proofs.lemmas.List.{append_assoc, drop-append-le, flat_map_more, get_or-map, length-map, length-take-le, take-append-drop, take_more, take_rest}
+use Rattle.std.proofs.lemmas.List.{append_assoc, drop-append-le, length-append, length-take-le, take-append-drop, take_rest}
 use Rattle.std.proofs.lemmas.List.Elements.{filter-append}
 use Rattle.std.proofs.lemmas.Slice.Eq.{starts_is}
-use Rattle.wy_expect.specs.Expected.{Begins, without_returns}
+use Rattle.std.proofs.lemmas.Option.{slice_get_cases}
+use Rattle.wy_event.specs.Record.{Recorded}
+use Rattle.wy_telling.proofs.Prints.{one_more as more_printed, one_record}
+use Rattle.wy_kernel.specs.Program.{Program}
+use Rattle.wy_telling.specs.Printed.{printed_by}
+use Rattle.wy_expect.specs.Expected.{Begins, printed_below, without_returns}
 
--- what one item more gives
-more : {E R : Type 0} (f : R → List ℕ) (g : E → R) (es : List E) (n : ℕ) (e : E) → n < length es → e ≡ get_or es n e
-    → flat_map f (take n (map g es)) ++ f (g e) ≡ flat_map f (take (n + 1) (map g es))
-more f g es n e lt here =
-    let inside : n < length (map g es) = omega (arith, lt, length-map es g) in
-    let is : get_or (map g es) n (g e) ≡ g e = get_or-map g es n e (g e) lt ∙ ap g (sym here) in
-    flat_map_more f [] (take n (map g es)) (g e)
-    ∙ ap (λ x. flat_map f (take n (map g es) ++ x ∷ [])) (sym is)
-    ∙ ap (flat_map f) (sym (take_more (map g es) n (g e) inside))
+pub record_at : (rs : List Recorded) (n : ℕ) → n < length rs → (e : Recorded) × (slice_get rs n ≡ Some e)
+record_at rs n lt = ⊎_elim (λ h. (h.0, h.2)) (λ h. absurd (omega (arith, lt, h.0))) (slice_get_cases rs n).1
 
 -- what one event more printed
-pub one_more : {E R : Type 0} (f : R → List ℕ) (g : E → R) (es : List E) (n : ℕ) (e : E) (before after : List ℕ) → n < length es → e ≡ get_or es n e
-    → before ≡ without_returns (flat_map f (take n (map g es))) → after ≡ before ++ without_returns (f (g e)) → after ≡ without_returns (flat_map f (take (n + 1) (map g es)))
-one_more f g es n e before after lt here is more_is =
-    more_is ∙ ap (λ xs. xs ++ without_returns (f (g e))) is ∙ sym (filter-append (λ b. not (b == 13)) (flat_map f (take n (map g es))) (f (g e)))
-    ∙ ap without_returns (more f g es n e lt here)
+pub one_more : (f : Recorded → List ℕ) (rs : List Recorded) (n : ℕ) (before after : List ℕ) → n < length rs
+    → before ≡ without_returns (flat_map f (take n rs)) → ((e : Recorded) → slice_get rs n ≡ Some e → after ≡ before ++ without_returns (f e)) → after ≡ without_returns (flat_map f (take (n + 1) rs))
+one_more f rs n before after lt is more =
+    let (e, at) = record_at rs n lt in
+    let printed : List ℕ = flat_map f (take n rs) in
+    more e at ∙ ap (λ xs. xs ++ without_returns (f e)) is ∙ sym (filter-append (λ b. not (b == 13)) printed (f e))
+    ∙ ap without_returns (more_printed f rs n printed (printed ++ f e) lt refl (λ x here. ap (λ r. printed ++ f r) (one_record (slice_get rs n) e x at here)))
+
+-- what was put behind what the events below n printed, of records that stay
+module _ (p : Program) (rs now : List Recorded) (n : ℕ) (before after : List ℕ) (same : now ≡ rs) (lt : n < length rs) (more : (e : Recorded) → slice_get now n ≡ Some e → after ≡ before ++ without_returns (printed_by p now e)) where
+  of_rs : (e : Recorded) → slice_get rs n ≡ Some e → after ≡ before ++ without_returns (printed_by p rs e)
+  of_rs = subst (λ xs. (e : Recorded) → slice_get xs n ≡ Some e → after ≡ before ++ without_returns (printed_by p xs e)) same more
+
+  put_behind : (x : List ℕ) × (after ≡ before ++ x)
+  put_behind = let (e, at) = record_at rs n lt in (without_returns (printed_by p rs e), of_rs e at)
+
+  pub put_on : before ≡ printed_below p rs n → after ≡ printed_below p rs (n + 1)
+  put_on is = one_more (printed_by p rs) rs n before after lt is of_rs
+
+  pub put_inside : length before ≤ length after
+  put_inside = omega (arith, ap length put_behind.1, length-append before put_behind.0)
+
+  pub put_front : take (length before) after ≡ before
+  put_front = ap (take (length before)) put_behind.1 ∙ take-append_seam before put_behind.0
 
 -- ---- beginnings
 

@@ -1,10 +1,11 @@
 //! What is written of a run's output beside what was expected.
 ghost use Rattle.std.specs.Prelude.{◌≡◌, ◌≢◌, false, true, None, Some, IfOk, map};
-ghost use Rattle.wy_ask.specs.Opened.{IsOpenedOf};
+ghost use Rattle.wy_ask.specs.Opened.{IsOpenedOf, StaysOpened};
 ghost use Rattle.wy_event.specs.Record.{recorded};
 ghost use Rattle.wy_expect.specs.Expected.{IsFirstOther, printed_to, without_returns};
 ghost use Rattle.wy_expect.specs.Texts.{IsExpectText, SaysOfBegun, as_expected_line, other_text};
 ghost use Rattle.wy_kernel.specs.Parts.{program_of};
+ghost use Rattle.wy_telling.specs.Output.{output_text};
 ghost use Rattle.wy_telling.specs.Printed.{printed};
 ghost use Rattle.wy_view.specs.Whole.{whole};
 
@@ -16,7 +17,7 @@ use std::alloc::{AllocError, Global};
 use wy_ask::Opened;
 use wy_event::record::Tail;
 use wy_fold::{Showing, show_text};
-use wy_telling::output_text;
+use wy_telling::{output_text, want_of_memory};
 use wy_view::MemoryView;
 
 #[tactic(auto, unfolding(crate::specs::Texts::as_expected_line))]
@@ -35,27 +36,43 @@ fn is_same(expected: &[u8], found: &[u8]) -> bool
     expected == found
 }
 
+/// What the run wrote, and how it ended.
+fn report(
+    alloc: Global,
+    opened: &mut Opened<'_, MemoryView>,
+    tail: &Tail,
+) -> Result<Vec<u8>, AllocError>
+    ensures text { IfOk result (λ text. text.items
+        ≡ output_text (program_of opened.old.program.now) opened.old.program.now.lines.items
+        (map recorded opened.old.view.events.items) tail.now) }
+    ensures stays { StaysOpened (λ v. whole v.events.items None) opened.old opened.new }
+{
+    match output_text(alloc, opened.program, &mut opened.view, tail) {
+        Ok(text) => Ok(text),
+        Err(error) => Err(want_of_memory(error)),
+    }
+}
+
 /// What is said where all that was printed begins what is expected: that it is all, or which statements never printed, and why.
 fn begun_text(
     alloc: Global,
-    opened: &Opened<'_, MemoryView>,
+    opened: &mut Opened<'_, MemoryView>,
     tail: &Tail,
     output: Vec<u8>,
     expected: &[u8],
 ) -> Result<Vec<u8>, AllocError>
-    requires opened { IsOpenedOf (whole opened.now.view.events.items None) opened.now }
-    requires output { output.items ≡ without_returns (printed (program_of opened.now.program.now)
-        (map recorded opened.now.view.events.items)) }
-    ensures { IfOk result (λ text. SaysOfBegun (program_of opened.now.program.now)
-        opened.now.program.now.lines.items (map recorded opened.now.view.events.items)
-        opened.now.coverage.now tail.now expected.now text.items) }
+    requires opened { IsOpenedOf (whole opened.old.view.events.items None) opened.old }
+    requires output { output.items ≡ without_returns (printed (program_of opened.old.program.now)
+        (map recorded opened.old.view.events.items)) }
+    ensures { IfOk result (λ text. SaysOfBegun (program_of opened.old.program.now)
+        opened.old.program.now.lines.items (map recorded opened.old.view.events.items)
+        opened.old.coverage.now tail.now expected.now text.items) }
 {
     let lines = whole_lines(output)?;
     if is_same(expected, lines.as_slice()) {
         return as_expected(alloc);
     }
-    let events = opened.view.events.as_slice();
-    let report = output_text(alloc, opened.program, events, tail)?;
+    let report = report(alloc, opened, tail)?;
     let found = plain(alloc, report.as_slice())?;
     if is_same(expected, found.as_slice()) {
         return as_expected(alloc);
@@ -111,8 +128,7 @@ pub fn expect_text(
         text.items) }
 {
     let expected = plain(alloc, file)?;
-    let events = opened.view.events.as_slice();
-    let walk = walk(alloc, opened.program, events, expected.as_slice())?;
+    let walk = walk(alloc, opened, expected.as_slice())?;
     match walk.other {
         Some(event) => {
             let printed = walk.printed.as_slice();

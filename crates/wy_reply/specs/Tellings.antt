@@ -159,6 +159,7 @@ pub data DueUnder (p : Program) (bytes : List ℕ) (w : Wanted) : ℕ → List �
 -- ---- what is wanted, in memory
 
 abbrev pub inquiry_of : Inquiry → Wanted
+inquiry_of inquiry.Output = Output
 inquiry_of (inquiry.Why question) = Why question.now
 inquiry_of (inquiry.Affects question) = Affects question.now
 inquiry_of (inquiry.Certify question) = Certify question.now
@@ -167,7 +168,6 @@ inquiry_of (inquiry.WhyNot statement) = WhyNot statement.now
 inquiry_of (inquiry.Scope statement call) = Scope statement.now call
 
 abbrev pub wanted_of : Asked → Wanted
-wanted_of asked.Output = Output
 wanted_of (asked.Inquiry i) = inquiry_of i
 wanted_of asked.Audit = Audit
 wanted_of (asked.Check certificate) = Check (Bytes certificate.now)

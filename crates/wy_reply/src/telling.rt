@@ -26,13 +26,15 @@ use wy_fitting::end_fits;
 use wy_frames::TraceError;
 use wy_kernel::program::Program;
 use wy_machine::{Verdict, audit};
-use wy_telling::{output_text, want_of_memory};
+use wy_telling::want_of_memory;
 use wy_view::MemoryView;
 use wy_why::Answer as Found;
 
-/// What is looked up by where things stand in the records of a trace.
+/// What is told from the records of a trace, which are read one at a time.
 #[derive(Clone, Copy)]
 pub enum Inquiry<'a> {
+    /// What its run wrote.
+    Output,
     /// What the event comes from that a question asks about.
     Why { question: &'a str },
     /// What comes from the event that a question asks about.
@@ -50,9 +52,7 @@ pub enum Inquiry<'a> {
 /// What a trace is to tell.
 #[derive(Clone, Copy)]
 pub enum Wanted<'a> {
-    /// What its run wrote.
-    Output,
-    /// What is looked up in it.
+    /// What is told from its records.
     Inquiry(Inquiry<'a>),
     /// Whether it is the trace of the run of its head.
     Audit,
@@ -72,15 +72,6 @@ pub fn answer_to_trace_error(alloc: Global, error: TraceError) -> Result<Answer,
         TraceError::BadSeal => Answer::refused(alloc, Refusal::BadSeal),
         TraceError::NoMemory => Err(AllocError),
     }
-}
-
-fn answer_to_output(alloc: Global, program: &Program, trace: &Trace) -> Result<Answer, AllocError>
-    ensures due { (seal : List ℕ) → IfOk result (λ answer. Tells program.now seal trace.now
-        wanted.Output (code_of answer.status) answer.text.items) }
-    ensures settled { IfOk result (λ answer. is_of_files answer.status ≡ false) }
-{
-    let text = output_text(alloc, program, trace.events.as_slice(), &trace.tail)?;
-    Ok(Answer::done(text))
 }
 
 fn answer_to_audit(alloc: Global, program: &Program, trace: Trace) -> Result<Answer, AllocError>
@@ -136,7 +127,7 @@ fn answer_to_verdict(alloc: Global, verdict: Result<Found, CertError>) -> Result
     }
 }
 
-/// What is looked up in a trace that is held in memory, which a view refuses for want of memory alone.
+/// What is told from a trace that is held in memory, which a view refuses for want of memory alone.
 fn answer_from_memory(
     alloc: Global,
     program: &Program,
@@ -151,12 +142,11 @@ fn answer_from_memory(
     ensures settled { IfOk result (λ answer. is_of_files answer.status ≡ false) }
 {
     let Trace { events, tail, .. } = trace;
-    let covers = tail.coverage.statements.as_slice();
     let view = MemoryView {
         events: events.into_vec(),
     };
     let mut answer = None;
-    answer_to_view(alloc, program, covers, view, seal, inquiry, &mut answer);
+    answer_to_view(alloc, program, &tail, view, seal, inquiry, &mut answer);
     match answer.unwrap() {
         Ok(answer) => Ok(answer),
         Err(error) => Err(want_of_memory(error)),
@@ -178,7 +168,6 @@ fn tell(
     ensures settled { IfOk result (λ answer. is_of_files answer.status ≡ false) }
 {
     match wanted {
-        Wanted::Output => answer_to_output(alloc, program, &trace),
         Wanted::Audit => answer_to_audit(alloc, program, trace),
         Wanted::Inquiry(inquiry) => answer_from_memory(alloc, program, trace, seal, inquiry),
         Wanted::Check { certificate } => answer_to_check(alloc, program, trace, seal, certificate),

@@ -1,7 +1,8 @@
-//! What is looked up in a trace, over any view of it.
-ghost use Rattle.std.specs.Prelude.{◌≡◌, ◌<◌, ◌^◌, ℕ, List, IfOk, IfSome, IsSome, false, length};
+//! What is told from a trace, over any view of it.
+ghost use Rattle.std.specs.Prelude.{◌≡◌, ◌<◌, ◌^◌, ℕ, List, IfOk, IfSome, IsSome, Some, false, length, map};
 ghost use Rattle.wy_ask.specs.Opened.{IsOpenedOf};
 ghost use Rattle.wy_event.specs.declared.record.Trace.{Trace};
+ghost use Rattle.wy_event.specs.Record.{recorded};
 ghost use Rattle.wy_reply.specs.Opening.{IsViewOf};
 ghost use Rattle.wy_reply.specs.Statuses.{code_of, is_of_files};
 ghost use Rattle.wy_reply.specs.Tellings.{DeniesAs, SaysAsTold, SaysScope, Tells, inquiry_of};
@@ -18,11 +19,12 @@ use std::alloc::{AllocError, Global};
 use std::marker::Brand;
 use std::sync::ledger::{Blank, Ledger};
 use wy_ask::Opened;
-use wy_event::record::Cover;
+use wy_event::record::Tail;
 use wy_index::Index;
 use wy_kernel::program::Program;
 use wy_telling::{
-    Unanswered, Unscoped, Untold, affects_text, questions_text, scope_text, why_text, whynot_text,
+    Unanswered, Unscoped, Untold, affects_text, output_text, questions_text, scope_text, why_text,
+    whynot_text,
 };
 use wy_view::{EventView, Steps, ViewError};
 
@@ -39,6 +41,24 @@ fn answer_to_question(alloc: Global, told: Result<Vec<u8>, Untold>) -> Result<An
         Err(Untold::NoSuch(number)) => Ok(Answer::refused(alloc, Refusal::NoSuch { number })?),
         Err(Untold::View(error)) => Err(error),
     }
+}
+
+/// What the run of a trace wrote, by what is told of how it ended.
+fn answer_to_output<V: EventView>(
+    alloc: Global,
+    program: &Program,
+    tail: &Tail,
+    view: &mut V,
+) -> Result<Answer, ViewError>
+    ensures due { (seal : List ℕ) (t : Trace)
+        → (V.tells view.old).records ≡ Some (map recorded t.events)
+        → tail.now ≡ t.tail → IfOk result (λ answer. Tells program.now seal t wanted.Output
+        (code_of answer.status) answer.text.items) }
+    ensures settled { IfOk result (λ answer. is_of_files answer.status ≡ false) }
+    ensures keeps { Keeps (V.tells view.old) (V.tells view.new) }
+    ensures answers { KeepsCounts result (V.tells view.old) (V.tells view.new) }
+{
+    Ok(Answer::done(output_text(alloc, program, view, tail)?))
 }
 
 fn answer_to_why<V: EventView>(
@@ -192,15 +212,17 @@ fn answer_in_call(alloc: Global, told: Result<Vec<u8>, Unscoped>) -> Result<Answ
     }
 }
 
-/// What is answered from a trace that is opened, with this seal.
+/// What is answered from a trace that is opened, with this end and this seal.
 pub fn answer_to_opened<V: EventView>(
     alloc: Global,
     opened: &mut Opened<'_, V>,
+    tail: &Tail,
     seal: &[u8; 32],
     inquiry: Inquiry<'_>,
 ) -> Result<Answer, ViewError>
     requires { IsOpenedOf (V.tells opened.old.view) opened.old }
     ensures due { (t : Trace) → IsViewOf t (V.tells opened.old.view) opened.old.coverage.now
+        → tail.now ≡ t.tail
         → IfOk result (λ answer. Tells opened.old.program.now seal.now t (inquiry_of inquiry.entry)
         (code_of answer.status) answer.text.items) }
     ensures settled { IfOk result (λ answer. is_of_files answer.status ≡ false) }
@@ -208,6 +230,7 @@ pub fn answer_to_opened<V: EventView>(
     ensures answers { KeepsCounts result (V.tells opened.old.view) (V.tells opened.new.view) }
 {
     match inquiry {
+        Inquiry::Output => answer_to_output(alloc, opened.program, tail, &mut opened.view),
         Inquiry::Why { question } => answer_to_why(alloc, opened, question),
         Inquiry::Affects { question } => answer_to_affects(alloc, opened, question),
         Inquiry::Certify { question } => answer_to_certify(alloc, opened, seal, question),
@@ -217,12 +240,13 @@ pub fn answer_to_opened<V: EventView>(
     }
 }
 
-/// What is answered from a trace of a program, through a view of its events, with what it tells of the statements and its
-/// seal. The view is given back alone, so that who lent it something has that back, and the answer is left beside it.
+/// What is answered from a trace of a program, through a view of its events, with what it tells of its end and its seal. The
+/// view is given back alone, so that who lent it something has that back, and the answer is left beside it. No index is built
+/// for what the run wrote.
 pub fn answer_to_view<V: EventView>(
     alloc: Global,
     program: &Program,
-    coverage: &[Cover],
+    tail: &Tail,
     view: V,
     seal: &[u8; 32],
     inquiry: Inquiry<'_>,
@@ -230,7 +254,8 @@ pub fn answer_to_view<V: EventView>(
 ) -> V
     requires { length program.now.fields.items < 2 ^ 32 }
     ensures answered { IsSome answer.new }
-    ensures due { (t : Trace) → IsViewOf t (V.tells view) coverage.now
+    ensures due { (t : Trace) → (V.tells view).records ≡ Some (map recorded t.events)
+        → tail.now ≡ t.tail
         → IfSome answer.new (λ r. IfOk r (λ given. Tells program.now seal.now t
         (inquiry_of inquiry.entry) (code_of given.status) given.text.items)) }
     ensures settled { IfSome answer.new (λ r.
@@ -238,19 +263,24 @@ pub fn answer_to_view<V: EventView>(
     ensures keeps { Keeps (V.tells view) (V.tells result) }
     ensures answers { IfSome answer.new (λ r. KeepsCounts r (V.tells view) (V.tells result)) }
 {
+    if let Inquiry::Output = inquiry {
+        let mut view = view;
+        *answer = Some(answer_to_output(alloc, program, tail, &mut view));
+        return view;
+    }
     let blank = Blank::new(1);
     let (view, found) = answer_indexed::<V, Brand>(
-        alloc, program, coverage, view, seal, inquiry, blank,
+        alloc, program, tail, view, seal, inquiry, blank,
     );
     *answer = Some(found);
     view
 }
 
-/// The same, with a ledger for the steps, which nobody reads.
+/// The same by an index, with a ledger for the steps, which nobody reads.
 fn answer_indexed<V: EventView, L: Ledger>(
     alloc: Global,
     program: &Program,
-    coverage: &[Cover],
+    tail: &Tail,
     view: V,
     seal: &[u8; 32],
     inquiry: Inquiry<'_>,
@@ -260,7 +290,8 @@ fn answer_indexed<V: EventView, L: Ledger>(
     requires name { blank.name ≡ L.name }
     requires parts { blank.parts ≡ L.parts }
     requires some { 0 < blank.parts }
-    ensures due { (t : Trace) → IsViewOf t (V.tells view) coverage.now
+    ensures due { (t : Trace) → (V.tells view).records ≡ Some (map recorded t.events)
+        → tail.now ≡ t.tail
         → IfOk result.1 (λ answer. Tells program.now seal.now t (inquiry_of inquiry.entry)
         (code_of answer.status) answer.text.items) }
     ensures settled { IfOk result.1 (λ answer. is_of_files answer.status ≡ false) }
@@ -272,13 +303,14 @@ fn answer_indexed<V: EventView, L: Ledger>(
         Ok(index) => index,
         Err(error) => return (view, Err(error)),
     };
+    let coverage = tail.coverage.statements.as_slice();
     let mut opened = Opened {
         program,
         coverage,
         index,
         view,
     };
-    let answer = answer_to_opened(alloc, &mut opened, seal, inquiry);
+    let answer = answer_to_opened(alloc, &mut opened, tail, seal, inquiry);
     let Opened { view, .. } = opened;
     (view, answer)
 }

@@ -1,14 +1,13 @@
 -- The end of the input.
-use Rattle.std.proofs.Common.{◌≡◌, ◌≢◌, ◌∙◌, sym, ap, refl, subst, inl, inr, ℕ, ◌+◌, ◌-◌, ◌≤◌, ◌<◌, List, [], ◌∷◌, ◌++◌, length, append_assoc, append-nil, length-append, Option, Some, None, Result, Ok, Err, arith}
+use Rattle.std.proofs.Common.{◌≡◌, ◌≢◌, ap, refl, subst, ℕ, ◌+◌, ◌≤◌, ◌<◌, List, [], ◌∷◌, ◌++◌, length, append-nil, Option, Ok, Err, arith}
 use Rattle.std.specs.List.{Contains}
 use Rattle.wy_explore.specs.Session.{Session}
-use Rattle.wy_outside.specs.Sink.{appended}
-use Rattle.wy_session.specs.Scene.{Said, Scene}
+use Rattle.wy_session.specs.Scene.{Scene}
 use Rattle.wy_session.specs.Line.{AnswersLine, Finishes}
 use Rattle.wy_session.specs.Situation.{Situation}
 use Rattle.wy_session.specs.Talk.{Fits, Reaches, Talks, long_input_text, most_in_all, most_in_line}
 use Rattle.wy_session.specs.Talk as talk
-use Rattle.wy_session.specs.Closings.{Answered, EndsWith, OutFor, StopsAt}
+use Rattle.wy_session.specs.Closings.{Answered, EndsWith}
 use Rattle.wy_session.specs.declared.ending.Ending.{Ending}
 use Rattle.wy_session.specs.declared.ending.Ending.TheVariants.{Done, LongInput}
 use Rattle.wy_session.proofs.Parts.{appended_nothing}

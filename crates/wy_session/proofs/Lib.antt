@@ -7,4 +7,6 @@ mod OneTalk
 mod Saying
 mod Replying
 mod Framing
+pub mod Fewer
 mod Desks
+mod Viewing

@@ -1,5 +1,5 @@
 -- What is written of a reply, and what reading on does.
-use Rattle.std.proofs.Common.{◌≡◌, ◌∙◌, sym, ap, refl, inl, inr, ℕ, List, [], ◌++◌, take, drop, append-nil, Option, Some, None, Result, Ok, Err}
+use Rattle.std.proofs.Common.{◌≡◌, sym, ap, refl, inl, inr, ℕ, List, [], take, drop, append-nil, Option, Some, None, Result, Ok, Err}
 use Rattle.std.proofs.lemmas.List.{take-append-drop}
 use Rattle.wy_explore.specs.Session.{Session}
 use Rattle.wy_outside.specs.Sink.{appended}
@@ -8,7 +8,7 @@ use Rattle.wy_session.specs.Line.{AnswersLine}
 use Rattle.wy_session.specs.Situation.{Situation}
 use Rattle.wy_session.specs.Closings.{Answered, IsBroken, IsPrefixOfReply, IsWithin, Puts}
 use Rattle.wy_session.specs.declared.ending.Ending.{Ending}
-use Rattle.wy_session.specs.declared.ending.Ending.TheVariants.{Done, LongLine, LongInput, KeysFailed, OutFailed, NoMemory}
+use Rattle.wy_session.specs.declared.ending.Ending.TheVariants.{Done, LongLine, LongInput, KeysFailed, OutFailed, View, NoMemory}
 
 -- nothing was written
 pub appended_nothing : (old : Option (List ℕ)) → old ≡ appended old []
@@ -25,6 +25,7 @@ broken_reply x s line part stands Done broken is = absurd broken
 broken_reply x s line part stands LongLine broken is = absurd broken
 broken_reply x s line part stands LongInput broken is = absurd broken
 broken_reply x s line part stands KeysFailed broken is = absurd broken
+broken_reply x s line part stands (View e) broken is = absurd broken
 
 unlimited : (e : Ending) → IsBroken e → IsWithin (Err e)
 unlimited OutFailed broken = tt
@@ -33,6 +34,7 @@ unlimited Done broken = absurd broken
 unlimited LongLine broken = absurd broken
 unlimited LongInput broken = absurd broken
 unlimited KeysFailed broken = absurd broken
+unlimited (View e) broken = absurd broken
 
 -- the reply to a line is written, or not all of it
 pub put_answers : (before after : Situation) (line text : List ℕ) (old new : Option (List ℕ)) (n m : ℕ) (r : Result Unit Ending)

@@ -1,14 +1,14 @@
 -- Reading on, line by line.
-use Rattle.std.proofs.Common.{◌≡◌, ◌≢◌, ◌∙◌, sym, ap, refl, subst, inl, inr, ℕ, ◌+◌, ◌-◌, ◌≤◌, ◌<◌, ◌⊎◌, nat_eq, eqb-true, zero, suc, Bool, true, false, List, [], ◌∷◌, ◌++◌, length, take, drop, append_assoc, append-nil, length-append, Option, Some, None, Result, Ok, Err, arith}
+use Rattle.std.proofs.Common.{◌≡◌, ◌≢◌, ◌∙◌, sym, ap, refl, subst, inl, inr, ℕ, ◌+◌, ◌≤◌, ◌<◌, ◌⊎◌, nat_eq, eqb-true, zero, suc, Bool, true, false, List, [], ◌∷◌, ◌++◌, length, append_assoc, append-nil, length-append, Option, Some, None, Result, Ok, Err, arith}
 use Rattle.std.specs.List.{Contains}
 use Rattle.std.proofs.lemmas.Bool.{eqb-false}
 use Rattle.std.proofs.lemmas.List.Elements.{Contains-append_cases}
 use Rattle.std.specs.Io.BufRead.{strip_last}
 use Rattle.wy_explore.specs.Session.{Session}
 use Rattle.wy_outside.specs.Sink.{appended}
-use Rattle.wy_session.specs.Scene.{Said, Scene}
-use Rattle.wy_session.specs.Line.{IsOpen, Reads, ReadsOn}
-use Rattle.wy_session.specs.Situation.{Situation, Stands}
+use Rattle.wy_session.specs.Scene.{Scene}
+use Rattle.wy_session.specs.Line.{Reads, ReadsOn}
+use Rattle.wy_session.specs.Situation.{Situation}
 use Rattle.wy_session.specs.Talk.{BeginsTalk, Ends, FirstLine, Reaches, Talks, long_line_text, most_in_line}
 use Rattle.wy_session.specs.Talk as talk
 use Rattle.wy_session.specs.Closings.{EndsWith, Leads, OutFor, Stops, StopsAt}
@@ -228,11 +228,3 @@ reads_then before mid after b bytes piece said more l n first second = record {
       },
       also,
     )
-
--- ---- the responder
-
--- it still stands somewhere
-pub still_stands : (before mid : Situation) (b : ℕ) (bytes : List ℕ) (l : OpenLine) (rest said : List ℕ) → Stands before → ReadsOn before mid b bytes l rest said → Stands mid
-still_stands before mid b bytes l rest said (x, s, at) reads = of (reads.leads x s at) where
-  of : (t : Session) × Leads x s b bytes t l.before (l.bytes.items ++ rest) said × mid x t → Stands mid
-  of (t, leads, stands) = (x, t, stands)

@@ -23,7 +23,7 @@ use Rattle.wy_explore.specs.declared.reply.Reply.TheVariants.{Answer}
 use Rattle.wy_ask.specs.declared.opened.Opened.{Opened}
 use Rattle.wy_ask.specs.Opened.{IsOpenedOf}
 use Rattle.wy_explore.specs.Explorer.{AllAnswered, IsAnswered, event_asked, reply_of}
-use Rattle.wy_session.specs.Desk.{IsAsked, IsSceneOf}
+use Rattle.wy_session.specs.Desk.{IsAsked, IsSceneIn}
 use Rattle.wy_session.specs.Scene.{Scene, reply_text}
 
 -- the lines of an answer that is held are those of its event
@@ -42,7 +42,7 @@ of_question : (P : Answered → Type 0) (question : Option Answered) (a : Answer
 of_question P question a is holds = subst (λ (q : Option Answered). IfSome q P) is holds
 
 -- the answer to the question that was asked last, as a reply
-pub answer_replied : {V : Type 0} (x : Scene) (told : Told) (o : Opened V) (e : Explorer) (reply : Reply) (event : ℕ) (a : Answered) (r : Result (Vec ℕ Global) ViewError) → IsOpenedOf told o → IsSceneOf told o x → AllAnswered x.program x.records e → e.question ≡ Some a
+pub answer_replied : {V : Type 0} (x : Scene) (told : Told) (o : Opened V) (e : Explorer) (reply : Reply) (event : ℕ) (a : Answered) (r : Result (Vec ℕ Global) ViewError) → IsOpenedOf told o → IsSceneIn told o x → AllAnswered x.program x.records e → e.question ≡ Some a
     → reply ≡ Answer event → IsAsked e reply
     → ((by_data : Numbers) → a.answer.flow.items ≡ filter by_data a.answer.all.items → IfOk r (λ text. text.items ≡ marked_lines (program_of o.program.now) o.program.now.lines.items x.records by_data a.answer.all.items))
     → IfOk r (λ text. text.items ≡ reply_text x (reply_of reply))

@@ -1,7 +1,7 @@
 -- A line has one answer.
-use Rattle.std.proofs.Common.{◌≡◌, ◌≢◌, ◌∙◌, sym, ap, refl, List, ℕ, Option, Some, None}
-use Rattle.wy_explore.specs.Session.{Session, Reply, End, OneReply}
-use Rattle.wy_session.specs.Scene.{Said, Scene, reply_text, replied, over}
+use Rattle.std.proofs.Common.{sym, ap, refl, Some}
+use Rattle.wy_explore.specs.Session.{Reply, End, OneReply}
+use Rattle.wy_session.specs.Scene.{Scene, reply_text, replied, over}
 use Rattle.wy_session.specs.Laws.{OneSaid}
 
 pub one_said : OneReply → (x : Scene) → OneSaid x

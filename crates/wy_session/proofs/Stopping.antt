@@ -1,19 +1,19 @@
 -- How a line ends a session, or leads it on.
-use Rattle.std.proofs.Common.{◌≡◌, ◌∙◌, sym, ap, refl, subst, inl, inr, ℕ, ◌+◌, ◌-◌, ◌≤◌, ◌<◌, ◌⊎◌, List, [], ◌∷◌, ◌++◌, length, take, drop, append_assoc, append-nil, length-append, Option, Some, None, Result, Ok, Err, arith}
+use Rattle.std.proofs.Common.{◌≡◌, ◌∙◌, sym, ap, subst, inl, inr, ℕ, ◌+◌, ◌-◌, ◌≤◌, ◌<◌, List, [], ◌∷◌, ◌++◌, length, take, drop, append_assoc, append-nil, length-append, Option, Result, Ok, Err, arith}
 use Rattle.std.specs.List.{Contains}
 use Rattle.std.specs.Io.BufRead.{strip_last}
 use Rattle.std.proofs.lemmas.List.{take-append-drop}
 use Rattle.wy_explore.specs.Session.{Session}
 use Rattle.wy_outside.specs.Sink.{appended}
-use Rattle.wy_session.specs.Scene.{Said, Scene}
-use Rattle.wy_session.specs.Line.{AnswersLine, IsOpen, Reads}
+use Rattle.wy_session.specs.Scene.{Scene}
+use Rattle.wy_session.specs.Line.{AnswersLine, Reads}
 use Rattle.wy_session.specs.Situation.{Situation}
-use Rattle.wy_session.specs.Talk.{BeginsTalk, Ends, FirstLine, Fits, IsPrefixOf, Reaches, Talks, long_input_text, long_line_text, most_in_all, most_in_line}
+use Rattle.wy_session.specs.Talk.{AnswersFirst, BeginsTalk, Ends, FirstLine, Fits, IsPrefixOf, Reaches, Talks, long_input_text, long_line_text, most_in_all, most_in_line}
 use Rattle.wy_session.specs.Talk as talk
-use Rattle.wy_session.specs.Closings.{Answered, EndsWith, IsBroken, IsPrefixOfReply, IsLong, IsWithin, Leads, LongAt, OutFor, Stops, StopsAt}
+use Rattle.wy_session.specs.Closings.{Answered, EndsWith, IsBroken, IsPrefixOfReply, IsLong, IsWithin, Leads, LongAt, OutFor, StopsAt}
 use Rattle.wy_session.specs.declared.line.OpenLine.{OpenLine}
 use Rattle.wy_session.specs.declared.ending.Ending.{Ending}
-use Rattle.wy_session.specs.declared.ending.Ending.TheVariants.{Done, LongLine, LongInput, KeysFailed, OutFailed, NoMemory}
+use Rattle.wy_session.specs.declared.ending.Ending.TheVariants.{Done, LongLine, LongInput, KeysFailed, OutFailed, View, NoMemory}
 
 -- ---- a limit
 
@@ -28,6 +28,7 @@ broken_off x input text Done broken is = absurd broken
 broken_off x input text LongLine broken is = absurd broken
 broken_off x input text LongInput broken is = absurd broken
 broken_off x input text KeysFailed broken is = absurd broken
+broken_off x input text (View e) broken is = absurd broken
 
 -- the ending of a limit
 abbrev pub IsLimit : Ending → Type 0
@@ -41,6 +42,7 @@ at_limit x input text LongInput limit is = is
 at_limit x input text Done limit is = absurd limit
 at_limit x input text KeysFailed limit is = absurd limit
 at_limit x input text OutFailed limit is = absurd limit
+at_limit x input text (View e) limit is = absurd limit
 at_limit x input text NoMemory limit is = absurd limit
 
 out_stayed : (e : Ending) (n m : ℕ) → IsLimit e → m ≡ n → OutFor e n m
@@ -49,6 +51,7 @@ out_stayed LongInput n m limit is = is
 out_stayed Done n m limit is = absurd limit
 out_stayed KeysFailed n m limit is = absurd limit
 out_stayed OutFailed n m limit is = absurd limit
+out_stayed (View e) n m limit is = absurd limit
 out_stayed NoMemory n m limit is = absurd limit
 
 -- what was written at a limit, and how the session ends by it
@@ -81,6 +84,7 @@ limit_long text wanted LongInput old new n m read many is = many
 limit_long text wanted Done old new n m read many is = tt
 limit_long text wanted KeysFailed old new n m read many is = tt
 limit_long text wanted OutFailed old new n m read many is = tt
+limit_long text wanted (View e) old new n m read many is = tt
 limit_long text wanted NoMemory old new n m read many is = tt
 
 pub within_long : (e : Ending) (read : ℕ) → IsWithin (Err e) → IsLong read e
@@ -89,6 +93,7 @@ within_long LongLine read is = absurd is
 within_long LongInput read is = absurd is
 within_long KeysFailed read is = tt
 within_long OutFailed read is = tt
+within_long (View e) read is = tt
 within_long NoMemory read is = tt
 
 pub long_result : (r : Result Unit Ending) (e : Ending) (read : ℕ) → r ≡ Err e → IsLong read e → LongAt read r
@@ -100,6 +105,7 @@ longer LongLine n m le is = omega (arith, le, is)
 longer LongInput n m le is = omega (arith, le, is)
 longer KeysFailed n m le is = tt
 longer OutFailed n m le is = tt
+longer (View e) n m le is = tt
 longer NoMemory n m le is = tt
 
 -- ---- lines
@@ -121,6 +127,9 @@ begins_reply x s input rest bytes line behind earlier part reaches fits (inl non
 begins_reply x s input rest bytes line behind earlier part reaches fits (inr (t, reply, is, (more, front))) =
     talk.answered t behind (earlier ++ reply) (talk.line s t rest bytes line behind earlier reply reaches fits is) (more, front_behind earlier part more reply front)
 
+answers_first : (x : Scene) (s : Session) (input rest earlier part : List ℕ) → Reaches x input s rest earlier → part ≡ [] → AnswersFirst x input (earlier ++ part)
+answers_first x s input rest earlier part reaches none = (s, rest, subst (λ (l : List ℕ). Reaches x input s rest l) (sym (ap (λ (l : List ℕ). earlier ++ l) none ∙ append-nil earlier)) reaches)
+
 pub answered_stops : (x : Scene) (s : Session) (input rest bytes line behind earlier part : List ℕ) (stands : Session → Type 0) (e : Ending) → Reaches x input s rest earlier → Fits input rest bytes line behind →
     Answered x s line stands (Err e) part → StopsAt x input e (earlier ++ part)
 answered_stops x s input rest bytes line behind earlier part stands Done reaches fits (t, is, none) =
@@ -129,6 +138,7 @@ answered_stops x s input rest bytes line behind earlier part stands LongLine rea
 answered_stops x s input rest bytes line behind earlier part stands LongInput reaches fits is = absurd is
 answered_stops x s input rest bytes line behind earlier part stands KeysFailed reaches fits is = absurd is
 answered_stops x s input rest bytes line behind earlier part stands OutFailed reaches fits is = begins_reply x s input rest bytes line behind earlier part reaches fits is
+answered_stops x s input rest bytes line behind earlier part stands (View e) reaches fits is = answers_first x s input rest earlier part reaches is
 answered_stops x s input rest bytes line behind earlier part stands NoMemory reaches fits is = begins_reply x s input rest bytes line behind earlier part reaches fits is
 
 -- ---- the end of a line

@@ -1,22 +1,24 @@
 -- The whole of a session, from its parts.
-use Rattle.std.proofs.Common.{◌≡◌, ◌≢◌, ◌∙◌, sym, ap, refl, subst, inl, inr, ℕ, ◌+◌, ◌-◌, ◌≤◌, ◌<◌, ◌⊎◌, List, [], ◌∷◌, ◌++◌, length, take, drop, append_assoc, append-nil, length-append, Option, Some, None, option_map, Result, Ok, Err, Vec, Global, arith}
-use Rattle.std.specs.Prelude.{min, vec_len}
+use Rattle.std.proofs.Common.{◌≡◌, ◌∙◌, sym, ap, refl, subst, inl, inr, ℕ, ◌+◌, ◌≤◌, List, [], ◌∷◌, ◌++◌, length, take, drop, append_assoc, append-nil, length-append, Option, Some, None, option_map, Ok, Err, Vec, Global, arith}
+use Rattle.std.specs.Prelude.{min}
 use Rattle.std.proofs.lemmas.List.{take-append-drop}
 use Rattle.std.specs.List.{Contains}
 use Rattle.wy_explore.specs.Session.{Session, begun}
-use Rattle.wy_outside.specs.Counts.{Rose, count_after, last_count}
+use Rattle.wy_outside.specs.Counts.{Rose}
 use Rattle.wy_outside.specs.Sink.{appended}
-use Rattle.wy_outside.specs.Source.{EndsExactly, Takes}
-use Rattle.wy_outside.specs.declared.source.SourceError.{SourceError}
+use Rattle.wy_outside.specs.Source.{EndsExactly}
 use Rattle.wy_session.specs.Scene.{Scene}
 use Rattle.wy_session.specs.Line.{Finishes, Reads, ReadsOn}
-use Rattle.wy_session.specs.Situation.{Situation}
+use Rattle.wy_session.specs.Situation.{Scenes, Situation}
 use Rattle.wy_session.specs.Talk.{BeginsTalk, Reaches}
 use Rattle.wy_session.specs.Talk as talk
-use Rattle.wy_session.specs.Closings.{Closed, Closes, EndsWith, Failures, KeysStayed, Leads, OutFor, OutStayed, StopsAt, WritesPart, failures, keys_fault_line}
+use Rattle.wy_session.specs.Closings.{BreaksOff, Closed, Closes, EndsWith, Failures, IsBroken, KeysStayed, Leads, OutFor, StopsAt, WritesPart, failures, keys_fault_line}
+use Rattle.wy_session.specs.Views.{ending_of}
+use Rattle.wy_view.specs.declared.view.ViewError.{ViewError}
+use Rattle.wy_view.specs.declared.view.ViewError.TheVariants as view
 use Rattle.wy_session.specs.declared.line.OpenLine.{OpenLine}
 use Rattle.wy_session.specs.declared.ending.Ending.{Ending}
-use Rattle.wy_session.specs.declared.ending.Ending.TheVariants.{Done, LongLine, LongInput, KeysFailed, OutFailed, NoMemory}
+use Rattle.wy_session.specs.declared.ending.Ending.TheVariants.{Done, LongLine, LongInput, KeysFailed, OutFailed, View, NoMemory}
 use Rattle.wy_session.proofs.Parts.{appended_nothing}
 use Rattle.wy_session.proofs.Reading.{appended_twice, read_more, stops_on}
 
@@ -62,24 +64,33 @@ here before mid x input read rest said l at reads is = of (reads.leads x begun a
     counts = omega (arith, ap length is, leads.counts, length-append read rest, length-append l.bytes.items [], length-append l.bytes.items rest);
   }
 
-pub begins : (before mid : Situation) (x : Scene) (told left : Option (List ℕ)) (read said : List ℕ) (l : OpenLine) → before x begun → ReadsOn before mid 0 read l [] said → told ≡ option_map (λ rest. read ++ rest) left → WritesPart x told said
-begins before mid x told left read said l at reads is = λ input so.
+-- the scenes over which a responder is begun
+abbrev pub begun_over : Situation → Scenes
+begun_over before x = before x begun
+
+pub begins : (before mid : Situation) (told left : Option (List ℕ)) (read said : List ℕ) (l : OpenLine) → ReadsOn before mid 0 read l [] said → told ≡ option_map (λ rest. read ++ rest) left → WritesPart (begun_over before) told said
+begins before mid told left read said l reads is = λ x input at so.
     let y = left_of told read input left is so in
     let h = here before mid x input read y.rest said l at reads y.input_is in
     talk.answered h.session (l.bytes.items ++ y.rest) said h.reaches ([], sym (append-nil said))
 
 -- ---- how it ends
 
-closes_by : (x : Scene) (told : Option (List ℕ)) (f : Failures) (e : Ending) (said : List ℕ) → KeysStayed f → OutFor e f.out_before f.out_after → ((input : List ℕ) → told ≡ Some input → StopsAt x input e said) → Closes x told f e said []
-closes_by x told f Done said keys out stops = (refl, keys, out, stops)
-closes_by x told f LongLine said keys out stops = (refl, keys, out, stops)
-closes_by x told f LongInput said keys out stops = (refl, keys, out, stops)
-closes_by x told f KeysFailed said keys out stops = absurd out
-closes_by x told f OutFailed said keys out stops = (inl (refl, keys), out, stops)
-closes_by x told f NoMemory said keys out stops = (inl (refl, keys), out, stops)
+-- so it ends over each trace that a session is over, and each input that is told
+abbrev Stopped : Scenes → Option (List ℕ) → Ending → List ℕ → Type 0
+Stopped over told e said = (x : Scene) (input : List ℕ) → over x → told ≡ Some input → StopsAt x input e said
 
-closed_by : (x : Scene) (told : Option (List ℕ)) (f : Failures) (old new : Option (List ℕ)) (e : Ending) (said : List ℕ) → Closes x told f e said [] → new ≡ appended old said → Closed x told f old new e
-closed_by x told f old new e said closes written = record { said = said; line = []; closes = closes; written = written ∙ ap (appended old) (sym (append-nil said)) }
+closes_by : (over : Scenes) (told : Option (List ℕ)) (f : Failures) (e : Ending) (said : List ℕ) → KeysStayed f → OutFor e f.out_before f.out_after → Stopped over told e said → Closes over told f e said []
+closes_by over told f Done said keys out stops = (refl, keys, out, stops)
+closes_by over told f LongLine said keys out stops = (refl, keys, out, stops)
+closes_by over told f LongInput said keys out stops = (refl, keys, out, stops)
+closes_by over told f KeysFailed said keys out stops = absurd out
+closes_by over told f OutFailed said keys out stops = (inl (refl, keys), out, stops)
+closes_by over told f (View e) said keys out stops = (refl, keys, out, stops)
+closes_by over told f NoMemory said keys out stops = (inl (refl, keys), out, stops)
+
+closed_by : (over : Scenes) (told : Option (List ℕ)) (f : Failures) (old new : Option (List ℕ)) (e : Ending) (said : List ℕ) → Closes over told f e said [] → new ≡ appended old said → Closed over told f old new e
+closed_by over told f old new e said closes written = record { said = said; line = []; closes = closes; written = written ∙ ap (appended old) (sym (append-nil said)) }
 
 -- what was written, with the counts of the start
 pub record Before (old now : Option (List ℕ)) (said : List ℕ) (keys_start keys_now out_start out_now : ℕ) : Type 0 where
@@ -87,54 +98,55 @@ pub record Before (old now : Option (List ℕ)) (said : List ℕ) (keys_start ke
   pub keys : keys_now ≡ keys_start
   pub out : out_now ≡ out_start
 
-pub finish_closes : (before mid : Situation) (x : Scene) (told left : Option (List ℕ)) (bytes : Vec ℕ Global) (read said : List ℕ) (l : OpenLine) (old now new : Option (List ℕ)) (ks kn ke os on oe : ℕ) (e : Ending) → before x begun →
-    ReadsOn before mid 0 read l [] said → told ≡ option_map (λ rest. read ++ rest) left → EndsExactly left (Ok bytes) → bytes.items ≡ [] → Before old now said ks kn os on → ke ≡ kn → Finishes mid l.before l.bytes.items now new on oe e → Closed x told (failures ks ke os oe) old new e
-finish_closes before mid x told left bytes read said l old now new ks kn ke os on oe e at reads is ends none b keys (more, stops, written, out) =
-    closed_by x told (failures ks ke os oe) old new e (said ++ more)
-    (closes_by x told (failures ks ke os oe) e (said ++ more) (keys ∙ b.keys) (subst (λ (z : ℕ). OutFor e z oe) b.out out)
-    (λ input so.
+pub finish_closes : (before mid : Situation) (told left : Option (List ℕ)) (bytes : Vec ℕ Global) (read said : List ℕ) (l : OpenLine) (old now new : Option (List ℕ)) (ks kn ke os on oe : ℕ) (e : Ending) →
+    ReadsOn before mid 0 read l [] said → told ≡ option_map (λ rest. read ++ rest) left → EndsExactly left (Ok bytes) → bytes.items ≡ [] → Before old now said ks kn os on → ke ≡ kn → Finishes mid l.before l.bytes.items now new on oe e → Closed (begun_over before) told (failures ks ke os oe) old new e
+finish_closes before mid told left bytes read said l old now new ks kn ke os on oe e reads is ends none b keys (more, stops, written, out) =
+    closed_by (begun_over before) told (failures ks ke os oe) old new e (said ++ more)
+    (closes_by (begun_over before) told (failures ks ke os oe) e (said ++ more) (keys ∙ b.keys) (subst (λ (z : ℕ). OutFor e z oe) b.out out)
+    (λ x input at so.
     let h = here before mid x input read [] said l at reads (at_end told read input left bytes is ends none so ∙ sym (append-nil read)) in
     stops x h.session h.stands input said (subst (λ (z : List ℕ). Reaches x input h.session z said) (append-nil l.bytes.items) h.reaches) (h.counts ∙ ap (λ (z : List ℕ). l.before + length z) (append-nil l.bytes.items))))
     (appended_twice old now new said more b.written written)
 
-pub piece_closes : (before mid after : Situation) (x : Scene) (told left next : Option (List ℕ)) (read piece said : List ℕ) (l k : OpenLine) (old now new : Option (List ℕ)) (ks kn ke os on oe : ℕ) (e : Ending) → before x begun →
+pub piece_closes : (before mid after : Situation) (told left next : Option (List ℕ)) (read piece said : List ℕ) (l k : OpenLine) (old now new : Option (List ℕ)) (ks kn ke os on oe : ℕ) (e : Ending) →
     ReadsOn before mid 0 read l [] said → told ≡ option_map (λ rest. read ++ rest) left → left ≡ option_map (λ rest. piece ++ rest) next → Before old now said ks kn os on → ke ≡ kn →
-    Reads mid after l.before (l.bytes.items ++ piece) k now new on oe (Err e) → Closed x told (failures ks ke os oe) old new e
-piece_closes before mid after x told left next read piece said l k old now new ks kn ke os on oe e at reads is takes b keys (more, stops, written, out) =
-    closed_by x told (failures ks ke os oe) old new e (said ++ more)
-    (closes_by x told (failures ks ke os oe) e (said ++ more) (keys ∙ b.keys) (subst (λ (z : ℕ). OutFor e z oe) b.out out)
-    (λ input so.
+    Reads mid after l.before (l.bytes.items ++ piece) k now new on oe (Err e) → Closed (begun_over before) told (failures ks ke os oe) old new e
+piece_closes before mid after told left next read piece said l k old now new ks kn ke os on oe e reads is takes b keys (more, stops, written, out) =
+    closed_by (begun_over before) told (failures ks ke os oe) old new e (said ++ more)
+    (closes_by (begun_over before) told (failures ks ke os oe) e (said ++ more) (keys ∙ b.keys) (subst (λ (z : ℕ). OutFor e z oe) b.out out)
+    (λ x input at so.
     let y = left_of told (read ++ piece) input next (told_on told read piece left next is takes) so in
     stops_on before mid 0 (read ++ piece) (l.bytes.items ++ piece) [] piece said more l e (sym (append-nil (l.bytes.items ++ piece))) (read_more before mid 0 read piece said l reads) stops x begun at input y.rest []
     (subst (λ (z : List ℕ). Reaches x input begun z []) y.input_is talk.start) (omega (arith, ap length y.input_is))))
     (appended_twice old now new said more b.written written)
 
-pub memory_closes : (before mid : Situation) (x : Scene) (told left : Option (List ℕ)) (read said : List ℕ) (l : OpenLine) (old now : Option (List ℕ)) (ks kn ke os on : ℕ) → before x begun → ReadsOn before mid 0 read l [] said →
-    told ≡ option_map (λ rest. read ++ rest) left → Before old now said ks kn os on → ke ≡ kn → Closed x told (failures ks ke os on) old now NoMemory
-memory_closes before mid x told left read said l old now ks kn ke os on at reads is b keys =
-    closed_by x told (failures ks ke os on) old now NoMemory said (inl (refl, keys ∙ b.keys), b.out, begins before mid x told left read said l at reads is) b.written
+pub memory_closes : (before mid : Situation) (told left : Option (List ℕ)) (read said : List ℕ) (l : OpenLine) (old now : Option (List ℕ)) (ks kn ke os on : ℕ) → ReadsOn before mid 0 read l [] said →
+    told ≡ option_map (λ rest. read ++ rest) left → Before old now said ks kn os on → ke ≡ kn → Closed (begun_over before) told (failures ks ke os on) old now NoMemory
+memory_closes before mid told left read said l old now ks kn ke os on reads is b keys =
+    closed_by (begun_over before) told (failures ks ke os on) old now NoMemory said (inl (refl, keys ∙ b.keys), b.out, begins before mid told left read said l reads is) b.written
 
-broken_closes : (x : Scene) (told : Option (List ℕ)) (f : Failures) (said line : List ℕ) (e : Ending) → Rattle.wy_session.specs.Closings.IsBroken e → OutFor e f.out_before f.out_after → Rattle.wy_session.specs.Closings.BreaksOff f line → WritesPart x told said → Closes x told f e said line
-broken_closes x told f said line OutFailed broken out off part = (off, out, part)
-broken_closes x told f said line NoMemory broken out off part = (off, out, part)
-broken_closes x told f said line Done broken out off part = absurd broken
-broken_closes x told f said line LongLine broken out off part = absurd broken
-broken_closes x told f said line LongInput broken out off part = absurd broken
-broken_closes x told f said line KeysFailed broken out off part = absurd broken
+broken_closes : (over : Scenes) (told : Option (List ℕ)) (f : Failures) (said line : List ℕ) (e : Ending) → IsBroken e → OutFor e f.out_before f.out_after → BreaksOff f line → WritesPart over told said → Closes over told f e said line
+broken_closes over told f said line OutFailed broken out off part = (off, out, part)
+broken_closes over told f said line NoMemory broken out off part = (off, out, part)
+broken_closes over told f said line Done broken out off part = absurd broken
+broken_closes over told f said line LongLine broken out off part = absurd broken
+broken_closes over told f said line LongInput broken out off part = absurd broken
+broken_closes over told f said line KeysFailed broken out off part = absurd broken
+broken_closes over told f said line (View e) broken out off part = absurd broken
 
-pub fault_closes : (before mid : Situation) (x : Scene) (told left : Option (List ℕ)) (read said : List ℕ) (l : OpenLine) (old now new : Option (List ℕ)) (ks kn ke os on oe : ℕ) (e : Ending) → before x begun → ReadsOn before mid 0 read l [] said →
-    told ≡ option_map (λ rest. read ++ rest) left → Before old now said ks kn os on → Rose kn ke → EndsWith keys_fault_line KeysFailed now new on oe e → Closed x told (failures ks ke os oe) old new e
-fault_closes before mid x told left read said l old now new ks kn ke os on oe e at reads is b rose (inl (failed, written, same)) = record {
+pub fault_closes : (before mid : Situation) (told left : Option (List ℕ)) (read said : List ℕ) (l : OpenLine) (old now new : Option (List ℕ)) (ks kn ke os on oe : ℕ) (e : Ending) → ReadsOn before mid 0 read l [] said →
+    told ≡ option_map (λ rest. read ++ rest) left → Before old now said ks kn os on → Rose kn ke → EndsWith keys_fault_line KeysFailed now new on oe e → Closed (begun_over before) told (failures ks ke os oe) old new e
+fault_closes before mid told left read said l old now new ks kn ke os on oe e reads is b rose (inl (failed, written, same)) = record {
   said = said;
   line = keys_fault_line;
-  closes = subst (λ (z : Ending). Closes x told (failures ks ke os oe) z said keys_fault_line) (sym failed) (refl, subst (λ (z : ℕ). Rose z ke) b.keys rose, same ∙ b.out, begins before mid x told left read said l at reads is);
+  closes = subst (λ (z : Ending). Closes (begun_over before) told (failures ks ke os oe) z said keys_fault_line) (sym failed) (refl, subst (λ (z : ℕ). Rose z ke) b.keys rose, same ∙ b.out, begins before mid told left read said l reads is);
   written = appended_twice old now new said keys_fault_line b.written written;
 }
-fault_closes before mid x told left read said l old now new ks kn ke os on oe e at reads is b rose (inr (broken, out, (k, written))) = record {
+fault_closes before mid told left read said l old now new ks kn ke os on oe e reads is b rose (inr (broken, out, (k, written))) = record {
   said = said;
   line = take k keys_fault_line;
-  closes = broken_closes x told (failures ks ke os oe) said (take k keys_fault_line) e broken (subst (λ (z : ℕ). OutFor e z oe) b.out out)
-      (inr (subst (λ (z : ℕ). Rose z ke) b.keys rose, (drop k keys_fault_line, sym (take-append-drop k keys_fault_line)))) (begins before mid x told left read said l at reads is);
+  closes = broken_closes (begun_over before) told (failures ks ke os oe) said (take k keys_fault_line) e broken (subst (λ (z : ℕ). OutFor e z oe) b.out out)
+      (inr (subst (λ (z : ℕ). Rose z ke) b.keys rose, (drop k keys_fault_line, sym (take-append-drop k keys_fault_line)))) (begins before mid told left read said l reads is);
   written = appended_twice old now new said (take k keys_fault_line) b.written written;
 }
 
@@ -153,10 +165,16 @@ nothing_in [] none (k, low, is) = absurd (omega (arith, low))
 nothing_in (b ∷ bytes) none has = absurd (cc)
 
 -- nothing was read or written
-pub nothing_closes : (x : Scene) (told : Option (List ℕ)) (keys out : ℕ) (old : Option (List ℕ)) → Closed x told (failures keys keys out out) old old NoMemory
-nothing_closes x told keys out old = record {
+pub nothing_closes : (over : Scenes) (told : Option (List ℕ)) (keys out : ℕ) (old : Option (List ℕ)) (e : ViewError) → Closed over told (failures keys keys out out) old old (ending_of e)
+nothing_closes over told keys out old view.NoMemory = record {
   said = [];
   line = [];
-  closes = (inl (refl, refl), refl, λ input so. talk.answered begun input [] talk.start ([], refl));
+  closes = (inl (refl, refl), refl, λ x input at so. talk.answered begun input [] talk.start ([], refl));
   written = appended_nothing old;
 }
+nothing_closes over told keys out old view.ReadFault = record { said = []; line = []; closes = (refl, refl, refl, λ x input at so. (begun, input, talk.start)); written = appended_nothing old }
+nothing_closes over told keys out old view.Gone = record { said = []; line = []; closes = (refl, refl, refl, λ x input at so. (begun, input, talk.start)); written = appended_nothing old }
+nothing_closes over told keys out old (view.Changed block kept found) = record { said = []; line = []; closes = (refl, refl, refl, λ x input at so. (begun, input, talk.start)); written = appended_nothing old }
+
+pub nothing_closed : (over : Scenes) (told : Option (List ℕ)) (keys out : ℕ) (old : Option (List ℕ)) (e : ViewError) (ending : Ending) → ending ≡ ending_of e → Closed over told (failures keys keys out out) old old ending
+nothing_closed over told keys out old e ending is = subst (Closed over told (failures keys keys out out) old old) (sym is) (nothing_closes over told keys out old e)

@@ -6,9 +6,10 @@ use Rattle.wy_explore.specs.Session.{Session}
 use Rattle.wy_outside.specs.Counts.{Rose, last_count}
 use Rattle.wy_outside.specs.Sink.{appended}
 use Rattle.wy_session.specs.Scene.{Said, Scene}
-use Rattle.wy_session.specs.Talk.{BeginsTalk, IsPrefixOf, Reaches, Talks, most_in_line}
+use Rattle.wy_session.specs.Situation.{Scenes}
+use Rattle.wy_session.specs.Talk.{AnswersFirst, BeginsTalk, IsPrefixOf, Reaches, Talks, most_in_line}
 use Rattle.wy_session.specs.declared.ending.Ending.{Ending}
-use Rattle.wy_session.specs.declared.ending.Ending.TheVariants.{Done, LongLine, LongInput, KeysFailed, OutFailed, NoMemory}
+use Rattle.wy_session.specs.declared.ending.Ending.TheVariants.{Done, LongLine, LongInput, KeysFailed, OutFailed, View, NoMemory}
 
 -- ---- the whole of a session
 
@@ -37,34 +38,46 @@ abbrev pub OutStayed : Failures → Type 0
 OutStayed f = f.out_after ≡ f.out_before
 
 -- all that is due for an input was written, with this status
-abbrev pub WritesAll : Scene → Option (List ℕ) → ℕ → List ℕ → Type 0
-WritesAll x told status said = (input : List ℕ) → told ≡ Some input → Talks x input status said
+abbrev pub WritesAll : Scenes → Option (List ℕ) → ℕ → List ℕ → Type 0
+WritesAll over told status said =
+    (x : Scene) (input : List ℕ) → over x → told ≡ Some input → Talks x input status said
 
 -- a prefix of what is due for an input was written
-abbrev pub WritesPart : Scene → Option (List ℕ) → List ℕ → Type 0
-WritesPart x told said = (input : List ℕ) → told ≡ Some input → BeginsTalk x input said
+abbrev pub WritesPart : Scenes → Option (List ℕ) → List ℕ → Type 0
+WritesPart over told said =
+    (x : Scene) (input : List ℕ) → over x → told ≡ Some input → BeginsTalk x input said
+
+-- all that some first lines of an input are answered was written, and nothing else
+abbrev pub WritesFirst : Scenes → Option (List ℕ) → List ℕ → Type 0
+WritesFirst over told said =
+    (x : Scene) (input : List ℕ) → over x → told ≡ Some input → AnswersFirst x input said
 
 -- nothing was written of the line of a fault, or the keys failed and a prefix of it was
 abbrev pub BreaksOff : Failures → List ℕ → Type 0
 BreaksOff f line = ((line ≡ []) × KeysStayed f) ⊎ (Rose f.keys_before f.keys_after × IsPrefixOf line keys_fault_line)
 
--- what was written when a session ended so, over an input that may be told: to its lines, and then of
--- the line of a fault
-abbrev pub Closes : Scene → Option (List ℕ) → Failures → Ending → List ℕ → List ℕ → Type 0
-Closes x told f Done said line = (line ≡ []) × KeysStayed f × OutStayed f × WritesAll x told 0 said
-Closes x told f LongLine said line = (line ≡ []) × KeysStayed f × OutStayed f × WritesAll x told 8 said
-Closes x told f LongInput said line = (line ≡ []) × KeysStayed f × OutStayed f × WritesAll x told 8 said
-Closes x told f KeysFailed said line =
-    (line ≡ keys_fault_line) × Rose f.keys_before f.keys_after × OutStayed f × WritesPart x told said
-Closes x told f OutFailed said line =
-    BreaksOff f line × Rose f.out_before f.out_after × WritesPart x told said
-Closes x told f NoMemory said line = BreaksOff f line × OutStayed f × WritesPart x told said
+-- what was written when a session ended so, over one of these traces and an input that may be told: to
+-- its lines, and then of the line of a fault
+abbrev pub Closes : Scenes → Option (List ℕ) → Failures → Ending → List ℕ → List ℕ → Type 0
+Closes over told f Done said line =
+    (line ≡ []) × KeysStayed f × OutStayed f × WritesAll over told 0 said
+Closes over told f LongLine said line =
+    (line ≡ []) × KeysStayed f × OutStayed f × WritesAll over told 8 said
+Closes over told f LongInput said line =
+    (line ≡ []) × KeysStayed f × OutStayed f × WritesAll over told 8 said
+Closes over told f KeysFailed said line =
+    (line ≡ keys_fault_line) × Rose f.keys_before f.keys_after × OutStayed f × WritesPart over told said
+Closes over told f OutFailed said line =
+    BreaksOff f line × Rose f.out_before f.out_after × WritesPart over told said
+Closes over told f (View e) said line =
+    (line ≡ []) × KeysStayed f × OutStayed f × WritesFirst over told said
+Closes over told f NoMemory said line = BreaksOff f line × OutStayed f × WritesPart over told said
 
-pub record Closed (x : Scene) (told : Option (List ℕ)) (f : Failures)
+pub record Closed (over : Scenes) (told : Option (List ℕ)) (f : Failures)
     (before after : Option (List ℕ)) (ending : Ending) : Type 0 where
   pub said : List ℕ
   pub line : List ℕ
-  pub closes : Closes x told f ending said line
+  pub closes : Closes over told f ending said line
   pub written : after ≡ appended before (said ++ line)
 
 -- more was taken than a line may have, or so much that it is not counted any more
@@ -94,6 +107,7 @@ StopsAt x input LongLine text = Talks x input 8 text
 StopsAt x input LongInput text = Talks x input 8 text
 StopsAt x input KeysFailed text = ⊥
 StopsAt x input OutFailed text = BeginsTalk x input text
+StopsAt x input (View e) text = AnswersFirst x input text
 StopsAt x input NoMemory text = BeginsTalk x input text
 
 -- reading these bytes, of which so many came before, ends a session so, with this written
@@ -160,4 +174,5 @@ Answered x s line stands (Err LongLine) part = ⊥
 Answered x s line stands (Err LongInput) part = ⊥
 Answered x s line stands (Err KeysFailed) part = ⊥
 Answered x s line stands (Err OutFailed) part = IsPrefixOfReply x s line part
+Answered x s line stands (Err (View e)) part = part ≡ []
 Answered x s line stands (Err NoMemory) part = IsPrefixOfReply x s line part

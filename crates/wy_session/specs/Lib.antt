@@ -1,6 +1,7 @@
 pub mod Frames
 pub mod Scene
 pub mod Situation
+pub mod Views
 pub mod Talk
 pub mod Laws
 pub mod Closings

@@ -1,5 +1,5 @@
 -- What a line of a session is answered over a trace.
-use Rattle.std.specs.Prelude.{◌≡◌, ◌≢◌, ℕ, false, List, [], ◌∷◌, ◌++◌, length, map, codes, Option, Some}
+use Rattle.std.specs.Prelude.{◌≢◌, ℕ, false, List, [], ◌∷◌, codes, Option, Some}
 use Rattle.std.specs.Prelude.{None as Absent}
 use Rattle.std.specs.List.{flat_map}
 use Rattle.wy_kernel.specs.Program.{Program}

@@ -6,6 +6,6 @@ use Rattle.wy_session.specs.Scene.{Scene}
 abbrev pub Situation : Type 1
 Situation = Scene → Session → Type 0
 
--- it stands somewhere
-abbrev pub Stands : Situation → Type 0
-Stands at = (x : Scene) × (s : Session) × at x s
+-- a session is over one of these traces: there is none where nothing is told of the records
+abbrev pub Scenes : Type 1
+Scenes = Scene → Type 0

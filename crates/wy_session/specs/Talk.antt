@@ -1,5 +1,5 @@
 -- The lines of an input, what is written to them over a trace, and how that ends.
-use Rattle.std.specs.Prelude.{◌≡◌, ◌≢◌, ◌<◌, ◌≤◌, ◌-◌, ℕ, List, [], ◌∷◌, ◌++◌, length, codes, Option, Some}
+use Rattle.std.specs.Prelude.{◌≡◌, ◌≢◌, ◌<◌, ◌≤◌, ◌-◌, ℕ, List, [], ◌∷◌, ◌++◌, length, codes, Some}
 use Rattle.std.specs.Prelude.{None as Absent}
 use Rattle.std.specs.List.{Contains}
 use Rattle.std.specs.Io.BufRead.{strip_last}
@@ -36,6 +36,10 @@ pub data Reaches (x : Scene) (input : List ℕ) : Session → List ℕ → List 
   line : (s t : Session) (rest bytes line behind said reply : List ℕ) → Reaches x input s rest said
       → Fits input rest bytes line behind → Said x s line t (Some reply)
       → Reaches x input t behind (said ++ reply)
+
+-- some first lines of an input are answered so
+abbrev pub AnswersFirst : Scene → List ℕ → List ℕ → Type 0
+AnswersFirst x input said = (s : Session) × (rest : List ℕ) × Reaches x input s rest said
 
 abbrev pub long_line_text : List ℕ
 long_line_text = line_of (codes "too long: line")

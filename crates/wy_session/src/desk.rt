@@ -1,17 +1,17 @@
-//! A session over a trace that is held whole.
-ghost use Rattle.std.specs.Prelude.{◌≡◌, ◌++◌, ◌<◌, false, List, None, Some, All, IfOk, OnOk, map};
+//! A session over a view of a trace.
+ghost use Rattle.std.specs.Prelude.{◌≡◌, ◌++◌, ◌<◌, ◌^◌, false, List, Some, All, IfOk, IfSome, IsSome, OnOk, length, map};
 ghost use Rattle.wy_event.specs.Record.{Recorded};
 ghost use Rattle.wy_view.specs.View.{KeepsCounts, Keeps};
-ghost use Rattle.wy_view.specs.Whole.{whole};
 ghost use Rattle.wy_kernel.specs.Parts.{program_of};
 ghost use Rattle.wy_ask.specs.Opened.{IsOpenedOf, StaysOpened};
 ghost use Rattle.wy_explore.specs.Explorer.{AllAnswered, AllWithin, IsReplyWithin, reply_of};
-ghost use Rattle.wy_session.specs.Desk.{IsAsked, IsSceneOf, scene_in};
+ghost use Rattle.wy_session.specs.Desk.{IsAsked, IsSceneIn, IsSceneOf};
 ghost use Rattle.wy_telling.specs.Items.{items_text};
 ghost use Rattle.wy_whynot.specs.Evidence.{evidence_in};
 ghost use Rattle.wy_text.specs.EventLines.{event_line};
 ghost use Rattle.wy_session.specs.Scene.{Scene, lines_of, reply_text, sources_text};
 ghost use Rattle.wy_session.specs.Closings.{Closed, TakesManyFor, failures};
+ghost use Rattle.wy_session.specs.Views.{CountsFor};
 
 use crate::ending::Ending;
 use crate::frames::{frame_lines, value_line};
@@ -21,7 +21,9 @@ use std::alloc::{AllocError, Global};
 use std::marker::Brand;
 use std::sync::ledger::{Blank, Ledger};
 use wy_ask::Opened;
+use wy_event::record::Cover;
 use wy_explore::{Explorer, Reply};
+use wy_index::Index;
 use wy_kernel::program::Program;
 use wy_outside::sink::Sink;
 use wy_outside::source::Source;
@@ -29,7 +31,7 @@ use wy_static::Links;
 use wy_static::links::links;
 use wy_telling::{answer_lines, put_items};
 use wy_text::{put_event_line, put_source_line};
-use wy_view::{EventView, MemoryView, Steps, ViewError};
+use wy_view::{EventView, Steps, ViewError};
 use wy_why::Source as From;
 use wy_whynot::Item;
 
@@ -120,7 +122,7 @@ fn reply_lines<V: EventView, L: Ledger>(
     requires opened { IsOpenedOf (V.tells opened.old.view) opened.old }
     requires reply { IsReplyWithin (V.tells opened.old.view).count reply.now }
     requires explorer { AllWithin (V.tells opened.old.view).count explorer.now }
-    ensures text { (x : Scene) → IsSceneOf (V.tells opened.old.view) opened.old x
+    ensures text { (x : Scene) → IsSceneIn (V.tells opened.old.view) opened.old x
         → AllAnswered x.program x.records explorer.now → IsAsked explorer.now reply.now
         → IfOk result (λ text. text.items ≡ reply_text x (reply_of reply.now)) }
     ensures stays { StaysOpened V.tells opened.old opened.new }
@@ -148,83 +150,136 @@ fn reply_lines<V: EventView, L: Ledger>(
 
 /// An explorer with the trace that it looks at.
 #[derive(Drop)]
-struct Desk<'a, L: Ledger> {
-    opened: Opened<'a, MemoryView>,
+struct Desk<'a, V, L: Ledger> {
+    opened: Opened<'a, V>,
     links: Links,
     steps: Steps<L>,
     explorer: Explorer,
 }
 
-impl<'a, L: Ledger> Respond for Desk<'a, L> {
-    ghost use Rattle.wy_session.specs.Desk.{IsDesk};
+impl<'a, V: EventView, L: Ledger> Respond for Desk<'a, V, L> {
+    ghost use Rattle.wy_session.specs.Desk.{IsDesk, IsReady};
 
-    ghost stands = { λ d x s. IsDesk d.opened d.links d.explorer x s };
+    ghost ready = { λ d. IsReady (V.tells d.opened.view) d.opened d.links d.explorer };
 
-    /// Events in memory refuse for want of memory alone.
-    fn reply(&mut self, alloc: Global, line: &[u8]) -> Result<Option<Vec<u8>>, AllocError> {
+    ghost tells = { λ d. V.tells d.opened.view };
+
+    ghost stands = { λ d x s. IsDesk (V.tells d.opened.view) d.opened d.explorer x s };
+
+    fn reply(&mut self, alloc: Global, line: &[u8]) -> Result<Option<Vec<u8>>, ViewError> {
         let Desk {
             opened,
             links,
             steps,
             explorer,
         } = self;
-        let Ok(reply) = explorer.apply(alloc, line, opened, links, steps) else {
-            return Err(AllocError);
-        };
+        let reply = explorer.apply(alloc, line, opened, links, steps)?;
         if let Reply::End = reply {
             return Ok(None);
         }
-        match reply_lines(alloc, opened, explorer, &reply, steps) {
-            Ok(text) => Ok(Some(text)),
-            Err(_) => Err(AllocError),
-        }
+        Ok(Some(reply_lines(alloc, opened, explorer, &reply, steps)?))
     }
 }
 
-/// Answers the lines of an input over a trace, each before more is read.
-pub fn explore<K: Source, O: Sink>(
+/// Answers the lines of an input over a trace of a program, each before more is read, through a view of its events and with what
+/// the trace tells of the statements. The view is given back alone, so that who lent it something has that back, and how the
+/// session ended is left beside it.
+pub fn explore<V: EventView, K: Source, O: Sink>(
     alloc: Global,
-    opened: Opened<'_, MemoryView>,
+    program: &Program,
+    coverage: &[Cover],
+    view: V,
     keys: &mut K,
     out: &mut O,
-) -> Ending
-    requires { IsOpenedOf (whole opened.view.events.items None) opened }
-    ensures closed { Closed (scene_in opened.entry) (K.left keys.old)
+    ending: &mut Option<Ending>,
+) -> V
+    requires { length program.now.fields.items < 2 ^ 32 }
+    ensures ended { IsSome ending.new }
+    ensures closed { IfSome ending.new
+        (Closed (IsSceneOf program.now coverage.now (V.tells view)) (K.left keys.old)
         (failures (K.faults keys.old) (K.faults keys.new) (O.faults out.old) (O.faults out.new))
-        (O.written out.old) (O.written out.new) result }
-    ensures taken { TakesManyFor result (K.taken keys.old) (K.taken keys.new) }
+        (O.written out.old) (O.written out.new)) }
+    ensures taken { IfSome ending.new
+        (λ e. TakesManyFor e (K.taken keys.old) (K.taken keys.new)) }
+    ensures keeps { Keeps (V.tells view) (V.tells result) }
+    ensures counts { IfSome ending.new (λ e. CountsFor e (V.tells view) (V.tells result)) }
 {
-    explore_with::<K, O, Brand>(alloc, opened, keys, out, Blank::new(1))
+    let blank = Blank::new(1);
+    let (view, ended) = explore_indexed::<V, K, O, Brand>(
+        alloc, program, coverage, view, keys, out, blank,
+    );
+    *ending = Some(ended);
+    view
 }
 
 /// The same, with a ledger for the steps, which nobody reads.
-fn explore_with<K: Source, O: Sink, L: Ledger>(
+fn explore_indexed<V: EventView, K: Source, O: Sink, L: Ledger>(
     alloc: Global,
-    opened: Opened<'_, MemoryView>,
+    program: &Program,
+    coverage: &[Cover],
+    view: V,
     keys: &mut K,
     out: &mut O,
     blank: Blank,
-) -> Ending
-    requires opened { IsOpenedOf (whole opened.view.events.items None) opened }
+) -> (V, Ending)
+    requires fields { length program.now.fields.items < 2 ^ 32 }
     requires name { blank.name ≡ L.name }
     requires parts { blank.parts ≡ L.parts }
     requires some { 0 < blank.parts }
-    ensures closed { Closed (scene_in opened.entry) (K.left keys.old)
+    ensures closed { Closed (IsSceneOf program.now coverage.now (V.tells view)) (K.left keys.old)
         (failures (K.faults keys.old) (K.faults keys.new) (O.faults out.old) (O.faults out.new))
-        (O.written out.old) (O.written out.new) result }
-    ensures taken { TakesManyFor result (K.taken keys.old) (K.taken keys.new) }
+        (O.written out.old) (O.written out.new) result.1 }
+    ensures taken { TakesManyFor result.1 (K.taken keys.old) (K.taken keys.new) }
+    ensures keeps { Keeps (V.tells view) (V.tells result.0) }
+    ensures counts { CountsFor result.1 (V.tells view) (V.tells result.0) }
+{
+    let mut view = view;
+    let mut steps = Steps::<L>::new(blank);
+    let index = match Index::build(alloc, &mut view, program, &mut steps) {
+        Ok(index) => index,
+        Err(error) => return (view, Ending::from(error)),
+    };
+    let opened = Opened {
+        program,
+        coverage,
+        index,
+        view,
+    };
+    explore_opened(alloc, opened, keys, out, steps)
+}
+
+/// The same, over a trace that is opened.
+fn explore_opened<V: EventView, K: Source, O: Sink, L: Ledger>(
+    alloc: Global,
+    opened: Opened<'_, V>,
+    keys: &mut K,
+    out: &mut O,
+    steps: Steps<L>,
+) -> (V, Ending)
+    requires { IsOpenedOf (V.tells opened.view) opened }
+    ensures closed { Closed (IsSceneIn (V.tells opened.entry.view) opened.entry) (K.left keys.old)
+        (failures (K.faults keys.old) (K.faults keys.new) (O.faults out.old) (O.faults out.new))
+        (O.written out.old) (O.written out.new) result.1 }
+    ensures taken { TakesManyFor result.1 (K.taken keys.old) (K.taken keys.new) }
+    ensures keeps { Keeps (V.tells opened.entry.view) (V.tells result.0) }
+    ensures counts { CountsFor result.1 (V.tells opened.entry.view) (V.tells result.0) }
 {
     let Ok(links) = links(alloc, opened.program) else {
-        return Ending::NoMemory;
+        let Opened { view, .. } = opened;
+        return (view, Ending::NoMemory);
     };
     let Ok(explorer) = Explorer::open(alloc) else {
-        return Ending::NoMemory;
+        let Opened { view, .. } = opened;
+        return (view, Ending::NoMemory);
     };
     let mut desk = Desk {
         opened,
         links,
-        steps: Steps::<L>::new(blank),
+        steps,
         explorer,
     };
-    talk(alloc, keys, &mut desk, out)
+    let ending = talk(alloc, keys, &mut desk, out);
+    let Desk { opened, .. } = desk;
+    let Opened { view, .. } = opened;
+    (view, ending)
 }

@@ -1,6 +1,7 @@
 //! How a session ends.
 
 use std::alloc::AllocError;
+use wy_view::ViewError;
 
 /// How a session ends.
 #[derive(Clone, Copy, Debug, PartialEq, Eq)]
@@ -15,6 +16,8 @@ pub enum Ending {
     KeysFailed,
     /// The output could not be written.
     OutFailed,
+    /// The view of the trace refused, and not for want of memory.
+    View(ViewError),
     NoMemory,
 }
 
@@ -26,5 +29,19 @@ impl From<AllocError> for Ending {
 
     fn from(_error: AllocError) -> Ending {
         Ending::NoMemory
+    }
+}
+
+impl From<ViewError> for Ending {
+    ghost use Rattle.std.specs.Prelude.{◌≡◌};
+    ghost use Rattle.wy_session.specs.Views.{ending_of};
+
+    ghost from_gives = { λ error ending. ending ≡ ending_of error };
+
+    fn from(error: ViewError) -> Ending {
+        match error {
+            ViewError::NoMemory => Ending::NoMemory,
+            refusal => Ending::View(refusal),
+        }
     }
 }

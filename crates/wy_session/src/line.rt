@@ -3,7 +3,8 @@ ghost use Rattle.std.specs.Prelude.{◌≡◌, ◌≤◌, ◌+◌, ◌++◌, ◌
 ghost use Rattle.std.specs.Io.BufRead.{strip_last};
 ghost use Rattle.std.specs.List.{Contains};
 ghost use Rattle.wy_session.specs.Line.{AnswersLine, Finishes, IsOpen, Reads, SplitsLine};
-ghost use Rattle.wy_session.specs.Situation.{Stands};
+ghost use Rattle.wy_view.specs.View.{Keeps};
+ghost use Rattle.wy_session.specs.Views.{CountsFor, CountsOf};
 ghost use Rattle.wy_session.specs.Talk.{most_in_all};
 ghost use Rattle.wy_session.specs.Closings.{EndsWith, IsLong, LongAt, Puts};
 
@@ -75,9 +76,12 @@ fn answer<R: Respond, O: Sink>(
     line: &[u8],
     out: &mut O,
 ) -> Result<(), Ending>
-    requires { Stands (R.stands responder.old) }
-    ensures { AnswersLine (R.stands responder.old) (R.stands responder.new) line.now
+    requires { R.ready responder.old }
+    ensures ready { R.ready responder.new }
+    ensures answers { AnswersLine (R.stands responder.old) (R.stands responder.new) line.now
         (O.written out.old) (O.written out.new) (O.faults out.old) (O.faults out.new) result }
+    ensures keeps { Keeps (R.tells responder.old) (R.tells responder.new) }
+    ensures counts { CountsOf result (R.tells responder.old) (R.tells responder.new) }
 {
     match responder.reply(alloc, line)? {
         Some(text) => put(out, text.as_slice()),
@@ -93,14 +97,17 @@ impl OpenLine {
         responder: &mut R,
         out: &mut O,
     ) -> Result<(), Ending>
-        requires stands { Stands (R.stands responder.old) }
+        requires ready { R.ready responder.old }
         requires unended { ¬ Contains self.old.bytes.items 10 }
         requires within { self.old.before ≤ most_in_all }
+        ensures ready { R.ready responder.new }
         ensures open { OnOk result (IsOpen self.new) }
         ensures long { LongAt (self.old.before + length self.old.bytes.items + 1) result }
         ensures reads { Reads (R.stands responder.old) (R.stands responder.new) self.old.before
             (self.old.bytes.items ++ 10 ∷ []) self.new (O.written out.old) (O.written out.new)
             (O.faults out.old) (O.faults out.new) result }
+        ensures keeps { Keeps (R.tells responder.old) (R.tells responder.new) }
+        ensures counts { CountsOf result (R.tells responder.old) (R.tells responder.new) }
     {
         if self.bytes.len() > MOST_IN_LINE {
             return Err(end_with(out, "too long: line\n", Ending::LongLine));
@@ -123,14 +130,17 @@ impl OpenLine {
         responder: &mut R,
         out: &mut O,
     ) -> Result<(), Ending>
-        requires stands { Stands (R.stands responder.old) }
+        requires ready { R.ready responder.old }
         requires is_open { IsOpen self.old }
+        ensures ready { R.ready responder.new }
         ensures open { OnOk result (IsOpen self.new) }
         ensures long { LongAt (self.old.before + length (self.old.bytes.items ++ piece.now))
             result }
         ensures reads { Reads (R.stands responder.old) (R.stands responder.new) self.old.before
             (self.old.bytes.items ++ piece.now) self.new (O.written out.old) (O.written out.new)
             (O.faults out.old) (O.faults out.new) result }
+        ensures keeps { Keeps (R.tells responder.old) (R.tells responder.new) }
+        ensures counts { CountsOf result (R.tells responder.old) (R.tells responder.new) }
     {
         let mut rest = piece;
         while let Some((front, behind)) = split_line(rest) {
@@ -152,11 +162,13 @@ impl OpenLine {
         responder: &mut R,
         out: &mut O,
     ) -> Ending
-        requires stands { Stands (R.stands responder.old) }
+        requires ready { R.ready responder.old }
         requires is_open { IsOpen self.now }
         ensures long { IsLong (self.now.before + length self.now.bytes.items) result }
         ensures finishes { Finishes (R.stands responder.old) self.now.before self.now.bytes.items
             (O.written out.old) (O.written out.new) (O.faults out.old) (O.faults out.new) result }
+        ensures keeps { Keeps (R.tells responder.old) (R.tells responder.new) }
+        ensures counts { CountsFor result (R.tells responder.old) (R.tells responder.new) }
     {
         if self.bytes.is_empty() {
             return Ending::Done;

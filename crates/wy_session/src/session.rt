@@ -1,8 +1,8 @@
 //! The whole of a session.
 ghost use Rattle.wy_explore.specs.Session.{begun};
-ghost use Rattle.wy_session.specs.Scene.{Scene};
-ghost use Rattle.wy_session.specs.Situation.{Stands};
+ghost use Rattle.wy_view.specs.View.{Keeps};
 ghost use Rattle.wy_session.specs.Closings.{Closed, TakesManyFor, failures};
+ghost use Rattle.wy_session.specs.Views.{CountsFor};
 
 use crate::ending::Ending;
 use crate::line::{OpenLine, end_with};
@@ -21,11 +21,13 @@ pub fn talk<K: Source, O: Sink, R: Respond>(
     responder: &mut R,
     out: &mut O,
 ) -> Ending
-    requires { Stands (R.stands responder.old) }
-    ensures closed { (x : Scene) → R.stands responder.old x begun → Closed x (K.left keys.old)
+    requires { R.ready responder.old }
+    ensures closed { Closed (λ x. R.stands responder.old x begun) (K.left keys.old)
         (failures (K.faults keys.old) (K.faults keys.new) (O.faults out.old) (O.faults out.new))
         (O.written out.old) (O.written out.new) result }
     ensures taken { TakesManyFor result (K.taken keys.old) (K.taken keys.new) }
+    ensures keeps { Keeps (R.tells responder.old) (R.tells responder.new) }
+    ensures counts { CountsFor result (R.tells responder.old) (R.tells responder.new) }
 {
     let mut line = OpenLine {
         bytes: Vec::new(alloc),

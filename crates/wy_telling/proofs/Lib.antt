@@ -1,4 +1,6 @@
 pub mod Looks
+pub mod Prints
+pub mod Throws
 pub mod EndSites
 pub mod Values
 pub mod Merging

@@ -1,22 +1,25 @@
 //! The bytes that the prints of a trace wrote.
 
-ghost use Rattle.std.specs.Prelude.{◌≡◌, ◌++◌, IfOk, OnOk, map, slice_get};
-ghost use Rattle.wy_event.specs.Record.{recorded};
+ghost use Rattle.std.specs.Prelude.{◌≡◌, ◌++◌, ◌<◌, List, Some, IfOk, OnOk, slice_get};
+ghost use Rattle.wy_event.specs.Record.{Recorded};
 ghost use Rattle.wy_kernel.specs.Parts.{program_of};
 ghost use Rattle.wy_kernel.specs.Program.{fixed_text};
 ghost use Rattle.wy_meaning.specs.Text.{line_end};
-ghost use Rattle.wy_meaning.specs.World.{units_in};
 ghost use Rattle.wy_telling.specs.Printed.{AreLineEnds, is_among, printed, printed_by, printed_units};
 ghost use Rattle.wy_value.specs.Encoding.{utf8_of};
 ghost use Rattle.wy_value.specs.Numeral.{has_text, text_of};
+ghost use Rattle.wy_view.specs.References.{ValueBelow};
+ghost use Rattle.wy_view.specs.View.{KeepsCounts, Keeps};
 
-use crate::look::event_at;
+use crate::look::{facts_at, put_text_at};
 use std::alloc::{AllocError, Global};
 use std::marker::Model;
-use wy_event::record::{Event, Kind};
+use std::sync::ledger::Ledger;
+use wy_event::record::Kind;
 use wy_kernel::program::Program;
 use wy_payload::ranges::newlines;
 use wy_value::{Value, digits, to_utf8};
+use wy_view::{EventView, Steps, ViewError};
 
 /// The sites of a program's prints that end a line.
 #[derive(Drop)]
@@ -53,41 +56,49 @@ impl LineEnds {
 }
 
 /// The bytes of all prints, in order.
-pub(crate) fn printed(
+pub(crate) fn printed<V: EventView, L: Ledger>(
     alloc: Global,
     program: &Program,
-    events: &[Event],
-) -> Result<Vec<u8>, AllocError>
-    ensures { IfOk result (λ bytes. bytes.items
-        ≡ printed (program_of program.now) (map recorded events.now)) }
+    view: &mut V,
+    steps: &mut Steps<L>,
+) -> Result<Vec<u8>, ViewError>
+    ensures bytes { (rs : List Recorded) → (V.tells view.old).records ≡ Some rs
+        → IfOk result (λ bytes. bytes.items ≡ printed (program_of program.now) rs) }
+    ensures keeps { Keeps (V.tells view.old) (V.tells view.new) }
+    ensures answers { KeepsCounts result (V.tells view.old) (V.tells view.new) }
 {
     let ends = LineEnds::of(alloc, program)?;
     let mut bytes = Vec::new(alloc);
-    for event in events {
-        put_printed(alloc, &mut bytes, program, &ends, events, event)?;
+    for n in 0..view.count() {
+        put_printed(alloc, &mut bytes, program, &ends, view, n, steps)?;
     }
     Ok(bytes)
 }
 
-/// What an event printed, behind what was printed before.
-#[tactic(auto, unfolding(crate::specs::Printed::printed_by, wy_event::specs::Record::recorded))]
-pub fn put_printed(
+/// What event n printed, behind what was printed before.
+pub fn put_printed<V: EventView, L: Ledger>(
     alloc: Global,
     bytes: &mut Vec<u8>,
     program: &Program,
     ends: &LineEnds,
-    events: &[Event],
-    event: &Event,
-) -> Result<(), AllocError>
-    ensures { AreLineEnds (program_of program.now) ends.now → OnOk result (bytes.new.items
-        ≡ bytes.old.items ++ printed_by (program_of program.now) (map recorded events.now)
-        (recorded event.now)) }
+    view: &mut V,
+    n: u32,
+    steps: &mut Steps<L>,
+) -> Result<(), ViewError>
+    requires there { n < (V.tells view.old).count }
+    ensures bytes { (rs : List Recorded) (e : Recorded) → (V.tells view.old).records ≡ Some rs
+        → slice_get rs n ≡ Some e → AreLineEnds (program_of program.now) ends.now
+        → OnOk result (bytes.new.items
+        ≡ bytes.old.items ++ printed_by (program_of program.now) rs e) }
+    ensures keeps { Keeps (V.tells view.old) (V.tells view.new) }
+    ensures answers { KeepsCounts result (V.tells view.old) (V.tells view.new) }
 {
+    let event = facts_at(view, n, steps)?;
     match event.kind {
         Kind::Print => {
-            let own = bytes_of(alloc, program, events, event.value)?;
-            bytes.extend_from_slice(own.as_slice())?;
-            put_end(bytes, ends.has(event.site))
+            put_units(alloc, bytes, program, view, event.value, steps)?;
+            put_end(bytes, ends.has(event.site))?;
+            Ok(())
         }
         _ => Ok(()),
     }
@@ -103,36 +114,42 @@ fn put_end(bytes: &mut Vec<u8>, ends_line: bool) -> Result<(), AllocError>
     Ok(())
 }
 
-/// The bytes of a printed value.
+/// Puts the bytes of a printed value.
 #[tactic(auto, unfolding(crate::specs::Printed::printed_units))]
-fn bytes_of(
+fn put_units<V: EventView, L: Ledger>(
     alloc: Global,
+    bytes: &mut Vec<u8>,
     program: &Program,
-    events: &[Event],
+    view: &mut V,
     value: Value,
-) -> Result<Vec<u8>, AllocError>
-    ensures { IfOk result (λ bytes. bytes.items
-        ≡ utf8_of (printed_units (program_of program.now) (map recorded events.now) value)) }
+    steps: &mut Steps<L>,
+) -> Result<(), ViewError>
+    requires there { ValueBelow (V.tells view.old).count value }
+    ensures bytes { (rs : List Recorded) → (V.tells view.old).records ≡ Some rs
+        → OnOk result (bytes.new.items
+        ≡ bytes.old.items ++ utf8_of (printed_units (program_of program.now) rs value)) }
+    ensures keeps { Keeps (V.tells view.old) (V.tells view.new) }
+    ensures answers { KeepsCounts result (V.tells view.old) (V.tells view.new) }
 {
     match value {
-        Value::Text(number) => to_utf8(alloc, made_text(events, number)),
-        Value::Fixed(number) => to_utf8(alloc, fixed_text(program, number)),
+        Value::Text(number) => put_text_at(alloc, bytes, view, number, steps),
+        Value::Fixed(number) => {
+            put_utf8(alloc, bytes, fixed_text(program, number))?;
+            Ok(())
+        }
         _ => {
             let units = plain_units(alloc, value)?;
-            to_utf8(alloc, &units)
+            put_utf8(alloc, bytes, &units)?;
+            Ok(())
         }
     }
 }
 
-/// The text that an event made, and none where there is no such event.
-#[tactic(auto, unfolding(wy_meaning::specs::World::units_in, wy_event::specs::Record::recorded))]
-fn made_text(events: &[Event], number: u32) -> &[u16]
-    ensures { result.now ≡ units_in (slice_get (map recorded events.now) number) }
+fn put_utf8(alloc: Global, bytes: &mut Vec<u8>, units: &[u16]) -> Result<(), AllocError>
+    ensures { OnOk result (bytes.new.items ≡ bytes.old.items ++ utf8_of units.now) }
 {
-    match event_at(events, number) {
-        Some(event) => event.units.as_slice(),
-        None => &[],
-    }
+    let own = to_utf8(alloc, units)?;
+    bytes.extend_from_slice(own.as_slice())
 }
 
 /// The units of a constant text, and none where the program hasn't it.

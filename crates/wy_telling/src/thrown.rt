@@ -1,19 +1,22 @@
 //! What a trace says of the Throw that ended its run.
 
-ghost use Rattle.std.specs.Prelude.{◌≡◌, ◌<◌, Some, map, slice_get};
-ghost use Rattle.wy_event.specs.Record.{recorded};
+ghost use Rattle.std.specs.Prelude.{◌≡◌, ◌<◌, List, Some, IfOk, slice_get};
+ghost use Rattle.wy_event.specs.Record.{Recorded};
 ghost use Rattle.wy_kernel.specs.View.{present};
 ghost use Rattle.wy_kernel.specs.Program.{class_of_type};
 ghost use Rattle.wy_meaning.specs.World.{object_in, type_in};
 ghost use Rattle.wy_steps.specs.Steps.{code_of};
-ghost use Rattle.wy_telling.specs.Thrown.{class_thrown, thrown_class, thrown_site};
+ghost use Rattle.wy_telling.specs.Thrown.{thrown_class, thrown_site};
+ghost use Rattle.wy_view.specs.View.{KeepsCounts, Keeps};
 
-use crate::look::event_at;
-use wy_event::record::{Event, Thrown};
+use crate::look::facts_at;
+use std::sync::ledger::Ledger;
+use wy_event::record::Thrown;
 use wy_kernel::builtin::OBJECT;
 use wy_kernel::code::class_of_code;
 use wy_kernel::types::NONE;
 use wy_value::Value;
+use wy_view::{EventView, Steps, ViewError};
 
 const NOTHING: Thrown = Thrown {
     class: NONE,
@@ -21,31 +24,27 @@ const NOTHING: Thrown = Thrown {
 };
 
 /// What the Throw that is event `last` threw, and where; neither where there is no such event.
-#[tactic(auto, unfolding(crate::specs::Thrown::thrown_class, crate::specs::Thrown::thrown_site, wy_event::specs::Record::recorded, wy_kernel::specs::View::present))]
-pub(crate) fn thrown(events: &[Event], last: u32) -> Thrown
-    ensures class { present result.class ≡ thrown_class (map recorded events.now) (present last) }
-    ensures site { present result.site ≡ thrown_site (map recorded events.now) (present last) }
+pub(crate) fn thrown<V: EventView, L: Ledger>(
+    view: &mut V,
+    last: u32,
+    steps: &mut Steps<L>,
+) -> Result<Thrown, ViewError>
+    ensures class { (rs : List Recorded) → (V.tells view.old).records ≡ Some rs
+        → IfOk result (λ t. present t.class ≡ thrown_class rs (present last)) }
+    ensures site { (rs : List Recorded) → (V.tells view.old).records ≡ Some rs
+        → IfOk result (λ t. present t.site ≡ thrown_site rs (present last)) }
+    ensures keeps { Keeps (V.tells view.old) (V.tells view.new) }
+    ensures answers { KeepsCounts result (V.tells view.old) (V.tells view.new) }
 {
-    if last == NONE {
-        return NOTHING;
+    if last >= view.count() {
+        return Ok(NOTHING);
     }
-    match event_at(events, last) {
-        Some(throw) => thrown_by(events, throw),
-        None => NOTHING,
-    }
-}
-
-/// What an event threw, and where.
-#[tactic(auto, unfolding(wy_event::specs::Record::recorded), using(crate::proofs::Values::is_there))]
-fn thrown_by(events: &[Event], throw: &Event) -> Thrown
-    ensures class { present result.class
-        ≡ Some (class_thrown (map recorded events.now) (recorded throw.now)) }
-    ensures site { result.site ≡ throw.now.site }
-{
-    Thrown {
-        class: class_at(events, object_in(throw.value)),
+    let throw = facts_at(view, last, steps)?;
+    let class = class_at(view, object_in(throw.value), steps)?;
+    Ok(Thrown {
+        class,
         site: throw.site,
-    }
+    })
 }
 
 #[tactic(auto, unfolding(wy_meaning::specs::World::object_in))]
@@ -59,16 +58,22 @@ fn object_in(value: Value) -> u32
 }
 
 /// The class of the object that an event made.
-#[tactic(auto, unfolding(wy_meaning::specs::World::type_in, wy_event::specs::Record::recorded, wy_kernel::specs::Program::class_of_type))]
-fn class_at(events: &[Event], number: u32) -> u32
-    ensures class { result
-        ≡ class_of_type (type_in (slice_get (map recorded events.now) number)) }
-    ensures there { result < NONE }
+fn class_at<V: EventView, L: Ledger>(
+    view: &mut V,
+    number: u32,
+    steps: &mut Steps<L>,
+) -> Result<u32, ViewError>
+    ensures class { (rs : List Recorded) → (V.tells view.old).records ≡ Some rs
+        → IfOk result (λ class. class ≡ class_of_type (type_in (slice_get rs number))) }
+    ensures there { IfOk result (λ class. class < NONE) }
+    ensures keeps { Keeps (V.tells view.old) (V.tells view.new) }
+    ensures answers { KeepsCounts result (V.tells view.old) (V.tells view.new) }
 {
-    match event_at(events, number) {
-        Some(event) => class_of_code(code_of(event.entity)),
-        None => OBJECT,
+    if number >= view.count() {
+        return Ok(OBJECT);
     }
+    let made = facts_at(view, number, steps)?;
+    Ok(class_of_code(code_of(made.entity)))
 }
 
 #[tactic(auto, unfolding(wy_steps::specs::Steps::code_of, wy_kernel::specs::View::present))]

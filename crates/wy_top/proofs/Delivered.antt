@@ -15,7 +15,7 @@ use Rattle.wy_top.specs.Answers.{Counts, IsAnswer, IsFault, Knows}
 use Rattle.wy_top.specs.Deliveries.{Delivers, WritesPart}
 use Rattle.wy_top.specs.Left.{StartsNone}
 use Rattle.wy_reply.specs.Refused.{IsDoneOrRefused}
-use Rattle.wy_top.specs.Call.{BeginsDue, Failures, IsFaultBehind, WritesDue, WritesFaultLine, WritesPrefix, WritesRefusal, alone, whole}
+use Rattle.wy_top.specs.Call.{BeginsDue, Failures, IsFaultBehind, IsOfTrace, WritesDue, WritesFaultLine, WritesLast, WritesPrefix, WritesRefusal, alone, whole}
 
 -- ---- statuses by their numbers
 
@@ -70,6 +70,19 @@ usage_at TooLong e = absurd cc
 usage_at NoMemory e = absurd cc
 usage_at Audit e = absurd cc
 usage_at Certificate e = absurd cc
+
+pub absent_at : (s : Status) → code_of s ≡ 3 → s ≡ Absent
+absent_at Done e = absurd cc
+absent_at Usage e = absurd cc
+absent_at Absent e = refl
+absent_at Program e = absurd cc
+absent_at Trace e = absurd cc
+absent_at Question e = absurd cc
+absent_at Fault e = absurd cc
+absent_at TooLong e = absurd cc
+absent_at NoMemory e = absurd cc
+absent_at Audit e = absurd cc
+absent_at Certificate e = absurd cc
 
 -- ---- what is written
 
@@ -172,3 +185,33 @@ written_alone n m before after answer status code (inl (same, kept, all)) is som
     ∥∥₁_map answer.line (refused_line before after answer code (is ∙ ap code_of same) all some)
 written_alone n m before after answer status code (inr (inl (fault, rose, part))) is some enough out = absurd (out rose)
 written_alone n m before after answer status code (inr (inr (memory, kept, part))) is some enough out = absurd (enough (is ∙ ap code_of memory))
+
+-- ---- one line at the end
+
+pub none_of_0 : IsOfTrace 0 → ⊥
+none_of_0 (inl e) = absurd cc
+none_of_0 (inr e) = absurd cc
+
+pub none_of_7 : IsOfTrace 7 → ⊥
+none_of_7 (inl e) = absurd cc
+none_of_7 (inr e) = absurd cc
+
+pub none_of_8 : IsOfTrace 8 → ⊥
+none_of_8 (inl e) = absurd cc
+none_of_8 (inr e) = absurd cc
+
+pub none_of_9 : IsOfTrace 9 → ⊥
+none_of_9 (inl e) = absurd cc
+none_of_9 (inr e) = absurd cc
+
+-- behind what was said
+pub last_line : (before after : Option (List ℕ)) (answer : Answer) (code : ℕ) (said : List ℕ) → code ≡ code_of answer.status → IsOfTrace code → after ≡ appended before (said ++ answer.text.items)
+    → IsDoneOrRefused answer.status answer.text.items → WritesLast code before after
+last_line before after answer code said is of_trace all (inl done) = absurd (none_of_0 (subst IsOfTrace (is ∙ ap code_of done) of_trace))
+last_line before after answer code said is of_trace all (inr refused) = (said, answer.status, answer.text.items, is, refused, all)
+
+pub written_last : (n m : ℕ) (before after : Option (List ℕ)) (answer : Answer) (status : Status) (code : ℕ) → Delivers answer status n m before after → code ≡ code_of status → IsOfTrace code → ¬ Rose n m
+    → ∥ WritesLast code before after ∥₁
+written_last n m before after answer status code (inl (same, kept, all)) is of_trace out = ∥∥₁_map answer.line (last_line before after answer code [] (is ∙ ap code_of same) of_trace all)
+written_last n m before after answer status code (inr (inl (fault, rose, part))) is of_trace out = absurd (out rose)
+written_last n m before after answer status code (inr (inr (memory, kept, part))) is of_trace out = absurd (none_of_9 (subst IsOfTrace (is ∙ ap code_of memory) of_trace))

@@ -1,37 +1,30 @@
 -- What is answered from a trace whose front was read first.
-use Rattle.std.proofs.Common.{◌≡◌, ◌∙◌, sym, ap, subst, refl, ℕ, ◌+◌, ◌≤◌, List, [], ◌++◌, length, length-append, Option, Some, None, Result, Ok, Err, IfOk, arith}
-use Rattle.std.specs.declared.alloc.AllocError.{AllocError}
-use Rattle.wy_kernel.specs.Limits.{source_limit, trace_limit}
+use Rattle.std.proofs.Common.{◌≡◌, ◌∙◌, sym, ap, subst, refl, ℕ, ◌+◌, ◌≤◌, List, [], ◌++◌, length, length-append, Option, Some, None, Ok, arith}
+use Rattle.wy_kernel.specs.Limits.{trace_limit}
 use Rattle.wy_kernel.specs.declared.program.Program as memory
 use Rattle.wy_event.specs.declared.record.Head.{Head}
 use Rattle.wy_event.specs.declared.record.Version.{Version}
 use Rattle.wy_spelling.specs.Spelling.{opening}
 use Rattle.wy_frames.specs.Heads.{head_of}
-use Rattle.law_reading.specs.Spelled.{AreBytes, HeadsAreShort}
+use Rattle.law_reading.specs.Spelled.{AreBytes}
 use Rattle.wy_outside.specs.Shelf.{Files}
 use Rattle.wy_page.specs.Opening.{BeginsWith, FrontsBeginTraces, MayBeOpened}
 use Rattle.wy_program.specs.Programs.{IsProgramOf}
 use Rattle.wy_program.specs.Sources.{IsCauseOf}
 use Rattle.wy_program.specs.declared.source.SourceError.{SourceError}
 use Rattle.wy_reply.specs.declared.answer.Answer.{Answer}
-use Rattle.wy_reply.specs.declared.status.Status.TheVariants as status
 use Rattle.wy_reply.specs.Lines.{of_trace}
 use Rattle.wy_reply.specs.Statuses.{is_of_files}
-use Rattle.wy_reply.specs.Tellings.{Wanted}
-use Rattle.wy_top.specs.Call.{AnswersRunOf}
-use Rattle.wy_top.specs.Due.{DueForBytes, DueForTrace}
+use Rattle.wy_top.specs.Due.{DueForBytes}
 use Rattle.wy_top.specs.Due as due
 use Rattle.wy_top.specs.Held.{Holds}
-use Rattle.wy_top.specs.Paging.{AnswersFrom, BeginsFile, DueInFile, IsByRun}
+use Rattle.wy_top.specs.Paging.{BeginsFile}
 use Rattle.wy_top.specs.Replies.{RefusesTrace, ShelfCounts}
-use Rattle.wy_top.proofs.OneText.{Known}
-use Rattle.wy_top.proofs.Paging.{settled_from}
-use Rattle.wy_top.proofs.RunAnswers.{CutLaws, run_answered}
+use Rattle.wy_top.proofs.Paging.{InPlace, IsHeaded, settled_any}
 
 -- a front from which a head is read in a version
 pub record IsFront (front : List ℕ) (head : Head) (v : Version) : Type 0 where
   pub fronts : FrontsBeginTraces
-  pub short : HeadsAreShort
   pub are : AreBytes front
   pub end : ℕ
   pub read : head_of front ≡ Ok (head, end, v)
@@ -59,42 +52,20 @@ pub may_be_opened : (held : Option Files) (name front : List ℕ) (head : Head) 
 may_be_opened None name front head v f file = tt
 may_be_opened (Some files) name front head v f (others, holds) = λ bytes found. subst (BeginsWith v head) (one_file files name (front ++ others) bytes holds.found found) (begins front head v f others holds.within)
 
--- ---- what is due
-
-pub front_due : (held : Option Files) (name front : List ℕ) (head : Head) (v : Version) (p : memory.Program) (w : Wanted) → IsFront front head v → BeginsFile held name front → IsProgramOf head.source p
-    → (files : Files) → held ≡ Some files → (s : ℕ) (x : List ℕ) → DueInFile name p w files s x → DueForTrace files name w s x
-front_due held name front head v p w f file of files told s x is =
+-- where the files are told, so is what the file begins with, and the program of that
+pub headed : (held : Option Files) (name front : List ℕ) (head : Head) (v : Version) (p : memory.Program) → IsFront front head v → BeginsFile held name front → IsProgramOf head.source p → (files : Files) → held ≡ Some files → IsHeaded files name p
+headed held name front head v p f file of files told =
     let there = file_at held name front file files told in
-    let bytes : List ℕ = front ++ there.0 in
-    let read = (begins front head v f there.0 there.1.within).read in
-    due.read bytes s x there.1 (due.program head (length (opening v head)) v p s x read of (is bytes there.1))
+    record { bytes = front ++ there.0; holds = there.1; head = head; end = length (opening v head); version = v; is_head = (begins front head v f there.0 there.1.within).read; is_program = of }
 
 -- the source of the head is no program
-pub front_refused : (held : Option Files) (name front : List ℕ) (head : Head) (v : Version) (w : Wanted) (e : SourceError) (before : ShelfCounts) (r : Result Answer AllocError) → IsFront front head v → BeginsFile held name front → IsCauseOf head.source e
-    → IfOk r (λ answer. RefusesTrace e answer) → IfOk r (AnswersFrom (λ files. DueForTrace files name w) held before before)
-front_refused held name front head v w e before (Err x) f file cause refuses = tt
-front_refused held name front head v w e before (Ok answer) f file cause (is, line) =
+pub sourceless_any : (held : Option Files) (name front : List ℕ) (head : Head) (v : Version) (e : SourceError) (before : ShelfCounts) (answer : Answer) → IsFront front head v → BeginsFile held name front → IsCauseOf head.source e
+    → RefusesTrace e answer → InPlace held name before before answer
+sourceless_any held name front head v e before answer f file cause (is, line) =
     let no = line head.source cause in
-    settled_from (λ files. DueForTrace files name w) held before before answer (ap is_of_files is) refl (λ files told.
+    settled_any held name before before answer (ap is_of_files is) (λ done. let x = sym is ∙ done in cc) refl (λ w files told.
     let there = file_at held name front file files told in
     let bytes : List ℕ = front ++ there.0 in
     let read = (begins front head v f there.0 there.1.within).read in
     let said : DueForBytes bytes w 5 (of_trace no.0) = due.no_program head (length (opening v head)) v no.0 read no.1 in
     rw (is, no.2) (due.read bytes 5 (of_trace no.0) there.1 said))
-
--- ---- by a run
-
-pub front_answered : Known → CutLaws → (held : Option Files) (name front : List ℕ) (head : Head) (v : Version) (p : memory.Program) (w : Wanted) (r : Result Answer AllocError) → IsFront front head v → BeginsFile held name front → IsProgramOf head.source p
-    → IfOk r (λ answer. answer.status ≡ status.Done → IsByRun held name p w answer.text.items) → IfOk r (λ answer. answer.status ≡ status.Done → AnswersRunOf held name w answer.text.items)
-front_answered known laws held name front head v p w (Err x) f file of by_run = tt
-front_answered known laws held name front head v p w (Ok answer) f file of by_run = λ done files bytes told found.
-    let there = file_at held name front file files told in
-    let same : front ++ there.0 ≡ bytes = one_file files name (front ++ there.0) bytes there.1.found found in
-    let holds = subst (Holds files name trace_limit) same there.1 in
-    let read = (subst (BeginsWith v head) same (begins front head v f there.0 there.1.within)).read in
-    let is = by_run done files bytes told holds in
-    run_answered known laws head.source bytes w p answer.text.items head (length (opening v head)) v (f.short front head f.end v f.read) of read refl is.0 is.1
-
-pub refused_answered : (held : Option Files) (name : List ℕ) (w : Wanted) (e : SourceError) (r : Result Answer AllocError) → IfOk r (λ answer. RefusesTrace e answer) → IfOk r (λ answer. answer.status ≡ status.Done → AnswersRunOf held name w answer.text.items)
-refused_answered held name w e (Err x) refuses = tt
-refused_answered held name w e (Ok answer) (is, line) = λ done. absurd (let x = sym is ∙ done in cc)

@@ -7,6 +7,7 @@ pub mod OneText
 pub mod OneTrace
 pub mod RunAnswers
 pub mod Sessions
+pub mod Explored
 pub mod Opened
 pub mod Requests
 pub mod Generated
@@ -16,3 +17,4 @@ mod Certified
 mod Sound
 pub mod Paging
 pub mod Fronts
+pub mod Scenes

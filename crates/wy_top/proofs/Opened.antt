@@ -4,30 +4,20 @@ use Rattle.std.specs.Prelude.{MatchBool}
 use Rattle.std.specs.declared.alloc.AllocError.{AllocError}
 use Rattle.wy_kernel.specs.declared.program.Program.{Program}
 use Rattle.wy_event.specs.declared.record.Trace.{Trace}
-use Rattle.wy_event.specs.declared.record.Event.{Event}
-use Rattle.wy_event.specs.declared.record.Cover.{Cover}
 use Rattle.wy_frames.specs.Heads.{head_of}
 use Rattle.wy_frames.specs.Traces.{IsReadAs}
 use Rattle.wy_frames.specs.declared.error.TraceError.{TraceError}
 use Rattle.law_reading.specs.Spelled.{AreBytes}
 use Rattle.wy_outside.specs.Counts.{Rose}
 use Rattle.wy_outside.specs.Shelf.{Files}
-use Rattle.wy_view.specs.View.{Keeps}
-use Rattle.wy_view.specs.Whole.{whole}
-use Rattle.wy_view.specs.declared.memory.MemoryView.{MemoryView}
-use Rattle.wy_ask.specs.declared.opened.Opened.{Opened}
-use Rattle.wy_session.specs.Desk.{scene_in, scene_of}
-use Rattle.wy_session.specs.Closings.{Closed, TakesManyFor, failures}
-use Rattle.wy_session.specs.declared.ending.Ending.{Ending}
 use Rattle.wy_reply.specs.declared.answer.Answer.{Answer}
 use Rattle.wy_reply.specs.declared.status.Status.{Status}
 use Rattle.wy_reply.specs.declared.status.Status.TheVariants.{Absent, Fault, TooLong, Usage}
 use Rattle.wy_reply.specs.Lines.{absent_line, too_long_line}
 use Rattle.wy_reply.specs.Statuses.{code_of, is_of_files}
-use Rattle.wy_reply.specs.Opening.{IsDecoded, IsOpenedTrace}
-use Rattle.wy_reply.proofs.Opening.{opened_trace}
+use Rattle.wy_reply.specs.Opening.{IsDecoded}
 use Rattle.wy_reply.specs.Tellings as tellings
-use Rattle.wy_reply.specs.Tellings.{IsTraceLine, Wanted, covers_of}
+use Rattle.wy_reply.specs.Tellings.{IsTraceLine, Wanted}
 use Rattle.wy_top.specs.declared.files.FileError.{FileError}
 use Rattle.wy_top.specs.declared.files.FileError.TheVariants as error
 use Rattle.wy_top.specs.declared.opening.Opening.{Opening}
@@ -36,7 +26,7 @@ use Rattle.wy_top.specs.Call.{IsOpened}
 use Rattle.wy_top.specs.Due.{DueForBytes, DueForTrace}
 use Rattle.wy_top.specs.Due as due
 use Rattle.wy_kernel.specs.Limits.{trace_limit}
-use Rattle.wy_top.specs.Openings.{AnswersAny, Explores, IsSettled, Keys, OpensBytes, OpensFile, Output, session, status_of}
+use Rattle.wy_top.specs.Openings.{AnswersAny, IsSettled, OpensBytes, OpensFile}
 use Rattle.wy_program.specs.Openings.{ByHead, IsNoTrace}
 use Rattle.wy_program.specs.Programs.{IsProgramOf}
 use Rattle.wy_program.specs.Sources.{IsCauseOf}
@@ -152,13 +142,3 @@ pub lacking_file : (held : Option Files) (name : List ℕ) (e : FileError) (befo
     MatchBool (is_fault e) (Rose before.faults after.faults) (after.faults ≡ before.faults) → MatchBool (is_absent e) (Rose before.misses after.misses) (after.misses ≡ before.misses) →
     MatchBool (is_too_long e) (Rose before.fulls after.fulls) (after.fulls ≡ before.fulls) → Tells e answer → OpensFile held name before after (Refused answer)
 lacking_file held name e before after answer gives fault absent long tells = (lack_caused e before after answer absent long tells, any_lack held name e before after answer gives fault tells)
-
--- ---- a session over it
-
-pub session_explores : (held : Option Files) (name : List ℕ) (sb sa : ShelfCounts) (kb ka : Keys) (b a : Output) (typed : TypedProgram) (t : Trace) (o : Opened MemoryView) (events : List Event) (covers : List Cover) (e : Ending) (s : Status) → OpensFile held name sb sa (Open typed t) →
-    events ≡ t.events → covers ≡ covers_of t → o.program.now ≡ typed.program → o.coverage.now ≡ covers → Keeps (whole events None) (whole o.view.events.items None) → s ≡ status_of e →
-    Closed (scene_in o) kb.left (failures kb.faults ka.faults b.faults a.faults) b.written a.written e → TakesManyFor e kb.taken ka.taken → Explores held name sb sa kb ka b a s
-session_explores held name sb sa kb ka b a typed t o events covers e s opens listed covered program held_covers keeps is closed takes =
-    let opened : IsOpenedTrace t o = opened_trace t o events covers listed covered keeps held_covers in
-    let scene : scene_in o ≡ scene_of typed.program t.events (covers_of t) = rw (program, opened.events, opened.covers) refl in
-    subst (Explores held name sb sa kb ka b a) (sym is) (session typed.program t e opens.1 opens.2 (subst (λ x. Closed x kb.left (failures kb.faults ka.faults b.faults a.faults) b.written a.written e) scene closed) takes)

@@ -7,12 +7,16 @@ use Rattle.std.proofs.lemmas.Bool.{leb-false, leb-true}
 use Rattle.std.specs.Option.{unwrap_or}
 use Rattle.wy_kernel.specs.Limits.{trace_limit}
 use Rattle.wy_kernel.specs.declared.program.Program.{Program}
+use Rattle.wy_event.specs.declared.record.Head.{Head}
 use Rattle.wy_event.specs.declared.record.Tail.{Tail}
+use Rattle.wy_event.specs.declared.record.Version.{Version}
 use Rattle.wy_fitting.specs.Fits.{EndFits}
+use Rattle.wy_frames.specs.Heads.{head_of}
 use Rattle.wy_frames.specs.Traces.{ReadsAs}
+use Rattle.wy_program.specs.Programs.{IsProgramOf}
 use Rattle.wy_frames.specs.declared.error.TraceError.{TraceError}
 use Rattle.wy_frames.specs.declared.error.TraceError.TheVariants as trace
-use Rattle.law_reading.specs.Spelled.{TracesAreSpelled}
+use Rattle.law_reading.specs.Spelled.{HeadsAreShort, TracesAreSpelled}
 use Rattle.wy_page.specs.Opening.{IsOpened, OpenCounts, Opens, OpensAs}
 use Rattle.wy_page.specs.declared.error.PageError.{PageError}
 use Rattle.wy_page.specs.declared.error.PageError.TheVariants as page
@@ -28,25 +32,30 @@ use Rattle.wy_view.specs.declared.view.ViewError.TheVariants as view
 use Rattle.wy_reply.specs.declared.answer.Answer.{Answer}
 use Rattle.wy_reply.specs.declared.status.Status.TheVariants as status
 use Rattle.wy_reply.specs.Statuses.{code_of, is_of_files}
-use Rattle.wy_event.specs.declared.record.Cover.{Cover}
+use Rattle.wy_event.specs.Record.{Recorded, recorded}
 use Rattle.wy_event.specs.declared.record.Trace.{Trace}
 use Rattle.wy_page.specs.declared.pages.Pages.{Pages}
 use Rattle.wy_page.specs.Paged.{records_of, records_told}
-use Rattle.wy_reply.specs.Opening.{IsDecoded, IsViewOf}
+use Rattle.wy_reply.specs.Opening.{IsDecoded}
 use Rattle.wy_reply.specs.Certificates.{seal_of}
 use Rattle.wy_reply.specs.Tellings as tellings
 use Rattle.wy_reply.specs.Tellings.{DueUnder, IsTraceLine, RefusesTrace, Wanted}
 use Rattle.wy_top.specs.declared.files.FileError.{FileError}
 use Rattle.wy_top.specs.declared.files.FileError.TheVariants as error
 use Rattle.wy_top.specs.Answers.{Counts, counts}
-use Rattle.wy_top.specs.Call.{AnswersRunOf}
+use Rattle.wy_top.specs.Call.{AnswersRun, AnswersRunOf}
 use Rattle.wy_top.specs.Due.{DueForTrace}
+use Rattle.wy_top.specs.Due as due
+use Rattle.wy_top.specs.Openings.{AnswersAny, RefusesView, TellsRefusal}
 use Rattle.wy_top.specs.Held.{Holds, absent, too_long}
-use Rattle.wy_top.specs.Paging.{AnswersFrom, ArePagesOf, BeginsFile, DueInFile, DueInPages, GivesFirst, GivesFront, IsByRun, LooksUp, RefusesView, TellsRefusal}
+use Rattle.wy_top.specs.Paging.{AnswersFrom, ArePagesOf, BeginsFile, DueInPages, GivesFirst, GivesFront, IsPaged, LooksUp, OpensPages}
+use Rattle.wy_top.specs.declared.shelved.Shelved.TheVariants.{Refused}
 use Rattle.wy_top.specs.Reads.{GivesFile, Tells, is_absent, is_fault, is_too_long, lack}
 use Rattle.wy_top.specs.Replies.{AnswersBy, HasCause, ShelfCounts, at_shelf}
-use Rattle.wy_top.proofs.AnswerLemmas.{DueBy, no_fault, trace_lack}
-use Rattle.wy_top.proofs.Opened.{caused, lack_caused}
+use Rattle.wy_top.proofs.AnswerLemmas.{DueBy, no_fault}
+use Rattle.wy_top.proofs.OneText.{Known}
+use Rattle.wy_top.proofs.Opened.{caused, lacking_file}
+use Rattle.wy_top.proofs.RunAnswers.{CutLaws, run_answered}
 
 -- ---- a shelf that gives nothing
 
@@ -126,14 +135,6 @@ settled_from due held before after answer settled same is = record {
   is = λ n. inr (ap (λ k. counts k n) same, no_fault answer.status settled, is);
 }
 
-pub lack_from : (held : Option Files) (name : List ℕ) (w : Wanted) (e : FileError) (before after : ShelfCounts) (answer : Answer) → GivesFile held name trace_limit (Err e)
-    → MatchBool (is_fault e) (Rose before.faults after.faults) (after.faults ≡ before.faults) → MatchBool (is_absent e) (Rose before.misses after.misses) (after.misses ≡ before.misses)
-    → MatchBool (is_too_long e) (Rose before.fulls after.fulls) (after.fulls ≡ before.fulls) → Tells e answer → AnswersFrom (λ files. DueForTrace files name w) held before after answer
-lack_from held name w e before after answer gives failed missed full tells = record {
-  caused = lack_caused e before after answer missed full tells;
-  is = λ n. trace_lack held name w e before.faults after.faults n (Ok answer) gives failed tells;
-}
-
 -- where a view refused
 pub view_from : (due : DueBy) (held : Option Files) (before after : ShelfCounts) (name : List ℕ) (e : ViewError) (answer : Answer) → RefusesView ((files : Files) → held ≡ Some files → (s : ℕ) (x : List ℕ) → due files s x) e before after → TellsRefusal name e answer → AnswersFrom due held before after answer
 view_from due held before after name view.ReadFault answer rose (is, line) = record {
@@ -167,7 +168,7 @@ same_counts a b c x y z first second third = rw (first, second, third) refl
 
 -- ---- through a view
 
-refused_in : (e : ViewError) (old new : Told) (after : ShelfCounts) (fulls : ℕ) → after.faults ≡ new.faults → after.misses ≡ new.misses → RefusedFor e old new → RefusesView (old.records ≡ None) e (at_shelf old.faults old.misses fulls) after
+pub refused_in : (e : ViewError) (old new : Told) (after : ShelfCounts) (fulls : ℕ) → after.faults ≡ new.faults → after.misses ≡ new.misses → RefusedFor e old new → RefusesView (old.records ≡ None) e (at_shelf old.faults old.misses fulls) after
 refused_in view.ReadFault old new after fulls faults misses rose = subst (Rose old.faults) (sym faults) rose
 refused_in view.Gone old new after fulls faults misses (rose, same, untold) = (subst (Rose old.misses) (sym misses) rose, faults ∙ same, untold)
 refused_in (view.Changed block kept found) old new after fulls faults misses (rose, differ, same, untold) = (faults ∙ same, untold)
@@ -194,8 +195,8 @@ refused_from due pages held before after name e (Ok answer) refuses tells = view
 refused_from due pages held before after name e (Err x) refuses tells = tt
 
 -- the records of pages that a view tells
-pub view_of : (t : Trace) (pages : Pages) (listed : List Cover) (files : Files) (held : Option Files) (told : Told) → held ≡ Some files → told.records ≡ records_told pages held → ArePagesOf t pages listed files → IsViewOf t told listed
-view_of t pages listed files held told is shown are = record { records = shown ∙ ap (records_told pages) is ∙ are.records; covers = are.covers }
+pub view_of : (t : Trace) (pages : Pages) (tail : Tail) (files : Files) (held : Option Files) (told : Option (List Recorded)) → held ≡ Some files → told ≡ records_told pages held → ArePagesOf t pages tail files → told ≡ Some (map recorded t.events)
+view_of t pages tail files held told is shown are = shown ∙ ap (records_told pages) is ∙ are.records
 
 -- what is due where an answer is done
 settled_due : (due : DueBy) (held : Option Files) (before after : Counts) (answer : Answer) → answer.status ≡ status.Done → AnswersBy due held before after answer → (files : Files) → held ≡ Some files → due files 0 answer.text.items
@@ -212,32 +213,64 @@ decoded : (p : Program) (pages : Pages) (tail : Tail) (bytes : List ℕ) (o : Is
 decoded p pages tail bytes o short = record { are_bytes = o.are_bytes; short = short; reads = o.read }
 
 -- what is kept is of the trace that the bytes of the file are read as
-pages_of : TracesAreSpelled → (p : Program) (pages : Pages) (tail : Tail) (files : Files) (name bytes : List ℕ) (o : IsOpened pages tail p bytes) → string_bytes pages.name ≡ name → Holds files name trace_limit bytes → ArePagesOf o.trace pages tail.coverage.statements files
+pages_of : TracesAreSpelled → (p : Program) (pages : Pages) (tail : Tail) (files : Files) (name bytes : List ℕ) (o : IsOpened pages tail p bytes) → string_bytes pages.name ≡ name → Holds files name trace_limit bytes → ArePagesOf o.trace pages tail files
 pages_of spelled p pages tail files name bytes o named holds =
     let file : files (string_bytes pages.name) ≡ Some bytes = ap files named ∙ holds.found in
     record {
       records = ap (λ f. Some (records_of pages.version pages.starts pages.count (unwrap_or f []))) file ∙ ap Some o.records_are;
-      covers = ap (λ (x : Tail). x.coverage.statements) o.tail_is;
+      tail_is = o.tail_is;
       seal = sym o.seal_is.1 ∙ (sealed_end spelled p bytes o.trace (decoded p pages tail bytes o holds.within)).1 ∙ ap (λ v. seal_of v o.trace) (sym o.version_is);
     }
 
-pub opened_due : TracesAreSpelled → (held : Option Files) (name : List ℕ) (p : Program) (w : Wanted) (pages : Pages) (tail : Tail) → Opens held name p (Ok (pages, tail)) → string_bytes pages.name ≡ name
-    → (files : Files) → held ≡ Some files → (s : ℕ) (x : List ℕ) → DueInPages p pages tail.coverage.statements w files s x → DueInFile name p w files s x
-opened_due spelled held name p w pages tail opens named files told s x due = λ bytes holds.
-    let o : IsOpened pages tail p bytes = open_at held name p (Ok (pages, tail)) opens files told bytes holds.found in
-    let are = pages_of spelled p pages tail files name bytes o named holds in
-    tellings.told o.trace s x o.read (subst (λ (l : List ℕ). tellings.Tells p l o.trace w s x) (are.seal ∙ ap (λ v. seal_of v o.trace) o.version_is) (due o.trace are))
+-- the bytes of a file, the head that they are read to begin with, and the program of that
+pub record IsHeaded (files : Files) (name : List ℕ) (p : Program) : Type 0 where
+  pub bytes : List ℕ
+  pub holds : Holds files name trace_limit bytes
+  pub head : Head
+  pub end : ℕ
+  pub version : Version
+  pub is_head : head_of bytes ≡ Ok (head, end, version)
+  pub is_program : IsProgramOf head.source p
+
+pub paged_by : TracesAreSpelled → (held : Option Files) (name : List ℕ) (p : Program) (pages : Pages) (tail : Tail) → Opens held name p (Ok (pages, tail)) → string_bytes pages.name ≡ name → EndFits tail
+    → ((files : Files) → held ≡ Some files → IsHeaded files name p) → (files : Files) → held ≡ Some files → IsPaged files name p pages tail
+paged_by spelled held name p pages tail opens named fits headed files told =
+    let h = headed files told in
+    let o : IsOpened pages tail p h.bytes = open_at held name p (Ok (pages, tail)) opens files told h.bytes h.holds.found in
+    record {
+      trace = o.trace;
+      opened = record { bytes = h.bytes; holds = h.holds; head = h.head; end = h.end; version = h.version; is_head = h.is_head; is_program = h.is_program; is_read = o.read };
+      are_bytes = o.are_bytes;
+      version_is = o.version_is;
+      pages_are = pages_of spelled p pages tail files name h.bytes o named h.holds;
+      end_fits = subst EndFits o.tail_is fits;
+    }
+
+-- what is due of the pages is due of the file
+pub paged_due : (held : Option Files) (name : List ℕ) (p : Program) (w : Wanted) (pages : Pages) (tail : Tail) → ((files : Files) → held ≡ Some files → IsPaged files name p pages tail)
+    → (files : Files) → held ≡ Some files → (s : ℕ) (x : List ℕ) → DueInPages p pages tail w files s x → DueForTrace files name w s x
+paged_due held name p w pages tail paged files told s x is =
+    let f = paged files told in
+    let o = f.opened in
+    due.read o.bytes s x o.holds (due.program o.head o.end o.version p s x o.is_head o.is_program
+    (tellings.told f.trace s x o.is_read (subst (λ (l : List ℕ). tellings.Tells p l f.trace w s x) (f.pages_are.seal ∙ ap (λ v. seal_of v f.trace) f.version_is) (is f.trace f.pages_are))))
 
 -- what is told is by each run whose trace it is
-pub opened_by_run : TracesAreSpelled → TellingsAreByRuns → (held : Option Files) (name : List ℕ) (p : Program) (w : Wanted) (pages : Pages) (tail : Tail) (before after : ShelfCounts) (r : Result Answer AllocError)
-    → EndFits tail → Opens held name p (Ok (pages, tail)) → string_bytes pages.name ≡ name
-    → IfOk r (AnswersFrom (DueInPages p pages tail.coverage.statements w) held before after) → IfOk r (λ answer. answer.status ≡ status.Done → IsByRun held name p w answer.text.items)
-opened_by_run spelled by_runs held name p w pages tail before after (Err e) fits opens named from = tt
-opened_by_run spelled by_runs held name p w pages tail before after (Ok answer) fits opens named from = λ done files bytes told holds.
-    let o : IsOpened pages tail p bytes = open_at held name p (Ok (pages, tail)) opens files told bytes holds.found in
-    let laws = by_runs p bytes o.trace (decoded p pages tail bytes o holds.within) (subst EndFits o.tail_is fits) in
-    let due = settled_due (DueInPages p pages tail.coverage.statements w) held _ _ answer done (from.is 0) files told o.trace (pages_of spelled p pages tail files name bytes o named holds) in
-    (laws.0, laws.1 pages.seal w answer.text.items due)
+pub paged_answered : Known → CutLaws → HeadsAreShort → TellingsAreByRuns → (held : Option Files) (name : List ℕ) (p : Program) (w : Wanted) (pages : Pages) (tail : Tail) (before after : ShelfCounts) (r : Result Answer AllocError)
+    → ((files : Files) → held ≡ Some files → IsPaged files name p pages tail) → IfOk r (AnswersFrom (DueInPages p pages tail w) held before after)
+    → IfOk r (λ answer. answer.status ≡ status.Done → AnswersRunOf held name w answer.text.items)
+paged_answered known laws short by_runs held name p w pages tail before after (Err e) paged from = tt
+paged_answered known laws short by_runs held name p w pages tail before after (Ok answer) paged from = λ done files bytes told found.
+    let f = paged files told in
+    let o = f.opened in
+    let read : IsDecoded p o.bytes f.trace = record { are_bytes = f.are_bytes; short = o.holds.within; reads = o.is_read } in
+    let by_run = by_runs p o.bytes f.trace read f.end_fits in
+    let tells = settled_due (DueInPages p pages tail w) held _ _ answer done (from.is 0) files told f.trace f.pages_are in
+    let same : o.bytes ≡ bytes = some_is (sym o.holds.found ∙ found) in
+    subst (λ (b : List ℕ). AnswersRun b w answer.text.items) same
+    (run_answered known laws o.head.source o.bytes w p answer.text.items o.head o.end o.version (short o.bytes o.head o.end o.version o.is_head) o.is_program o.is_head refl by_run.0 (by_run.1 pages.seal w answer.text.items tells))
+
+-- ---- what is answered in place of all
 
 -- bytes that are no trace
 refused_bytes : (p : Program) (bytes : List ℕ) (w : Wanted) (e : TraceError) (x : List ℕ) → IsTraceLine e x → ReadsAs (Err e) p bytes → DueUnder p bytes w 5 x
@@ -245,44 +278,78 @@ refused_bytes p bytes w _ _ (tellings.cut byte) reads = tellings.refused (trace.
 refused_bytes p bytes w _ _ (tellings.damaged byte rule) reads = tellings.refused (trace.Damaged byte rule) _ reads (tellings.damaged byte rule)
 refused_bytes p bytes w _ _ tellings.bad_seal reads = tellings.refused trace.BadSeal _ reads tellings.bad_seal
 
-pub untraced : (held : Option Files) (name : List ℕ) (p : Program) (w : Wanted) (e : TraceError) (before after : ShelfCounts) (r : Result Answer AllocError) → Opens held name p (Err (page.Trace e)) → after.faults ≡ before.faults
-    → IfOk r (λ answer. RefusesTrace e answer) → IfOk r (AnswersFrom (DueInFile name p w) held before after)
-untraced held name p w e before after (Err x) opens same refuses = tt
-untraced held name p w e before after (Ok answer) opens same (is, line) =
-    settled_from (DueInFile name p w) held before after answer (ap is_of_files is) same (λ files told bytes holds. rw (is) (refused_bytes p bytes w e answer.text.items line (open_at held name p (Err (page.Trace e)) opens files told bytes holds.found)))
+-- it is answered whatever is wanted, and does not do it
+pub record InPlace (held : Option Files) (name : List ℕ) (before after : ShelfCounts) (answer : Answer) : Type 0 where
+  pub undone : answer.status ≡ status.Done → ⊥
+  pub caused : HasCause before after answer
+  pub any : AnswersAny held name before after answer
 
--- a refusal of a trace is no answer
-pub not_done : (held : Option Files) (name : List ℕ) (p : Program) (w : Wanted) (e : TraceError) (r : Result Answer AllocError) → IfOk r (λ answer. RefusesTrace e answer) → IfOk r (λ answer. answer.status ≡ status.Done → IsByRun held name p w answer.text.items)
-not_done held name p w e (Err x) refuses = tt
-not_done held name p w e (Ok answer) (is, line) = λ done. absurd (let x = sym is ∙ done in cc)
+pub in_place : (held : Option Files) (name : List ℕ) (before after : ShelfCounts) (typed : Answer) → InPlace held name before after typed → OpensPages held name before after (Refused typed)
+in_place held name before after answer i = (i.undone, i.caused, i.any)
+
+pub settled_any : (held : Option Files) (name : List ℕ) (before after : ShelfCounts) (answer : Answer) → is_of_files answer.status ≡ false → (answer.status ≡ status.Done → ⊥) → after.faults ≡ before.faults
+    → ((w : Wanted) (files : Files) → held ≡ Some files → DueForTrace files name w (code_of answer.status) answer.text.items) → InPlace held name before after answer
+settled_any held name before after answer settled undone same is = record { undone = undone; caused = caused before after answer settled; any = inr (same, no_fault answer.status settled, is) }
+
+-- the bytes of the file are no trace
+pub untraced_any : (held : Option Files) (name : List ℕ) (p : Program) (e : TraceError) (before after : ShelfCounts) (answer : Answer) → Opens held name p (Err (page.Trace e)) → after.faults ≡ before.faults
+    → ((files : Files) → held ≡ Some files → IsHeaded files name p) → RefusesTrace e answer → InPlace held name before after answer
+untraced_any held name p e before after answer opens same headed (is, line) =
+    settled_any held name before after answer (ap is_of_files is) (λ done. let x = sym is ∙ done in cc) same (λ w files told.
+    let h = headed files told in
+    let refused = refused_bytes p h.bytes w e answer.text.items line (open_at held name p (Err (page.Trace e)) opens files told h.bytes h.holds.found) in
+    rw (is) (due.read h.bytes 5 answer.text.items h.holds (due.program h.head h.end p 5 answer.text.items h.is_head h.is_program refused)))
 
 -- a view that could not be had
-unopened : (held : Option Files) (name : List ℕ) (p : Program) (w : Wanted) (e : ViewError) (before after : ShelfCounts) → Opens held name p (Err (page.View e)) → OpenCounts {X = Pages × Tail} (Err (page.View e)) before.faults after.faults before.misses after.misses
-    → RefusesView ((files : Files) → held ≡ Some files → (s : ℕ) (x : List ℕ) → DueInFile name p w files s x) e before after
-unopened held name p w view.ReadFault before after opens rose = rose
-unopened held name p w view.Gone before after opens (rose, same) = (rose, same, λ files told s x bytes holds. absurd (open_at held name p (Err (page.View view.Gone)) opens files told bytes holds.found))
-unopened held name p w (view.Changed block kept found) before after opens counts = absurd counts
-unopened held name p w view.NoMemory before after opens counts = tt
+unopened : (held : Option Files) (name : List ℕ) (p : Program) (e : ViewError) (before after : ShelfCounts) → Opens held name p (Err (page.View e)) → OpenCounts {X = Pages × Tail} (Err (page.View e)) before.faults after.faults before.misses after.misses
+    → ((files : Files) → held ≡ Some files → IsHeaded files name p) → RefusesView ((files : Files) → held ≡ Some files → ⊥) e before after
+unopened held name p view.ReadFault before after opens rose headed = rose
+unopened held name p view.Gone before after opens (rose, same) headed = (rose, same, λ files told. let h = headed files told in open_at held name p (Err (page.View view.Gone)) opens files told h.bytes h.holds.found)
+unopened held name p (view.Changed block kept found) before after opens counts headed = absurd counts
+unopened held name p view.NoMemory before after opens counts headed = tt
 
-pub unviewed : (held : Option Files) (name : List ℕ) (p : Program) (w : Wanted) (e : ViewError) (before after : ShelfCounts) (r : Result Answer AllocError) → Opens held name p (Err (page.View e)) → OpenCounts {X = Pages × Tail} (Err (page.View e)) before.faults after.faults before.misses after.misses
-    → IfOk r (TellsRefusal name e) → IfOk r (AnswersFrom (DueInFile name p w) held before after)
-unviewed held name p w e before after (Err x) opens counts tells = tt
-unviewed held name p w e before after (Ok answer) opens counts tells = view_from (DueInFile name p w) held before after name e answer (unopened held name p w e before after opens counts) tells
+view_any : (held : Option Files) (name : List ℕ) (before after : ShelfCounts) (e : ViewError) (answer : Answer) → RefusesView ((files : Files) → held ≡ Some files → ⊥) e before after → TellsRefusal name e answer → InPlace held name before after answer
+view_any held name before after view.ReadFault answer rose (is, line) = record {
+  undone = λ done. let x = sym is ∙ done in cc;
+  caused = record { absent = λ other. absurd (let x = sym is ∙ other in cc); too_long = λ other. absurd (let x = sym is ∙ other in cc); command = λ other. (let x = sym is ∙ other in cc) };
+  any = inl (is, line, rose);
+}
+view_any held name before after view.Gone answer (rose, same, untold) (is, line) = record {
+  undone = λ done. let x = sym is ∙ done in cc;
+  caused = record { absent = λ other. rose; too_long = λ other. absurd (let x = sym is ∙ other in cc); command = λ other. (let x = sym is ∙ other in cc) };
+  any = inr (same, (λ other. let x = sym is ∙ other in cc), λ w files told. absurd (untold files told));
+}
+view_any held name before after (view.Changed block kept found) answer (same, untold) (is, line) = record {
+  undone = λ done. let x = sym is ∙ done in cc;
+  caused = record { absent = λ other. absurd (let x = sym is ∙ other in cc); too_long = λ other. absurd (let x = sym is ∙ other in cc); command = λ other. (let x = sym is ∙ other in cc) };
+  any = inr (same, (λ other. let x = sym is ∙ other in cc), λ w files told. absurd (untold files told));
+}
+view_any held name before after view.NoMemory answer refuses tells = absurd tells
 
-pub refusal_not_done : (held : Option Files) (name : List ℕ) (p : Program) (w : Wanted) (e : ViewError) (r : Result Answer AllocError) → IfOk r (TellsRefusal name e) → IfOk r (λ answer. answer.status ≡ status.Done → IsByRun held name p w answer.text.items)
-refusal_not_done held name p w e (Err x) tells = tt
-refusal_not_done held name p w view.ReadFault (Ok answer) (is, line) = λ done. absurd (let x = sym is ∙ done in cc)
-refusal_not_done held name p w view.Gone (Ok answer) (is, line) = λ done. absurd (let x = sym is ∙ done in cc)
-refusal_not_done held name p w (view.Changed block kept found) (Ok answer) (is, line) = λ done. absurd (let x = sym is ∙ done in cc)
-refusal_not_done held name p w view.NoMemory (Ok answer) tells = absurd tells
+pub unviewed_any : (held : Option Files) (name : List ℕ) (p : Program) (e : ViewError) (before after : ShelfCounts) (answer : Answer) → Opens held name p (Err (page.View e)) → OpenCounts {X = Pages × Tail} (Err (page.View e)) before.faults after.faults before.misses after.misses
+    → ((files : Files) → held ≡ Some files → IsHeaded files name p) → TellsRefusal name e answer → InPlace held name before after answer
+unviewed_any held name p e before after answer opens counts headed tells = view_any held name before after e answer (unopened held name p e before after opens counts headed) tells
+
+-- a file that is lacking
+not_done : (e : FileError) (answer : Answer) → Tells e answer → answer.status ≡ status.Done → ⊥
+not_done (error.Absent lacking) answer tells done = let x = sym tells.0 ∙ done in cc
+not_done (error.TooLong lacking) answer tells done = let x = sym tells.0 ∙ done in cc
+not_done error.Fault answer tells done = let x = sym tells.0 ∙ done in cc
+not_done error.NoMemory answer tells done = tells
+
+pub lacking_any : (held : Option Files) (name : List ℕ) (e : FileError) (before after : ShelfCounts) (answer : Answer) → GivesFile held name trace_limit (Err e)
+    → MatchBool (is_fault e) (Rose before.faults after.faults) (after.faults ≡ before.faults) → MatchBool (is_absent e) (Rose before.misses after.misses) (after.misses ≡ before.misses)
+    → MatchBool (is_too_long e) (Rose before.fulls after.fulls) (after.fulls ≡ before.fulls) → Tells e answer → InPlace held name before after answer
+lacking_any held name e before after answer gives failed missed full tells =
+    let o = lacking_file held name e before after answer gives failed missed full tells in
+    record { undone = not_done e answer tells; caused = o.0; any = o.1 }
+
+-- one of them answers what is wanted
+pub any_answered : (held : Option Files) (name : List ℕ) (w : Wanted) (before after : ShelfCounts) (answer : Answer) → HasCause before after answer → AnswersAny held name before after answer → AnswersFrom (λ files. DueForTrace files name w) held before after answer
+any_answered held name w before after answer cause (inl (is, line, rose)) = record { caused = cause; is = λ n. inl (is, inl (line, rose)) }
+any_answered held name w before after answer cause (inr (same, unfaulted, dues)) = record { caused = cause; is = λ n. inr (ap (λ k. counts k n) same, unfaulted, λ files told. dues w files told) }
 
 -- ---- an answer by its clauses
-
-pub lacks_from : (held : Option Files) (name : List ℕ) (w : Wanted) (e : FileError) (before after : ShelfCounts) (r : Result Answer AllocError) → GivesFile held name trace_limit (Err e)
-    → MatchBool (is_fault e) (Rose before.faults after.faults) (after.faults ≡ before.faults) → MatchBool (is_absent e) (Rose before.misses after.misses) (after.misses ≡ before.misses)
-    → MatchBool (is_too_long e) (Rose before.fulls after.fulls) (after.fulls ≡ before.fulls) → IfOk r (λ answer. Tells e answer) → IfOk r (AnswersFrom (λ files. DueForTrace files name w) held before after)
-lacks_from held name w e before after (Ok answer) gives failed missed full tells = lack_from held name w e before after answer gives failed missed full tells
-lacks_from held name w e before after (Err x) gives failed missed full tells = tt
 
 pub from_clauses : (due : DueBy) (held : Option Files) (before after : ShelfCounts) (r : Result Answer AllocError) → ((n : ℕ) → IfOk r (AnswersBy due held (counts before.faults n) (counts after.faults n))) → IfOk r (HasCause before after) → IfOk r (AnswersFrom due held before after)
 from_clauses due held before after (Ok answer) is caused = record { caused = caused; is = is }

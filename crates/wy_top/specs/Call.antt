@@ -1,5 +1,5 @@
 -- What a call promises of the bytes that it writes, and of the trace that it records.
-use Rattle.std.specs.Prelude.{◌≡◌, ◌≢◌, ◌⊎◌, ℕ, List, [], ◌++◌, Option, Some, Ok}
+use Rattle.std.specs.Prelude.{◌≡◌, ◌≢◌, ◌⊎◌, ℕ, List, [], ◌++◌, Option, Some, None, Ok}
 use Rattle.wy_kernel.specs.declared.program.Program.{Program}
 use Rattle.wy_kernel.specs.Parts.{program_of}
 use Rattle.wy_event.specs.declared.record.Head.{Head}
@@ -19,6 +19,7 @@ use Rattle.wy_steps.specs.Sets.{nothing}
 use Rattle.wy_meaning.specs.Run.{events}
 use Rattle.wy_reply.specs.ByRun.{CanTell}
 use Rattle.wy_reply.specs.Carried.{AffectedAnswer, CarriedAnswer}
+use Rattle.wy_reply.specs.Lines.{shelf_fault_line}
 use Rattle.wy_reply.specs.Refused.{IsRefused}
 use Rattle.wy_reply.specs.Statuses.{code_of}
 use Rattle.wy_reply.specs.declared.status.Status.{Status}
@@ -61,11 +62,13 @@ pub record Failures : Type 0 where
 abbrev pub failures : ℕ → ℕ → ℕ → Failures
 failures shelf recorder keys = record { outside = counts shelf recorder; keys = keys }
 
--- the line of a fault, behind what was written before it: nothing, but what a session answered where its keys failed
+-- the line of a fault, behind what was written before it: nothing, but what a session answered where its keys or its shelf failed
 pub data IsFaultBehind (words : List (List ℕ)) (held : Option Files) (keys : Option (List ℕ)) (before after : Failures) : List ℕ → List ℕ → Type 0 where
   alone : (line : List ℕ) → IsFaultLine before.outside after.outside line → IsFaultBehind words held keys before after [] line
   of_keys : (said : List ℕ) → AsksToExplore words → Rose before.keys after.keys → (Knows words held keys → BeginsDue words held keys said)
       → IsFaultBehind words held keys before after said keys_fault_line
+  of_shelf : (said : List ℕ) → AsksToExplore words → Rose before.outside.shelf after.outside.shelf → (Knows words held keys → BeginsDue words held keys said)
+      → IsFaultBehind words held keys before after said shelf_fault_line
 
 -- the line of a fault was written last
 abbrev pub WritesFaultLine : List (List ℕ) → Option Files → Option (List ℕ) → Failures → Failures → Option (List ℕ) → Option (List ℕ) → Type 0
@@ -80,13 +83,24 @@ WritesPrefix words held keys faults_before faults_after before after =
     ⊎ ((said : List ℕ) × (line : List ℕ) × (prefix : List ℕ) × IsFaultBehind words held keys faults_before faults_after said line × IsPrefixOf prefix line × (part ≡ said ++ prefix))
     ⊎ ((faults_after ≡ faults_before) × (Knows words held keys → BeginsDue words held keys part)))
 
--- the command was refused: its status is neither 0 nor 9 nor, where the words ask for a session, one with which a session may end
-abbrev pub WasRefused : List (List ℕ) → ℕ → Type 0
-WasRefused words status = (status ≢ 0) × (status ≢ 9) × (AsksToExplore words → (status ≢ 7) × (status ≢ 8))
+-- the command was refused: its status is neither 0 nor 9 nor, where the words ask for a session, one with which a session may end. A
+-- trace can be gone or changed where a session is over it only where nothing is told of the files
+abbrev pub WasRefused : List (List ℕ) → Option Files → ℕ → Type 0
+WasRefused words held status = (status ≢ 0) × (status ≢ 9)
+    × (AsksToExplore words → (status ≢ 7) × (status ≢ 8) × (held ≡ None → (status ≢ 3) × (status ≢ 5)))
 
 -- the one line of a refusal with this status was written, and nothing else
 abbrev pub WritesRefusal : ℕ → Option (List ℕ) → Option (List ℕ) → Type 0
 WritesRefusal status before after = (s : Status) × (line : List ℕ) × (status ≡ code_of s) × IsRefused s line × (after ≡ appended before line)
+
+-- the line of a refusal with this status was written last
+abbrev pub WritesLast : ℕ → Option (List ℕ) → Option (List ℕ) → Type 0
+WritesLast status before after =
+    (said : List ℕ) × (s : Status) × (line : List ℕ) × (status ≡ code_of s) × IsRefused s line × (after ≡ appended before (said ++ line))
+
+-- a trace is no trace, is not there any more, or has changed
+abbrev pub IsOfTrace : ℕ → Type 0
+IsOfTrace status = (status ≡ 3) ⊎ (status ≡ 5)
 
 -- the run that was asked for is traced: each mirror that tells its bytes holds the trace of the source's program
 pub record Traced (s : Spelling) (files : Files) (a : Asked) (old new : Mirrors) : Type 0 where

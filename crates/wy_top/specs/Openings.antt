@@ -1,6 +1,9 @@
 -- A trace that a session is over: what its opening gives, and how the session ends.
-use Rattle.std.specs.Prelude.{◌≡◌, ◌⊎◌, ℕ, List, false, Option, Some, Ok}
+use Rattle.std.specs.Prelude.{◌≡◌, ◌≢◌, ◌⊎◌, ℕ, List, false, Option, Some, None, Ok, option_map}
+use Rattle.wy_event.specs.declared.record.Cover.{Cover}
 use Rattle.wy_event.specs.declared.record.Head.{Head}
+use Rattle.wy_event.specs.Record.{Recorded}
+use Rattle.wy_kernel.specs.Parts.{program_of}
 use Rattle.wy_frames.specs.Heads.{head_of}
 use Rattle.wy_frames.specs.Traces.{IsReadAs}
 use Rattle.wy_kernel.specs.declared.program.Program.{Program}
@@ -8,7 +11,10 @@ use Rattle.wy_event.specs.declared.record.Trace.{Trace}
 use Rattle.wy_event.specs.declared.record.Version.{Version}
 use Rattle.wy_outside.specs.Counts.{Rose}
 use Rattle.wy_outside.specs.Shelf.{Files}
+use Rattle.wy_view.specs.declared.view.ViewError.{ViewError}
+use Rattle.wy_view.specs.declared.view.ViewError.TheVariants as view
 use Rattle.wy_session.specs.Desk.{scene_of}
+use Rattle.wy_session.specs.Scene.{Scene}
 use Rattle.wy_session.specs.Closings.{Closed, TakesManyFor}
 use Rattle.wy_session.specs.Closings as ways
 use Rattle.wy_session.specs.declared.ending.Ending.{Ending}
@@ -17,7 +23,7 @@ use Rattle.wy_reply.specs.declared.answer.Answer.{Answer}
 use Rattle.wy_reply.specs.declared.status.Status.{Status}
 use Rattle.wy_reply.specs.declared.status.Status.TheVariants as status
 use Rattle.wy_reply.specs.Statuses.{code_of, is_of_files}
-use Rattle.wy_reply.specs.Lines.{shelf_fault_line}
+use Rattle.wy_reply.specs.Lines.{absent_line, changed_line, shelf_fault_line}
 use Rattle.wy_reply.specs.Opening.{IsViewable}
 use Rattle.wy_reply.specs.Tellings.{Wanted, covers_of}
 use Rattle.wy_top.specs.declared.opening.Opening.{Opening}
@@ -51,15 +57,23 @@ OpensFile held name before after (Open typed t) = IsViewable t × (after.faults 
     × ((files : Files) → held ≡ Some files → IsOpened files name typed.program t)
 OpensFile held name before after (Refused answer) = HasCause before after answer × AnswersAny held name before after answer
 
--- ---- a session
+-- ---- a view that refuses
 
-abbrev pub status_of : Ending → Status
-status_of ending.Done = status.Done
-status_of ending.LongLine = status.TooLong
-status_of ending.LongInput = status.TooLong
-status_of ending.KeysFailed = status.Fault
-status_of ending.OutFailed = status.Fault
-status_of ending.NoMemory = status.NoMemory
+-- an answer says why a view of the trace of this name refused; want of memory has none
+abbrev pub TellsRefusal : List ℕ → ViewError → Answer → Type 0
+TellsRefusal name view.ReadFault answer = (answer.status ≡ status.Fault) × (answer.text.items ≡ shelf_fault_line)
+TellsRefusal name view.Gone answer = (answer.status ≡ status.Absent) × (answer.text.items ≡ absent_line name)
+TellsRefusal name (view.Changed block kept found) answer = (answer.status ≡ status.Trace) × (answer.text.items ≡ changed_line block)
+TellsRefusal name view.NoMemory answer = ⊥
+
+-- a view refused: the shelf failed; or the trace was gone or had changed, which never is where its bytes are told
+abbrev pub RefusesView : Type 0 → ViewError → ShelfCounts → ShelfCounts → Type 0
+RefusesView untold view.ReadFault before after = Rose before.faults after.faults
+RefusesView untold view.Gone before after = Rose before.misses after.misses × (after.faults ≡ before.faults) × untold
+RefusesView untold (view.Changed block kept found) before after = (after.faults ≡ before.faults) × untold
+RefusesView untold view.NoMemory before after = Unit {0}
+
+-- ---- a session
 
 -- what is left of the keys, how often they failed, and how much of them was taken
 pub record Keys : Type 0 where
@@ -78,16 +92,47 @@ pub record Output : Type 0 where
 abbrev pub output_at : Option (List ℕ) → ℕ → Output
 output_at written faults = record { written = written; faults = faults }
 
+-- the scene of a program, of records that may be told, and of what is told of its statements
+abbrev pub scene_told : Program → List Cover → Option (List Recorded) → Option Scene
+scene_told p covers records =
+    option_map (λ rs. record { program = program_of p; lines = p.lines.items; records = rs; covers = covers }) records
+
+-- where the files are told, the scene is that of the trace of this name
+abbrev pub IsTold : Option Files → List ℕ → Option Scene → Type 0
+IsTold held name scene = (files : Files) → held ≡ Some files
+    → (p : Program) × (t : Trace) × IsOpened files name p t × (scene ≡ Some (scene_of p t.events (covers_of t)))
+
+-- a session over this scene ended so, if the scene is told
+abbrev pub ClosedOver : Option Scene → Keys → Keys → Output → Output → Ending → Type 0
+ClosedOver scene keys_before keys_after before after e =
+    Closed (λ x. scene ≡ Some x) keys_before.left (ways.failures keys_before.faults keys_after.faults before.faults after.faults) before.written after.written e
+
+-- a view refused where a session ended by that, and else the shelf did not fail
+abbrev pub CountsBy : Type 0 → Ending → ShelfCounts → ShelfCounts → Type 0
+CountsBy untold (ending.View e) before after = (e ≢ view.NoMemory) × RefusesView untold e before after
+CountsBy untold _ before after = after.faults ≡ before.faults
+
+-- the line of a refusal is written where a view refused, and memory may run out before; and else nothing more
+abbrev pub EndsBy : List ℕ → Ending → Status → Output → Output → Type 0
+EndsBy name (ending.View e) s said after =
+    ((answer : Answer) × TellsRefusal name e answer × Delivers answer s said.faults after.faults said.written after.written)
+    ⊎ ((s ≡ status.NoMemory) × (after ≡ said))
+EndsBy name ending.Done s said after = (s ≡ status.Done) × (after ≡ said)
+EndsBy name ending.LongLine s said after = (s ≡ status.TooLong) × (after ≡ said)
+EndsBy name ending.LongInput s said after = (s ≡ status.TooLong) × (after ≡ said)
+EndsBy name ending.KeysFailed s said after = (s ≡ status.Fault) × (after ≡ said)
+EndsBy name ending.OutFailed s said after = (s ≡ status.Fault) × (after ≡ said)
+EndsBy name ending.NoMemory s said after = (s ≡ status.NoMemory) × (after ≡ said)
+
 -- a trace that can't be opened is answered for, and the keys stay; a session over the trace of a name comes to its end; or memory ran out before anything was written
 pub data Explores (held : Option Files) (name : List ℕ) (shelf_before shelf_after : ShelfCounts) (keys_before keys_after : Keys) (before after : Output) : Status → Type 0 where
   refused : (answer : Answer) (s : Status) → HasCause shelf_before shelf_after answer
       → AnswersAny held name shelf_before shelf_after answer
       → keys_after ≡ keys_before → Delivers answer s before.faults after.faults before.written after.written
       → Explores held name shelf_before shelf_after keys_before keys_after before after s
-  session : (p : Program) (t : Trace) (e : Ending) → shelf_after.faults ≡ shelf_before.faults
-      → ((files : Files) → held ≡ Some files → IsOpened files name p t)
-      → Closed (scene_of p t.events (covers_of t)) keys_before.left (ways.failures keys_before.faults keys_after.faults before.faults after.faults) before.written after.written e
-      → TakesManyFor e keys_before.taken keys_after.taken
-      → Explores held name shelf_before shelf_after keys_before keys_after before after (status_of e)
+  session : (scene : Option Scene) (e : Ending) (said : Output) (s : Status) → IsTold held name scene
+      → ClosedOver scene keys_before keys_after before said e → TakesManyFor e keys_before.taken keys_after.taken
+      → CountsBy (held ≡ None) e shelf_before shelf_after → EndsBy name e s said after
+      → Explores held name shelf_before shelf_after keys_before keys_after before after s
   memory : keys_after ≡ keys_before → after ≡ before
       → Explores held name shelf_before shelf_after keys_before keys_after before after status.NoMemory

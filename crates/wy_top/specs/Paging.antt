@@ -4,23 +4,27 @@ use Rattle.std.specs.declared.alloc.Global.{Global}
 use Rattle.wy_kernel.specs.Limits.{trace_limit}
 use Rattle.wy_kernel.specs.declared.program.Program.{Program}
 use Rattle.wy_event.specs.Record.{recorded}
-use Rattle.wy_event.specs.declared.record.Cover.{Cover}
+use Rattle.wy_event.specs.declared.record.Tail.{Tail}
 use Rattle.wy_event.specs.declared.record.Trace.{Trace}
+use Rattle.wy_fitting.specs.Fits.{EndFits}
+use Rattle.wy_frames.specs.Heads.{version_of}
+use Rattle.law_reading.specs.Spelled.{AreBytes}
 use Rattle.wy_outside.specs.Shelf.{Files, ReadsPart}
 use Rattle.wy_page.specs.declared.pages.Pages.{Pages}
-use Rattle.wy_page.specs.Paged.{records_told}
+use Rattle.wy_page.specs.Paged.{IsOfShelf, records_told}
 use Rattle.wy_view.specs.declared.view.ViewError.{ViewError}
 use Rattle.wy_view.specs.declared.view.ViewError.TheVariants as view
 use Rattle.wy_reply.specs.declared.answer.Answer.{Answer}
 use Rattle.wy_reply.specs.declared.status.Status.TheVariants as status
-use Rattle.wy_reply.specs.ByRun.{HasSource, TellsRun}
 use Rattle.wy_reply.specs.Certificates.{seal_of}
-use Rattle.wy_reply.specs.Lines.{absent_line, changed_line, shelf_fault_line}
-use Rattle.wy_reply.specs.Tellings.{DueUnder, Tells, Wanted, covers_of}
-use Rattle.wy_outside.specs.Counts.{Rose}
+use Rattle.wy_reply.specs.Tellings.{Tells, Wanted}
 use Rattle.wy_top.specs.declared.files.FileError.{FileError}
+use Rattle.wy_top.specs.declared.shelved.Shelved.{Shelved}
+use Rattle.wy_top.specs.declared.shelved.Shelved.TheVariants.{Open, Refused, Headless}
 use Rattle.wy_top.specs.Answers.{counts}
+use Rattle.wy_top.specs.Call.{IsOpened}
 use Rattle.wy_top.specs.Held.{Holds}
+use Rattle.wy_top.specs.Openings.{AnswersAny, RefusesView}
 use Rattle.wy_top.specs.Reads.{GivesFile}
 use Rattle.wy_top.specs.Replies.{AnswersBy, HasCause, ShelfCounts}
 
@@ -45,29 +49,15 @@ GivesFront held name (Err error) = GivesFile held name trace_limit (Err error)
 
 -- ---- through a view
 
--- an answer says why a view of the trace of this name refused; want of memory has none
-abbrev pub TellsRefusal : List ℕ → ViewError → Answer → Type 0
-TellsRefusal name view.ReadFault answer = (answer.status ≡ status.Fault) × (answer.text.items ≡ shelf_fault_line)
-TellsRefusal name view.Gone answer = (answer.status ≡ status.Absent) × (answer.text.items ≡ absent_line name)
-TellsRefusal name (view.Changed block kept found) answer = (answer.status ≡ status.Trace) × (answer.text.items ≡ changed_line block)
-TellsRefusal name view.NoMemory answer = ⊥
-
--- what is kept of a trace on a shelf of these files, and what is told of its statements, is of this trace
-pub record ArePagesOf (t : Trace) (pages : Pages) (listed : List Cover) (files : Files) : Type 0 where
+-- what is kept of a trace on a shelf of these files, and what is told of its end, is of this trace
+pub record ArePagesOf (t : Trace) (pages : Pages) (tail : Tail) (files : Files) : Type 0 where
   pub records : records_told pages (Some files) ≡ Some (map recorded t.events)
-  pub covers : listed ≡ covers_of t
+  pub tail_is : tail ≡ t.tail
   pub seal : pages.seal ≡ seal_of pages.version t
 
 -- what each trace tells that is the one which is kept
-abbrev pub DueInPages : Program → Pages → List Cover → Wanted → Files → ℕ → List ℕ → Type 0
-DueInPages p pages listed w files status text = (t : Trace) → ArePagesOf t pages listed files → Tells p pages.seal t w status text
-
--- a view refused: the shelf failed; or the trace was gone or had changed, which never is where its bytes are told
-abbrev pub RefusesView : Type 0 → ViewError → ShelfCounts → ShelfCounts → Type 0
-RefusesView untold view.ReadFault before after = Rose before.faults after.faults
-RefusesView untold view.Gone before after = Rose before.misses after.misses × (after.faults ≡ before.faults) × untold
-RefusesView untold (view.Changed block kept found) before after = (after.faults ≡ before.faults) × untold
-RefusesView untold view.NoMemory before after = Unit {0}
+abbrev pub DueInPages : Program → Pages → Tail → Wanted → Files → ℕ → List ℕ → Type 0
+DueInPages p pages tail w files status text = (t : Trace) → ArePagesOf t pages tail files → Tells p pages.seal t w status text
 
 -- what was looked up was given, and the shelf did not fail; or a view refused
 abbrev pub LooksUp : {X : Type 0} → Type 0 → Result X ViewError → ShelfCounts → ShelfCounts → Type 0
@@ -79,12 +69,21 @@ pub record AnswersFrom (due : Files → ℕ → List ℕ → Type 0) (held : Opt
   pub caused : HasCause before after answer
   pub is : (n : ℕ) → AnswersBy due held (counts before.faults n) (counts after.faults n) answer
 
--- ---- by a file
+-- ---- opened where it stays
 
--- what is due for the bytes of the named file, under this program
-abbrev pub DueInFile : List ℕ → Program → Wanted → Files → ℕ → List ℕ → Type 0
-DueInFile name p w files status text = (bytes : List ℕ) → Holds files name trace_limit bytes → DueUnder p bytes w status text
+-- the file of a name is the trace of a program, and this is kept of it
+pub record IsPaged (files : Files) (name : List ℕ) (p : Program) (pages : Pages) (tail : Tail) : Type 0 where
+  pub trace : Trace
+  pub opened : IsOpened files name p trace
+  pub are_bytes : AreBytes opened.bytes
+  pub version_is : pages.version ≡ version_of opened.bytes
+  pub pages_are : ArePagesOf trace pages tail files
+  pub end_fits : EndFits trace.tail
 
--- where they are the trace of a run, so it is by that run, and their head has its source
-abbrev pub IsByRun : Option Files → List ℕ → Program → Wanted → List ℕ → Type 0
-IsByRun held name p w text = (files : Files) (bytes : List ℕ) → held ≡ Some files → Holds files name trace_limit bytes → HasSource bytes × TellsRun p bytes w text
+-- the pages of a trace of a name are open, and no count rose; or what is answered in place of whatever is wanted
+abbrev pub OpensPages : Option Files → List ℕ → ShelfCounts → ShelfCounts → Shelved → Type 0
+OpensPages held name before after (Open typed pages tail) = (after ≡ before) × IsOfShelf pages held
+    × ((files : Files) → held ≡ Some files → IsPaged files name typed.program pages tail)
+OpensPages held name before after (Refused answer) =
+    (answer.status ≡ status.Done → ⊥) × HasCause before after answer × AnswersAny held name before after answer
+OpensPages held name before after Headless = after ≡ before

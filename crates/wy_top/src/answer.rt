@@ -107,7 +107,7 @@ fn answer_to_record<S: Shelf, R: Recorder>(
     }
 }
 
-/// The answer from the trace of a name: what is looked up in it is read by pages.
+/// The answer from the trace of a name: what is told from its records is read by pages.
 fn answer_from<S: Shelf>(
     alloc: Global,
     shelf: &mut S,
@@ -126,9 +126,7 @@ fn answer_from<S: Shelf>(
 {
     match wanted {
         Wanted::Inquiry(inquiry) => answer_by_pages(alloc, shelf, trace, inquiry),
-        Wanted::Output | Wanted::Audit | Wanted::Check { .. } => {
-            answer_by_reading(alloc, shelf, trace, wanted)
-        }
+        Wanted::Audit | Wanted::Check { .. } => answer_by_reading(alloc, shelf, trace, wanted),
     }
 }
 
@@ -217,7 +215,9 @@ pub fn answer_to<S: Shelf, R: Recorder>(
     match request {
         Request::Run(asked) => answer_to_run(alloc, shelf, asked),
         Request::Record { asked, trace } => answer_to_record(alloc, shelf, asked, trace, recorder),
-        Request::Output { trace } => answer_from(alloc, shelf, trace, Wanted::Output),
+        Request::Output { trace } => {
+            answer_from(alloc, shelf, trace, Wanted::Inquiry(Inquiry::Output))
+        }
         Request::Why { trace, question } => {
             let inquiry = Inquiry::Why { question };
             answer_from(alloc, shelf, trace, Wanted::Inquiry(inquiry))

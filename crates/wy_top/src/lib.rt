@@ -11,6 +11,7 @@ pub mod laws;
 mod opening;
 mod paged;
 mod recorders;
+mod shelved;
 mod source;
 pub mod top;
 mod trace;

@@ -6,7 +6,7 @@ ghost use Rattle.wy_reply.specs.Statuses.{IsStatus};
 ghost use Rattle.wy_words.specs.Words.{IsNoCommand};
 ghost use Rattle.wy_top.specs.Answers.{AsksToExplore, Knows};
 ghost use Rattle.wy_session.specs.Closings.{TookMany};
-ghost use Rattle.wy_top.specs.Call.{RecordsNothing, Traces, WritesCarried, WritesCut, WasRefused, WritesDue, WritesFaultLine, WritesPrefix, WritesRefusal, failures};
+ghost use Rattle.wy_top.specs.Call.{IsOfTrace, RecordsNothing, Traces, WritesCarried, WritesCut, WasRefused, WritesDue, WritesFaultLine, WritesLast, WritesPrefix, WritesRefusal, failures};
 ghost use Rattle.wy_top.specs.Left.{FinishesProgram, IsSettled, Leaves, LeavesSome, StartsNone};
 ghost use Rattle.wy_top.specs.Recorders.{AreReady};
 ghost use Rattle.wy_reply.specs.Recordings.{spelling};
@@ -70,9 +70,12 @@ pub fn whyline<S: Shelf, K: Source, O: Sink, W: Recorder + Drop>(
         (S.held shelf.old) (O.written out.old) (O.written out.new) }
     ensures cut { result ≡ 0 → WritesCut (map string_bytes words.now)
         (S.held shelf.old) (O.written out.old) (O.written out.new) }
-    ensures alone { WasRefused (map string_bytes words.now) result
+    ensures alone { WasRefused (map string_bytes words.now) (S.held shelf.old) result
         → ¬ Rose (O.faults out.old) (O.faults out.new)
         → ∥ WritesRefusal result (O.written out.old) (O.written out.new) ∥₁ }
+    ensures last_line { IsOfTrace result
+        → ¬ Rose (O.faults out.old) (O.faults out.new)
+        → ∥ WritesLast result (O.written out.old) (O.written out.new) ∥₁ }
     ensures fault_line { result ≡ 7
         → ¬ Rose (O.faults out.old) (O.faults out.new)
         → WritesFaultLine (map string_bytes words.now) (S.held shelf.old) (K.left keys.old)

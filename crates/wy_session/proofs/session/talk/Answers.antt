@@ -4,25 +4,30 @@ use Rattle.std.specs.Prelude.{vec_len, ◌≤◌}
 use Rattle.wy_outside.specs.Counts.{count_after, last_count}
 use Rattle.wy_session.specs.Line.{ReadsOn}
 use Rattle.wy_session.proofs.Parts.{appended_nothing}
-use Rattle.wy_session.proofs.Reading.{appended_twice, nothing_read, read_more, reads_then, still_stands}
+use Rattle.wy_session.proofs.Reading.{appended_twice, nothing_read, read_more, reads_then}
 use Rattle.wy_session.proofs.Talking.{finish_closes, piece_closes, memory_closes, fault_closes, taken_on, nothing_in, told_nothing, told_on}
+use Rattle.wy_view.proofs.Views.{keeps_itself, keeps_on}
+use Rattle.wy_session.proofs.Viewing.{counts_since, ended_counts}
 use Rattle.wy_session.proofs.session.talk.Goals as goal
 
 pub returns-in-Ok-clause-closed : goal.returns-in-Ok-clause-closed
-returns-in-Ok-clause-closed g c = λ x at.
+returns-in-Ok-clause-closed g c =
     let v = c.loop-piece.invariant in
-    finish_closes (g.R.Respond.stands c.args.responder.now) (g.R.Respond.stands c.loop-piece.responder) x _ _ c.in-Ok.piece v.read v.said c.loop-piece.line _ _ _ _ _ _ _ _ _ c.finish.result at v.reads v.told c.in-Ok.ensures.end
+    finish_closes (g.R.Respond.stands c.args.responder.now) (g.R.Respond.stands c.loop-piece.responder) _ _ c.in-Ok.piece v.read v.said c.loop-piece.line _ _ _ _ _ _ _ _ _ c.finish.result v.reads v.told c.in-Ok.ensures.end
     (nil_from_length c.in-Ok.piece.items (sym c.in-Ok.piece.ok.0 ∙ eqb-true _ 0 (sym c.is_empty.ensures ∙ c.if-is_empty.true))) (record { written = v.written; keys = v.keys_faults; out = v.faults }) c.in-Ok.ensures.failed c.finish.ensures.finishes
 
 pub returns-in-Err-clause-closed : goal.returns-in-Err-clause-closed
-returns-in-Err-clause-closed g c = λ x at.
+returns-in-Err-clause-closed g c =
     let v = c.loop-piece.invariant in
-    piece_closes (g.R.Respond.stands c.args.responder.now) (g.R.Respond.stands c.loop-piece.responder) (g.R.Respond.stands c.take.new.responder) x _ _ _ v.read c.as_slice.result.now v.said c.loop-piece.line c.take.new.self _ _ _ _ _ _ _ _ _ c.in-Err.ending at v.reads v.told
+    piece_closes (g.R.Respond.stands c.args.responder.now) (g.R.Respond.stands c.loop-piece.responder) (g.R.Respond.stands c.take.new.responder) _ _ _ v.read c.as_slice.result.now v.said c.loop-piece.line c.take.new.self _ _ _ _ _ _ _ _ _ c.in-Err.ending v.reads v.told
     (c.in-Ok.ensures.content ∙ ap (λ p. option_map (λ rest. p ++ rest) (g.K.Source.left c.read.new.self)) (sym c.as_slice.ensures.value)) (record { written = v.written; keys = v.keys_faults; out = v.faults }) c.in-Ok.ensures.failed c.in-Err.ensures.reads
 
 pub loop-piece-init : goal.loop-piece-init
 loop-piece-init g c = record {
   is_open = record { unended = λ has. nothing_in _ c.new.ensures.items has; short = omega (arith, ap length c.new.ensures.items); within = omega arith };
+  ready = c.requires;
+  keeps = keeps_itself (g.R.Respond.tells c.args.responder.now);
+  counts = refl;
   read = [];
   said = [];
   reads = subst (λ z. ReadsOn (g.R.Respond.stands c.args.responder.now) (g.R.Respond.stands c.args.responder.now) 0 (z ++ []) (record { bytes = c.new.result; before = 0 }) [] []) c.new.ensures.items (nothing_read (g.R.Respond.stands c.args.responder.now) (record { bytes = c.new.result; before = 0 }) []);
@@ -41,6 +46,9 @@ loop-piece-preserved g c =
     let same = c.as_slice.ensures.value in
     record {
       is_open = c.in_default.ensures.open;
+      ready = c.take.ensures.ready;
+      keeps = keeps_on (g.R.Respond.tells c.args.responder.now) (g.R.Respond.tells c.loop-piece.responder) (g.R.Respond.tells c.take.new.responder) v.keeps c.take.ensures.keeps;
+      counts = c.in_default.ensures.counts ∙ v.counts;
       read = v.read ++ piece;
       said = v.said ++ r.0;
       reads = reads_then (g.R.Respond.stands c.args.responder.now) (g.R.Respond.stands c.loop-piece.responder) (g.R.Respond.stands c.take.new.responder) 0 (v.read ++ piece) piece v.said r.0 c.loop-piece.line c.take.new.self
@@ -53,19 +61,38 @@ loop-piece-preserved g c =
     }
 
 pub returns-in-Err-Failed-clause-closed : goal.returns-in-Err-Failed-clause-closed
-returns-in-Err-Failed-clause-closed g c = λ x at.
+returns-in-Err-Failed-clause-closed g c =
     let v = c.loop-piece.invariant in
-    fault_closes (g.R.Respond.stands c.args.responder.now) (g.R.Respond.stands c.loop-piece.responder) x _ _ v.read v.said c.loop-piece.line _ _ _ _ _ _ _ _ _ c.end_with.result at v.reads v.told
+    fault_closes (g.R.Respond.stands c.args.responder.now) (g.R.Respond.stands c.loop-piece.responder) _ _ v.read v.said c.loop-piece.line _ _ _ _ _ _ _ _ _ c.end_with.result v.reads v.told
     (record { written = v.written; keys = v.keys_faults; out = v.faults }) (rw (c.in-Err-Failed.is, c.in-Err-Failed.field-0-is) at c.read.ensures.failed) c.end_with.ensures
 
 pub returns-in-Err-NoMemory-clause-closed : goal.returns-in-Err-NoMemory-clause-closed
-returns-in-Err-NoMemory-clause-closed g c = λ x at.
+returns-in-Err-NoMemory-clause-closed g c =
     let v = c.loop-piece.invariant in
-    memory_closes (g.R.Respond.stands c.args.responder.now) (g.R.Respond.stands c.loop-piece.responder) x _ _ v.read v.said c.loop-piece.line _ _ _ _ _ _ _ at v.reads v.told
+    memory_closes (g.R.Respond.stands c.args.responder.now) (g.R.Respond.stands c.loop-piece.responder) _ _ v.read v.said c.loop-piece.line _ _ _ _ _ _ _ v.reads v.told
     (record { written = v.written; keys = v.keys_faults; out = v.faults }) (rw (c.in-Err-NoMemory.is, c.in-Err-NoMemory.field-0-is) at c.read.ensures.failed)
 
-pub take-requires-clause-stands : goal.take-requires-clause-stands
-take-requires-clause-stands g c = still_stands (g.R.Respond.stands c.args.responder.now) (g.R.Respond.stands c.loop-piece.responder) _ _ c.loop-piece.line [] c.loop-piece.invariant.said c.requires c.loop-piece.invariant.reads
+pub returns-in-Ok-clause-keeps : goal.returns-in-Ok-clause-keeps
+returns-in-Ok-clause-keeps g c =
+    let tells = g.R.Respond.tells in
+    keeps_on (tells c.args.responder.now) (tells c.loop-piece.responder) (tells c.finish.new.responder) c.loop-piece.invariant.keeps c.finish.ensures.keeps
 
-pub finish-requires-clause-stands : goal.finish-requires-clause-stands
-finish-requires-clause-stands g c = still_stands (g.R.Respond.stands c.args.responder.now) (g.R.Respond.stands c.loop-piece.responder) _ _ c.loop-piece.line [] c.loop-piece.invariant.said c.requires c.loop-piece.invariant.reads
+pub returns-in-Ok-clause-counts : goal.returns-in-Ok-clause-counts
+returns-in-Ok-clause-counts g c =
+    let tells = g.R.Respond.tells in
+    let v = c.loop-piece.invariant in
+    counts_since c.finish.result (tells c.args.responder.now) (tells c.loop-piece.responder) (tells c.finish.new.responder) v.keeps v.counts c.finish.ensures.keeps c.finish.ensures.counts
+
+pub returns-in-Err-clause-keeps : goal.returns-in-Err-clause-keeps
+returns-in-Err-clause-keeps g c =
+    let tells = g.R.Respond.tells in
+    keeps_on (tells c.args.responder.now) (tells c.loop-piece.responder) (tells c.take.new.responder) c.loop-piece.invariant.keeps c.take.ensures.keeps
+
+pub returns-in-Err-clause-counts : goal.returns-in-Err-clause-counts
+returns-in-Err-clause-counts g c =
+    let tells = g.R.Respond.tells in
+    let v = c.loop-piece.invariant in
+    counts_since c.in-Err.ending (tells c.args.responder.now) (tells c.loop-piece.responder) (tells c.take.new.responder) v.keeps v.counts c.take.ensures.keeps c.in-Err.ensures.counts
+
+pub returns-in-Err-Failed-clause-counts : goal.returns-in-Err-Failed-clause-counts
+returns-in-Err-Failed-clause-counts g c = ended_counts _ _ _ _ _ _ c.end_with.result _ _ c.end_with.ensures c.loop-piece.invariant.counts c.loop-piece.invariant.counts

@@ -2,6 +2,7 @@
 use Rattle.std.proofs.Common.{◌≡◌, ◌≤◌, ◌+◌, ◌-◌, ℕ, List, [], ◌++◌, length, option_map}
 use Rattle.wy_outside.specs.Counts.{count_after}
 use Rattle.wy_outside.specs.Sink.{appended}
+use Rattle.wy_view.specs.View.{Keeps}
 use Rattle.wy_session.specs.Line.{IsOpen, ReadsOn}
 use Rattle.wy_session.specs.Talk.{most_in_all, most_in_line}
 use Rattle.wy_session.proofs.session.talk.Given as goal
@@ -9,6 +10,9 @@ use Rattle.wy_session.proofs.session.talk.Given as goal
 abbrev pub invariant-loop-piece : goal.invariant-loop-piece
 invariant-loop-piece g l = record {
   is_open : IsOpen l.line;
+  ready : g.R.Respond.ready l.responder;
+  keeps : Keeps (g.R.Respond.tells l.initial.responder) (g.R.Respond.tells l.responder);
+  counts : (g.R.Respond.tells l.responder).faults ≡ (g.R.Respond.tells l.initial.responder).faults;
   read : List ℕ;
   said : List ℕ;
   reads : ReadsOn (g.R.Respond.stands l.initial.responder) (g.R.Respond.stands l.responder) 0 read l.line [] said;

@@ -1,8 +1,7 @@
 -- What a view of the pages tells is told, and the shelf comes back from the view as it is.
-use Rattle.std.proofs.Common.{rules, ◌≡◌, ◌∙◌, sym, subst, refl}
+use Rattle.std.proofs.Common.{rules, ◌≡◌, ◌∙◌, refl}
 use Rattle.wy_page.specs.Paged.{records_told, told_by}
 use Rattle.wy_view.specs.View.{KeepsCounts, Told}
-use Rattle.wy_reply.specs.Opening.{IsViewOf}
 use Rattle.wy_top.proofs.Paging.{looked_up, view_of}
 use Rattle.wy_top.proofs.paged.look_up.Goals as goal
 
@@ -10,8 +9,8 @@ pub returns-clause-due : goal.returns-clause-due
 returns-clause-due g c = λ t files told are.
     let held = g.S.Shelf.held c.args.shelf.now in
     let shown : records_told c.over-view.result.pages (g.S.Shelf.held c.over-view.result.shelf.now) ≡ records_told c.args.pages held = rw (c.over-view.ensures.shelf, c.over-view.ensures.pages) refl in
-    let is = view_of t c.args.pages c.args.tail.now.coverage.statements files held _ told shown are in
-    rw (c.unwrap.ensures, c.seal.ensures) at (c.answer_to_view-view.ensures.due t (subst (IsViewOf t _) (sym c.as_slice-covers.ensures) is))
+    let is = view_of t c.args.pages c.args.tail.now files held _ told shown are in
+    rw (c.unwrap.ensures, c.seal.ensures) at (c.answer_to_view-view.ensures.due t is are.tail_is)
 
 pub returns-clause-looks : goal.returns-clause-looks
 returns-clause-looks g c =

@@ -3,9 +3,10 @@ use Rattle.std.specs.Prelude.{option_map, string_bytes}
 use Rattle.wy_words.specs.Views.{request_of}
 use Rattle.wy_top.specs.Answers.{IsAsked}
 use Rattle.wy_top.proofs.RunAnswers.{written_so}
-use Rattle.wy_top.proofs.Delivered.{written_alone, written_due, prefix, answered_done, answered_starts_none, answered_usage, done_at, fault_at, fault_cause, fault_line, shelf_fault, recorder_fault, too_long_at}
+use Rattle.wy_top.proofs.Delivered.{absent_at, written_alone, written_due, written_last, prefix, answered_done, answered_starts_none, answered_usage, done_at, fault_at, fault_cause, fault_line, shelf_fault, recorder_fault, too_long_at}
 use Rattle.wy_top.proofs.LeftLemmas.{some_untouched}
-use Rattle.wy_top.proofs.Sessions.{explored_alone, explored_due, explored_prefix, explored_fault_line, explored_shelf_fault, explored_out_fault, explored_carried, explored_cut, explored_fault, explored_finishes, explored_leaves, explored_too_long, explored_traces, is_command, is_session, nothing_prefix, session_of}
+use Rattle.wy_top.proofs.Explored.{explored_alone, explored_absent, explored_fault_line, explored_shelf_fault, explored_out_fault, explored_carried, explored_cut, explored_fault, explored_finishes, explored_keys_fault, explored_last, explored_leaves, explored_too_long, explored_traces, is_command, is_session}
+use Rattle.wy_top.proofs.Sessions.{explored_due, explored_prefix, nothing_prefix, session_of}
 use Rattle.wy_top.proofs.Requests.{asked_nothing, asked_once, few_asked, no_recording, none_asked, nothing_asked}
 use Rattle.wy_top.proofs.top.whyline.Given as given
 use Rattle.wy_top.proofs.top.whyline.Goals as goal
@@ -145,3 +146,15 @@ returns-in-Ok-answer_to-clause-starts_none g c = λ none. c.in-Ok-answer_to.ensu
 
 pub returns-in-Ok-answer_to-clause-finishes_program : goal.returns-in-Ok-answer_to-clause-finishes_program
 returns-in-Ok-answer_to-clause-finishes_program g c = λ out shelf recorder. c.in-Ok-answer_to.ensures.finishes _ (asked g c) shelf recorder
+
+pub returns-in-Some-Explore-clause-last_line : goal.returns-in-Some-Explore-clause-last_line
+returns-in-Some-Explore-clause-last_line g c = λ of_trace out. explored_last _ _ _ _ _ _ _ _ _ _ c.explore_trace.ensures.explores c.code-in-Some-Explore.ensures of_trace out
+
+pub returns-in-Ok-answer_to-clause-last_line : goal.returns-in-Ok-answer_to-clause-last_line
+returns-in-Ok-answer_to-clause-last_line g c = λ of_trace out. written_last _ _ _ _ c.in-Ok-answer_to.answer _ _ c.deliver.ensures c.code-in-Ok-answer_to.ensures of_trace out
+
+pub returns-in-Some-Explore-clause-absent : goal.returns-in-Some-Explore-clause-absent
+returns-in-Some-Explore-clause-absent g c = λ three. explored_absent _ _ _ _ _ _ _ _ _ c.explore_trace.ensures.explores (absent_at _ (sym c.code-in-Some-Explore.ensures ∙ three))
+
+pub returns-in-Some-Explore-clause-keys_fault : goal.returns-in-Some-Explore-clause-keys_fault
+returns-in-Some-Explore-clause-keys_fault g c = λ less. rw (c.code-in-Some-Explore.ensures) (explored_keys_fault _ _ _ _ _ _ _ _ _ c.explore_trace.ensures.explores less)
