@@ -44,8 +44,10 @@ cp "$scratch/trace" "$scratch/older"
 expect_trace "an older trace" "$scratch/older"
 (cat "$scratch/trace" && head -c 100000 /dev/zero) >"$scratch/longer"
 expect_trace "a longer file that begins as a trace" "$scratch/longer"
-printf 'WHYTRAC1' >"$scratch/magic"
-expect_trace "a trace that was cut" "$scratch/magic"
+for version in 1 2; do
+  printf 'WHYTRAC%s' "$version" >"$scratch/magic"
+  expect_trace "a trace of version $version that was cut" "$scratch/magic"
+done
 ln -s "$scratch/made" "$scratch/link"
 expect_trace "a link to a file that isn't there" "$scratch/link"
 

@@ -5,7 +5,7 @@ import re
 import struct
 import sys
 
-MAGIC, NONE, FIRST_CLASS = b"WHYTRAC1", 0xFFFFFFFF, 18
+MAGICS, NONE, FIRST_CLASS = (b"WHYTRAC1", b"WHYTRAC2"), 0xFFFFFFFF, 18
 NEW, TEXT, PRINT = 1, 6, 8
 LIBRARY = """Object String Throwable Exception Error RuntimeException ArithmeticException ArrayStoreException ClassCastException
 IllegalArgumentException NumberFormatException IllegalStateException IndexOutOfBoundsException ArrayIndexOutOfBoundsException
@@ -23,8 +23,8 @@ SIMPLE = {"n": "\n", "t": "\t", "b": "\b", "f": "\f", "r": "\r"}
 
 
 def frames(data):
-    assert data.startswith(MAGIC)
-    at = len(MAGIC)
+    assert data.startswith(MAGICS)
+    at = len(MAGICS[0])
     while at < len(data):
         size = int.from_bytes(data[at + 1 : at + 5], "big")
         yield data[at : at + 1], data[at + 5 : at + 5 + size], at

@@ -8,7 +8,7 @@ use Rattle.wy_steps.specs.State.{Carried, Run, Reason, Jumped, Returned, Threw, 
 use Rattle.wy_meaning.specs.World.{World}
 use Rattle.wy_meaning.specs.Call.{bind_all, end_body, at_return, run_body, frame_of_call, call_method, at_failure, initialize_above, initialization}
 use Rattle.wy_meaning.specs.Expression.{eval, eval_part, eval_row}
-use Rattle.wy_meaning.specs.Statement.{statement, tested, if_form, turns, while_form, do_form, for_test, for_form, jump, return_form, Clause, caught, handle, at_throw, finally, try_form, other_or, exec, exec_act, exec_other, exec_all, exec_catches}
+use Rattle.wy_meaning.specs.Statement.{statement, armed, tested, if_form, turns, while_form, do_form, for_test, for_form, jump, return_form, Clause, caught, handle, at_throw, finally, try_form, other_or, exec, exec_act, exec_other, exec_all, exec_catches}
 use Rattle.wy_meaning.specs.Run.{call_body, init_block, world}
 use Rattle.law_induction.proofs.Composed.{WorldHas, PartHas, AllHave, on_type_of, on_initialize, on_part_or, on_eval, on_part, on_evaluated, on_declaration, on_throw_form, on_print_form}
 use Rattle.law_added.proofs.Rules.{Adds, bind, after, adds_catching, adds_choose, adds_return, adds_leave, adds_stop, adds_tick, adds_steps_left, adds_frame, adds_note, adds_note_write, adds_note_new, adds_scoped, adds_reaching, adds_in_frame, adds_activating, adds_covered}
@@ -81,9 +81,13 @@ module _ (w : World sets.nothing) (pw : WorldHas sets.nothing OnlyAdds w) where
   unfolding statement
   adds_statement number m h = after adds_tick (adds_reaching number (adds_covered number h))
 
+  adds_armed : (site reach n : ℕ) (v : Carried sets.nothing) → Adds (armed site reach n v)
+  unfolding armed
+  adds_armed site reach n v = search steps depth 14
+
   pub adds_tested : (site reach : ℕ) (test : Run sets.nothing (Carried sets.nothing)) → Adds test → Adds (tested site reach test)
   unfolding tested
-  adds_tested site reach test h = search steps depth 14
+  adds_tested site reach test h = search (steps, adds_armed) depth 14
 
   pub adds_if : (test : Run sets.nothing Bool) (a b : Run sets.nothing (Unit {0})) → Adds test → Adds a → Adds b → Adds (if_form test a b)
   unfolding if_form

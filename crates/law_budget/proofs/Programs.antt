@@ -8,7 +8,7 @@ use Rattle.wy_steps.specs.State.{Carried, State, Run, Reason, Jumped, Returned, 
 use Rattle.wy_meaning.specs.World.{World}
 use Rattle.wy_meaning.specs.Call.{bind_all, end_body, at_return, run_body, frame_of_call, call_method, at_failure, initialize_above, initialization}
 use Rattle.wy_meaning.specs.Expression.{eval, eval_part}
-use Rattle.wy_meaning.specs.Statement.{statement, tested, if_form, turns, while_form, do_form, for_test, for_form, jump, return_form, Clause, caught, handle, at_throw, finally, try_form, other_or, exec, exec_act, exec_other, exec_all, exec_catches}
+use Rattle.wy_meaning.specs.Statement.{statement, armed, tested, if_form, turns, while_form, do_form, for_test, for_form, jump, return_form, Clause, caught, handle, at_throw, finally, try_form, other_or, exec, exec_act, exec_other, exec_all, exec_catches}
 use Rattle.wy_meaning.specs.Run.{call_body, init_block, world, main_run, strings}
 use Rattle.law_budget.proofs.BudgetRules.{Within, Paid, Taking, bind, after, taking_after, taking_tick, with_steps, within_bind, within_after, paid_catching, paid_choose, paid_return, paid_leave, paid_depth_limit, paid_fell_off, paid_init_failed, paid_tick, paid_note_write, paid_note_new, paid_note, paid_scoped, paid_reaching, paid_covered, paid_in_frame, paid_activating, paid_unassigned, paid_frame, paid_event_at, paid_is_begun, paid_read, paid_declare, paid_take_elements, paid_take_units, paid_room_for_output, paid_write_out, paid_next_byte}
 use Rattle.law_induction.proofs.Composed.{WorldHas, PartHas, on_type_of, on_initialize, on_make_array, on_part_or, on_eval, on_part, on_evaluated, on_declaration, on_throw_form, on_print_form}
@@ -29,9 +29,13 @@ module _ (A : Sets) (w : World A) (pw : WorldHas A (IsPaid A) w) where
   unfolding statement
   taking_statement number m h = taking_after A (taking_tick A) (paid_reaching A number (paid_covered A number h))
 
+  paid_armed : (site reach n : ℕ) (v : Carried A) → Paid A (armed site reach n v)
+  unfolding armed
+  paid_armed site reach n v = search steps depth 14
+
   paid_tested : (site reach : ℕ) (test : Run A (Carried A)) → Paid A test → Paid A (tested site reach test)
   unfolding tested
-  paid_tested site reach test h = search steps depth 14
+  paid_tested site reach test h = search (steps, paid_armed) depth 14
 
   paid_if : (test : Run A Bool) (a b : Run A Unit) → Paid A test → Paid A a → Paid A b → Paid A (if_form test a b)
   unfolding if_form

@@ -28,7 +28,7 @@ use Rattle.wy_kernel.specs.Form.{Expression, Const, Str, Read, Set, Upd, Un, Bin
 use Rattle.wy_kernel.specs.Program.{Body, Method}
 use Rattle.wy_meaning.specs.Call.{bind_all, end_body, at_return, run_body, frame_of_call, call_uses, bound, call_method, at_failure, initialize_above, initialization}
 use Rattle.wy_meaning.specs.Expression.{eval, locate, eval_part, eval_row}
-use Rattle.wy_meaning.specs.Statement.{statement, tested, evaluated, declaration, if_form, turns, while_form, do_form, for_test, for_form, jump, return_form, throw_form, Clause, caught, handle, at_throw, finally, try_form, print_form, other_or, exec, exec_act, exec_other, exec_all, exec_catches}
+use Rattle.wy_meaning.specs.Statement.{statement, armed, tested, evaluated, declaration, if_form, turns, while_form, do_form, for_test, for_form, jump, return_form, throw_form, Clause, caught, handle, at_throw, finally, try_form, print_form, other_or, exec, exec_act, exec_other, exec_all, exec_catches}
 use Rattle.wy_meaning.specs.Run.{call_body, init_block, main_run, strings}
 use Rattle.wy_kernel.specs.declared.types.MethodForm.{MethodForm}
 use Rattle.wy_kernel.specs.declared.types.MethodForm.TheVariants as kinds
@@ -515,9 +515,13 @@ module _ (A : Sets) (p : Program) (c : (site method : ℕ) → Option (Carried A
   unfolding statement joined constant with_value value_of chosen
   erases_statement number m k h = after _ (erases_tick _) (erases_reaching _ number (erases_covered _ number h))
 
+  erases_armed : (site reach n : ℕ) (v : Carried A) → Plain₂ (armed site reach n v) (armed site reach n (value_erased A v))
+  unfolding armed
+  erases_armed site reach n v = with_option _ (erases_frame _) (λ f. with_made _ _ (erases_activating _ _ (erases_note _ _ v)) (λ e. erases_return _ tt tt refl))
+
   pub erases_tested : (site reach : ℕ) (m : Run A (Carried A)) (k : Run nothing (Carried nothing)) → Value₂ m k → Plain₂ (tested site reach m) (tested site reach k)
   unfolding tested joined constant with_value value_of chosen
-  erases_tested site reach m k h = with_carried _ _ h (λ v. with_option _ (erases_frame _) (λ f. with_made _ _ (erases_activating _ _ (erases_note _ _ v)) (λ e. erases_return _ _ _ refl)))
+  erases_tested site reach m k h = with_carried _ _ h (λ v. after _ (erases_armed site reach _ v) (erases_return _ _ _ refl))
 
   pub erases_evaluated : (m : Run A (Carried A)) (k : Run nothing (Carried nothing)) → Value₂ m k → Plain₂ (evaluated m) (evaluated k)
   unfolding evaluated joined constant with_value value_of chosen

@@ -12,7 +12,7 @@ use Rattle.wy_kernel.specs.Form.{Expression, Const, Str, Read, Set, Upd, Un, Bin
 use Rattle.wy_kernel.specs.Program.{Body, Method, body, init_body}
 use Rattle.wy_meaning.specs.Call.{bind_all, end_body, at_return, run_body, frame_of_call, call_uses, bound, call_method, at_failure, initialize_above, initialization}
 use Rattle.wy_meaning.specs.Expression.{eval, locate, eval_part, eval_row}
-use Rattle.wy_meaning.specs.Statement.{statement, tested, evaluated, declaration, if_form, turns, while_form, do_form, for_test, for_form, jump, return_form, throw_form, Clause, caught, handle, at_throw, finally, try_form, print_form, other_or, exec, exec_act, exec_other, exec_all, exec_catches}
+use Rattle.wy_meaning.specs.Statement.{statement, armed, tested, evaluated, declaration, if_form, turns, while_form, do_form, for_test, for_form, jump, return_form, throw_form, Clause, caught, handle, at_throw, finally, try_form, print_form, other_or, exec, exec_act, exec_other, exec_all, exec_catches}
 use Rattle.wy_meaning.specs.Run.{call_body, init_block, world, main_run, strings}
 use Rattle.wy_kernel.specs.declared.types.MethodForm.{MethodForm}
 use Rattle.wy_kernel.specs.declared.types.MethodForm.TheVariants as kinds
@@ -64,9 +64,13 @@ module _ (p : Program) (records : List Recorded) (w : World numbers) (kw : World
   unfolding statement
   keeps_statement P number m h = search (steps, notes, looked) depth 14
 
+  keeps_armed : (P : Fact) (site reach n : ℕ) (c : Carried numbers) → Entails P (Fit p records c) → Hold p records P (armed site reach n c) (λ t. nothing)
+  unfolding armed
+  keeps_armed P site reach n c e = search (steps, notes, looked) depth 16
+
   keeps_tested : (P : Fact) (site reach : ℕ) (test : Run numbers (Carried numbers)) → Carries p records test → Hold p records P (tested site reach test) (λ b. nothing)
   unfolding tested
-  keeps_tested P site reach test h = search (steps, notes, looked) depth 16
+  keeps_tested P site reach test h = search (steps, notes, looked, keeps_armed) depth 16
 
   keeps_evaluated : (P : Fact) (m : Run numbers (Carried numbers)) → Carries p records m → Hold p records P (evaluated m) (λ t. nothing)
   unfolding evaluated

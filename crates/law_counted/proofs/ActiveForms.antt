@@ -20,7 +20,7 @@ module _ (A : Sets) where
     after = λ h k. after A h k;
     on_choose = λ b h k. level_choose A b h k;
     on_decided = λ site h k. level_scoped A (λ f r. Unit {0}) (bind_kept A (lift A h) (λ v.
-        bind_kept A (keeps_activating A (NoStatement A) (λ f r. Unit {0}) Around (λ f. tt) (records_note A _ v) (test_runs_none site v.value)) (λ e. lift A (k v e))));
+        bind_kept A (keeps_activating A (NoStatement A) (λ f r. Unit {0}) Around (λ f. tt) (records_note A _ v) (test_runs_none site _)) (λ e. lift A (k v e))));
     on_return = λ x. level_return A x;
     on_throwing = level_throwing;
     on_unassigned = level_unassigned A;

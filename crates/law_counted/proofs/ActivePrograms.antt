@@ -3,12 +3,13 @@ use Rattle.std.proofs.Common.{◌≡◌, ℕ, zero, suc, Bool, true, false, List
 use Rattle.std.specs.Prelude.{None as Absent}
 use Rattle.wy_kernel.specs.Form.{Expression, Part, Statement, Stmt, Act, Block, Eval, Declare, If, While, Do, For, Labelled, Jump, Return, Throw, Try, Print, Other, nothing, this, Statements, done, first, Catches, uncaught, catch}
 use Rattle.wy_kernel.specs.Program.{Program, Body, Method, body, init_body}
+use Rattle.wy_value.specs.declared.value.Value.TheVariants.{Arm}
 use Rattle.wy_steps.specs.Sets.{Sets}
 use Rattle.wy_steps.specs.State.{Carried, Reach, Around, Through, Run, StepLimit, DepthLimit, FellOff, InitFailed, Reason, Jumped, Returned, Threw, ◌>>◌, catching}
 use Rattle.wy_meaning.specs.World.{World}
 use Rattle.wy_meaning.specs.Call.{bind_all, end_body, at_return, run_body, frame_of_call, call_method, at_failure, initialize_above, initialization}
 use Rattle.wy_meaning.specs.Expression.{eval, eval_part}
-use Rattle.wy_meaning.specs.Statement.{number_of, tested, if_form, turns, while_form, do_form, for_test, for_form, jump, return_form, Clause, caught, handle, at_throw, finally, try_form, other_or, exec, exec_act, exec_other, exec_all, exec_catches}
+use Rattle.wy_meaning.specs.Statement.{number_of, armed, tested, if_form, turns, while_form, do_form, for_test, for_form, jump, return_form, Clause, caught, handle, at_throw, finally, try_form, other_or, exec, exec_act, exec_other, exec_all, exec_catches}
 use Rattle.wy_meaning.specs.Run.{call_body, init_block, world, main_run, strings}
 use Rattle.wy_kernel.specs.Statements.{statements, statements_within, statements_of_other, statements_of_all, statements_of_catches}
 use Rattle.law_counted.specs.Entries.{OneOf, IsNumberOf, IsReachOf, IsThroughOneOf}
@@ -57,13 +58,17 @@ module _ (A : Sets) (w : World A) (pw : WorldHas A (IsLevel A) w) where
   -- ---- statements
 
   module _ (N : ℕ → Type 0) (P : Option ℕ → Reach → Type 0) where
+    keeps_armed : (site reach n : ℕ) (v : Carried A) → ((f : Option ℕ) → P f (Through f reach)) → Keeps A N P (armed site reach n v)
+    unfolding armed
+    keeps_armed site reach n v allowed =
+        with_frame A N P _ (λ s.
+        bind_at A N P _ _ s (kept_activating A N P (Through s.frame reach) s (allowed s.frame) (records_note A _ v) (test_runs_none site (Arm n))) (λ e.
+        lift A (level_return A _)))
+
     keeps_tested : (site reach : ℕ) (test : Run A (Carried A)) → ((f : Option ℕ) → P f (Through f reach)) → Levels A test → Keeps A N P (tested site reach test)
     unfolding tested
     keeps_tested site reach test allowed h =
-        bind_kept A (lift A h) (λ v.
-        with_frame A N P _ (λ s.
-        bind_at A N P _ _ s (kept_activating A N P (Through s.frame reach) s (allowed s.frame) (records_note A _ v) (test_runs_none site v.value)) (λ e.
-        lift A (level_return A _))))
+        bind_kept A (lift A h) (λ v. after_kept A (keeps_armed site reach _ v allowed) (lift A (level_return A _)))
 
     keeps_if : (test : Run A Bool) (a b : Run A Unit) → Keeps A N P test → Keeps A N P a → Keeps A N P b → Keeps A N P (if_form test a b)
     unfolding if_form

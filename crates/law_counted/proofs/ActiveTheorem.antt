@@ -7,6 +7,7 @@ use Rattle.std.proofs.lemmas.List.{map-append, length-map, length-reverse}
 use mathlib.Core.List.{map, reverse, reverse-cons}
 use Rattle.wy_kernel.specs.Form.{Statement, Stmt}
 use Rattle.wy_kernel.specs.Program.{Program}
+use Rattle.wy_value.specs.declared.value.Value.TheVariants.{Arm}
 use Rattle.wy_event.specs.Record.{Recorded}
 use Rattle.wy_steps.specs.Sets.{Sets}
 use Rattle.wy_steps.specs.State.{Carried, Noted, Active, Around, Through, State, Outcome, Done, Left, Stopped, Run, go_on, ◌>>=◌, ◌>>◌, return, choose}
@@ -16,9 +17,9 @@ use Rattle.wy_steps.specs.Laws.{IfDone}
 use Rattle.wy_event.specs.declared.record.Kind.{Kind}
 use Rattle.wy_event.specs.declared.record.Kind.TheVariants as kind
 use Rattle.wy_event.specs.declared.record.Slot.TheVariants.{Local}
-use Rattle.wy_meaning.specs.World.{plain, into, is_true}
+use Rattle.wy_meaning.specs.World.{plain, into, is_true, arm_of_truth}
 use Rattle.wy_meaning.specs.Expression.{arm, conditional, eval, eval_part}
-use Rattle.wy_meaning.specs.Statement.{statement, tested, caught, exec, exec_act}
+use Rattle.wy_meaning.specs.Statement.{statement, armed, tested, caught, exec, exec_act}
 use Rattle.wy_meaning.specs.Run.{world, start, outcome, end, history, events}
 use Rattle.law_counted.specs.Entries.{IsControlOf, ControlIsOfTheBody, NothingIsActiveAtTheEnd, IsAmong, StatementsKeepEntries, EntriesEndWithTheirReach, AreInOrder, IsControlledBy, ArmsAreControlledByTheirTest, ExpressionsAddNoEntry, IsGreatest, TheParentIsTheGreatest, BecameActive, TestsBecomeActive, CatchesBecomeActive}
 use Rattle.law_counted.proofs.ActiveRules.{AreMade, Controls, AllControlled, core, Fine, Level, Levels, later_one, controls_up, level_same, level_kept, level_order, level_choose, under_same, all_below, IfNext, records_note, records_note_write, spared_among}
@@ -157,12 +158,22 @@ module _ (A : Sets) where
   noted_test k r b s t (Left why u) h l next = tt
   noted_test k r b s t (Stopped why u) h l next = tt
 
+  armed_then : {X : Type 0} (b : X) (o : Outcome A Unit) (s : State A) (r : ℕ) → IfDone o (λ u t. BecameActive (Through s.frame r) s t) → IfDone (go_on o (λ u. return b)) (λ z t. BecameActive (Through s.frame r) s t)
+  unfolding go_on return
+  armed_then b (Done u t) s r h = h
+  armed_then b (Left why t) s r h = tt
+  armed_then b (Stopped why t) s r h = tt
+
+  arm_active : (site r n : ℕ) (v : Carried A) (s t : State A) → Level A (core A s) (core A t) → IfDone (armed site r n v t) (λ u t. BecameActive (Through s.frame r) s t)
+  unfolding armed frame ◌>>=◌ activating go_on end
+  arm_active site r n v s t k = noted_test _ r tt s t (note (plain kind.Test site (Arm n)) v t) k ((records_note A _ v).level.by t) ((records_note A _ v).next t)
+
   test_active : (site r : ℕ) (s : State A) (m : Run A (Carried A)) → Levels A m → IfDone (tested site r m s) (λ b t. BecameActive (Through s.frame r) s t)
-  unfolding tested frame ◌>>=◌ activating go_on end
+  unfolding tested ◌>>=◌ ◌>>◌ go_on end
   test_active site r s m h = from (m s) (h.by s)
     where
-      from : (o : Outcome A (Carried A)) → Level A (core A s) (core A (end o)) → IfDone (go_on o (λ v. frame >>= (λ f. activating (Through f r) (note (plain kind.Test site v.value) v) >>= (λ e. return (is_true v.value))))) (λ b t. BecameActive (Through s.frame r) s t)
-      from (Done v t) k = noted_test _ r (is_true v.value) s t (note (plain kind.Test site v.value) v t) k ((records_note A _ v).level.by t) ((records_note A _ v).next t)
+      from : (o : Outcome A (Carried A)) → Level A (core A s) (core A (end o)) → IfDone (go_on o (λ v. armed site r (arm_of_truth (is_true v.value)) v >> return (is_true v.value))) (λ b t. BecameActive (Through s.frame r) s t)
+      from (Done v t) k = armed_then (is_true v.value) (armed site r (arm_of_truth (is_true v.value)) v t) s r (arm_active site r (arm_of_truth (is_true v.value)) v s t k)
       from (Left why t) k = tt
       from (Stopped why t) k = tt
 
@@ -206,6 +217,6 @@ module _ (A : Sets) where
       let h : Level A (core A s) (core A t) = subst (λ (o : Outcome A (Carried A)). Level A (core A s) (core A (end o))) is ((level_eval A w pw test).by s) in
       let k : Made A → Run A (Carried A) = λ e. choose (is_true v.value) (arm e v.value (eval_part w a)) (arm e v.value (eval_part w b)) in
       let levels : (e : Made A) → Levels A (k e) = λ e. level_choose A (is_true v.value) (on_arm A (IsLevel A) (level_by_steps A) w pw e v.value _ (level_part A w pw a)) (on_arm A (IsLevel A) (level_by_steps A) w pw e v.value _ (level_part A w pw b)) in
-      let f : Carried A → Run A (Carried A) = λ v. activating Around (note (plain kind.Test site v.value) v) >>= (λ e. choose (is_true v.value) (arm e v.value (eval_part w a)) (arm e v.value (eval_part w b))) in
-      let rest = arm_controlled _ t (note (plain kind.Test site v.value) v t) k ((records_note A _ v).level.by t) ((records_note A _ v).next t) (level_order A (core A s) (core A t) h.active h.later order) levels in
+      let f : Carried A → Run A (Carried A) = λ v. activating Around (note (plain kind.Test site (Arm (arm_of_truth (is_true v.value)))) v) >>= (λ e. choose (is_true v.value) (arm e v.value (eval_part w a)) (arm e v.value (eval_part w b))) in
+      let rest = arm_controlled _ t (note (plain kind.Test site (Arm (arm_of_truth (is_true v.value)))) v t) k ((records_note A _ v).level.by t) ((records_note A _ v).next t) (level_order A (core A s) (core A t) h.active h.later order) levels in
       subst (IsControlledBy (length t.noted) (suc (length t.noted))) (sym (noted_again s.active (go_on (eval w test s) f) ∙ ap (λ o. (end (go_on o f)).noted) is)) rest

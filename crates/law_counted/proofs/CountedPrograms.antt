@@ -9,7 +9,7 @@ use Rattle.wy_kernel.specs.Limits.{event_limit}
 use Rattle.wy_meaning.specs.World.{World}
 use Rattle.wy_meaning.specs.Call.{bind_all, end_body, at_return, run_body, frame_of_call, call_method, at_failure, initialize_above, initialization}
 use Rattle.wy_meaning.specs.Expression.{eval, eval_part}
-use Rattle.wy_meaning.specs.Statement.{tested, if_form, turns, while_form, do_form, for_test, for_form, jump, return_form, Clause, caught, handle, at_throw, finally, try_form, other_or, exec, exec_act, exec_other, exec_all, exec_catches}
+use Rattle.wy_meaning.specs.Statement.{armed, tested, if_form, turns, while_form, do_form, for_test, for_form, jump, return_form, Clause, caught, handle, at_throw, finally, try_form, other_or, exec, exec_act, exec_other, exec_all, exec_catches}
 use Rattle.wy_meaning.specs.Run.{call_body, init_block, world, main_run, strings}
 use Rattle.law_counted.proofs.CountedRules.{IsRecorded, Counts, bind, after, bind_note, counts_catching, counts_choose, counts_return, counts_leave, counts_stop, counts_steps_left, counts_tick, counts_note_write, counts_note_new, counts_note, counts_scoped, counts_in_frame, counts_activating, counts_statement, counts_unassigned, counts_frame, counts_event_at, counts_is_begun, counts_read, counts_declare, counts_take_elements, counts_take_units, counts_room_for_output, counts_write_out, counts_next_byte}
 use Rattle.law_induction.proofs.Composed.{WorldHas, PartHas, on_type_of, on_initialize, on_make_array, on_part_or, on_eval, on_part, on_evaluated, on_declaration, on_throw_form, on_print_form}
@@ -26,9 +26,13 @@ module _ (A : Sets) (w : World A) (pw : WorldHas A (DoesCount A) w) where
 
   -- ---- statements
 
+  counts_armed : (site reach n : ℕ) (v : Carried A) → Counts A (armed site reach n v)
+  unfolding armed
+  counts_armed site reach n v = search steps depth 14
+
   counts_tested : (site reach : ℕ) (test : Run A (Carried A)) → Counts A test → Counts A (tested site reach test)
   unfolding tested
-  counts_tested site reach test h = search steps depth 14
+  counts_tested site reach test h = search (steps, counts_armed) depth 14
 
   counts_if : (test : Run A Bool) (a b : Run A Unit) → Counts A test → Counts A a → Counts A b → Counts A (if_form test a b)
   unfolding if_form

@@ -431,6 +431,7 @@ module _ (G : Ground) (W : Text) (J : ℕ → Type 0) where
   spelled_now w s (val.Long x) e = refl
   spelled_now w s val.Null e = refl
   spelled_now w s (val.Object x) e = refl
+  spelled_now w s (val.Arm n) e = refl
 
   line_length : (b : Bool) → length (line_end b) ≡ (if b then 1 else 0)
   unfolding line_end

@@ -31,7 +31,7 @@ use Rattle.wy_event.specs.declared.record.Slot.TheVariants as slot
 use Rattle.wy_steps.specs.State.{Carried, Run, Noted, Around, return, ◌>>=◌, ◌>>◌}
 use Rattle.wy_kernel.specs.Limits.{element_limit}
 use Rattle.wy_steps.specs.Steps.{Made, constant, tick, note, joined, with_value, value_of}
-use Rattle.wy_meaning.specs.World.{World, plain, about, class_code, is_true, is_null, is_text, all_of}
+use Rattle.wy_meaning.specs.World.{World, plain, about, class_code, is_true, arm_of_truth, is_null, is_text, all_of}
 use Rattle.wy_meaning.specs.Place.{Located, AtLocal, AtStatic, AtField, AtElem, initialize_source, initialize, static_spot, find, read_place, set_place, update_place, operated, primitive_of}
 use Rattle.wy_meaning.specs.Text.{to_string, call_chosen, shown_as, shown, concatenated, cat, append_place}
 use Rattle.wy_meaning.specs.Array.{any_negative, create_array, first_site, rest_sites, set_elements, create_filled, new_array}
@@ -62,7 +62,7 @@ use Rattle.law_typed_states.proofs.Expressions as expression
 use Rattle.wy_typing.specs.Sites.{Sited, PlaceSited, RowSited}
 use Rattle.law_in_range.specs.InRange.{Text, IsSite, FixedInRange}
 use Rattle.law_in_range.proofs.Facts.{C, always, fine, all_fine, spotted, drafted, constant_fine, with_value_fine, joined_fine, value_of_fine, chosen_fine}
-use Rattle.law_in_range.proofs.Values.{binary_gives, operated_gives, unary_gives, converted_fixed, some_value, truth, primitive_fixed, locals_known, field_known, field_class, method_class}
+use Rattle.law_in_range.proofs.Values.{binary_gives, operated_gives, unary_gives, converted_fixed, some_value, locals_known, field_known, field_class, method_class}
 use Rattle.law_in_range.proofs.Bare as bare
 use Rattle.law_in_range.proofs.Bare.{Bare}
 use Rattle.law_in_range.proofs.Forms as plain_form
@@ -231,6 +231,7 @@ module _ (G : Ground) (W : Text) (J : ℕ → Type 0) (M : Methods G) (L : Inner
     object_good k md site r (val.Char x) vs s m f public e t u h a fr fa = where_at G W J (λ z at. absurd (let y = subst (λ (u : Value). Is (p G) z.noted (class_type md.class) u) e (h.by z.noted at.known) in cc y))
     object_good k md site r (val.Int x) vs s m f public e t u h a fr fa = where_at G W J (λ z at. absurd (let y = subst (λ (u : Value). Is (p G) z.noted (class_type md.class) u) e (h.by z.noted at.known) in cc y))
     object_good k md site r (val.Long x) vs s m f public e t u h a fr fa = where_at G W J (λ z at. absurd (let y = subst (λ (u : Value). Is (p G) z.noted (class_type md.class) u) e (h.by z.noted at.known) in cc y))
+    object_good k md site r (val.Arm n) vs s m f public e t u h a fr fa = where_at G W J (λ z at. absurd (subst (λ (u : Value). Is (p G) z.noted (class_type md.class) u) e (h.by z.noted at.known)))
 
     chosen_call_good : (k : ℕ) (md : Method) (receiver : Run (A G) K) (args : List (Run (A G) K)) (site : ℕ) (ty : Ty) → Ok site → IsMethod (p G) k md → md.form ≡ kinds.Instance → md.is_private ≡ false → T G M i receiver ty → Fits (p G).classes ty (class_type md.class) → AllTypes G M i args md.params → Good receiver → AllGood args → Good (call_on w call.Chosen k receiver args site)
     unfolding call_on call_form
@@ -332,15 +333,21 @@ module _ (G : Ground) (W : Text) (J : ℕ → Type 0) (M : Methods G) (L : Inner
     arm_good e v Absent f h = plainly G W J (bare.gives G W J _ (arm_value e v f))
     arm_good {P = P} e v (Some m) f h = then_bare G W J (h.by P) (λ c. bare.gives G W J _ (chosen_fine G W e c (newest _ _)))
 
-    pub test_draft : {P : Known G} (site : ℕ) (v : Value) → Ok site → Entails P (of_type G boolean_type v) → Entails P (drafted G W (plain kind.Test site v))
-    unfolding drafted plain is
-    test_draft site v s e = record { by = λ n q. record { site = s; entity = tt; slot = tt; value = truth G n v (e.by n q); fixed = primitive_fixed G n _ v (e.by n q); quiet = tt } }
+    pub two_arms : (c : Bool) → arm_of_truth c < 2
+    unfolding arm_of_truth
+    two_arms true = omega arith
+    two_arms false = omega arith
+
+    pub test_draft : {P : Known G} (site n : ℕ) → Ok site → n < 2 → Entails P (drafted G W (plain kind.Test site (val.Arm n)))
+    unfolding drafted plain
+    test_draft site n s few = record { by = λ m q. record { site = s; entity = tt; slot = tt; value = few; fixed = tt; quiet = tt } }
 
     conditional_good : (test : Run (A G) K) (a d : Option (Run (A G) K)) (site : ℕ) → Ok site → T G M i test boolean_type → Good test → ArmGood a → ArmGood d → Good (conditional test a d site)
     unfolding conditional
     conditional_good test a d site s dt ft fa fd = record {
       by = λ P. scopes G W J (bind G W J (dt.by P) (ft.by P) (λ v.
-          bind G W J (notes_test G Around site v.value v) (plainly G W J (bare.enters G W J (note (plain kind.Test site v.value) v) Around (plain kind.Test site v.value) v (bare.note_adds G W J (plain kind.Test site v.value) v) (test_draft site v.value s (before _ _ (newest _ _))) (newest _ _))) (λ e.
+          let draft = plain kind.Test site (val.Arm (arm_of_truth (is_true v.value))) in
+          bind G W J (notes_test G Around site _ v) (plainly G W J (bare.enters G W J (note draft v) Around draft v (bare.note_adds G W J draft v) (test_draft site _ s (two_arms _)) (newest _ _))) (λ e.
           either G W J (is_true v.value) (λ q. arm_good e v a (before _ _ (before _ _ (newest _ _))) fa) (λ q. arm_good e v d (before _ _ (before _ _ (newest _ _))) fd))));
     }
 

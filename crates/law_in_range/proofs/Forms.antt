@@ -202,6 +202,7 @@ module _ (G : Ground) (W : Text) (J : ℕ → Type 0) (M : Methods G) where
   indexed l (val.Text x) j e = absurd (cc e)
   indexed l (val.Fixed x) j e = absurd (cc e)
   indexed l val.None j e = absurd (cc e)
+  indexed l (val.Arm n) j e = absurd (cc e)
 
   none_is_zero : (v : Value) → IsNone v → natural_of v ≡ 0
   unfolding natural_of

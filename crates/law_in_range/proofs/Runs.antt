@@ -317,6 +317,7 @@ module _ (G : Ground) (W : Text) where
   seen_same at bt h (val.Long x) = refl
   seen_same at bt h val.Null = refl
   seen_same at bt h (val.Object x) = refl
+  seen_same at bt h (val.Arm n) = refl
 
   as_same : (at bt : Events) → ((k : ℕ) → at k ≡ bt k) → (k : Kind) (site : ℕ) (v : Value) → written_as (p G) W.ends_line at k site v ≡ written_as (p G) W.ends_line bt k site v
   as_same at bt h kind.Print site v = ap (λ (l : List ℕ). length (utf8_of l) + (if W.ends_line site then 1 else 0)) (seen_same at bt h v)

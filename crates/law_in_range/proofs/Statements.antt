@@ -1,5 +1,5 @@
 -- Each statement of a body keeps what is in range.
-use Rattle.std.proofs.Common.{◌≡◌, ℕ, Bool, true, false, [], List, ◌++◌, Option, Some, refl, sym, ap, subst}
+use Rattle.std.proofs.Common.{◌≡◌, ◌<◌, ℕ, Bool, true, false, [], List, ◌++◌, Option, Some, refl, sym, ap, subst}
 use Rattle.std.specs.Prelude.{slice_get}
 use Rattle.std.specs.List.{AllByRecursion}
 use Rattle.std.proofs.lemmas.Option.{slice_get_within}
@@ -14,11 +14,11 @@ use Rattle.wy_value.specs.declared.value.Value.TheVariants as val
 use Rattle.wy_event.specs.declared.record.Kind.TheVariants as kind
 use Rattle.wy_event.specs.declared.record.Slot.TheVariants as slot
 use Rattle.wy_steps.specs.State.{Run, Through, Reason, Jumped, Returned, Threw, ◌>>=◌, ◌>>◌, leave, catching}
-use Rattle.wy_steps.specs.Steps.{code_of, note, note_write, event_in, value_of as carried_of}
+use Rattle.wy_steps.specs.Steps.{code_of, constant, note, note_write, event_in, value_of as carried_of}
 use Rattle.wy_meaning.specs.World.{World, plain, into, is_null}
 use Rattle.wy_meaning.specs.Text.{to_string, shown_as, shown, print_value}
 use Rattle.wy_meaning.specs.Expression.{eval, eval_part, part_or}
-use Rattle.wy_meaning.specs.Statement.{tested, evaluated, if_form, for_test, for_form, return_form, throw_form, caught, handle, at_throw, finally, try_form, print_form, other_or, exec, exec_act, exec_other, exec_all, exec_catches}
+use Rattle.wy_meaning.specs.Statement.{armed, tested, evaluated, if_form, for_test, for_form, return_form, throw_form, caught, handle, at_throw, finally, try_form, print_form, other_or, exec, exec_act, exec_other, exec_all, exec_catches}
 use Rattle.wy_typing.specs.Types.{boolean_type, IsPrinted as IsPrintedType}
 use Rattle.wy_typing.specs.Expressions.{HasType, fitting}
 use Rattle.wy_typing.specs.Statements.{Within, IsTyped, Acts, OtherTyped, AllTyped, CatchesTyped, IsTest, IsResult, IsOperand}
@@ -39,15 +39,15 @@ use Rattle.law_typed_states.proofs.Statements.{GivesBack, leaves_typed, place}
 use Rattle.law_typed_states.proofs.Expressions as expression
 use Rattle.wy_typing.specs.Sites.{Sited, PartSited, StatementSited, ActSited, CatchesSited}
 use Rattle.wy_typing.proofs.Listed.{parted}
-use Rattle.law_in_range.specs.InRange.{Text, IsSite, HasLocal, IsPrinted, StringIsFinal, PrintLined, StatementLined, JumpsTo, ActJumpsTo, OtherJumpsTo, AllJumpTo, CatchesJumpTo}
+use Rattle.law_in_range.specs.InRange.{Text, IsSite, HasLocal, IsPrinted, IsReturned, StringIsFinal, PrintLined, StatementLined, JumpsTo, ActJumpsTo, OtherJumpsTo, AllJumpTo, CatchesJumpTo}
 use Rattle.law_in_range.proofs.Facts.{C, Moment, always, fine, thrown, fair, drafted, constant_fine}
-use Rattle.law_in_range.proofs.Values.{throwable}
+use Rattle.law_in_range.proofs.Values.{throwable, no_arm}
 use Rattle.law_in_range.proofs.Strings.{text_printed}
 use Rattle.law_in_range.proofs.Bare as bare
 use Rattle.law_in_range.proofs.Bare.{Bare}
 use Rattle.law_in_range.proofs.Forms as plain_form
 use Rattle.law_in_range.proofs.Texts as plain_text
-use Rattle.law_in_range.proofs.Expressions.{Inner, keeps, chosen_good, test_draft}
+use Rattle.law_in_range.proofs.Expressions.{Inner, keeps, chosen_good, test_draft, two_arms}
 use Rattle.law_in_range.proofs.Rules.{Full, bind, after, where_at, with_end, either, plainly, then_plainly, then_bare, bare_first, catches, numbered, OrTo, whiles, dos}
 
 module _ (G : Ground) (W : Text) (final : StringIsFinal (p G)) (M : Methods G) (L : Inner G W M) (i : FrameKind) (result : Option Ty) (back : GivesBack G M i result) where
@@ -110,10 +110,17 @@ module _ (G : Ground) (W : Text) (final : StringIsFinal (p G)) (M : Methods G) (
 
     -- ---- tests
 
+    arms : {P : Known G} (site reach n : ℕ) (v : K) → Ok site → n < 2 → Entails P (F v) → bare.Bare G W J (In i) P (armed site reach n v) (λ t. nothing)
+    unfolding armed
+    arms site reach n v s few f =
+        let draft = plain kind.Test site (val.Arm n) in
+        bare.bind G W J (bare.frames G W J) (λ b.
+        bare.bind G W J (bare.enters G W J (note draft v) (Through b reach) draft v (bare.note_adds G W J draft v) (test_draft G W J M L i site n s few) (before _ _ f)) (λ e. bare.gives G W J _ trivially))
+
     tests : (site reach : ℕ) (e : Expression) → Ok site → Sited Ok e → HasType (p G) (local_types (p G) i) e boolean_type → (P : Known G) → O P (tested site reach (eval w e)) (λ c. nothing)
     unfolding tested
-    tests site reach e s se t P = then_plainly G W J (((expression.typed G M i e).by boolean_type t).by P) (((keeps G W J M L i e).by se boolean_type t).by P) (λ v. bare.bind G W J (bare.frames G W J) (λ f.
-        bare.bind G W J (bare.enters G W J (note (plain kind.Test site v.value) v) (Through f reach) (plain kind.Test site v.value) v (bare.note_adds G W J (plain kind.Test site v.value) v) (test_draft G W J M L i site v.value s (before _ _ (before _ _ (newest _ _)))) (before _ _ (newest _ _))) (λ e. bare.gives G W J _ trivially)))
+    tests site reach e s se t P = then_plainly G W J (((expression.typed G M i e).by boolean_type t).by P) (((keeps G W J M L i e).by se boolean_type t).by P) (λ v.
+        bare.after G W J (arms site reach _ v s (two_arms G W J M L i _) (newest _ _)) (bare.gives G W J _ trivially))
 
     test_typed : (site reach : ℕ) (e : Expression) → HasType (p G) (local_types (p G) i) e boolean_type → Typed (tested site reach (eval w e))
     test_typed site reach e t P = (typed_statement.tests G M i result back site reach (eval w e) ((expression.typed G M i e).by boolean_type t)).by P
@@ -240,6 +247,7 @@ module _ (G : Ground) (W : Text) (final : StringIsFinal (p G)) (M : Methods G) (
     shows_as_printed site v (val.Text z) ty s pt e h f = plainly G W J (bare.gives G W J v (printed_as v _ e tt f))
     shows_as_printed site v (val.Fixed z) ty s pt e h f = plainly G W J (bare.gives G W J v (printed_as v _ e tt f))
     shows_as_printed site v val.None ty s pt e h f = plainly G W J (bare.gives G W J v (printed_as v _ e tt f))
+    shows_as_printed site v (val.Arm n) ty s pt e h f = where_at G W J (λ y at. absurd (subst (λ (u : Value). Is (p G) y.noted ty u) e (h.by y.noted at.known)))
 
     shows_printed : {P : Known G} (site : ℕ) (v : K) (ty : Ty) → Ok site → IsPrintedType ty → Entails P (of_type G ty v.value) → Entails P (F v) → O P (shown w site v) (λ u. both (F u) (printed u.value))
     unfolding shown
@@ -272,14 +280,25 @@ module _ (G : Ground) (W : Text) (final : StringIsFinal (p G)) (M : Methods G) (
     others no_statement d l j t = record { by = λ P. plainly G W J (bare.gives G W J tt trivially) }
     others (this x) d l j t = d.by J l j t
 
-    returns_value : {P : Known G} (site : ℕ) (v : K) → Ok site → Entails P (F v) → Bare G W J (In i) {X = Unit {0}} P (note (plain kind.Return site v.value) v >>= (λ e. leave (Returned e.number (carried_of e v.value)))) (λ u. nothing)
+    abbrev returned : K → Known G
+    returned v = both (F v) (always G W (IsReturned v.value))
+
+    of_a_type : {P : Known G} (v : K) (ty : Ty) → Entails P (of_type G ty v.value) → Entails P (F v) → Entails P (returned v)
+    unfolding both is
+    of_a_type v ty h f = record { by = λ n q. (f.by n q, no_arm G n ty v.value (h.by n q)) }
+
+    nothing_returned : {P : Known G} → Entails P (returned (constant val.None))
+    unfolding both constant
+    nothing_returned {P = P} = record { by = λ n q. ((constant_fine G W {P = P} val.None tt).by n q, tt) }
+
+    returns_value : {P : Known G} (site : ℕ) (v : K) → Ok site → Entails P (returned v) → Bare G W J (In i) {X = Unit {0}} P (note (plain kind.Return site v.value) v >>= (λ e. leave (Returned e.number (carried_of e v.value)))) (λ u. nothing)
     unfolding plain drafted fine fair carried_of both
-    returns_value site v s f = bare.bind G W J (bare.notes G W J (plain kind.Return site v.value) v (record { by = λ n q. record { site = s; entity = tt; slot = tt; value = tt; fixed = (f.by n q).0; quiet = tt } }) f) (λ e. bare.leaves G W J _ (record { by = λ n q. ((f.by n q.0).0, (tt, tt)) }))
+    returns_value site v s f = bare.bind G W J (bare.notes G W J (plain kind.Return site v.value) v (record { by = λ n q. record { site = s; entity = tt; slot = tt; value = (f.by n q).1; fixed = (f.by n q).0.0; quiet = tt } }) (record { by = λ n q. (f.by n q).0 })) (λ e. bare.leaves G W J _ (record { by = λ n q. ((f.by n q.0).0.0, (tt, tt)) }))
 
     returns : (site : ℕ) (x : Part) → Ok site → PartSited Ok x → IsResult here x → Runs (return_form site (part_or val.None (eval_part w x)))
     unfolding return_form part_or eval_part
-    returns site absent s sx t = record { by = λ P. plainly G W J (bare.bind G W J (bare.gives G W J _ (constant_fine G W val.None tt)) (λ v. returns_value site v s (newest _ _))) }
-    returns site (the e) s sx (ty, r, vt, fitting {a = a} h f) = record { by = λ P. then_bare G W J (((keeps G W J M L i e).by sx a h).by P) (λ v. returns_value site v s (newest _ _)) }
+    returns site absent s sx t = record { by = λ P. plainly G W J (bare.bind G W J (bare.gives G W J {Q = returned} _ nothing_returned) (λ v. returns_value site v s (newest _ _))) }
+    returns site (the e) s sx (ty, r, vt, fitting {a = a} h f) = record { by = λ P. then_plainly G W J (((expression.typed G M i e).by a h).by P) (((keeps G W J M L i e).by sx a h).by P) (λ v. returns_value site v s (of_a_type v a (before _ _ (newest _ _)) (newest _ _))) }
 
     is_thrown : {P : Known G} (v : K) → is_null v.value ≡ false → Entails P (of_type G (class_type throwable_class) v.value) → Entails P (thrown G W v.value)
     unfolding is thrown

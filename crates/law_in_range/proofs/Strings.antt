@@ -95,3 +95,4 @@ module _ (G : Ground) (W : Text) (final : StringIsFinal (p G)) where
   text_printed n h (val.Text z) i = tt
   text_printed n h (val.Fixed z) i = tt
   text_printed n h val.None i = tt
+  text_printed n h (val.Arm z) i = i

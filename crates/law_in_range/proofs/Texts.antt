@@ -120,6 +120,7 @@ module _ (G : Ground) (W : Text) (J : ℕ → Type 0) (M : Methods G) where
   absolute_fixed (val.Object x) h = tt
   absolute_fixed (val.Text x) h = tt
   absolute_fixed val.None h = tt
+  absolute_fixed (val.Arm n) h = tt
 
   one_of : (b : Bool) (x y : Value) → FixedInRange (p G) x → FixedInRange (p G) y → FixedInRange (p G) (if b then x else y)
   one_of true x y h k = h

@@ -18,7 +18,7 @@ use Rattle.wy_kernel.specs.declared.types.Ty.TheVariants.{Void, Null as OfNull, 
 use Rattle.wy_kernel.specs.Builtin as builtin
 use Rattle.wy_kernel.specs.Builtin.{throwable_class}
 use Rattle.wy_kernel.specs.Program.{Program, Body, Field, Method, field, method, body, init_body, is_source, object_class, base_of, type_of_code}
-use Rattle.wy_kernel.specs.Subtyping.{class_type, primitive_type}
+use Rattle.wy_kernel.specs.Subtyping.{class_type}
 use Rattle.wy_kernel.specs.Table.{IsMethodOf, IsFieldOf}
 use Rattle.wy_value.specs.declared.value.Value.{Value}
 use Rattle.wy_value.specs.declared.value.Value.TheVariants as val
@@ -28,7 +28,7 @@ use Rattle.wy_steps.specs.State.{Noted}
 use Rattle.wy_steps.specs.Steps.{event_in, code_of}
 use Rattle.wy_meaning.specs.World.{is_null}
 use Rattle.wy_meaning.specs.Place.{primitive_of, operated}
-use Rattle.wy_typing.specs.Types.{boolean_type, text_type, IsVariableType}
+use Rattle.wy_typing.specs.Types.{text_type, IsVariableType}
 use Rattle.wy_typing.specs.Expressions.{IsMethod, IsField}
 use Rattle.wy_typing.specs.Programs.{types, IsTypeIn}
 use Rattle.law_induction.specs.Law.{FrameKind, OfCall, OfInit}
@@ -38,7 +38,7 @@ use Rattle.law_typed_states.proofs.Library.{object_is_top, text_below_object, ge
 use Rattle.wy_typing.proofs.Ranges.{all_at}
 use Rattle.law_typed_states.proofs.Bodies.{part_there}
 use Rattle.law_typed_states.proofs.Rules.{Ground, A, p}
-use Rattle.law_in_range.specs.InRange.{arrays_from, IsObject, IsSome, IsTruth, IsThrown, FixedInRange}
+use Rattle.law_in_range.specs.InRange.{arrays_from, IsObject, IsSome, IsReturned, IsThrown, FixedInRange}
 
 -- ---- operations
 
@@ -172,32 +172,11 @@ module _ (G : Ground) where
   some_value n ty (val.Object x) h i = tt
   some_value n ty (val.Text x) h i = tt
   some_value n ty (val.Fixed x) h i = tt
+  some_value n ty (val.Arm k) h i = i
 
-  pub truth : (n : Moment) (v : Value) → Is (p G) n boolean_type v → IsTruth v
-  truth n (val.Bool c) h = tt
-  truth n (val.Byte z) h = absurd (cc h)
-  truth n (val.Short z) h = absurd (cc h)
-  truth n (val.Char z) h = absurd (cc h)
-  truth n (val.Int z) h = absurd (cc h)
-  truth n (val.Long z) h = absurd (cc h)
-  truth n val.Null h = ⊎_elim (λ q. absurd (cc q)) (λ q. absurd q) h
-  truth n (val.Object k) h = absurd h.stands.reference
-  truth n (val.Text k) h = absurd h.reference
-  truth n (val.Fixed k) h = absurd h.reference
-  truth n val.None h = absurd (cc h)
-
-  pub primitive_fixed : (n : Moment) (q : Primitive) (v : Value) → Is (p G) n (primitive_type q) v → FixedInRange (p G) v
-  primitive_fixed n q (val.Fixed k) h = absurd h.reference
-  primitive_fixed n q (val.Bool x) h = tt
-  primitive_fixed n q (val.Byte x) h = tt
-  primitive_fixed n q (val.Short x) h = tt
-  primitive_fixed n q (val.Char x) h = tt
-  primitive_fixed n q (val.Int x) h = tt
-  primitive_fixed n q (val.Long x) h = tt
-  primitive_fixed n q val.Null h = tt
-  primitive_fixed n q (val.Object x) h = tt
-  primitive_fixed n q (val.Text x) h = tt
-  primitive_fixed n q val.None h = tt
+  pub no_arm : (n : Moment) (ty : Ty) (v : Value) → Is (p G) n ty v → IsReturned v
+  no_arm n ty (val.Arm k) h = h
+  no_arm n ty _ h = tt
 
   no_text : MayStand (p G) text_type (class_type throwable_class) → ⊥
   no_text s = ⊎_elim (λ e. cc e) (λ e. cc e)
@@ -217,6 +196,7 @@ module _ (G : Ground) where
   throwable n (val.Char x) e h = absurd (cc h)
   throwable n (val.Int x) e h = absurd (cc h)
   throwable n (val.Long x) e h = absurd (cc h)
+  throwable n (val.Arm k) e h = absurd h
 
   -- ---- what has a value
 

@@ -128,13 +128,21 @@ abbrev pub IsNone : Value → Type 0
 IsNone val.None = Unit {0}
 IsNone _ = ⊥
 
+-- a value of a type
 abbrev pub IsSome : Value → Type 0
 IsSome val.None = ⊥
+IsSome (val.Arm n) = ⊥
 IsSome _ = Unit {0}
 
-abbrev pub IsTruth : Value → Type 0
-IsTruth (val.Bool b) = Unit {0}
-IsTruth _ = ⊥
+-- a value of a type, or the absence of one
+abbrev pub IsReturned : Value → Type 0
+IsReturned (val.Arm n) = ⊥
+IsReturned _ = Unit {0}
+
+-- an arm of a test that has two
+abbrev pub IsArm : Value → Type 0
+IsArm (val.Arm n) = n < 2
+IsArm _ = ⊥
 
 -- a byte, or -1
 abbrev pub IsByte : Value → Type 0
@@ -147,6 +155,7 @@ abbrev pub IsPrinted : Value → Type 0
 IsPrinted (val.Byte z) = ⊥
 IsPrinted (val.Short z) = ⊥
 IsPrinted (val.Object n) = ⊥
+IsPrinted (val.Arm n) = ⊥
 IsPrinted _ = Unit {0}
 
 -- an object of a class
@@ -162,10 +171,10 @@ abbrev pub ValueInRange : Events → Kind → Option ℕ → Value → Type 0
 ValueInRange at kind.New entity v = IsLength (code_of entity) v
 ValueInRange at kind.Bind entity v = IsSome v
 ValueInRange at kind.Set entity v = IsSome v
-ValueInRange at kind.Test entity v = IsTruth v
+ValueInRange at kind.Test entity v = IsArm v
 ValueInRange at kind.Read entity v = IsByte v
 ValueInRange at kind.Print entity v = IsPrinted v
-ValueInRange at kind.Return entity v = Unit {0}
+ValueInRange at kind.Return entity v = IsReturned v
 ValueInRange at kind.Throw entity v = IsThrown at v
 ValueInRange at kind.Catch entity v = IsThrown at v
 ValueInRange at _ entity v = IsNone v

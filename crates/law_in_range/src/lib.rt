@@ -10,7 +10,7 @@ ghost use Rattle.law_in_range.specs.InRange.{FitsText, RunsAreInRange, Text};
 
 /// In every run of a program that fits its types, keeps the library and fits its text, each record has a site of the text or of the
 /// library, is of a class, a method or a type of the program, and writes and uses only locals of the body that its frame runs, static
-/// fields, fields of objects in objects of a class, and elements of arrays. Its value is one of its kind: a Test has a truth, a Read a
+/// fields, fields of objects in objects of a class, and elements of arrays. Its value is one of its kind: a Test has an arm, a Read a
 /// byte or -1, a New of an array its length, what is thrown and caught is an object of a class, and what is printed is neither an object
 /// nor a byte or a short. A text of the program is one that it has.
 ///

@@ -11,7 +11,7 @@ use Rattle.wy_kernel.specs.Form.{Constant, Null, Truth, Byte, Short, Char, Int, 
 use Rattle.wy_kernel.specs.Program.{Body, Method, body, init_body}
 use Rattle.wy_meaning.specs.Call.{bind_all, end_body, at_return, run_body, frame_of_call, call_uses, bound, call_method, at_failure, initialize_above, initialization}
 use Rattle.wy_meaning.specs.Expression.{constant_value, eval, locate, eval_part, eval_row}
-use Rattle.wy_meaning.specs.Statement.{statement, tested, evaluated, declaration, if_form, while_form, do_form, for_test, for_form, jump, return_form, throw_form, Clause, caught, handle, at_throw, finally, try_form, print_form, other_or, exec, exec_act, exec_other, exec_all, exec_catches}
+use Rattle.wy_meaning.specs.Statement.{statement, armed, tested, evaluated, declaration, if_form, while_form, do_form, for_test, for_form, jump, return_form, throw_form, Clause, caught, handle, at_throw, finally, try_form, print_form, other_or, exec, exec_act, exec_other, exec_all, exec_catches}
 use Rattle.wy_meaning.specs.Run.{call_body, init_block, world, main_run, strings}
 use Rattle.wy_kernel.specs.declared.types.MethodForm.{MethodForm}
 use Rattle.wy_kernel.specs.declared.types.MethodForm.TheVariants as kinds
@@ -78,9 +78,13 @@ module _ (A : Sets) (L : Uniform A) (w : World A) (kw : WorldKeeps A L w) (fr : 
   unfolding statement
   keeps_statement P number m h = search (steps, notes, looked) depth 14
 
+  keeps_armed : (P : (Fact L.moments)) (site reach n : ℕ) (c : Carried A) → Entails P (Fit A L c) → Hold A L (In fr) P (armed site reach n c) (λ t. nothing)
+  unfolding armed
+  keeps_armed P site reach n c e = search (steps, notes, looked) depth 16
+
   keeps_tested : (P : (Fact L.moments)) (site reach : ℕ) (test : Run A (Carried A)) → Carries A L fr test → Hold A L (In fr) P (tested site reach test) (λ b. nothing)
   unfolding tested
-  keeps_tested P site reach test h = search (steps, notes, looked) depth 16
+  keeps_tested P site reach test h = search (steps, notes, looked, keeps_armed) depth 16
 
   keeps_evaluated : (P : (Fact L.moments)) (m : Run A (Carried A)) → Carries A L fr m → Hold A L (In fr) P (evaluated m) (λ t. nothing)
   unfolding evaluated

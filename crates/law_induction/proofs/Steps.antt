@@ -438,9 +438,9 @@ module _ (A : Sets) (L : Uniform A) where
   unfolding spelling
   note_text site units c e = records (spelling site units) c _ (noted _ c (a_text site units c)) none e
 
-  pub note_test : {r : Region} {P : Known} (reach : Reach) (site : ℕ) (v : Value) (c : Carried A) → Entails P (value_fact v) → Entails P (fits c) → Keeps r P (activating reach (note (plain kind.Test site v) c)) (made_fit kind.Test)
+  pub note_test : {r : Region} {P : Known} (reach : Reach) (site n : ℕ) (c : Carried A) → Entails P (fits c) → Keeps r P (activating reach (note (plain kind.Test site (val.Arm n)) c)) (made_fit kind.Test)
   unfolding plain
-  note_test reach site v c ev e = enters reach (plain kind.Test site v) c _ (noted _ c (a_test site v c)) tt ev e
+  note_test reach site n c e = enters reach (plain kind.Test site (val.Arm n)) c _ (noted _ c (a_test site n c)) tt (plain_value (val.Arm n) tt) e
 
   pub note_call : {r : Region} {P : Known} (reach : Reach) (site entity : ℕ) (c : Carried A) → Entails P (fits c) → Keeps r P (activating reach (note (about kind.Call site entity val.None) c)) (made_fit kind.Call)
   unfolding about

@@ -2,12 +2,13 @@
 -- expression has it.
 use Rattle.std.specs.Prelude.{ℕ, Bool, List}
 use Rattle.wy_kernel.specs.Program.{Program}
+use Rattle.wy_value.specs.declared.value.Value.TheVariants.{Arm}
 use Rattle.wy_event.specs.declared.record.Kind.TheVariants as kind
 use Rattle.wy_event.specs.declared.record.Slot.{Slot}
 use Rattle.wy_steps.specs.Sets.{Sets}
 use Rattle.wy_steps.specs.State.{Around, Carried, Run, Unassigned, ◌>>=◌, ◌>>◌, return, stop, choose}
 use Rattle.wy_steps.specs.Steps.{Made, Draft, tick, frame, event_at, is_begun, read, declare, note, note_write, note_new, activating, scoped, take_elements, take_units, room_for_output, write_out, next_byte}
-use Rattle.wy_meaning.specs.World.{plain, throwing}
+use Rattle.wy_meaning.specs.World.{plain, is_true, arm_of_truth, throwing}
 
 pub record Composed (A : Sets) (Q : (X : Type 0) → Run A X → Type 0) : Type 1 where
   -- what is put together
@@ -15,7 +16,7 @@ pub record Composed (A : Sets) (Q : (X : Type 0) → Run A X → Type 0) : Type 
   pub after : {X Y : Type 0} {m : Run A X} {k : Run A Y} → Q _ m → Q _ k → Q _ (m >> k)
   pub on_choose : {X : Type 0} {m k : Run A X} (b : Bool) → Q _ m → Q _ k → Q _ (choose b m k)
   pub on_decided : {f : Carried A → Made A → Run A (Carried A)} {test : Run A (Carried A)} (site : ℕ) → Q _ test → ((v : Carried A) (e : Made A) → Q _ (f v e))
-      → Q _ (scoped (test >>= λ v. activating Around (note (plain kind.Test site v.value) v) >>= f v))
+      → Q _ (scoped (test >>= λ v. activating Around (note (plain kind.Test site (Arm (arm_of_truth (is_true v.value)))) v) >>= f v))
   -- steps
   pub on_return : {X : Type 0} (x : X) → Q _ (return x)
   pub on_throwing : (X : Type 0) (site : ℕ) (v : Carried A) → Q X (throwing site v)

@@ -72,7 +72,7 @@ pub data IsNoted {A : Sets} : Draft → Carried A → Type 0 where
   a_throw : (site : ℕ) (v : Value) (c : Carried A) → IsNoted (plain kind.Throw site v) c
   a_print : (site : ℕ) (v : Value) (c : Carried A) → IsNoted (plain kind.Print site v) c
   a_return : (site : ℕ) (v : Value) (c : Carried A) → IsNoted (plain kind.Return site v) c
-  a_test : (site : ℕ) (v : Value) (c : Carried A) → IsNoted (plain kind.Test site v) c
+  a_test : (site n : ℕ) (c : Carried A) → IsNoted (plain kind.Test site (val.Arm n)) c
   a_read : (site : ℕ) (v : Value) → IsInt v → IsNoted (plain kind.Read site v) (constant val.None)
   a_jump : (site : ℕ) → IsNoted (plain kind.Jump site val.None) (constant val.None)
   a_text : (site : ℕ) (units : List ℕ) (c : Carried A) → IsNoted (spelling site units) c

@@ -1,9 +1,12 @@
 mod Known
 mod Slots
+mod Plain
 mod Values
 mod Records
 mod Ends
 mod TraceWhole
+mod Told
+mod Input
 pub mod Wider
 pub mod Standing
 pub mod Staying

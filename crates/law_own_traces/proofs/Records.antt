@@ -11,6 +11,7 @@ use Rattle.wy_value.specs.declared.value.Value.{Value}
 use Rattle.wy_value.specs.declared.value.Value.TheVariants as val
 use Rattle.wy_value.specs.Encoding.{utf8_of}
 use Rattle.wy_value.proofs.Encodings.{utf8_of-nil}
+use Rattle.wy_event.specs.declared.record.Version.{Version}
 use Rattle.wy_event.specs.declared.record.Kind.{Kind}
 use Rattle.wy_event.specs.declared.record.Kind.TheVariants as kind
 use Rattle.wy_event.specs.Record.{Recorded}
@@ -27,26 +28,26 @@ use Rattle.law_own_traces.proofs.Known.{known_there, there_taken, option_refers}
 use Rattle.law_own_traces.proofs.Slots.{site_passes, entity_passes, slot_allowed, slot_there, uses_stand}
 use Rattle.law_own_traces.proofs.Values.{value_stands}
 
-module _ (P : memory.Program) (few : 16 + length (program_of P).classes ≤ 2 ^ 24) (rs : List Recorded) (shaped : (n : ℕ) (e : Recorded) → slice_get rs n ≡ Some e → Shaped rs n e)
+module _ (V : Version) (P : memory.Program) (few : 16 + length (program_of P).classes ≤ 2 ^ 24) (rs : List Recorded) (shaped : (n : ℕ) (e : Recorded) → slice_get rs n ≡ Some e → Shaped rs n e)
     (ranged : (n : ℕ) (e : Recorded) → slice_get rs n ≡ Some e → InRange (length P.lines.items) (program_of P) (slice_get (take n rs)) e) where
   within : (n : ℕ) (e : Recorded) → slice_get rs n ≡ Some e → n ≤ length rs
   within n e there = let lt = slice_get_within rs n e there in omega (arith, lt)
 
-  may_stand : (n : ℕ) (e : Recorded) → slice_get rs n ≡ Some e → MayStand (ranges_of P) (known_before rs n) e
+  may_stand : (n : ℕ) (e : Recorded) → slice_get rs n ≡ Some e → MayStand (ranges_of V P) (known_before rs n) e
   may_stand n e there =
       let s = shaped n e there in
       let h = ranged n e there in
       record {
-        site = site_passes P e.site h.site;
+        site = site_passes V P e.site h.site;
         frame = option_refers rs shaped n role.Frame IsFrame (λ k h. h) e.frame s.frame;
         control = option_refers rs shaped n role.Control IsControl (λ k h. h) e.control s.control;
-        entity = entity_passes P few e.kind e.entity h.entity;
-        slot = record { form = slot_allowed e.kind e.slot s.slot_of_kind; there = slot_there P rs shaped n (within n e there) e.slot h.slot s.slot };
-        value = value_stands P rs shaped n e.kind e.entity e.value s.entity_of_kind h.value h.fixed s.value;
-        uses = uses_stand P rs shaped n (within n e there) e.uses h.uses s.uses;
+        entity = entity_passes V P few e.kind e.entity h.entity;
+        slot = record { form = slot_allowed e.kind e.slot s.slot_of_kind; there = slot_there V P rs shaped n (within n e there) e.slot h.slot s.slot };
+        value = value_stands V P rs shaped n e.kind e.entity e.value s.entity_of_kind h.value h.fixed s.value;
+        uses = uses_stand V P rs shaped n (within n e there) e.uses h.uses s.uses;
       }
 
-  pub all_may_stand : AllMayStand (ranges_of P) rs
+  pub all_may_stand : AllMayStand (ranges_of V P) rs
   all_may_stand n e there = may_stand n e there
 
   -- ---- what is written
@@ -63,7 +64,7 @@ module _ (P : memory.Program) (few : 16 + length (program_of P).classes ≤ 2 ^ 
   fixed_length f (t ∷ xs) zero = refl
   fixed_length f (t ∷ xs) (suc k) = fixed_length f xs k
 
-  fixed_known : (k : ℕ) → slice_index (ranges_of P).fixed k ≡ length (utf8_of (fixed_text (program_of P) k))
+  fixed_known : (k : ℕ) → slice_index (ranges_of V P).fixed k ≡ length (utf8_of (fixed_text (program_of P) k))
   unfolding ranges_of fixed_text
   fixed_known k = fixed_length (λ t. t.items) P.fixed_texts.items k
 
@@ -71,7 +72,7 @@ module _ (P : memory.Program) (few : 16 + length (program_of P).classes ≤ 2 ^ 
   nothing_spelled = sym (ap length utf8_of-nil)
 
   -- as many bytes as a reader counts
-  value_known : (n : ℕ) (v : Value) → ValueFits rs n v → printed_length (ranges_of P) (known_before rs n) v ≡ length (utf8_of (units_seen (program_of P) (slice_get (take n rs)) v))
+  value_known : (n : ℕ) (v : Value) → ValueFits rs n v → printed_length (ranges_of V P) (known_before rs n) v ≡ length (utf8_of (units_seen (program_of P) (slice_get (take n rs)) v))
   unfolding printed_length units_in
   value_known n (val.Text k) h =
       let there : slice_get (take n rs) k ≡ Some h.event = there_taken rs n k h.event h.before h.there in
@@ -86,27 +87,28 @@ module _ (P : memory.Program) (few : 16 + length (program_of P).classes ≤ 2 ^ 
   value_known n (val.Int x) h = refl
   value_known n (val.Long x) h = refl
   value_known n val.Null h = refl
+  value_known n (val.Arm x) h = nothing_spelled
 
-  line_known : (site : ℕ) → newline_length (ranges_of P) site ≡ (if ends_line site then 1 else 0)
+  line_known : (site : ℕ) → newline_length (ranges_of V P) site ≡ (if ends_line site then 1 else 0)
   unfolding ranges_of
   line_known site = refl
 
-  output_as : (k : Kind) (n site : ℕ) (v : Value) → ValueFits rs n v → output_of (ranges_of P) (known_before rs n) k site v ≡ written_as (program_of P) ends_line (slice_get (take n rs)) k site v
+  output_as : (k : Kind) (n site : ℕ) (v : Value) → ValueFits rs n v → output_of (ranges_of V P) (known_before rs n) k site v ≡ written_as (program_of P) ends_line (slice_get (take n rs)) k site v
   unfolding output_of
   output_as kind.Print n site v h = let a = value_known n v h in let b = line_known site in omega (arith, a, b)
   output_as _ n site v h = refl
 
   -- of the records from one on
-  written_from : (front xs : List Recorded) → rs ≡ front ++ xs → printed (ranges_of P) (map known_in front) xs ≡ written (program_of P) ends_line front xs
+  written_from : (front xs : List Recorded) → rs ≡ front ++ xs → printed (ranges_of V P) (map known_in front) xs ≡ written (program_of P) ends_line front xs
   unfolding printed written
   written_from front [] e = refl
   written_from front (x ∷ xs) e =
       let there : slice_get rs (length front) ≡ Some x = subst (λ (l : List Recorded). slice_get l (length front) ≡ Some x) (sym e) (seam front x xs) in
       let taken : take (length front) rs ≡ front = ap (take (length front)) e ∙ take-append_seam front (x ∷ xs) in
       let one = output_as x.kind (length front) x.site x.value (shaped (length front) x there).value in
-      let same_known : output_of (ranges_of P) (known_before rs (length front)) x.kind x.site x.value ≡ output_of (ranges_of P) (map known_in front) x.kind x.site x.value = ap (λ (l : List Recorded). output_of (ranges_of P) (map known_in l) x.kind x.site x.value) taken in
+      let same_known : output_of (ranges_of V P) (known_before rs (length front)) x.kind x.site x.value ≡ output_of (ranges_of V P) (map known_in front) x.kind x.site x.value = ap (λ (l : List Recorded). output_of (ranges_of V P) (map known_in l) x.kind x.site x.value) taken in
       let same_seen : written_by (program_of P) ends_line (slice_get (take (length front) rs)) x ≡ written_by (program_of P) ends_line (slice_get front) x = ap (λ (l : List Recorded). written_by (program_of P) ends_line (slice_get l) x) taken in
-      let known_more : printed (ranges_of P) (map known_in front ++ known_in x ∷ []) xs ≡ printed (ranges_of P) (map known_in (front ++ x ∷ [])) xs = ap (λ (l : List Known). printed (ranges_of P) l xs) (sym (map-append known_in front (x ∷ []))) in
+      let known_more : printed (ranges_of V P) (map known_in front ++ known_in x ∷ []) xs ≡ printed (ranges_of V P) (map known_in (front ++ x ∷ [])) xs = ap (λ (l : List Known). printed (ranges_of V P) l xs) (sym (map-append known_in front (x ∷ []))) in
       let rest = written_from (front ++ x ∷ []) xs (e ∙ sym (append_assoc front (x ∷ []) xs)) in
       omega (arith, one, same_known, same_seen, known_more, rest)
     where
@@ -114,5 +116,5 @@ module _ (P : memory.Program) (few : 16 + length (program_of P).classes ≤ 2 ^ 
       seam [] y ys = refl
       seam (x ∷ xs) y ys = seam xs y ys
 
-  pub all_written : printed (ranges_of P) [] rs ≡ written (program_of P) ends_line [] rs
+  pub all_written : printed (ranges_of V P) [] rs ≡ written (program_of P) ends_line [] rs
   all_written = written_from [] rs refl

@@ -21,6 +21,7 @@ use Rattle.wy_kernel.specs.Program.{Program, Field, body, init_body, type_code, 
 use Rattle.wy_kernel.specs.Builtin as builtin
 use Rattle.wy_kernel.specs.Builtin.{method_site}
 use Rattle.wy_kernel.specs.View.{field_of, body_of, local_of}
+use Rattle.wy_event.specs.declared.record.Version.{Version}
 use Rattle.wy_event.specs.declared.record.Kind.{Kind}
 use Rattle.wy_event.specs.declared.record.Kind.TheVariants as kind
 use Rattle.wy_event.specs.declared.record.Slot.{Slot}
@@ -51,14 +52,14 @@ true_passes b e = ap in_range e
 
 -- ---- sites and numbers
 
-module _ (P : memory.Program) where
+module _ (V : Version) (P : memory.Program) where
   abbrev p : Program
   p = program_of P
 
   abbrev r : Ranges
-  r = ranges_of P
+  r = ranges_of V P
 
-  pub site_passes : (site : ℕ) → IsSite (length P.lines.items) site → site_rule (ranges_of P) site ≡ Absent
+  pub site_passes : (site : ℕ) → IsSite (length P.lines.items) site → site_rule (ranges_of V P) site ≡ Absent
   unfolding site_rule ranges_of builtin.methods builtin.first_methods
   site_passes site (inl lt) = true_passes _ (grind (arith, nat_tests))
   site_passes site (inr (m, lt, e)) = true_passes _ (grind (arith, nat_tests))
@@ -100,7 +101,7 @@ module _ (P : memory.Program) where
     primitive_array : (n k : ℕ) → k < 6 → IsCodeOf k (2 ^ 24 * suc n + k) ≡ true
     primitive_array n k lt = grind (arith, nat_tests)
 
-    code_of_type : (ty : Ty) → IsTypeOfObjects (program_of P) ty → is_code (ranges_of P) (type_code ty) ≡ true
+    code_of_type : (ty : Ty) → IsTypeOfObjects (program_of P) ty → is_code (ranges_of V P) (type_code ty) ≡ true
     unfolding is_code ranges_of type_code base_code
     code_of_type (Of (Named c) zero) h = let lt = h.0 in ap (λ b. IsCodeOf b (2 ^ 24 * zero + (16 + c))) (remainder zero (16 + c) (omega (arith, lt, few))) ∙ class_code zero c lt
     code_of_type (Of (Named c) (suc n)) h = ap (λ b. IsCodeOf b (2 ^ 24 * suc n + (16 + c))) (remainder (suc n) (16 + c) (omega (arith, h, few))) ∙ class_code (suc n) c h
@@ -109,10 +110,10 @@ module _ (P : memory.Program) where
     code_of_type Void h = absurd h
     code_of_type OfNull h = absurd h
 
-    code_passes : (code : ℕ) → IsCode (program_of P) code → in_range (is_code (ranges_of P) code) ≡ Absent
-    code_passes code h = true_passes _ (ap (is_code (ranges_of P)) (sym h.2) ∙ code_of_type h.0 h.1)
+    code_passes : (code : ℕ) → IsCode (program_of P) code → in_range (is_code (ranges_of V P) code) ≡ Absent
+    code_passes code h = true_passes _ (ap (is_code (ranges_of V P)) (sym h.2) ∙ code_of_type h.0 h.1)
 
-    pub entity_passes : (k : Kind) (entity : Option ℕ) → EntityInRange (program_of P) k entity → entity_rule (ranges_of P) k (or_none entity) ≡ Absent
+    pub entity_passes : (k : Kind) (entity : Option ℕ) → EntityInRange (program_of P) k entity → entity_rule (ranges_of V P) k (or_none entity) ≡ Absent
     unfolding entity_rule ranges_of
     entity_passes kind.Init (Some c) h = class_passes c h
     entity_passes kind.Init Absent h = absurd h
@@ -153,7 +154,7 @@ module _ (P : memory.Program) where
   wanted_passes false true e = absurd (cc e)
   wanted_passes false false e = refl
 
-  pub field_passes : (wanted : Bool) (k : ℕ) (f : Field) → IsField (program_of P) k f → f.is_static ≡ wanted → field_rule (ranges_of P) wanted k ≡ Absent
+  pub field_passes : (wanted : Bool) (k : ℕ) (f : Field) → IsField (program_of P) k f → f.is_static ≡ wanted → field_rule (ranges_of V P) wanted k ≡ Absent
   unfolding field_rule ranges_of
   field_passes wanted k f e s = true_passes _ (ap (is_static wanted) (static_as P.fields.items k f e) ∙ wanted_passes wanted f.is_static s)
 
@@ -168,15 +169,15 @@ module _ (P : memory.Program) where
   count_at (o ∷ xs) zero = count_of o
   count_at (o ∷ xs) (suc m) = count_at xs m
 
-  call_count : (m : ℕ) → length (local_types (program_of P) (OfCall m)) ≡ locals_in (ranges_of P) (Some (known.Call m))
+  call_count : (m : ℕ) → length (local_types (program_of P) (OfCall m)) ≡ locals_in (ranges_of V P) (Some (known.Call m))
   unfolding body ranges_of locals_in
   call_count m = count_at P.bodies.items m
 
-  init_count : (c : ℕ) → length (local_types (program_of P) (OfInit c)) ≡ locals_in (ranges_of P) (Some (known.Init c))
+  init_count : (c : ℕ) → length (local_types (program_of P) (OfInit c)) ≡ locals_in (ranges_of V P) (Some (known.Init c))
   unfolding init_body ranges_of locals_in
   init_count c = count_at P.init_bodies.items c
 
-  body_count : (k : Kind) (entity : Option ℕ) (units : List ℕ) (i : FrameKind) → running_as k entity ≡ Some i → length (local_types (program_of P) i) ≡ locals_in (ranges_of P) (Some (known_as k (or_none entity) units))
+  body_count : (k : Kind) (entity : Option ℕ) (units : List ℕ) (i : FrameKind) → running_as k entity ≡ Some i → length (local_types (program_of P) i) ≡ locals_in (ranges_of V P) (Some (known_as k (or_none entity) units))
   body_count kind.Call (Some m) units i e = ap (λ j. length (local_types (program_of P) j)) (let q : OfCall m ≡ i = cc e in sym q) ∙ call_count m
   body_count kind.Init (Some c) units i e = ap (λ j. length (local_types (program_of P) j)) (let q : OfInit c ≡ i = cc e in sym q) ∙ init_count c
   body_count kind.Call Absent units i e = absurd (cc e)
@@ -222,27 +223,27 @@ slot_allowed kind.Return x h = no_form x h
 slot_allowed kind.Jump x h = no_form x h
 slot_allowed kind.Throw x h = no_form x h
 
-module _ (P : memory.Program) (rs : List Recorded) (shaped : (n : ℕ) (e : Recorded) → slice_get rs n ≡ Some e → Shaped rs n e) (n : ℕ) (within : n ≤ length rs) where
+module _ (V : Version) (P : memory.Program) (rs : List Recorded) (shaped : (n : ℕ) (e : Recorded) → slice_get rs n ≡ Some e → Shaped rs n e) (n : ℕ) (within : n ≤ length rs) where
   abbrev before : List Known
   before = earlier (front rs shaped n)
 
-  local_there : (f k : ℕ) → HasLocal (program_of P) (slice_get (front rs shaped n)) f k → k < locals_in (ranges_of P) (slice_get before f)
+  local_there : (f k : ℕ) → HasLocal (program_of P) (slice_get (front rs shaped n)) f k → k < locals_in (ranges_of V P) (slice_get before f)
   local_there f k h =
       let known : slice_get before f ≡ Some (known_in h.event) = known_there (front rs shaped n) f h.event h.there in
-      subst (λ o. k < locals_in (ranges_of P) o) (sym known) (subst (λ m. k < m) (body_count P h.event.kind h.event.entity h.event.units h.body h.runs) h.within)
+      subst (λ o. k < locals_in (ranges_of V P) o) (sym known) (subst (λ m. k < m) (body_count V P h.event.kind h.event.entity h.event.units h.body h.runs) h.within)
 
-  pub slot_there : (x : Slot) → SlotInRange (program_of P) (slice_get (front rs shaped n)) x → SlotFits rs n x → SlotIsThere (ranges_of P) before x
+  pub slot_there : (x : Slot) → SlotInRange (program_of P) (slice_get (front rs shaped n)) x → SlotFits rs n x → SlotIsThere (ranges_of V P) before x
   slot_there slot.None h f = tt
   slot_there (slot.Local g k) h f = (below_refers rs shaped n role.Frame IsFrame (λ k h. h) g f, local_there g k h)
-  slot_there (slot.Static k) h f = field_passes P true k h.0 h.1 h.2
-  slot_there (slot.Field o k) h f = (object_refers rs shaped n o h.0, field_passes P false k h.1.0 h.1.1 h.1.2)
+  slot_there (slot.Static k) h f = field_passes V P true k h.0 h.1 h.2
+  slot_there (slot.Field o k) h f = (object_refers rs shaped n o h.0, field_passes V P false k h.1.0 h.1.1 h.1.2)
   slot_there (slot.Elem a j) h f = (array_refers rs shaped n a h.0, h.1)
 
-  use_stands : (u : Use) → UseInRange (program_of P) (slice_get (front rs shaped n)) u → UseFits rs n u → UseMayStand (ranges_of P) before u
+  use_stands : (u : Use) → UseInRange (program_of P) (slice_get (front rs shaped n)) u → UseFits rs n u → UseMayStand (ranges_of V P) before u
   use_stands (use_of.Place x moment) h f = (record { form = place_form x h.0; there = slot_there x h.1 f.0 }, subst (λ m. moment ≤ m) (sym (known_length rs shaped n within)) f.1)
   use_stands (use_of.Value k) h f = subst (λ m. k < m) (sym (known_length rs shaped n within)) f.before
   use_stands (use_of.Choice k) h f = below_refers rs shaped n role.Test IsTest (λ k h. h) k f
 
-  pub uses_stand : (us : List Use) → UsesInRange (program_of P) (slice_get (front rs shaped n)) us → UsesFit rs n us → All (UseMayStand (ranges_of P) before) us
-  uses_stand [] h f = All-nil (UseMayStand (ranges_of P) before)
-  uses_stand (u ∷ us) h f = All-cons (UseMayStand (ranges_of P) before) u us (use_stands u h.0 f.0) (uses_stand us h.1 f.1)
+  pub uses_stand : (us : List Use) → UsesInRange (program_of P) (slice_get (front rs shaped n)) us → UsesFit rs n us → All (UseMayStand (ranges_of V P) before) us
+  uses_stand [] h f = All-nil (UseMayStand (ranges_of V P) before)
+  uses_stand (u ∷ us) h f = All-cons (UseMayStand (ranges_of V P) before) u us (use_stands u h.0 f.0) (uses_stand us h.1 f.1)

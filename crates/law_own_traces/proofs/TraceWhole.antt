@@ -6,6 +6,7 @@ use Rattle.wy_kernel.specs.declared.program.Program as memory
 use Rattle.wy_kernel.specs.Parts.{program_of}
 use Rattle.wy_kernel.specs.Program as parts
 use Rattle.wy_kernel.specs.View.{present}
+use Rattle.wy_event.specs.declared.record.Version.{Version}
 use Rattle.wy_event.specs.declared.record.Head.{Head}
 use Rattle.wy_event.specs.declared.record.Tail.{Tail as Kept}
 use Rattle.wy_event.specs.Record.{Recorded}
@@ -35,7 +36,7 @@ unfolding uses_in
 uses_same [] = refl
 uses_same (e ∷ rest) = let h = uses_same rest in omega (arith, h)
 
-module _ (P : memory.Program) (library : KeepsLibrary (program_of P)) (laws : AreShaped) (ranged : RunsAreInRange nothing (text_of P) (program_of P)) (head : Head) where
+module _ (V : Version) (P : memory.Program) (library : KeepsLibrary (program_of P)) (laws : AreShaped) (ranged : RunsAreInRange nothing (text_of P) (program_of P)) (head : Head) where
   abbrev rs : List Recorded
   rs = events nothing (program_of P) head.input head.steps
 
@@ -45,7 +46,7 @@ module _ (P : memory.Program) (library : KeepsLibrary (program_of P)) (laws : Ar
   shaped : (n : ℕ) (e : Recorded) → slice_get rs n ≡ Some e → Shaped rs n e
   shaped = laws.records (program_of P) head.input head.steps
 
-  keeps_with : (end : Kept) → IsOwn P head rs end → IsReadable P head rs end
+  keeps_with : (end : Kept) → IsOwn P head rs end → IsReadable V P head rs end
   unfolding kept_tail
   keeps_with end own =
       let last = laws.last (program_of P) head.input head.steps in
@@ -56,12 +57,12 @@ module _ (P : memory.Program) (library : KeepsLibrary (program_of P)) (laws : Ar
       let stops : end.stop ≡ ending.stop = ap (λ (t : Tail). t.stop) own.end_is in
       let lasts : present end.last ≡ ending.last = ap (λ (t : Tail). t.last) own.end_is in
       let steps : end.steps ≡ ending.steps = ap (λ (t : Tail). t.steps) own.end_is in
-      let written : length (output nothing (program_of P) head.input head.steps) ≡ printed (ranges_of P) [] rs = ranged.output head.input head.steps own.bytes ∙ sym (all_written P library.few rs shaped in_range) in
+      let written : length (output nothing (program_of P) head.input head.steps) ≡ printed (ranges_of V P) [] rs = ranged.output head.input head.steps own.bytes ∙ sym (all_written V P library.few rs shaped in_range) in
       record {
         head_stands = own.head_stands;
         fit = own.fit;
         few = counts.0;
-        events_stand = all_may_stand P library.few rs shaped in_range;
+        events_stand = all_may_stand V P library.few rs shaped in_range;
         little_output = subst (λ n. n ≤ output_limit) written counts.5;
         end_stands = record {
           each_covered = sym (length-map end.coverage.statements covered_of) ∙ ap length covers ∙ closed.covers;
@@ -78,5 +79,5 @@ module _ (P : memory.Program) (library : KeepsLibrary (program_of P)) (laws : Ar
       }
 
 pub own_keep_rules : (P : memory.Program) → KeepsLibrary (program_of P) → AreShaped → RunsAreInRange nothing (text_of P) (program_of P) → OwnTracesKeepRules P
-own_keep_rules P library laws ranged head records end own =
-    subst (λ (l : List Recorded). IsOwn P head l end → IsReadable P head l end) (sym own.events_are) (keeps_with P library laws ranged head end) own
+own_keep_rules P library laws ranged v head records end own =
+    subst (λ (l : List Recorded). IsOwn P head l end → IsReadable v P head l end) (sym own.events_are) (keeps_with v P library laws ranged head end) own

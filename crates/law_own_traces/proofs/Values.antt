@@ -8,6 +8,7 @@ use Rattle.wy_kernel.specs.declared.program.Program as memory
 use Rattle.wy_kernel.specs.Parts.{program_of}
 use Rattle.wy_value.specs.declared.value.Value.{Value}
 use Rattle.wy_value.specs.declared.value.Value.TheVariants as val
+use Rattle.wy_event.specs.declared.record.Version.{Version}
 use Rattle.wy_event.specs.declared.record.Kind.{Kind}
 use Rattle.wy_event.specs.declared.record.Kind.TheVariants as kind
 use Rattle.wy_event.specs.Record.{Recorded}
@@ -21,37 +22,39 @@ use Rattle.wy_payload.specs.Rules.{in_range, brackets_unit}
 use Rattle.wy_payload.specs.Values.{value_form, allows_value, int_rule, object_role}
 use Rattle.law_shaped.specs.Shaped.{Shaped, ValueFits, EntityOf, IsNew, IsText}
 use Rattle.law_reading.specs.Readable.{or_none, Refers, tag_of_value, ValueIsThere, ValueMayStand}
-use Rattle.law_in_range.specs.InRange.{arrays_from, IsNone, IsSome, IsTruth, IsByte, IsPrinted, IsThrown, IsLength, ValueInRange, FixedInRange}
+use Rattle.law_in_range.specs.InRange.{arrays_from, IsNone, IsSome, IsArm, IsReturned, IsByte, IsPrinted, IsThrown, IsLength, ValueInRange, FixedInRange}
+use Rattle.law_own_traces.proofs.Plain.{printed_plain, some_plain, thrown_plain}
 use Rattle.law_own_traces.proofs.Known.{earlier, front, below_refers, object_refers}
 
-module _ (P : memory.Program) (rs : List Recorded) (shaped : (n : ℕ) (e : Recorded) → slice_get rs n ≡ Some e → Shaped rs n e) (n : ℕ) where
+module _ (V : Version) (P : memory.Program) (rs : List Recorded) (shaped : (n : ℕ) (e : Recorded) → slice_get rs n ≡ Some e → Shaped rs n e) (n : ℕ) where
   abbrev before : List Known
   before = earlier (front rs shaped n)
 
   abbrev Stands : ValueForm → Value → Type 0
-  Stands wanted v = ValueMayStand (ranges_of P) before wanted v
+  Stands wanted v = ValueMayStand (ranges_of V P) before wanted v
 
   -- what a form says of ints and objects
   pub record IsLoose (wanted : ValueForm) : Type 0 where
     pub ints : (z : ℤ) → int_rule wanted z ≡ Absent
     pub objects : object_role wanted ≡ role.Made
 
-  fixed_there : (k : ℕ) → k < length (program_of P).fixed_texts → k < length (ranges_of P).fixed
+  fixed_there : (k : ℕ) → k < length (program_of P).fixed_texts → k < length (ranges_of V P).fixed
   unfolding ranges_of
   fixed_there k lt = subst (λ m. k < m) (length-map P.fixed_texts.items _ ∙ sym (length-map P.fixed_texts.items _)) lt
 
-  there_as : (wanted : ValueForm) → IsLoose wanted → (v : Value) → FixedInRange (program_of P) v → ValueFits rs n v → ValueIsThere (ranges_of P) before wanted v
-  there_as wanted l (val.Int z) f h = l.ints z
-  there_as wanted l (val.Object k) f h = subst (λ r. Refers r before k) (sym l.objects) (below_refers rs shaped n role.Made IsNew (λ k h. h) k h)
-  there_as wanted l (val.Text k) f h = below_refers rs shaped n role.Text IsText (λ k h. h) k h
-  there_as wanted l (val.Fixed k) f h = fixed_there k f
-  there_as wanted l val.None f h = tt
-  there_as wanted l (val.Bool x) f h = tt
-  there_as wanted l (val.Byte x) f h = tt
-  there_as wanted l (val.Short x) f h = tt
-  there_as wanted l (val.Char x) f h = tt
-  there_as wanted l (val.Long x) f h = tt
-  there_as wanted l val.Null f h = tt
+  there_as : (wanted : ValueForm) → IsLoose wanted → (v : Value) → IsReturned v → FixedInRange (program_of P) v → ValueFits rs n v → ValueIsThere (ranges_of V P) before wanted v
+  there_as wanted l (val.Int z) plain f h = l.ints z
+  there_as wanted l (val.Object k) plain f h = subst (λ r. Refers r before k) (sym l.objects) (below_refers rs shaped n role.Made IsNew (λ k h. h) k h)
+  there_as wanted l (val.Text k) plain f h = below_refers rs shaped n role.Text IsText (λ k h. h) k h
+  there_as wanted l (val.Fixed k) plain f h = fixed_there k f
+  there_as wanted l val.None plain f h = tt
+  there_as wanted l (val.Bool x) plain f h = tt
+  there_as wanted l (val.Byte x) plain f h = tt
+  there_as wanted l (val.Short x) plain f h = tt
+  there_as wanted l (val.Char x) plain f h = tt
+  there_as wanted l (val.Long x) plain f h = tt
+  there_as wanted l val.Null plain f h = tt
+  there_as wanted l (val.Arm x) plain f h = absurd plain
 
   any_loose : IsLoose form.Any
   any_loose = record { ints = λ z. refl; objects = refl }
@@ -83,6 +86,7 @@ module _ (P : memory.Program) (rs : List Recorded) (shaped : (n : ℕ) (e : Reco
   some_value (val.Object x) h = refl
   some_value (val.Text x) h = refl
   some_value (val.Fixed x) h = refl
+  some_value (val.Arm x) h = absurd h
 
   printed_value : (v : Value) → IsPrinted v → allows_value form.Printed (tag_of_value v) ≡ true
   printed_value val.None h = refl
@@ -96,10 +100,15 @@ module _ (P : memory.Program) (rs : List Recorded) (shaped : (n : ℕ) (e : Reco
   printed_value (val.Object x) h = absurd h
   printed_value (val.Text x) h = refl
   printed_value (val.Fixed x) h = refl
+  printed_value (val.Arm x) h = absurd h
 
-  truth_value : (v : Value) → IsTruth v → Stands form.Truth v
-  truth_value (val.Bool b) h = record { form = refl; there = tt }
-  truth_value _ h = absurd h
+  arm_value : (v : Value) → IsArm v → Stands form.Arm v
+  arm_value (val.Arm k) h = record { form = refl; there = h }
+  arm_value _ h = absurd h
+
+  returned_value : (v : Value) → IsReturned v → allows_value form.Optional (tag_of_value v) ≡ true
+  returned_value (val.Arm k) h = absurd h
+  returned_value _ h = refl
 
   byte_value : (v : Value) → IsByte v → Stands form.Byte v
   byte_value (val.Int (pos k)) h = record { form = refl; there = ap in_range below }
@@ -118,6 +127,7 @@ module _ (P : memory.Program) (rs : List Recorded) (shaped : (n : ℕ) (e : Reco
   byte_value (val.Text x) h = absurd h
   byte_value (val.Fixed x) h = absurd h
   byte_value val.None h = absurd h
+  byte_value (val.Arm x) h = absurd h
 
   thrown_value : (v : Value) → IsThrown (slice_get (front rs shaped n)) v → Stands form.Thrown v
   thrown_value (val.Object k) h = record { form = refl; there = object_refers rs shaped n k h }
@@ -155,13 +165,13 @@ module _ (P : memory.Program) (rs : List Recorded) (shaped : (n : ℕ) (e : Reco
   value_stands kind.Init entity v w h f s = no_value v h
   value_stands kind.New entity v w h f s = new_code entity v w h
   value_stands kind.Call entity v w h f s = no_value v h
-  value_stands kind.Bind entity v w h f s = record { form = some_value v h; there = there_as form.Any any_loose v f s }
-  value_stands kind.Set entity v w h f s = record { form = some_value v h; there = there_as form.Any any_loose v f s }
-  value_stands kind.Test entity v w h f s = truth_value v h
+  value_stands kind.Bind entity v w h f s = record { form = some_value v h; there = there_as form.Any any_loose v (some_plain v h) f s }
+  value_stands kind.Set entity v w h f s = record { form = some_value v h; there = there_as form.Any any_loose v (some_plain v h) f s }
+  value_stands kind.Test entity v w h f s = arm_value v h
   value_stands kind.Text entity v w h f s = no_value v h
   value_stands kind.Read entity v w h f s = byte_value v h
-  value_stands kind.Print entity v w h f s = record { form = printed_value v h; there = there_as form.Printed printed_loose v f s }
-  value_stands kind.Return entity v w h f s = record { form = refl; there = there_as form.Optional optional_loose v f s }
+  value_stands kind.Print entity v w h f s = record { form = printed_value v h; there = there_as form.Printed printed_loose v (printed_plain v h) f s }
+  value_stands kind.Return entity v w h f s = record { form = returned_value v h; there = there_as form.Optional optional_loose v h f s }
   value_stands kind.Jump entity v w h f s = no_value v h
   value_stands kind.Throw entity v w h f s = thrown_value v h
-  value_stands kind.Catch entity v w h f s = record { form = caught_value v h; there = there_as form.Caught caught_loose v f s }
+  value_stands kind.Catch entity v w h f s = record { form = caught_value v h; there = there_as form.Caught caught_loose v (thrown_plain (slice_get (front rs shaped n)) v h) f s }

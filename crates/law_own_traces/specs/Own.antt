@@ -6,13 +6,14 @@ use Rattle.wy_kernel.specs.Parts.{program_of}
 use Rattle.wy_kernel.specs.Statements.{statements_of}
 use Rattle.wy_event.specs.declared.record.Head.{Head}
 use Rattle.wy_event.specs.declared.record.Tail.{Tail}
+use Rattle.wy_event.specs.declared.record.Version.{Version}
 use Rattle.wy_event.specs.Record.{Recorded}
 use Rattle.wy_steps.specs.Sets.{nothing}
 use Rattle.wy_meaning.specs.Run.{events, tail}
 use Rattle.wy_meaning.specs.Kept.{kept_tail}
 use Rattle.wy_typing.specs.Programs.{IsProgram}
 use Rattle.law_typed_states.specs.Typed.{KeepsLibrary}
-use Rattle.wy_fitting.specs.Fits.{AllFit, EndFits}
+use Rattle.wy_fitting.specs.Fits.{AllFit, AllTold, EndFits}
 use Rattle.wy_payload.specs.Bodies.{newlines_of}
 use Rattle.wy_kernel.specs.Limits.{trace_limit}
 use Rattle.wy_frames.specs.declared.error.TraceError.{TraceError}
@@ -20,6 +21,7 @@ use Rattle.wy_frames.specs.declared.error.TraceError.TheVariants.{NoMemory}
 use Rattle.wy_frames.specs.Traces.{ReadsAs}
 use Rattle.law_reading.specs.Readable.{HeadMayStand, IsReadable}
 use Rattle.wy_spelling.specs.Spelling.{run_bytes}
+use Rattle.law_reading.specs.Spelled.{AreBytes}
 use Rattle.law_reading.specs.WithinRules.{IsRead}
 use Rattle.law_in_range.specs.InRange.{Text, FitsText, IsByteOf}
 
@@ -36,20 +38,28 @@ pub record IsOwn (p : Program) (head : Head) (rs : List Recorded) (end : Tail) :
   pub fit : AllFit rs
   pub end_fits : EndFits end
 
--- so it keeps every rule of a reader
+-- so it keeps every rule of a reader of either version
 abbrev pub OwnTracesKeepRules : Program → Type 0
-OwnTracesKeepRules p = (head : Head) (rs : List Recorded) (end : Tail) → IsOwn p head rs end → IsReadable p head rs end
+OwnTracesKeepRules p = (v : Version) (head : Head) (rs : List Recorded) (end : Tail) → IsOwn p head rs end → IsReadable v p head rs end
 
--- what holds of the bytes of each run of the program, where they are within the limit of a trace
-abbrev pub OfOwnBytes : (Program → Head → List Recorded → Tail → List ℕ → Type 0) → Program → Type 0
-OfOwnBytes Q p = (head : Head) (rs : List Recorded) (end : Tail) (bytes : List ℕ) → IsOwn p head rs end → length bytes ≤ trace_limit → bytes ≡ run_bytes head rs end → Q p head rs end bytes
+-- what holds of the bytes of each run of the program in either version, where they are within the limit of a trace
+abbrev pub OfOwnBytes : (Version → Program → Head → List Recorded → Tail → List ℕ → Type 0) → Program → Type 0
+OfOwnBytes Q p = (v : Version) (head : Head) (rs : List Recorded) (end : Tail) (bytes : List ℕ) → IsOwn p head rs end → length bytes ≤ trace_limit → bytes ≡ run_bytes v head rs end → Q v p head rs end bytes
 
 abbrev pub OwnTracesAreRead : Program → Type 0
 OwnTracesAreRead = OfOwnBytes IsRead
 
 -- an answer that is no trace says that memory ran out
 abbrev pub OwnTracesAreNotRefused : Program → Type 0
-OwnTracesAreNotRefused = OfOwnBytes (λ p head rs end bytes. (e : TraceError) → ReadsAs (Err e) p bytes → e ≡ NoMemory)
+OwnTracesAreNotRefused = OfOwnBytes (λ v p head rs end bytes. (e : TraceError) → ReadsAs (Err e) p bytes → e ≡ NoMemory)
+
+-- the bytes of either version tell all events of each run
+abbrev pub OwnEventsAreTold : Program → Type 0
+OwnEventsAreTold p = (v : Version) (input : List ℕ) (steps : ℕ) → AllByRecursion IsByteOf input → AllTold v (events nothing (program_of p) input steps)
+
+-- so they do where they are the trace of a run, whatever its input is
+abbrev pub OwnBytesTellEvents : Program → Type 0
+OwnBytesTellEvents p = (v : Version) (head : Head) (end : Tail) (bytes : List ℕ) → AreBytes bytes → let rs = events nothing (program_of p) head.input head.steps in bytes ≡ run_bytes v head rs end → AllTold v rs
 
 -- it holds of each program that fits its types, keeps the library and fits its text
 abbrev pub OfFittingPrograms : (Program → Type 0) → Type 0

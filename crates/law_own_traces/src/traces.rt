@@ -3,7 +3,7 @@
 
 ghost use Rattle.wy_kernel.specs.Parts.{program_of};
 ghost use Rattle.wy_kernel.specs.declared.program.Program.{Program};
-ghost use Rattle.law_own_traces.specs.Own.{OfFittingPrograms, OwnTracesAreNotRefused, OwnTracesAreRead, OwnTracesKeepRules};
+ghost use Rattle.law_own_traces.specs.Own.{OfFittingPrograms, OwnBytesTellEvents, OwnEventsAreTold, OwnTracesAreNotRefused, OwnTracesAreRead, OwnTracesKeepRules};
 
 use law_in_range::runs_are_in_range;
 use law_reading::{traces_within_rules_are_not_refused, traces_within_rules_are_read};
@@ -14,6 +14,15 @@ use law_shaped::references_point_below;
 /// counts the events, their uses and what they printed.
 pub fn own_traces_keep_rules()
     ensures { OfFittingPrograms OwnTracesKeepRules }
+{
+    references_point_below();
+    runs_are_in_range();
+}
+
+/// The bytes of either version tell all events of such a run: no test of it has more than two arms, and nothing but a test has one.
+pub fn own_events_are_told()
+    ensures events { OfFittingPrograms OwnEventsAreTold }
+    ensures bytes { OfFittingPrograms OwnBytesTellEvents }
 {
     references_point_below();
     runs_are_in_range();

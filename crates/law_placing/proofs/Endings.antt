@@ -10,6 +10,7 @@ use Rattle.std.proofs.lemmas.Option.{slice_get_within}
 use Rattle.std.proofs.lemmas.Result.{IfOk-at_ok}
 use Rattle.sha2.specs.Sha256.{sha256}
 use Rattle.wy_kernel.specs.declared.program.Program.{Program}
+use Rattle.wy_event.specs.declared.record.Version.{Version}
 use Rattle.wy_event.specs.declared.record.Coverage.{Coverage}
 use Rattle.wy_event.specs.declared.record.Head.{Head}
 use Rattle.wy_event.specs.declared.record.Tail.{Tail}
@@ -163,19 +164,19 @@ turn_stands r steps s t rest others stands e = by (frame_of rest) (sym (turn_is 
   by Absent is = absurd (no_frame (length s.before) (is_passed s.stage rest) t others is)
   by (Some f) is = IfOk-at_ok (Standing r) (next_goes s f.rest (next_of r steps s f) t others is).0 (stage_stands r steps s s.stage f stands)
 
-begun : (r : Ranges) (head : Head) → Standing r (start head)
+begun : (r : Ranges) (v : Version) (head : Head) → Standing r (start v head)
 unfolding start
-begun r head = tt
+begun r v head = tt
 
-all_stand : (r : Ranges) (steps : ℕ) (head : Head) (fed : List ℕ) (t : Progress) (rest : List ℕ) → Leaves r steps (start head) fed t rest → Standing r t
-all_stand r steps head fed _ _ nothing = begun r head
-all_stand r steps head fed _ _ (frame s rest t others before e) = turn_stands r steps s t rest others (all_stand r steps head fed s rest before) e
+all_stand : (r : Ranges) (steps : ℕ) (v : Version) (head : Head) (fed : List ℕ) (t : Progress) (rest : List ℕ) → Leaves r steps (start v head) fed t rest → Standing r t
+all_stand r steps v head fed _ _ nothing = begun r v head
+all_stand r steps v head fed _ _ (frame s rest t others before e) = turn_stands r steps s t rest others (all_stand r steps v head fed s rest before) e
 
-statements_are : (p : Program) → (ranges_of p).statements ≡ p.statements
+statements_are : (v : Version) (p : Program) → (ranges_of v p).statements ≡ p.statements
 unfolding ranges_of
-statements_are p = refl
+statements_are v p = refl
 
 pub ends_stand : ReadEndsStand
-ends_stand p head fed t rest tail seal leaves sealed =
-    let stands : StageStands (ranges_of p) (length t.placed) (stages.Sealed tail seal) = subst (StageStands (ranges_of p) (length t.placed)) sealed (all_stand (ranges_of p) head.steps head fed t rest leaves) in
-    subst (λ (n : ℕ). EndStands n (length t.placed) tail) (statements_are p) stands
+ends_stand v p head fed t rest tail seal leaves sealed =
+    let stands : StageStands (ranges_of v p) (length t.placed) (stages.Sealed tail seal) = subst (StageStands (ranges_of v p) (length t.placed)) sealed (all_stand (ranges_of v p) head.steps v head fed t rest leaves) in
+    subst (λ (n : ℕ). EndStands n (length t.placed) tail) (statements_are v p) stands

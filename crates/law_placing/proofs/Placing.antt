@@ -5,6 +5,7 @@ use Rattle.std.specs.Prelude.{IfOk}
 use Rattle.std.specs.Str.{bytes_eq}
 use Rattle.std.proofs.lemmas.List.{append_cancel_left}
 use Rattle.sha2.specs.Sha256.{sha256}
+use Rattle.wy_event.specs.declared.record.Version.{Version}
 use Rattle.wy_event.specs.declared.record.Head.{Head}
 use Rattle.wy_event.specs.declared.record.Coverage.{Coverage}
 use Rattle.wy_event.specs.declared.record.Tail.{Tail}
@@ -75,64 +76,64 @@ stage_adds r steps s (stages.Sealed t seal) f = tt
 
 -- ---- places
 
-events_after : (x : ReadEvent) (placed : List ReadEvent) → length (events_bytes (map event_in (x ∷ placed))) ≡ length (event_frame (recorded x.event)) + length (events_bytes (map event_in placed))
+events_after : (v : Version) (x : ReadEvent) (placed : List ReadEvent) → length (events_bytes v (map event_in (x ∷ placed))) ≡ length (event_frame v (recorded x.event)) + length (events_bytes v (map event_in placed))
 unfolding events_bytes
-events_after x placed = length-append (event_frame (recorded x.event)) (events_bytes (map event_in placed))
+events_after v x placed = length-append (event_frame v (recorded x.event)) (events_bytes v (map event_in placed))
 
-none_long : length (events_bytes []) ≡ 0
+none_long : (v : Version) → length (events_bytes v []) ≡ 0
 unfolding events_bytes
-none_long = refl
+none_long v = refl
 
-one_placed : (at : ℕ) (placed : List ReadEvent) (x : ReadEvent) → PlacedFrom at placed → x.end ≡ at + length (events_bytes (map event_in (placed ++ x ∷ []))) → PlacedFrom at (placed ++ x ∷ [])
-one_placed at [] x before place = (omega (arith, place, events_after x [], none_long), tt)
-one_placed at (y ∷ placed) x before place = (before.0, one_placed y.end placed x before.1 (omega (arith, place, before.0, events_after y (placed ++ x ∷ []))))
+one_placed : (v : Version) (at : ℕ) (placed : List ReadEvent) (x : ReadEvent) → PlacedFrom v at placed → x.end ≡ at + length (events_bytes v (map event_in (placed ++ x ∷ []))) → PlacedFrom v at (placed ++ x ∷ [])
+one_placed v at [] x before place = (omega (arith, place, events_after v x [], none_long v), tt)
+one_placed v at (y ∷ placed) x before place = (before.0, one_placed v y.end placed x before.1 (omega (arith, place, before.0, events_after v y (placed ++ x ∷ []))))
 
 -- ---- all frames
 
-record Stands (head : Head) (all : List ℕ) (s : Progress) (rest : List ℕ) : Type 0 where
-  told : SpelledTo (front head s.placed) s.stage s.before
+record Stands (v : Version) (head : Head) (all : List ℕ) (s : Progress) (rest : List ℕ) : Type 0 where
+  told : SpelledTo (front v head s.placed) s.stage s.before
   parts : all ≡ s.before ++ rest
   rest_bytes : AreBytes rest
-  places : PlacedFrom (length (opening head)) s.placed
+  places : PlacedFrom v (length (opening v head)) s.placed
 
-more_places : (head : Head) (s t : Progress) → PlacedFrom (length (opening head)) s.placed → SpelledTo (front head t.placed) t.stage t.before → More s t → PlacedFrom (length (opening head)) t.placed
-more_places head s t before told (inl same) = subst (PlacedFrom (length (opening head))) (sym same) before
-more_places head s t before told (inr (x, adds)) =
-    let here : t.before ≡ front head t.placed = subst (λ (stage : Stage). SpelledTo (front head t.placed) stage t.before) adds.stage told in
-    let long : x.end ≡ length (opening head) + length (events_bytes (map event_in t.placed)) = adds.place ∙ ap length here ∙ length-append (opening head) (events_bytes (map event_in t.placed)) in
-    subst (PlacedFrom (length (opening head))) (sym adds.placed) (one_placed (length (opening head)) s.placed x before (long ∙ ap (λ l. length (opening head) + length (events_bytes (map event_in l))) adds.placed))
+more_places : (v : Version) (head : Head) (s t : Progress) → PlacedFrom v (length (opening v head)) s.placed → SpelledTo (front v head t.placed) t.stage t.before → More s t → PlacedFrom v (length (opening v head)) t.placed
+more_places v head s t before told (inl same) = subst (PlacedFrom v (length (opening v head))) (sym same) before
+more_places v head s t before told (inr (x, adds)) =
+    let here : t.before ≡ front v head t.placed = subst (λ (stage : Stage). SpelledTo (front v head t.placed) stage t.before) adds.stage told in
+    let long : x.end ≡ length (opening v head) + length (events_bytes v (map event_in t.placed)) = adds.place ∙ ap length here ∙ length-append (opening v head) (events_bytes v (map event_in t.placed)) in
+    subst (PlacedFrom v (length (opening v head))) (sym adds.placed) (one_placed v (length (opening v head)) s.placed x before (long ∙ ap (λ l. length (opening v head) + length (events_bytes v (map event_in l))) adds.placed))
 
-one_stands : (head : Head) (all : List ℕ) (s t : Progress) (rest : List ℕ) (f : Frame) → IsFrame rest f → Stands head all s rest → Grown head s f.whole t → More s t → Stands head all t f.rest
-one_stands head all s t rest f shown stands grown more = record {
+one_stands : (v : Version) (head : Head) (all : List ℕ) (s t : Progress) (rest : List ℕ) (f : Frame) → IsFrame rest f → Stands v head all s rest → Grown v head s f.whole t → More s t → Stands v head all t f.rest
+one_stands v head all s t rest f shown stands grown more = record {
   told = grown.told;
   parts = stands.parts ∙ ap (λ l. s.before ++ l) (sym shown.parts) ∙ sym (append_assoc s.before f.whole f.rest) ∙ ap (λ l. l ++ f.rest) (sym grown.before);
   rest_bytes = bytes_after f.whole f.rest (subst AreBytes (sym shown.parts) stands.rest_bytes);
-  places = more_places head s t stands.places grown.told more;
+  places = more_places v head s t stands.places grown.told more;
 }
 
-next_stands : (head : Head) (all : List ℕ) (s t : Progress) (rest others : List ℕ) (f : Frame) (next : Next) → IsFrame rest f → Stands head all s rest → Grows head s f.whole next → Mores s next → turn_next s f.rest next ≡ Goes t others → Stands head all t others
-next_stands head all s t rest others f (Ok u) shown stands grows more e =
+next_stands : (v : Version) (head : Head) (all : List ℕ) (s t : Progress) (rest others : List ℕ) (f : Frame) (next : Next) → IsFrame rest f → Stands v head all s rest → Grows v head s f.whole next → Mores s next → turn_next s f.rest next ≡ Goes t others → Stands v head all t others
+next_stands v head all s t rest others f (Ok u) shown stands grows more e =
     let same : u ≡ t = cc in
     let left : f.rest ≡ others = cc in
-    subst (λ (l : List ℕ). Stands head all t l) left (subst (λ (v : Progress). Stands head all v f.rest) same (one_stands head all s u rest f shown stands grows more))
-next_stands head all s t rest others f (Err (Violates r)) shown stands grows more e = absurd cc
-next_stands head all s t rest others f (Err Unsealed) shown stands grows more e = absurd cc
+    subst (λ (l : List ℕ). Stands v head all t l) left (subst (λ (u : Progress). Stands v head all u f.rest) same (one_stands v head all s u rest f shown stands grows more))
+next_stands v head all s t rest others f (Err (Violates r)) shown stands grows more e = absurd cc
+next_stands v head all s t rest others f (Err Unsealed) shown stands grows more e = absurd cc
 
-turn_stands : (r : Ranges) (steps : ℕ) (head : Head) (all : List ℕ) (s t : Progress) (rest others : List ℕ) → Stands head all s rest → turn r steps s rest ≡ Goes t others → Stands head all t others
+turn_stands : (r : Ranges) (steps : ℕ) (head : Head) (all : List ℕ) (s t : Progress) (rest others : List ℕ) → Stands r.version head all s rest → turn r steps s rest ≡ Goes t others → Stands r.version head all t others
 unfolding turn
 turn_stands r steps head all s t rest others stands e = by_frame (frame_of rest) refl e
   where
-    by_frame : (o : Option Frame) → frame_of rest ≡ o → turn_frame (next_of r steps s) s rest o ≡ Goes t others → Stands head all t others
+    by_frame : (o : Option Frame) → frame_of rest ≡ o → turn_frame (next_of r steps s) s rest o ≡ Goes t others → Stands r.version head all t others
     by_frame Absent is e = absurd (never_goes (length s.before) (is_passed s.stage rest) t others e)
-    by_frame (Some f) is e = let shown = whole_frame rest f stands.rest_bytes is in next_stands head all s t rest others f (next_of r steps s f) shown stands (stage_grows r steps head s s.stage rest f shown stands.told) (stage_adds r steps s s.stage f) e
+    by_frame (Some f) is e = let shown = whole_frame rest f stands.rest_bytes is in next_stands r.version head all s t rest others f (next_of r steps s f) shown stands (stage_grows r steps head s s.stage rest f shown stands.told) (stage_adds r steps s s.stage f) e
 
-all_stand : (r : Ranges) (steps : ℕ) (head : Head) (all : List ℕ) (from : Progress) (fed : List ℕ) → Stands head all from fed → (t : Progress) (rest : List ℕ) → Leaves r steps from fed t rest → Stands head all t rest
+all_stand : (r : Ranges) (steps : ℕ) (head : Head) (all : List ℕ) (from : Progress) (fed : List ℕ) → Stands r.version head all from fed → (t : Progress) (rest : List ℕ) → Leaves r steps from fed t rest → Stands r.version head all t rest
 all_stand r steps head all from fed stands _ _ nothing = stands
 all_stand r steps head all from fed stands _ _ (frame s rest t others before e) = turn_stands r steps head all s t rest others (all_stand r steps head all from fed stands s rest before) e
 
-start_stands : (head : Head) (fed : List ℕ) → AreBytes fed → Stands head (opening head ++ fed) (start head) fed
+start_stands : (v : Version) (head : Head) (fed : List ℕ) → AreBytes fed → Stands v head (opening v head ++ fed) (start v head) fed
 unfolding start events_bytes
-start_stands head fed are = record { told = sym (append-nil (opening head)); parts = refl; rest_bytes = are; places = tt }
+start_stands v head fed are = record { told = sym (append-nil (opening v head)); parts = refl; rest_bytes = are; places = tt }
 
 -- ---- what stands behind the frames of the events
 
@@ -148,12 +149,12 @@ more_behind before (stages.Sealed t seal) bytes rest told =
       ap (λ l. l ++ rest) told ∙ append_assoc (before ++ tail_frames t) end rest ∙ append_assoc before (tail_frames t) (end ++ rest),
     )
 
-pub are_placed : (r : Ranges) (steps : ℕ) (head : Head) (fed : List ℕ) (t : Progress) (rest : List ℕ) → AreBytes fed → Leaves r steps (start head) fed t rest → ArePlaced head fed t.placed
+pub are_placed : (r : Ranges) (steps : ℕ) (head : Head) (fed : List ℕ) (t : Progress) (rest : List ℕ) → AreBytes fed → Leaves r steps (start r.version head) fed t rest → ArePlaced r.version head fed t.placed
 are_placed r steps head fed t rest are leaves =
-    let stands = all_stand r steps head (opening head ++ fed) (start head) fed (start_stands head fed are) t rest leaves in
-    let behind = more_behind (front head t.placed) t.stage t.before rest stands.told in
+    let stands = all_stand r steps head (opening r.version head ++ fed) (start r.version head) fed (start_stands r.version head fed are) t rest leaves in
+    let behind = more_behind (front r.version head t.placed) t.stage t.before rest stands.told in
     record {
       others = behind.0;
-      parts = append_cancel_left (opening head) fed (events_bytes (map event_in t.placed) ++ behind.0) (stands.parts ∙ behind.1 ∙ append_assoc (opening head) (events_bytes (map event_in t.placed)) behind.0);
+      parts = append_cancel_left (opening r.version head) fed (events_bytes r.version (map event_in t.placed) ++ behind.0) (stands.parts ∙ behind.1 ∙ append_assoc (opening r.version head) (events_bytes r.version (map event_in t.placed)) behind.0);
       places = stands.places;
     }

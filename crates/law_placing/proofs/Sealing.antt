@@ -9,7 +9,7 @@ use Rattle.std.proofs.lemmas.Result.{IfOk-at_ok}
 use Rattle.std.proofs.lemmas.Slice.Eq.{bytes_eq-Decides}
 use Rattle.sha2.specs.Sha256.{sha256}
 use Rattle.sha2.proofs.Facts256.{length-sha256}
-use Rattle.wy_kernel.specs.declared.program.Program.{Program}
+use Rattle.wy_event.specs.declared.record.Version.{Version}
 use Rattle.wy_event.specs.declared.record.Head.{Head}
 use Rattle.wy_event.specs.declared.record.Tail.{Tail}
 use Rattle.wy_payload.specs.declared.fault.DamageRule.{DamageRule}
@@ -25,7 +25,7 @@ use Rattle.wy_frames.specs.declared.stage.Stage.{Stage}
 use Rattle.wy_frames.specs.declared.stage.Stage.TheVariants as stages
 use Rattle.wy_frames.specs.Frames.{Frame, frame_of, frame_of_length, opening_length, said_length}
 use Rattle.wy_frames.specs.Progress.{Progress, Next, Violates, Unsealed, coverage_next, covered_next, end_next, ended_next, event_next, knowns, next_at, next_of, open_next, read_as, seal_length, seal_next, start, with_event, with_stage}
-use Rattle.wy_frames.specs.Scan.{Goes, Fails, Waits, Leaves, frame, is_passed, nothing, turn, turn_frame, turn_next, without_frame}
+use Rattle.wy_frames.specs.Scan.{Goes, Waits, Leaves, frame, is_passed, nothing, turn, turn_frame, turn_next, without_frame}
 use Rattle.wy_frames.proofs.Kept.{kept}
 use Rattle.wy_frames.proofs.Pieces.{next_goes, no_frame, turn_is}
 use Rattle.wy_frames.proofs.Scans.{inner_is, some_is}
@@ -97,13 +97,13 @@ turn_stands r steps s t rest others e = by (frame_of rest) refl (sym (turn_is r 
   by Absent found is = absurd (no_frame (length s.before) (is_passed s.stage rest) t others is)
   by (Some f) found is = IfOk-at_ok Stands (next_goes s f.rest (next_of r steps s f) t others is).0 (stage_stands r steps s s.stage f (payload_in rest f found))
 
-begun : (head : Head) → Stands (start head)
+begun : (v : Version) (head : Head) → Stands (start v head)
 unfolding start
-begun head = tt
+begun v head = tt
 
-all_stand : (r : Ranges) (steps : ℕ) (head : Head) (fed : List ℕ) (t : Progress) (rest : List ℕ) → Leaves r steps (start head) fed t rest → Stands t
-all_stand r steps head fed _ _ nothing = begun head
-all_stand r steps head fed _ _ (frame s rest t others before e) = turn_stands r steps s t rest others e
+all_stand : (r : Ranges) (steps : ℕ) (v : Version) (head : Head) (fed : List ℕ) (t : Progress) (rest : List ℕ) → Leaves r steps (start v head) fed t rest → Stands t
+all_stand r steps v head fed _ _ nothing = begun v head
+all_stand r steps v head fed _ _ (frame s rest t others before e) = turn_stands r steps s t rest others e
 
 -- ---- nothing is left behind it
 
@@ -137,13 +137,13 @@ ends_with bytes front end is long =
     let left : length bytes - 32 ≡ length front = omega (arith, all) in
     (omega (arith, all), ap (λ n. drop n bytes) left ∙ ap (drop (length front)) is ∙ drop-append_seam front end)
 
-before_start : (head : Head) → (start head).before ≡ opening head
+before_start : (v : Version) (head : Head) → (start v head).before ≡ opening v head
 unfolding start
-before_start head = refl
+before_start v head = refl
 
 pub end_sealed : ReadTracesEndSealed
-end_sealed p head fed t rest tail seal leaves waits sealed =
-    let r = ranges_of p in
-    let stands : SealStands t.before (stages.Sealed tail seal) = subst (SealStands t.before) sealed (all_stand r head.steps head fed t rest leaves) in
-    let all : t.before ≡ opening head ++ fed = sym (append-nil t.before) ∙ ap (λ l. t.before ++ l) (sym (none_left r head.steps t rest tail seal sealed waits)) ∙ kept r head.steps (start head) fed t rest leaves ∙ ap (λ l. l ++ fed) (before_start head) in
-    ends_with (opening head ++ fed) stands.0 seal (sym all ∙ stands.1) stands.2
+end_sealed v p head fed t rest tail seal leaves waits sealed =
+    let r = ranges_of v p in
+    let stands : SealStands t.before (stages.Sealed tail seal) = subst (SealStands t.before) sealed (all_stand r head.steps v head fed t rest leaves) in
+    let all : t.before ≡ opening v head ++ fed = sym (append-nil t.before) ∙ ap (λ l. t.before ++ l) (sym (none_left r head.steps t rest tail seal sealed waits)) ∙ kept r head.steps (start v head) fed t rest leaves ∙ ap (λ l. l ++ fed) (before_start v head) in
+    ends_with (opening v head ++ fed) stands.0 seal (sym all ∙ stands.1) stands.2

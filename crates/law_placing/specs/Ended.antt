@@ -3,6 +3,7 @@ use Rattle.std.specs.Prelude.{◌≡◌, ℕ, ◌-◌, ◌<◌, ◌≤◌, ◌++
 use Rattle.wy_kernel.specs.declared.program.Program.{Program}
 use Rattle.wy_event.specs.declared.record.Head.{Head}
 use Rattle.wy_event.specs.declared.record.Tail.{Tail}
+use Rattle.wy_event.specs.declared.record.Version.{Version}
 use Rattle.wy_spelling.specs.Spelling.{opening}
 use Rattle.wy_payload.specs.Closing.{is_thrown}
 use Rattle.wy_payload.specs.Ranges.{ranges_of}
@@ -17,11 +18,11 @@ pub record EndStands (statements count : ℕ) (tail : Tail) : Type 0 where
   pub last : is_thrown tail.stop ≡ true → tail.last < count
 
 abbrev pub ReadEndsStand : Type 0
-ReadEndsStand = (p : Program) (head : Head) (fed : List ℕ) (t : Progress) (rest : List ℕ) (tail : Tail) (seal : List ℕ) → Leaves (ranges_of p) head.steps (start head) fed t rest → t.stage ≡ stages.Sealed tail seal → EndStands p.statements (length t.placed) tail
+ReadEndsStand = (v : Version) (p : Program) (head : Head) (fed : List ℕ) (t : Progress) (rest : List ℕ) (tail : Tail) (seal : List ℕ) → Leaves (ranges_of v p) head.steps (start v head) fed t rest → t.stage ≡ stages.Sealed tail seal → EndStands p.statements (length t.placed) tail
 
 -- these thirty-two are the last of all bytes
 abbrev pub EndsWithSeal : List ℕ → List ℕ → Type 0
 EndsWithSeal bytes seal = (32 ≤ length bytes) × (drop (length bytes - 32) bytes ≡ seal)
 
 abbrev pub ReadTracesEndSealed : Type 0
-ReadTracesEndSealed = (p : Program) (head : Head) (fed : List ℕ) (t : Progress) (rest : List ℕ) (tail : Tail) (seal : List ℕ) → Leaves (ranges_of p) head.steps (start head) fed t rest → turn (ranges_of p) head.steps t rest ≡ Waits → t.stage ≡ stages.Sealed tail seal → EndsWithSeal (opening head ++ fed) seal
+ReadTracesEndSealed = (v : Version) (p : Program) (head : Head) (fed : List ℕ) (t : Progress) (rest : List ℕ) (tail : Tail) (seal : List ℕ) → Leaves (ranges_of v p) head.steps (start v head) fed t rest → turn (ranges_of v p) head.steps t rest ≡ Waits → t.stage ≡ stages.Sealed tail seal → EndsWithSeal (opening v head ++ fed) seal

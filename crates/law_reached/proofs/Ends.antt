@@ -33,7 +33,7 @@ use Rattle.wy_whynot.specs.Executed.{cover_of, cover_or_none, is_test, is_catch,
 use Rattle.wy_paths.proofs.Chaining.{leads_on}
 use Rattle.law_reached.specs.Laws.{IsReachedByCrossed, StandsOnLink}
 use Rattle.law_reached.proofs.Contained.{nothing_in, in_head, in_tail, in_cases}
-use Rattle.law_reached.proofs.Seen.{Happened, arm_number, Shows, Begins, CallerIs, Executed, CrossedAs, Reached, at_start, onward, Stands}
+use Rattle.law_reached.proofs.Seen.{Happened, Shows, Begins, CallerIs, Executed, CrossedAs, Reached, at_start, onward, Stands}
 
 -- ---- lists
 
@@ -135,14 +135,12 @@ is_its_entity : (o : Option ℕ) (m : ℕ) → o ≡ Some m → is_entity o m �
 unfolding is_entity
 is_its_entity o m e = ap (λ z. is_entity z m) e ∙ eq-eqb m m refl
 
-value_is : (n : ℕ) (v : Value) → is_value n v ≡ true → (b : Bool) × (v ≡ val.Bool b) × (n ≡ arm_number b)
-value_is n (val.Bool true) e = (true, refl, eqb-true n 1 e)
-value_is n (val.Bool false) e = (false, refl, eqb-true n 0 e)
+value_is : (n : ℕ) (v : Value) → is_value n v ≡ true → v ≡ val.Arm n
+value_is n (val.Arm m) e = ap val.Arm (sym (eqb-true n m e))
 value_is n _ e = absurd (cc e)
 
-is_its_value : (n : ℕ) (v : Value) (b : Bool) → v ≡ val.Bool b → n ≡ arm_number b → is_value n v ≡ true
-is_its_value n v true e f = ap (λ z. is_value n z) e ∙ eq-eqb n 1 f
-is_its_value n v false e f = ap (λ z. is_value n z) e ∙ eq-eqb n 0 f
+is_its_value : (n : ℕ) (v : Value) → v ≡ val.Arm n → is_value n v ≡ true
+is_its_value n v e = ap (is_value n) e ∙ eq-eqb n n refl
 
 hit_now : (k : Kind) (s site : ℕ) → is_hit k ≡ true → s ≡ site → (is_hit k && (s == site)) ≡ true
 hit_now k s site h e = both_and (is_hit k) (s == site) h (eq-eqb s site e)
@@ -157,7 +155,7 @@ module _ (rs : List Recorded) where
       (x.0, x.1, x.2, (a_test x.1.kind g.0, eqb-true x.1.site site z.1, value_is v x.1.value g.1))
 
   shown_arm : (site v k : ℕ) (r : Recorded) → slice_get rs k ≡ Some r → Shows (point.Arm site v) r → list_any (gave v) (hits_in rs site) ≡ true
-  shown_arm site v k r e h = gathered_any (gave v) (hit_at rs site) 0 rs k r e (λ m. one_any (gave v) (is_hit r.kind && (r.site == site)) _ (hit_now r.kind r.site site (ap is_hit h.0) h.1) (both_and (is_test r.kind) (is_value v r.value) (ap is_test h.0) (is_its_value v r.value h.2.0 h.2.1 h.2.2)))
+  shown_arm site v k r e h = gathered_any (gave v) (hit_at rs site) 0 rs k r e (λ m. one_any (gave v) (is_hit r.kind && (r.site == site)) _ (hit_now r.kind r.site site (ap is_hit h.0) h.1) (both_and (is_test r.kind) (is_value v r.value) (ap is_test h.0) (is_its_value v r.value h.2)))
 
   catch_shown : (site : ℕ) → list_any caught (hits_in rs site) ≡ true → (k : ℕ) × (r : Recorded) × (slice_get rs k ≡ Some r) × Shows (point.Catch site) r
   catch_shown site e =

@@ -24,7 +24,7 @@ use Rattle.wy_event.specs.declared.record.Kind.TheVariants as kind
 use Rattle.wy_event.specs.declared.record.Slot.TheVariants as slot
 use Rattle.wy_steps.specs.State.{Carried, Run, Noted, State, Around, choose, ◌>>=◌, ◌>>◌}
 use Rattle.wy_steps.specs.Steps.{Made, constant, tick, value_of}
-use Rattle.wy_meaning.specs.World.{World, plain, class_code, is_true, is_null, is_text, all_of}
+use Rattle.wy_meaning.specs.World.{World, plain, class_code, is_true, arm_of_truth, is_null, is_text, all_of}
 use Rattle.wy_meaning.specs.Place.{Located, AtLocal, AtStatic, AtField, AtElem, initialize_source, initialize, static_spot, find, read_place, set_place, update_place, operated}
 use Rattle.wy_meaning.specs.Text.{to_string, call_chosen, shown_as, shown, concatenated, cat, append_place}
 use Rattle.wy_meaning.specs.Array.{any_negative, create_array, first_site, rest_sites, set_elements, create_filled, new_array}
@@ -210,6 +210,7 @@ module _ (G : Ground) (M : Methods G) (L : Links G M) where
       object_fine k md site ty r (val.Char x) vs m f public e t u h a g ways = where_at G (λ s at. absurd (let z = subst (λ (u : Value). Is (p G) s.noted (class_type md.class) u) e (h.by s.noted at.known) in cc z))
       object_fine k md site ty r (val.Int x) vs m f public e t u h a g ways = where_at G (λ s at. absurd (let z = subst (λ (u : Value). Is (p G) s.noted (class_type md.class) u) e (h.by s.noted at.known) in cc z))
       object_fine k md site ty r (val.Long x) vs m f public e t u h a g ways = where_at G (λ s at. absurd (let z = subst (λ (u : Value). Is (p G) s.noted (class_type md.class) u) e (h.by s.noted at.known) in cc z))
+      object_fine k md site ty r (val.Arm n) vs m f public e t u h a g ways = where_at G (λ s at. absurd (subst (λ (u : Value). Is (p G) s.noted (class_type md.class) u) e (h.by s.noted at.known)))
 
       chosen_call_fine : (k : ℕ) (md : Method) (receiver : Run (A G) C) (args : List (Run (A G) C)) (site : ℕ) (ty : Ty) → IsMethod (p G) k md → md.form ≡ kinds.Instance → md.is_private ≡ false → T G M i receiver ty → Fits (p G).classes ty (class_type md.class) → AllTypes G M i args md.params → F receiver → AllFine o.point args → Among (p G) (choosing (p G) o k ty site) → F (call_on w call.Chosen k receiver args site)
       unfolding call_on call_form
@@ -297,25 +298,25 @@ module _ (G : Ground) (M : Methods G) (L : Links G M) where
       arm_fine q e v Absent h = quiet G (q_return _)
       arm_fine {P = P} q e v (Some m) h = then_quiet G (h.by P) (λ c. q_return _)
 
-      arm_edge : (site : ℕ) (v : Value) (c : Bool) → v ≡ val.Bool c → IsLink (p G) (record { kind = link_kind.Arm (arm_number c); from = o.point; to = point.Arm site (arm_number c); site = o.site }) → Edge G b o.point (plain kind.Test site v) (point.Arm site (arm_number c))
+      arm_edge : (site n k : ℕ) → n ≡ k → IsLink (p G) (record { kind = link_kind.Arm k; from = o.point; to = point.Arm site k; site = o.site }) → Edge G b o.point (plain kind.Test site (val.Arm n)) (point.Arm site k)
       unfolding plain
-      arm_edge site v c e h = record {
-        link = record { kind = link_kind.Arm (arm_number c); from = o.point; to = point.Arm site (arm_number c); site = o.site };
+      arm_edge site n k e h = record {
+        link = record { kind = link_kind.Arm k; from = o.point; to = point.Arm site k; site = o.site };
         is_link = h;
         from = refl;
         to = refl;
         crossing = tt;
         only = only;
-        shown = (refl, refl, (c, e, refl));
+        shown = (refl, refl, ap val.Arm e);
         calling = λ k. absurd k;
         no_new = λ k. cc k;
       }
         where
-          same_truth : (x y : Bool) → val.Bool x ≡ val.Bool y → x ≡ y
-          same_truth x y q = cc q
+          same_arm : (x y : ℕ) → val.Arm x ≡ val.Arm y → x ≡ y
+          same_arm x y q = cc q
 
-          only : (x : Point) → ShownBy x kind.Test site Absent v → x ≡ point.Arm site (arm_number c)
-          only (point.Arm s n) h = let t : h.2.0 ≡ c = same_truth h.2.0 c (sym h.2.1 ∙ e) in let m : n ≡ arm_number c = h.2.2 ∙ ap arm_number t in ap (λ z. point.Arm z n) (sym h.1) ∙ ap (λ z. point.Arm site z) m
+          only : (x : Point) → ShownBy x kind.Test site Absent (val.Arm n) → x ≡ point.Arm site k
+          only (point.Arm s m) h = ap (λ z. point.Arm z m) (sym h.1) ∙ ap (λ z. point.Arm site z) (same_arm m n (sym h.2) ∙ e)
           only point.Start h = absurd h
           only (point.Statement n) h = absurd h
           only (point.Entry m) h = absurd (cc h.0)
@@ -338,10 +339,16 @@ module _ (G : Ground) (M : Methods G) (L : Links G M) where
       is_boolean n (val.Text k) h = absurd h.reference
       is_boolean n (val.Fixed k) h = absurd h.reference
       is_boolean n val.None h = absurd (cc h)
+      is_boolean n (val.Arm k) h = absurd h
 
       true_as : (v : Value) (c : Bool) → v ≡ val.Bool c → is_true v ≡ c
       unfolding is_true
       true_as v c e = ap is_true e
+
+      arm_as : (v : Value) (c : Bool) → v ≡ val.Bool c → arm_of_truth (is_true v) ≡ arm_number c
+      unfolding is_true arm_of_truth
+      arm_as v true e = ap (λ z. arm_of_truth (is_true z)) e
+      arm_as v false e = ap (λ z. arm_of_truth (is_true z)) e
 
       -- with the truth of the test
       arms_fine : {P : Known G} (a d : Option (Run (A G) C)) (site : ℕ) (v : C) (e : Made (A G)) (c : Bool) → is_true v.value ≡ c → ArmFine (point.Arm site 1) a → ArmFine (point.Arm site 0) d → Ours G (In i) b (point.Arm site (arm_number c)) P (choose (is_true v.value) (arm e v.value a) (arm e v.value d)) (λ u. point.Arm site (arm_number c))
@@ -352,7 +359,7 @@ module _ (G : Ground) (M : Methods G) (L : Links G M) where
       unfolding conditional is both
       conditional_fine test a d site dt ft h fa fd = record {
         by = λ P. scopes G (bind G (dt.by P) (ft.by P) (λ v. where_at G (λ s at. let t = is_boolean s.noted v.value at.known.1 in
-            at_owner G (bind G (notes_test G Around site v.value v) (records G (plain kind.Test site v.value) v (λ s. activating_adds Around _ v s _ (note_adds _ v s)) (arm_edge site v.value t.0 t.1 (arm_link site t.0 h))) (λ e. arms_fine a d site v e t.0 (true_as v.value t.0 t.1) fa fd)))));
+            at_owner G (bind G (notes_test G Around site _ v) (records G (plain kind.Test site (val.Arm (arm_of_truth (is_true v.value)))) v (λ s. activating_adds Around _ v s _ (note_adds _ v s)) (arm_edge site _ (arm_number t.0) (arm_as v.value t.0 t.1) (arm_link site t.0 h))) (λ e. arms_fine a d site v e t.0 (true_as v.value t.0 t.1) fa fd)))));
       }
 
     -- ---- each form, where its forms and theirs lead along ways of the program

@@ -41,7 +41,7 @@ arm_number false = 0
 abbrev pub ShownBy : Point → Kind → ℕ → Option ℕ → Value → Type 0
 ShownBy (point.Entry m) k site entity v = (k ≡ kind.Call) × (entity ≡ Some m)
 ShownBy (point.Init c) k site entity v = (k ≡ kind.Init) × (entity ≡ Some c)
-ShownBy (point.Arm s n) k site entity v = (k ≡ kind.Test) × (site ≡ s) × ((b : Bool) × (v ≡ val.Bool b) × (n ≡ arm_number b))
+ShownBy (point.Arm s n) k site entity v = (k ≡ kind.Test) × (site ≡ s) × (v ≡ val.Arm n)
 ShownBy (point.Catch s) k site entity v = (k ≡ kind.Catch) × (site ≡ s)
 ShownBy point.Start k site entity v = ⊥
 ShownBy (point.Statement n) k site entity v = ⊥

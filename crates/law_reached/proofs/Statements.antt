@@ -18,7 +18,7 @@ use Rattle.wy_steps.specs.Steps.{code_of, note, value_of as carried_of}
 use Rattle.wy_meaning.specs.World.{World, plain, into, fail, throwing, null_pointer, is_null}
 use Rattle.wy_meaning.specs.Text.{print_value}
 use Rattle.wy_meaning.specs.Expression.{eval, eval_part, part_or}
-use Rattle.wy_meaning.specs.Statement.{tested, evaluated, if_form, for_test, for_form, return_form, throw_form, caught, handle, at_throw, finally, try_form, print_form, other_or, exec, exec_act, exec_other, exec_all, exec_catches}
+use Rattle.wy_meaning.specs.Statement.{armed, tested, evaluated, if_form, for_test, for_form, return_form, throw_form, caught, handle, at_throw, finally, try_form, print_form, other_or, exec, exec_act, exec_other, exec_all, exec_catches}
 use Rattle.wy_typing.specs.Types.{boolean_type}
 use Rattle.wy_typing.specs.Expressions.{HasType, fitting}
 use Rattle.wy_typing.specs.Statements.{Within, IsTyped, Acts, OtherTyped, AllTyped, CatchesTyped, IsTest, IsResult, IsOperand}
@@ -138,10 +138,14 @@ module _ (G : Ground) (M : Methods G) (L : Links G M) (i : FrameKind) (result : 
       none (point.Init m) i k = cc k.0
       none (point.Catch m) i k = cc k.0
 
+  arms : {P : Known G} (o : Owner) (reach n : ℕ) (v : Carried (A G)) → ((n : ℕ) → IsPoint (p G) (point.Arm o.site n) → ⊥) → Ours G (In i) b o.point P (armed o.site reach n v) (λ c. o.point)
+  unfolding armed
+  arms o reach n v apart = quiet_first G (forgets G (frames G)) q_frame (λ f.
+      then_quiet G (records_apart G (plain kind.Test o.site (val.Arm n)) v (λ s. activating_adds (Through f reach) _ v s _ (note_adds _ v s)) (test_apart o.site (val.Arm n) apart)) (λ e. q_return _))
+
   tests : {P : Known G} (o : Owner) (reach : ℕ) (e : Expression) → method_of (p G) o.point ≡ b → Each (p G) b (forms o e) → expression.Typed G M i e → ((n : ℕ) → IsPoint (p G) (point.Arm o.site n) → ⊥) → HasType (p G) (local_types (p G) i) e boolean_type → Ours G (In i) b o.point P (tested o.site reach (eval w e)) (λ c. o.point)
-  unfolding tested
-  tests {P = P} o reach e s h d apart t = bind G ((d.by boolean_type t).by P) (((keeps G M L i e).by o s h boolean_type t).by P) (λ v. quiet_first G (forgets G (frames G)) q_frame (λ f.
-      then_quiet G (records_apart G (plain kind.Test o.site v.value) v (λ s. activating_adds (Through f reach) _ v s _ (note_adds _ v s)) (test_apart o.site v.value apart)) (λ e. q_return _)))
+  unfolding tested ◌>>◌
+  tests {P = P} o reach e s h d apart t = bind G ((d.by boolean_type t).by P) (((keeps G M L i e).by o s h boolean_type t).by P) (λ v. then_quiet G (arms o reach _ v apart) (λ c. q_return _))
 
   test_typed : (site reach : ℕ) (e : Expression) → HasType (p G) (local_types (p G) i) e boolean_type → Typed (tested site reach (eval w e))
   test_typed site reach e t P = (typed_statement.tests G M i result back site reach (eval w e) ((expression.typed G M i e).by boolean_type t)).by P

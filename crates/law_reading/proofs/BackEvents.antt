@@ -1,9 +1,10 @@
 -- A whole event is read back, so far as its bytes tell it.
-use Rattle.std.proofs.Common.{◌≡◌, ℕ, ◌<◌, ◌^◌, Bool, true, false, cond, eqb, List, [], ◌∷◌, ◌++◌, length, Option, Some, Ok, Err, refl, sym, subst, append-nil, arith, All}
+use Rattle.std.proofs.Common.{◌≡◌, ℕ, ◌<◌, ◌^◌, Bool, true, false, cond, eqb, List, [], ◌∷◌, ◌++◌, length, Option, Some, Ok, Err, refl, sym, ap, subst, append-nil, arith, All}
 use Rattle.std.specs.Prelude.{None as Absent}
 use Rattle.std.specs.Prelude.{IfOk, nat_lt, slice_get}
 use Rattle.std.proofs.lemmas.Bool.{eqb-true}
 use Rattle.wy_value.specs.declared.value.Value.{Value}
+use Rattle.wy_event.specs.declared.record.Version.{Version}
 use Rattle.wy_event.specs.declared.record.Kind.{Kind}
 use Rattle.wy_event.specs.declared.record.Kind.TheVariants as kind
 use Rattle.wy_event.specs.Record.{Recorded, recorded}
@@ -28,6 +29,7 @@ use Rattle.wy_payload.specs.Events.{kinds, kind_at, site_at, entity_at, origin_a
 use Rattle.law_reading.proofs.SpelledSteps.{after}
 use Rattle.law_reading.proofs.Back.{Gives, then_back, passed_back, checked_back, tag_back}
 use Rattle.law_reading.proofs.BackParts.{slot_back}
+use Rattle.law_reading.proofs.Told.{told_as, told_by_form}
 use Rattle.law_reading.proofs.BackValues.{value_back, units_back, uses_back}
 use Rattle.wy_payload.proofs.Tags.{kind_known}
 use Rattle.law_reading.proofs.EventLengths.{parts_short}
@@ -95,52 +97,58 @@ origin_back r earlier e rest fit =
 
 -- ---- contents
 
-abbrev content_of : Recorded → Content
-content_of e = record { value = told_value e.kind e.value; units = told_units e.kind e.units }
+abbrev content_of : Version → Recorded → Content
+content_of v e = record { value = told_value v e.kind e.value; units = told_units e.kind e.units }
 
-content_back : (r : Ranges) (earlier : List Known) (k : Kind) (entity : ℕ) (v : Value) (units rest : List ℕ) → ValueFits v → All IsUnit units → length (content_bytes k v units) < 2 ^ 32
-    → Gives (record { value = told_value k v; units = told_units k units }) rest (content_at r earlier k entity (content_bytes k v units ++ rest))
-unfolding content_at
-content_back r earlier kind.Text entity v units rest value fit short = then_back (units_at (content_bytes kind.Text v units ++ rest)) _ (units, rest) _ (units_back units rest fit (units_are_few units short)) refl
-content_back r earlier k entity v units rest value fit short = then_back (value_at r earlier (value_form k entity) (content_bytes k v units ++ rest)) _ (v, rest) _ (value_back r earlier (value_form k entity) v rest value) refl
+-- the content of an event that is no Text
+valued : List ℕ → Value → Content × List ℕ
+valued rest x = (record { value = x; units = [] }, rest)
+
+content_back : (r : Ranges) (earlier : List Known) (k : Kind) (entity : ℕ) (v : Value) (units rest : List ℕ) → ValueFits v → All IsUnit units → length (content_bytes r.version k v units) < 2 ^ 32
+    → Gives (record { value = told_value r.version k v; units = told_units k units }) rest (content_at r earlier k entity (content_bytes r.version k v units ++ rest))
+unfolding content_at valued
+content_back r earlier kind.Text entity v units rest value fit short = then_back (units_at (content_bytes r.version kind.Text v units ++ rest)) _ (units, rest) _ (units_back units rest fit (units_are_few units short)) refl
+content_back r earlier k entity v units rest value fit short =
+    then_back (value_at r earlier (value_form k entity) (content_bytes r.version k v units ++ rest)) _ (told_as r.version (value_form k entity) v, rest) _ (value_back r earlier (value_form k entity) v rest value)
+    (ap (valued rest) (told_by_form r.version k entity v tt))
 
 -- ---- events
 
 -- the record that was read
-abbrev Tells : Recorded → Written × List ℕ → Type 0
-Tells e w = (recorded w.0.event ≡ told e) × (w.1 ≡ [])
+abbrev Tells : Version → Recorded → Written × List ℕ → Type 0
+Tells v e w = (recorded w.0.event ≡ told v e) × (w.1 ≡ [])
 
-event_told : (e : Recorded) (output : ℕ) → Fits e
-    → Tells e (record { event = record { kind = e.kind; site = e.site; frame = raw e.frame; control = raw e.control; entity = raw e.entity; slot = e.slot; value = told_value e.kind e.value; units = told_units e.kind e.units; uses = e.uses }; output = output }, [])
+event_told : (v : Version) (e : Recorded) (output : ℕ) → Fits e
+    → Tells v e (record { event = record { kind = e.kind; site = e.site; frame = raw e.frame; control = raw e.control; entity = raw e.entity; slot = e.slot; value = told_value v e.kind e.value; units = told_units e.kind e.units; uses = e.uses }; output = output }, [])
 unfolding recorded told
-event_told e output fit = (rw (raw_present e.frame fit.frame, raw_present e.control fit.control, raw_present e.entity fit.entity) refl, refl)
+event_told v e output fit = (rw (raw_present e.frame fit.frame, raw_present e.control fit.control, raw_present e.entity fit.entity) refl, refl)
 
-event_parts : (e : Recorded) → event_payload e ≡ origin_bytes e ++ (slot_bytes e.slot ++ (content_bytes e.kind e.value e.units ++ (uses_bytes e.uses ++ [])))
+event_parts : (v : Version) (e : Recorded) → event_payload v e ≡ origin_bytes e ++ (slot_bytes e.slot ++ (content_bytes v e.kind e.value e.units ++ (uses_bytes e.uses ++ [])))
 unfolding event_payload
-event_parts e = rw (append-nil (uses_bytes e.uses)) refl
+event_parts v e = rw (append-nil (uses_bytes e.uses)) refl
 
-event_back : (r : Ranges) (earlier : List Known) (output : ℕ) (e : Recorded) → Fits e → length (event_payload e) < 2 ^ 32 → IfOk (event_at r earlier output (event_payload e)) (Tells e)
+event_back : (r : Ranges) (earlier : List Known) (output : ℕ) (e : Recorded) → Fits e → length (event_payload r.version e) < 2 ^ 32 → IfOk (event_at r earlier output (event_payload r.version e)) (Tells r.version e)
 unfolding event_at
 event_back r earlier output e fit short =
-    let parts = parts_short e short in
+    let parts = parts_short r.version e short in
     let c = uses_bytes e.uses ++ [] in
-    let b = content_bytes e.kind e.value e.units ++ c in
+    let b = content_bytes r.version e.kind e.value e.units ++ c in
     let a = slot_bytes e.slot ++ b in
-    let content = content_of e in
-    subst (λ (l : List ℕ). IfOk (event_at r earlier output l) (Tells e)) (sym (event_parts e))
+    let content = content_of r.version e in
+    subst (λ (l : List ℕ). IfOk (event_at r earlier output l) (Tells r.version e)) (sym (event_parts r.version e))
     (then_back (origin_at r earlier (origin_bytes e ++ a)) _ (origin_of e, a) _ (origin_back r earlier e a fit)
     (then_back (slot_at r earlier (slot_form e.kind) a) _ (e.slot, b) _ (slot_back r earlier (slot_form e.kind) e.slot b fit.slot)
     (then_back (content_at r earlier e.kind (raw e.entity) b) _ (content, c) _ (content_back r earlier e.kind (raw e.entity) e.value e.units c fit.value fit.units parts.content)
     (after (output_behind r earlier output e.kind e.site content.value) _ _ (λ total.
-    then_back (uses_at r earlier c) _ (e.uses, []) _ (uses_back r earlier e.uses [] fit.uses parts.uses) (event_told e total fit))))))
+    then_back (uses_at r earlier c) _ (e.uses, []) _ (uses_back r earlier e.uses [] fit.uses parts.uses) (event_told r.version e total fit))))))
 
-all_back : (read : Read Written) (e : Recorded) → IfOk read (Tells e) → IfOk (all_of read) (λ w. recorded w.event ≡ told e)
-all_back (Ok x) e is = ended (eqb (length x.1) 0)
+all_back : (v : Version) (read : Read Written) (e : Recorded) → IfOk read (Tells v e) → IfOk (all_of read) (λ w. recorded w.event ≡ told v e)
+all_back v (Ok x) e is = ended (eqb (length x.1) 0)
   where
-    ended : (b : Bool) → IfOk (cond b (Ok x.0) (Err rule.Length)) (λ w. recorded w.event ≡ told e)
+    ended : (b : Bool) → IfOk (cond b (Ok x.0) (Err rule.Length)) (λ w. recorded w.event ≡ told v e)
     ended true = is.0
     ended false = tt
-all_back (Err d) e is = tt
+all_back v (Err d) e is = tt
 
-pub whole_back : (r : Ranges) (earlier : List Known) (output : ℕ) (e : Recorded) → Fits e → length (event_payload e) < 2 ^ 32 → IfOk (all_of (event_at r earlier output (event_payload e))) (λ w. recorded w.event ≡ told e)
-whole_back r earlier output e fit short = all_back (event_at r earlier output (event_payload e)) e (event_back r earlier output e fit short)
+pub whole_back : (r : Ranges) (earlier : List Known) (output : ℕ) (e : Recorded) → Fits e → length (event_payload r.version e) < 2 ^ 32 → IfOk (all_of (event_at r earlier output (event_payload r.version e))) (λ w. recorded w.event ≡ told r.version e)
+whole_back r earlier output e fit short = all_back r.version (event_at r earlier output (event_payload r.version e)) e (event_back r earlier output e fit short)

@@ -1,6 +1,6 @@
 -- Values, units and uses are read back.
-use Rattle.std.proofs.Common.{◌≡◌, ℕ, ◌<◌, ◌^◌, Bool, true, false, cond, eqb, List, ◌∷◌, ◌++◌, length, Some, Ok, refl, sym, ap, subst, append_assoc, ℤ, FitsSigned, All}
-use Rattle.std.specs.Prelude.{nat_lt, slice_get}
+use Rattle.std.proofs.Common.{◌≡◌, ℕ, ◌<◌, ◌^◌, Bool, true, false, cond, eqb, List, ◌∷◌, ◌++◌, length, Some, Ok, refl, sym, ap, subst, append_assoc, ℤ, FitsSigned, All, arith}
+use Rattle.std.specs.Prelude.{nat_lt}
 use Rattle.std.specs.List.{flat_map}
 use mir.Val.{bits}
 use mir.ValLaws as laws
@@ -9,10 +9,12 @@ use Rattle.std.proofs.lemmas.Int.{to_z-of_z}
 use Rattle.std.proofs.lemmas.List.Elements.{recursion_from_All}
 use Rattle.wy_value.specs.declared.value.Value.{Value}
 use Rattle.wy_value.specs.declared.value.Value.TheVariants as val
+use Rattle.wy_event.specs.declared.record.Version.{Version}
+use Rattle.wy_event.specs.declared.record.Version.TheVariants as version
 use Rattle.wy_event.specs.declared.record.Use.{Use}
 use Rattle.wy_event.specs.declared.record.Use.TheVariants as used
 use Rattle.wy_fitting.specs.Fits.{IsNumber, IsUnit, ValueFits, UseFits}
-use Rattle.wy_spelling.specs.Spelling.{number, slot_bytes, value_bytes, units_bytes, use_bytes, uses_bytes}
+use Rattle.wy_spelling.specs.Spelling.{arm_number, arm_tag, number, slot_bytes, value_bytes, units_bytes, use_bytes, uses_bytes}
 use Rattle.wy_payload.specs.declared.ranges.Ranges.{Ranges}
 use Rattle.wy_payload.specs.declared.known.Known.{Known}
 use Rattle.wy_payload.specs.declared.known.Role.TheVariants as role
@@ -20,12 +22,15 @@ use Rattle.wy_payload.specs.declared.slot.SlotForm.TheVariants as form
 use Rattle.wy_payload.specs.declared.value.ValueTag.{ValueTag}
 use Rattle.wy_payload.specs.declared.value.ValueTag.TheVariants as tags
 use Rattle.wy_payload.specs.declared.value.ValueForm.{ValueForm}
+use Rattle.wy_payload.specs.declared.value.ValueForm.TheVariants as wanted_form
 use Rattle.wy_payload.specs.declared.event.UseTag.TheVariants as ways
 use Rattle.wy_payload.specs.Rules.{in_range}
 use Rattle.wy_payload.specs.Reading.{passed, number_at, reference_at, below_at, at_most_at}
 use Rattle.wy_payload.specs.Places.{slot_at}
-use Rattle.wy_payload.specs.Values.{value_tags, allows_value, int_rule, object_role, bool_at, int_at, plain_at, object_at, text_at, fixed_at, value_of, value_at, units_tag, units_at}
+use Rattle.wy_payload.specs.Values.{arm_at, arm_limit, value_tag, allows_value, int_rule, object_role, bool_at, int_at, plain_at, object_at, text_at, fixed_at, value_of, value_at, units_tag, units_at}
 use Rattle.wy_payload.specs.Events.{use_tag, place_at, use_of, use_at, uses_at}
+use Rattle.wy_payload.proofs.Tags.{listed_tag}
+use Rattle.law_reading.proofs.Told.{told_as}
 use Rattle.law_reading.proofs.Back.{Gives, then_back, passed_back, surely, byte_back, back_16, back_64, number_back, tag_back, rows_back}
 use Rattle.law_reading.proofs.BackParts.{reference_back, below_back, at_most_back, slot_back}
 
@@ -94,25 +99,81 @@ fixed_value : (r : Ranges) (n : ℕ) (rest : List ℕ) → IsNumber n → Gives 
 unfolding fixed_at
 fixed_value r n rest fit = then_back (number_at w32 (number n ++ rest)) _ (n, rest) _ (number_back n rest fit) (passed_back (in_range (nat_lt n (length r.fixed))) (val.Fixed n, rest))
 
-tagged_back : (r : Ranges) (earlier : List Known) (wanted : ValueForm) (tag : ValueTag) (b : ℕ) (v : Value) (text rest : List ℕ) → slice_get value_tags b ≡ Some tag → Gives v rest (value_of r earlier wanted tag text) → Gives v rest (value_at r earlier wanted (b ∷ text))
+tagged_back : (r : Ranges) (earlier : List Known) (wanted : ValueForm) (tag : ValueTag) (b : ℕ) (v : Value) (text rest : List ℕ) → value_tag r.version wanted b ≡ Some tag → Gives v rest (value_of r earlier wanted tag text) → Gives v rest (value_at r earlier wanted (b ∷ text))
 unfolding value_at
 tagged_back r earlier wanted tag b v text rest is h =
-    tag_back (slice_get value_tags) tag b text is _ _
+    tag_back (value_tag r.version wanted) tag b text is _ _
     (then_back (passed (in_range (allows_value wanted tag)) text) (value_of r earlier wanted tag) text _ (passed_back (in_range (allows_value wanted tag)) text) h)
 
-pub value_back : (r : Ranges) (earlier : List Known) (wanted : ValueForm) (v : Value) (rest : List ℕ) → ValueFits v → Gives v rest (value_at r earlier wanted (value_bytes v ++ rest))
+arm_back : (v : Version) (n : ℕ) (rest : List ℕ) → IsNumber n → Gives (told_as v wanted_form.Arm (val.Arm n)) rest (arm_at v (arm_number v n ++ rest))
+unfolding arm_at
+arm_back version.One n rest fit =
+    let bit : ℕ = cond (eqb n 1) 1 0 in
+    then_back (number_at w8 (bit ∷ rest)) _ (bit, rest) _ (byte_gives bit rest) (passed_back (in_range (nat_lt bit arm_limit)) (val.Arm bit, rest))
+arm_back version.Two n rest fit = then_back (number_at w32 (number n ++ rest)) _ (n, rest) _ (number_back n rest fit) (passed_back (in_range (nat_lt n arm_limit)) (val.Arm n, rest))
+
+-- a value that no version spells as another
+abbrev IsOwn : Value → Type 0
+IsOwn (val.Bool b) = ⊥
+IsOwn (val.Arm n) = ⊥
+IsOwn _ = Unit {0}
+
+own_told : (v : Version) (wanted : ValueForm) (x : Value) → IsOwn x → told_as v wanted x ≡ x
+own_told version.One wanted_form.Arm (val.Bool b) own = absurd own
+own_told version.One wanted_form.Arm (val.Arm n) own = absurd own
+own_told version.One wanted_form.Arm _ own = refl
+own_told version.One _ (val.Arm n) own = absurd own
+own_told version.One _ _ own = refl
+own_told version.Two wanted_form.Arm x own = refl
+own_told version.Two _ x own = refl
+
+listed_back : (r : Ranges) (earlier : List Known) (wanted : ValueForm) (tag : ValueTag) (b : ℕ) (x : Value) (text rest : List ℕ) → IsOwn x → value_tag r.version wanted b ≡ Some tag → Gives x rest (value_of r earlier wanted tag text)
+    → Gives (told_as r.version wanted x) rest (value_at r earlier wanted (b ∷ text))
+listed_back r earlier wanted tag b x text rest own is h =
+    subst (λ (y : Value). Gives y rest (value_at r earlier wanted (b ∷ text))) (sym (own_told r.version wanted x own)) (tagged_back r earlier wanted tag b x text rest is h)
+
+module _ (r : Ranges) (earlier : List Known) (rest : List ℕ) where
+  -- in the version of the ranges
+  tag_there : (v : Version) → r.version ≡ v → (wanted : ValueForm) (b : ℕ) (tag : ValueTag) → value_tag v wanted b ≡ Some tag → value_tag r.version wanted b ≡ Some tag
+  tag_there v at wanted b tag is = subst (λ (w : Version). value_tag w wanted b ≡ Some tag) (sym at) is
+
+  arm_there : (v : Version) → r.version ≡ v → (wanted : ValueForm) (n : ℕ) → IsNumber n → Gives (told_as v wanted_form.Arm (val.Arm n)) rest (value_of r earlier wanted tags.Arm (arm_number v n ++ rest))
+  unfolding value_of
+  arm_there v at wanted n fit = subst (λ (w : Version). Gives (told_as v wanted_form.Arm (val.Arm n)) rest (arm_at w (arm_number v n ++ rest))) (sym at) (arm_back v n rest fit)
+
+  bit_back : (v : Version) → r.version ≡ v → (wanted : ValueForm) (b : Bool) → Gives (told_as v wanted (val.Bool b)) rest (value_at r earlier wanted (1 ∷ cond b 1 0 ∷ rest))
+  unfolding value_of
+  bit_back version.One at wanted_form.Arm b = tagged_back r earlier wanted_form.Arm tags.Arm 1 (val.Arm (cond b 1 0)) (cond b 1 0 ∷ rest) rest (tag_there version.One at wanted_form.Arm 1 tags.Arm refl) (as_bit b)
+    where
+      as_bit : (b : Bool) → Gives (val.Arm (cond b 1 0)) rest (value_of r earlier wanted_form.Arm tags.Arm (cond b 1 0 ∷ rest))
+      as_bit true = arm_there version.One at wanted_form.Arm 1 (omega arith)
+      as_bit false = arm_there version.One at wanted_form.Arm 0 (omega arith)
+  bit_back version.One at wanted b = tagged_back r earlier wanted tags.Bool 1 (val.Bool b) (cond b 1 0 ∷ rest) rest (tag_there version.One at wanted 1 tags.Bool refl) (bool_back b rest)
+  bit_back version.Two at wanted_form.Arm b = tagged_back r earlier wanted_form.Arm tags.Bool 1 (val.Bool b) (cond b 1 0 ∷ rest) rest (tag_there version.Two at wanted_form.Arm 1 tags.Bool refl) (bool_back b rest)
+  bit_back version.Two at wanted b = tagged_back r earlier wanted tags.Bool 1 (val.Bool b) (cond b 1 0 ∷ rest) rest (tag_there version.Two at wanted 1 tags.Bool refl) (bool_back b rest)
+
+  arm_value : (v : Version) → r.version ≡ v → (wanted : ValueForm) (n : ℕ) → IsNumber n → Gives (told_as v wanted (val.Arm n)) rest (value_at r earlier wanted (arm_tag v ∷ arm_number v n ++ rest))
+  unfolding value_of
+  arm_value version.One at wanted_form.Arm n fit =
+      tagged_back r earlier wanted_form.Arm tags.Arm 1 (val.Arm (cond (eqb n 1) 1 0)) (arm_number version.One n ++ rest) rest (tag_there version.One at wanted_form.Arm 1 tags.Arm refl) (arm_there version.One at wanted_form.Arm n fit)
+  arm_value version.One at wanted n fit = tagged_back r earlier wanted tags.Bool 1 (val.Bool (eqb n 1)) (arm_number version.One n ++ rest) rest (tag_there version.One at wanted 1 tags.Bool refl) (bool_back (eqb n 1) rest)
+  arm_value version.Two at wanted_form.Arm n fit = tagged_back r earlier wanted_form.Arm tags.Arm 12 (val.Arm n) (arm_number version.Two n ++ rest) rest (tag_there version.Two at wanted_form.Arm 12 tags.Arm refl) (arm_there version.Two at wanted_form.Arm n fit)
+  arm_value version.Two at wanted n fit = tagged_back r earlier wanted tags.Arm 12 (val.Arm n) (arm_number version.Two n ++ rest) rest (tag_there version.Two at wanted 12 tags.Arm refl) (arm_there version.Two at wanted n fit)
+
+pub value_back : (r : Ranges) (earlier : List Known) (wanted : ValueForm) (v : Value) (rest : List ℕ) → ValueFits v → Gives (told_as r.version wanted v) rest (value_at r earlier wanted (value_bytes r.version v ++ rest))
 unfolding value_bytes value_of plain_at
-value_back r earlier wanted val.None rest fit = tagged_back r earlier wanted tags.None 0 val.None rest rest refl refl
-value_back r earlier wanted (val.Bool b) rest fit = tagged_back r earlier wanted tags.Bool 1 (val.Bool b) (cond b 1 0 ∷ rest) rest refl (bool_back b rest)
-value_back r earlier wanted (val.Byte z) rest fit = tagged_back r earlier wanted tags.Byte 2 (val.Byte z) (cast_unsigned w8 z ∷ rest) rest refl (byte_value z rest fit)
-value_back r earlier wanted (val.Short z) rest fit = tagged_back r earlier wanted tags.Short 3 (val.Short z) (to_be_bytes w16 (cast_unsigned w16 z) ++ rest) rest refl (short_value z rest fit)
-value_back r earlier wanted (val.Char n) rest fit = tagged_back r earlier wanted tags.Char 4 (val.Char n) (to_be_bytes w16 n ++ rest) rest refl (char_value n rest fit)
-value_back r earlier wanted (val.Int z) rest fit = tagged_back r earlier wanted tags.Int 5 (val.Int z) (number (cast_unsigned w32 z) ++ rest) rest refl (int_back wanted z rest fit)
-value_back r earlier wanted (val.Long z) rest fit = tagged_back r earlier wanted tags.Long 6 (val.Long z) (to_be_bytes w64 (cast_unsigned w64 z) ++ rest) rest refl (long_value z rest fit)
-value_back r earlier wanted val.Null rest fit = tagged_back r earlier wanted tags.Null 7 val.Null rest rest refl refl
-value_back r earlier wanted (val.Object n) rest fit = tagged_back r earlier wanted tags.Object 8 (val.Object n) (number n ++ rest) rest refl (object_value earlier wanted n rest fit)
-value_back r earlier wanted (val.Text n) rest fit = tagged_back r earlier wanted tags.Text 9 (val.Text n) (number n ++ rest) rest refl (text_value earlier n rest fit)
-value_back r earlier wanted (val.Fixed n) rest fit = tagged_back r earlier wanted tags.Fixed 10 (val.Fixed n) (number n ++ rest) rest refl (fixed_value r n rest fit)
+value_back r earlier wanted val.None rest fit = listed_back r earlier wanted tags.None 0 val.None rest rest tt (listed_tag r.version wanted 0 refl refl) refl
+value_back r earlier wanted (val.Bool b) rest fit = bit_back r earlier rest r.version refl wanted b
+value_back r earlier wanted (val.Byte z) rest fit = listed_back r earlier wanted tags.Byte 2 (val.Byte z) (cast_unsigned w8 z ∷ rest) rest tt (listed_tag r.version wanted 2 refl refl) (byte_value z rest fit)
+value_back r earlier wanted (val.Short z) rest fit = listed_back r earlier wanted tags.Short 3 (val.Short z) (to_be_bytes w16 (cast_unsigned w16 z) ++ rest) rest tt (listed_tag r.version wanted 3 refl refl) (short_value z rest fit)
+value_back r earlier wanted (val.Char n) rest fit = listed_back r earlier wanted tags.Char 4 (val.Char n) (to_be_bytes w16 n ++ rest) rest tt (listed_tag r.version wanted 4 refl refl) (char_value n rest fit)
+value_back r earlier wanted (val.Int z) rest fit = listed_back r earlier wanted tags.Int 5 (val.Int z) (number (cast_unsigned w32 z) ++ rest) rest tt (listed_tag r.version wanted 5 refl refl) (int_back wanted z rest fit)
+value_back r earlier wanted (val.Long z) rest fit = listed_back r earlier wanted tags.Long 6 (val.Long z) (to_be_bytes w64 (cast_unsigned w64 z) ++ rest) rest tt (listed_tag r.version wanted 6 refl refl) (long_value z rest fit)
+value_back r earlier wanted val.Null rest fit = listed_back r earlier wanted tags.Null 7 val.Null rest rest tt (listed_tag r.version wanted 7 refl refl) refl
+value_back r earlier wanted (val.Object n) rest fit = listed_back r earlier wanted tags.Object 8 (val.Object n) (number n ++ rest) rest tt (listed_tag r.version wanted 8 refl refl) (object_value earlier wanted n rest fit)
+value_back r earlier wanted (val.Text n) rest fit = listed_back r earlier wanted tags.Text 9 (val.Text n) (number n ++ rest) rest tt (listed_tag r.version wanted 9 refl refl) (text_value earlier n rest fit)
+value_back r earlier wanted (val.Fixed n) rest fit = listed_back r earlier wanted tags.Fixed 10 (val.Fixed n) (number n ++ rest) rest tt (listed_tag r.version wanted 10 refl refl) (fixed_value r n rest fit)
+value_back r earlier wanted (val.Arm n) rest fit = arm_value r earlier rest r.version refl wanted n fit
 
 -- ---- units
 

@@ -95,7 +95,7 @@ ends_short more end bytes parts small =
     omega (arith, whole, length-append more (t ++ s), length-append t s)
 
 pub ends_back : RecordedEndsAreReadBack
-ends_back p head rs end bytes x are small fit parts read f g =
-    let told = ends_told p head rs end bytes x are small fit parts read in
-    let short = ends_short (opening head ++ concat (map event_frame rs)) end bytes parts small in
+ends_back v p head rs end bytes x are small fit parts read f g =
+    let told = ends_told v p head rs end bytes x are small fit parts read in
+    let short = ends_short (opening v head ++ concat (map (event_frame v) rs)) end bytes parts small in
     same_frames x.tail end g f (subst (λ (l : List ℕ). length l < 2 ^ 32) (sym told) short) short told

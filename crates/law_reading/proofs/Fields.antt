@@ -4,6 +4,7 @@ use Rattle.std.specs.Prelude.{slice_get, nat_lt, ◌==◌}
 use Rattle.std.specs.Int.{w8, w16, w32, w64, cast_signed}
 use Rattle.wy_value.specs.declared.value.Value.{Value}
 use Rattle.wy_value.specs.declared.value.Value.TheVariants as val
+use Rattle.wy_event.specs.declared.record.Version.{Version}
 use Rattle.wy_event.specs.declared.record.Slot.{Slot}
 use Rattle.wy_event.specs.declared.record.Slot.TheVariants as slots
 use Rattle.wy_event.specs.declared.record.Use.{Use}
@@ -24,7 +25,7 @@ use Rattle.wy_kernel.specs.Limits.{index_limit}
 use Rattle.wy_payload.specs.Rules.{in_range, local_rule, field_rule}
 use Rattle.wy_payload.specs.Reading.{Read, passed, known_tag, number_at, rows_from, reference_at, below_at, at_most_at}
 use Rattle.wy_payload.specs.Places.{slot_tags, allows_slot, local_at, static_at, field_at, element_at, slot_of, slot_at}
-use Rattle.wy_payload.specs.Values.{int_rule, value_tags, allows_value, bool_at, int_at, plain_at, object_role, object_at, text_at, fixed_at, value_of, value_at}
+use Rattle.wy_payload.specs.Values.{arm_at, arm_limit, arm_width, int_rule, value_tag as tag_in, allows_value, bool_at, int_at, plain_at, object_role, object_at, text_at, fixed_at, value_of, value_at}
 use Rattle.wy_payload.specs.Events.{use_tag as tag_of, place_at, use_of, use_at, uses_at}
 use Rattle.wy_payload.proofs.Readers.{then_has}
 use Rattle.law_reading.proofs.ReferringNumbers.{Has, after, passed_has, reference_has, below_has, at_most_has}
@@ -90,6 +91,10 @@ fixed_has : (n : ℕ) (r : Ranges) (bytes : List ℕ) → Has (ValueBelow n) (fi
 unfolding fixed_at
 fixed_has n r bytes = after (number_at w32 bytes) _ _ (λ k. passed_has (in_range (nat_lt k.0 (length r.fixed))) (val.Fixed k.0, k.1) (λ (x : Value × List ℕ). ValueBelow n x.0) (λ _. tt))
 
+arm_has : (n : ℕ) (v : Version) (bytes : List ℕ) → Has (ValueBelow n) (arm_at v bytes)
+unfolding arm_at
+arm_has n v bytes = after (number_at (arm_width v) bytes) _ _ (λ k. passed_has (in_range (nat_lt k.0 arm_limit)) (val.Arm k.0, k.1) (λ (x : Value × List ℕ). ValueBelow n x.0) (λ _. tt))
+
 value_behind : (r : Ranges) (earlier : List Known) (wanted : ValueForm) (tag : ValueTag) (rest : List ℕ) → Has (ValueBelow (length earlier)) (value_of r earlier wanted tag rest)
 unfolding value_of
 value_behind r earlier wanted value_tag.Bool rest = bool_has (length earlier) rest
@@ -97,11 +102,12 @@ value_behind r earlier wanted value_tag.Int rest = int_has (length earlier) want
 value_behind r earlier wanted value_tag.Object rest = object_has earlier wanted rest
 value_behind r earlier wanted value_tag.Text rest = text_has earlier rest
 value_behind r earlier wanted value_tag.Fixed rest = fixed_has (length earlier) r rest
+value_behind r earlier wanted value_tag.Arm rest = arm_has (length earlier) r.version rest
 value_behind r earlier wanted tag rest = plain_has (length earlier) tag rest
 
 pub value_has : (r : Ranges) (earlier : List Known) (wanted : ValueForm) (bytes : List ℕ) → Has (ValueBelow (length earlier)) (value_at r earlier wanted bytes)
 unfolding value_at
-value_has r earlier wanted bytes = after (number_at w8 bytes) _ _ (λ b. after (known_tag (slice_get value_tags b.0) b.1) _ _ (λ tag. after (passed (in_range (allows_value wanted tag.0)) tag.1) _ _ (λ rest. value_behind r earlier wanted tag.0 rest)))
+value_has r earlier wanted bytes = after (number_at w8 bytes) _ _ (λ b. after (known_tag (tag_in r.version wanted b.0) b.1) _ _ (λ tag. after (passed (in_range (allows_value wanted tag.0)) tag.1) _ _ (λ rest. value_behind r earlier wanted tag.0 rest)))
 
 -- ---- uses
 

@@ -61,12 +61,12 @@ one_goes r steps s t letter payload rest short e =
 
 -- ---- what stands with a frame of each kind
 
-pub event_goes : (r : Ranges) (steps : ℕ) (s : Progress) (e : Recorded) (rest : List ℕ) → s.stage ≡ stages.Open → Behind r (knowns s) s.output e → turn r steps s (event_frame e ++ rest) ≡ Goes (with_event s (event_frame e) (written_of r (knowns s) s.output e)) rest
+pub event_goes : (r : Ranges) (steps : ℕ) (s : Progress) (e : Recorded) (rest : List ℕ) → s.stage ≡ stages.Open → Behind r (knowns s) s.output e → turn r steps s (event_frame r.version e ++ rest) ≡ Goes (with_event s (event_frame r.version e) (written_of r (knowns s) s.output e)) rest
 unfolding event_frame next_at open_next event_next
 event_goes r steps s e rest opened h =
-    let f = found 69 (event_payload e) rest in
-    one_goes r steps s (with_event s (event_frame e) (written_of r (knowns s) s.output e)) 69 (event_payload e) rest h.short
-    (ap (λ (stage : Stage). next_at r steps s stage f) opened ∙ ap (read_as (with_event s (event_frame e))) (whole_event r (knowns s) s.output e h))
+    let f = found 69 (event_payload r.version e) rest in
+    one_goes r steps s (with_event s (event_frame r.version e) (written_of r (knowns s) s.output e)) 69 (event_payload r.version e) rest h.short
+    (ap (λ (stage : Stage). next_at r steps s stage f) opened ∙ ap (read_as (with_event s (event_frame r.version e))) (whole_event r (knowns s) s.output e h))
 
 pub coverage_goes : (r : Ranges) (steps : ℕ) (s : Progress) (c : Coverage) (rest : List ℕ) → s.stage ≡ stages.Open → length (coverage_payload c) < 2 ^ 32 → all_of (coverage_at r.statements (knowns s) (coverage_payload c)) ≡ Ok c
     → turn r steps s (coverage_frame c ++ rest) ≡ Goes (with_stage s (coverage_frame c) (stages.Covered c)) rest

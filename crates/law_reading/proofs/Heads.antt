@@ -3,9 +3,10 @@ use Rattle.std.proofs.Common.{◌≡◌, ℕ, suc, ◌+◌, ◌≤◌, Bool, tru
 use Rattle.std.specs.Prelude.{None as Absent}
 use Rattle.std.specs.Prelude.{nat_le, ◌&&◌}
 use Rattle.std.specs.Int.{w32}
-use Rattle.std.proofs.lemmas.Bool.{eqb-true, leb-true, ltb-false}
+use Rattle.std.proofs.lemmas.Bool.{eqb-true, eq-eqb, leb-true, ltb-false}
 use Rattle.std.proofs.lemmas.List.{append-nil, nil_from_length, take_at, take-append-drop, take-take, length-take, length-drop}
 use Rattle.std.proofs.lemmas.Nat.{be_bytes_4}
+use Rattle.wy_event.specs.declared.record.Version.{Version}
 use Rattle.wy_event.specs.declared.record.Head.{Head}
 use Rattle.wy_spelling.specs.Spelling.{magic, number, head_payload, head_frame, opening}
 use Rattle.wy_payload.specs.declared.fault.DamageRule.{DamageRule}
@@ -17,7 +18,8 @@ use Rattle.wy_payload.specs.Closing.{head_at}
 use Rattle.wy_frames.specs.declared.error.TraceError.{TraceError}
 use Rattle.wy_frames.specs.declared.error.TraceError.TheVariants.{Cut, Damaged}
 use Rattle.wy_frames.specs.Frames.{Frame, opening_length, said_length, frame_of_length, frame_of}
-use Rattle.wy_frames.specs.Heads.{agreeing, magic_length, read_head_as, head_in, head_of}
+use Rattle.wy_frames.specs.Heads.{ReadHead, agreeing, magic_length, version_of, read_head_as, head_in, head_of}
+use Rattle.wy_spelling.proofs.Lengths.{magic_long}
 use Rattle.wy_frames.proofs.Scans.{inner_is, some_is}
 use Rattle.law_reading.specs.Spelled.{AreBytes}
 use Rattle.law_reading.proofs.SpelledNumbers.{bytes_behind, bytes_before, guarded, read_then, passing, Spelled, number_spelled, block_spelled, one_after}
@@ -111,39 +113,63 @@ agrees (x ∷ xs) (y ∷ ys) e =
 
 -- ---- the answer
 
-pub lettered : (b : Bool) (r : Result (Head × ℕ) TraceError) (e : TraceError) (y : Head × ℕ) → cond b r (Err e) ≡ Ok y → (b ≡ true) × (r ≡ Ok y)
+pub lettered : (b : Bool) (r : Result ReadHead TraceError) (e : TraceError) (y : ReadHead) → cond b r (Err e) ≡ Ok y → (b ≡ true) × (r ≡ Ok y)
 lettered true r e y is = (refl, is)
 lettered false r e y is = absurd cc
 
-pub answered : (end : ℕ) (r : Result Head DamageRule) (y : Head × ℕ) → read_head_as end r ≡ Ok y → (r ≡ Ok y.0) × (end ≡ y.1)
-answered end (Ok h) y e = (cc, cc)
-answered end (Err d) y e = absurd cc
+pub answered : (v : Version) (end : ℕ) (r : Result Head DamageRule) (y : ReadHead) → read_head_as v end r ≡ Ok y → (r ≡ Ok y.0) × (end ≡ y.1) × (v ≡ y.2)
+answered v end (Ok h) y e = (cc, cc, cc)
+answered v end (Err d) y e = absurd cc
 
-pub refuses : (b : Bool) (r : Result (Head × ℕ) TraceError) (c : Bool) (e f : TraceError) (y : Head × ℕ) → cond b r (cond c (Err e) (Err f)) ≡ Ok y → (b ≡ true) × (r ≡ Ok y)
+pub refuses : (b : Bool) (r : Result ReadHead TraceError) (c : Bool) (e f : TraceError) (y : ReadHead) → cond b r (cond c (Err e) (Err f)) ≡ Ok y → (b ≡ true) × (r ≡ Ok y)
 refuses true r c e f y is = (refl, is)
 refuses false r true e f y is = absurd cc
 refuses false r false e f y is = absurd cc
 
-with_frame : (bytes : List ℕ) (y : Head × ℕ) (o : Option Frame) → AreBytes bytes → bytes ≡ magic ++ drop 8 bytes → frame_of (drop 8 bytes) ≡ o → head_in (length bytes) o ≡ Ok y → take y.1 bytes ≡ opening y.0
+pub agrees_all : (xs ys : List ℕ) → agreeing xs (xs ++ ys) ≡ length xs
+unfolding agreeing
+agrees_all [] ys = refl
+agrees_all (x ∷ xs) ys = ap (λ b. cond b (suc (agreeing xs (xs ++ ys))) 0) (eq-eqb x x refl) ∙ ap suc (agrees_all xs ys)
+
+pub magic_stands : (v : Version) (bytes : List ℕ) → agreeing (magic v) bytes ≡ magic_length → bytes ≡ magic v ++ drop magic_length bytes
+magic_stands v bytes e = agrees (magic v) bytes (e ∙ sym (magic_long v)) ∙ ap (λ n. magic v ++ drop n bytes) (magic_long v)
+
+with_frame : (v : Version) (bytes : List ℕ) (y : ReadHead) (o : Option Frame) → AreBytes bytes → bytes ≡ magic v ++ drop 8 bytes → frame_of (drop 8 bytes) ≡ o → head_in v (length bytes) o ≡ Ok y → take y.1 bytes ≡ opening y.2 y.0
 unfolding opening head_frame
-with_frame bytes y Absent are parts is e = absurd cc
-with_frame bytes y (Some f) are parts is e =
-    let l = lettered (eqb f.letter 72) (read_head_as (magic_length + length f.whole) (all_of (head_at f.payload))) (Damaged magic_length rule.FrameKind) y e in
-    let a = answered (magic_length + length f.whole) (all_of (head_at f.payload)) y l.1 in
+with_frame v bytes y Absent are parts is e = absurd cc
+with_frame v bytes y (Some f) are parts is e =
+    let l = lettered (eqb f.letter 72) (read_head_as v (magic_length + length f.whole) (all_of (head_at f.payload))) (Damaged magic_length rule.FrameKind) y e in
+    let a = answered v (magic_length + length f.whole) (all_of (head_at f.payload)) y l.1 in
     let shown = whole_frame (drop 8 bytes) f (bytes_behind 8 bytes are) is in
     let letter : f.letter ≡ 72 = eqb-true f.letter 72 l.0 in
     let payload : f.payload ≡ head_payload y.0 = whole_payload f.payload y.0 shown.payload_bytes a.0 in
     let whole : f.whole ≡ 72 ∷ number (length (head_payload y.0)) ++ head_payload y.0 = shown.whole_is ∙ ap (λ k. (k ∷ number (length f.payload)) ++ f.payload) letter ∙ ap (λ l. (72 ∷ number (length l)) ++ l) payload in
-    let all : bytes ≡ (magic ++ f.whole) ++ f.rest = parts ∙ ap (λ l. magic ++ l) (sym shown.parts) ∙ sym (append_assoc magic f.whole f.rest) in
-    let len : length (magic ++ f.whole) ≡ y.1 = length-append magic f.whole ∙ a.1 in
-    ap (take y.1) all ∙ take_at (magic ++ f.whole) f.rest y.1 len ∙ ap (λ l. magic ++ l) whole
+    let all : bytes ≡ (magic v ++ f.whole) ++ f.rest = parts ∙ ap (λ l. magic v ++ l) (sym shown.parts) ∙ sym (append_assoc (magic v) f.whole f.rest) in
+    let len : length (magic v ++ f.whole) ≡ y.1 = length-append (magic v) f.whole ∙ ap (λ n. n + length f.whole) (magic_long v) ∙ a.1 in
+    ap (take y.1) all ∙ take_at (magic v ++ f.whole) f.rest y.1 len ∙ ap (λ l. magic v ++ l) whole ∙ ap (λ (w : Version). magic w ++ head_frame y.0) a.2
 
-pub head_spelled : (bytes : List ℕ) (head : Head) (end : ℕ) → AreBytes bytes → head_of bytes ≡ Ok (head, end) → take end bytes ≡ opening head
+pub head_spelled : (bytes : List ℕ) (head : Head) (end : ℕ) (v : Version) → AreBytes bytes → head_of bytes ≡ Ok (head, end, v) → take end bytes ≡ opening v head
 unfolding head_of
-head_spelled bytes head end are e =
-    let n = agreeing magic bytes in
-    let r = refuses (eqb n magic_length) (head_in (length bytes) (frame_of (drop magic_length bytes))) (eqb n (length bytes)) (Cut n) (Damaged n rule.Magic) (head, end) e in
-    with_frame bytes (head, end) (frame_of (drop 8 bytes)) are (agrees magic bytes (eqb-true n 8 r.0)) refl r.1
+head_spelled bytes head end v are e =
+    let w = version_of bytes in
+    let n = agreeing (magic w) bytes in
+    let r = refuses (eqb n magic_length) (head_in w (length bytes) (frame_of (drop magic_length bytes))) (eqb n (length bytes)) (Cut n) (Damaged n rule.Magic) (head, end, v) e in
+    with_frame w bytes (head, end, v) (frame_of (drop 8 bytes)) are (magic_stands w bytes (eqb-true n 8 r.0)) refl r.1
+
+version_in : (w : Version) (size : ℕ) (o : Option Frame) (y : ReadHead) → head_in w size o ≡ Ok y → w ≡ y.2
+version_in w size Absent y e = absurd cc
+version_in w size (Some f) y e =
+    let l = lettered (eqb f.letter 72) (read_head_as w (magic_length + length f.whole) (all_of (head_at f.payload))) (Damaged magic_length rule.FrameKind) y e in
+    (answered w (magic_length + length f.whole) (all_of (head_at f.payload)) y l.1).2
+
+-- the version of a head is that of the bytes
+pub version_read : (bytes : List ℕ) (y : ReadHead) → head_of bytes ≡ Ok y → version_of bytes ≡ y.2
+unfolding head_of
+version_read bytes y e =
+    let w = version_of bytes in
+    let n = agreeing (magic w) bytes in
+    let r = refuses (eqb n magic_length) (head_in w (length bytes) (frame_of (drop magic_length bytes))) (eqb n (length bytes)) (Cut n) (Damaged n rule.Magic) y e in
+    version_in w (length bytes) (frame_of (drop magic_length bytes)) y r.1
 
 -- ---- limits
 
@@ -187,19 +213,20 @@ short_whole payload h e =
     let g = ended (eqb (length a.0.1) 0) a.0.0 h a.2 in
     subst (λ (y : Head). HasLimits y) g.1 (short_payload payload a.0 a.1)
 
-short_in : (size : ℕ) (y : Head × ℕ) (o : Option Frame) → head_in size o ≡ Ok y → HasLimits y.0
-short_in size y Absent e = absurd cc
-short_in size y (Some f) e =
-    let l = lettered (eqb f.letter 72) (read_head_as (magic_length + length f.whole) (all_of (head_at f.payload))) (Damaged magic_length rule.FrameKind) y e in
-    let a = answered (magic_length + length f.whole) (all_of (head_at f.payload)) y l.1 in
+short_in : (v : Version) (size : ℕ) (y : ReadHead) (o : Option Frame) → head_in v size o ≡ Ok y → HasLimits y.0
+short_in v size y Absent e = absurd cc
+short_in v size y (Some f) e =
+    let l = lettered (eqb f.letter 72) (read_head_as v (magic_length + length f.whole) (all_of (head_at f.payload))) (Damaged magic_length rule.FrameKind) y e in
+    let a = answered v (magic_length + length f.whole) (all_of (head_at f.payload)) y l.1 in
     short_whole f.payload y.0 a.0
 
-pub head_has_limits : (bytes : List ℕ) (head : Head) (end : ℕ) → head_of bytes ≡ Ok (head, end) → HasLimits head
+pub head_has_limits : (bytes : List ℕ) (head : Head) (end : ℕ) (v : Version) → head_of bytes ≡ Ok (head, end, v) → HasLimits head
 unfolding head_of
-head_has_limits bytes head end e =
-    let n = agreeing magic bytes in
-    let r = refuses (eqb n magic_length) (head_in (length bytes) (frame_of (drop magic_length bytes))) (eqb n (length bytes)) (Cut n) (Damaged n rule.Magic) (head, end) e in
-    short_in (length bytes) (head, end) (frame_of (drop 8 bytes)) r.1
+head_has_limits bytes head end v e =
+    let w = version_of bytes in
+    let n = agreeing (magic w) bytes in
+    let r = refuses (eqb n magic_length) (head_in w (length bytes) (frame_of (drop magic_length bytes))) (eqb n (length bytes)) (Cut n) (Damaged n rule.Magic) (head, end, v) e in
+    short_in w (length bytes) (head, end, v) (frame_of (drop 8 bytes)) r.1
 
-pub head_is_short : (bytes : List ℕ) (head : Head) (end : ℕ) → head_of bytes ≡ Ok (head, end) → length head.source ≤ source_limit
-head_is_short bytes head end e = (head_has_limits bytes head end e).source
+pub head_is_short : (bytes : List ℕ) (head : Head) (end : ℕ) (v : Version) → head_of bytes ≡ Ok (head, end, v) → length head.source ≤ source_limit
+head_is_short bytes head end v e = (head_has_limits bytes head end v e).source

@@ -5,11 +5,13 @@ pub mod Fields
 pub mod ReferringEvents
 pub mod ReferringTraces
 pub mod SpelledNumbers
+pub mod Versions
 pub mod Heads
 pub mod Tails
 pub mod Slots
 pub mod SpelledSteps
 pub mod SpelledValues
+mod Told
 pub mod Uses
 pub mod SpelledEvents
 pub mod Progress

@@ -4,8 +4,10 @@ use Rattle.std.specs.Prelude.{None as Absent}
 use Rattle.std.specs.Prelude.{MatchResult, slice_index}
 use Rattle.std.specs.Int.{w32, from_be_bytes}
 use Rattle.std.proofs.lemmas.Bool.{eqb-true, eq-eqb, ne_eqb, ltb-true, ltb-false, lt-ltb, le-ltb}
-use Rattle.std.proofs.lemmas.List.{take-take, drop-take, length-take, length-drop}
+use Rattle.std.proofs.lemmas.List.{take-append-le, take-take, drop-take, length-take, length-drop}
+use Rattle.std.proofs.Math.Seq.{take-append-add}
 use Rattle.wy_kernel.specs.declared.program.Program.{Program}
+use Rattle.wy_event.specs.declared.record.Version.{Version}
 use Rattle.wy_event.specs.declared.record.Head.{Head}
 use Rattle.wy_event.specs.declared.record.Trace.{Trace}
 use Rattle.wy_spelling.specs.Spelling.{magic, opening}
@@ -19,14 +21,16 @@ use Rattle.wy_frames.specs.declared.error.TraceError.TheVariants.{Cut, Damaged}
 use Rattle.wy_frames.specs.declared.stage.Stage.{Stage}
 use Rattle.wy_frames.specs.declared.stage.Stage.TheVariants as stages
 use Rattle.wy_frames.specs.Frames.{Frame, opening_length, said_length, frame_of_length, frame_of}
-use Rattle.wy_frames.specs.Heads.{agreeing, magic_length, read_head_as, head_in, head_of}
+use Rattle.wy_frames.specs.Heads.{ReadHead, agreeing, magic_length, version_of, read_head_as, head_in, head_of}
 use Rattle.wy_frames.specs.Ends.{IsUnsealed}
 use Rattle.wy_frames.specs.Progress.{Progress, start, Violates, Unsealed, Next, open_next, covered_next, ended_next, next_at, next_of}
 use Rattle.wy_frames.specs.Scan.{Waits, Goes, turn_next, is_passed, without_frame, turn_frame, turn, Leaves, nothing, frame}
 use Rattle.wy_frames.specs.Traces.{IsCut, IsReadBehind, IsReadAs}
 use Rattle.wy_frames.proofs.Scans.{inner_is, some_is, turn_with, turn_without}
 use Rattle.law_reading.specs.Spelled.{AreBytes}
-use Rattle.law_reading.proofs.Heads.{one_agrees, refuses, lettered, answered, head_spelled}
+use Rattle.wy_spelling.proofs.Lengths.{magic_long}
+use Rattle.law_reading.proofs.Versions.{cut_agrees, version_spelled}
+use Rattle.law_reading.proofs.Heads.{agrees_all, magic_stands, refuses, lettered, answered, head_spelled}
 use Rattle.law_reading.proofs.SpelledTraces.{never_goes, sealed_waits}
 
 -- ---- a frame in the first bytes
@@ -200,50 +204,56 @@ module _ (r : Ranges) (steps : ℕ) (from : Progress) (bytes : List ℕ) (k : �
 
 -- ---- behind the head
 
-behind_cut : (p : Program) (head : Head) (fed : List ℕ) (x : Trace) (k : ℕ) → k < length fed → IsReadBehind p head fed (Ok x) → IsCut p head (take k fed) (Cut (length (opening head ++ take k fed)))
-behind_cut p head fed x k short read = by_end (leaves_within (ranges_of p) head.steps (start head) fed k read.0 read.1.rest read.1.leaves)
+behind_cut : (v : Version) (p : Program) (head : Head) (fed : List ℕ) (x : Trace) (k : ℕ) → k < length fed → IsReadBehind v p head fed (Ok x) → IsCut v p head (take k fed) (Cut (length (opening v head ++ take k fed)))
+behind_cut v p head fed x k short read = by_end (leaves_within (ranges_of v p) head.steps (start v head) fed k read.0 read.1.rest read.1.leaves)
   where
     none : read.1.rest ≡ []
-    none = sealed_waits (ranges_of p) head.steps read.0 read.1.rest x.tail read.2.seal read.2.sealed read.1.waits
+    none = sealed_waits (ranges_of v p) head.steps read.0 read.1.rest x.tail read.2.seal read.2.sealed read.1.waits
 
-    by_end : Cuts (ranges_of p) head.steps (start head) fed k ⊎ Keeps (ranges_of p) head.steps (start head) fed k read.0 read.1.rest → IsCut p head (take k fed) (Cut (length (opening head ++ take k fed)))
+    by_end : Cuts (ranges_of v p) head.steps (start v head) fed k ⊎ Keeps (ranges_of v p) head.steps (start v head) fed k read.0 read.1.rest → IsCut v p head (take k fed) (Cut (length (opening v head ++ take k fed)))
     by_end (inl cut) = (cut.standing, record { rest = cut.left; leaves = cut.leaves; waits = cut.waits }, cut.unsealed, refl)
     by_end (inr kept) = absurd (omega (arith, kept.parts, kept.all, ap length none, short))
 
 -- ---- the head
 
-agrees_within : (xs ys : List ℕ) (n : ℕ) → agreeing xs ys ≡ length xs → agreeing xs (take n ys) ≡ length (take n xs)
-unfolding agreeing
-agrees_within [] ys zero e = refl
-agrees_within [] ys (suc n) e = refl
-agrees_within (x ∷ xs) [] n e = absurd (omega (arith, e))
-agrees_within (x ∷ xs) (y ∷ ys) zero e = refl
-agrees_within (x ∷ xs) (y ∷ ys) (suc n) e =
-    let one = one_agrees (eqb x y) (agreeing xs ys) (length xs) e in
-    ap (λ (b : Bool). cond b (suc (agreeing xs (take n ys))) 0) one.0 ∙ ap suc (agrees_within xs ys n one.1)
+-- the first bytes of those that begin with a magic, and others
+cut_in_magic : (v : Version) (bytes : List ℕ) (n : ℕ) → agreeing (magic v) bytes ≡ magic_length → n < magic_length → take n bytes ≡ take n (magic v)
+cut_in_magic v bytes n agrees short =
+    ap (take n) (magic_stands v bytes agrees) ∙ take-append-le n (magic v) (drop magic_length bytes) (omega (arith, short, magic_long v))
 
-in_magic : (bytes : List ℕ) (n : ℕ) → agreeing magic bytes ≡ magic_length → n < magic_length → n < length bytes → head_of (take n bytes) ≡ Err (Cut n)
+in_magic : (v : Version) (bytes : List ℕ) (n : ℕ) → agreeing (magic v) bytes ≡ magic_length → n < magic_length → n < length bytes → head_of (take n bytes) ≡ Err (Cut n)
 unfolding head_of
-in_magic bytes n agrees short less =
+in_magic v bytes n agrees short less =
+    let w = version_of (take n bytes) in
     let len : length (take n bytes) ≡ n = omega (arith, length-take n bytes, less) in
-    let all : agreeing magic (take n bytes) ≡ n = agrees_within magic bytes n agrees ∙ omega (arith, length-take n magic, short) in
-    ap (λ (a : ℕ). cond (eqb a magic_length) (head_in (length (take n bytes)) (frame_of (drop magic_length (take n bytes)))) (cond (eqb a (length (take n bytes))) (Err (Cut a)) (Err (Damaged a rule.Magic)))) all
-    ∙ ap (λ (b : Bool). cond b (head_in (length (take n bytes)) (frame_of (drop magic_length (take n bytes)))) (cond (eqb n (length (take n bytes))) (Err (Cut n)) (Err (Damaged n rule.Magic)))) (ne_eqb n magic_length (λ e. omega (arith, e, short)))
+    let all : agreeing (magic w) (take n bytes) ≡ n = ap (agreeing (magic w)) (cut_in_magic v bytes n agrees short) ∙ cut_agrees v w n short in
+    ap (λ (a : ℕ). cond (eqb a magic_length) (head_in w (length (take n bytes)) (frame_of (drop magic_length (take n bytes)))) (cond (eqb a (length (take n bytes))) (Err (Cut a)) (Err (Damaged a rule.Magic)))) all
+    ∙ ap (λ (b : Bool). cond b (head_in w (length (take n bytes)) (frame_of (drop magic_length (take n bytes)))) (cond (eqb n (length (take n bytes))) (Err (Cut n)) (Err (Damaged n rule.Magic)))) (ne_eqb n magic_length (λ e. omega (arith, e, short)))
     ∙ ap (λ (b : Bool). cond b (Err (Cut n)) (Err (Damaged n rule.Magic))) (eq-eqb n (length (take n bytes)) (sym len))
 
-behind_magic : (bytes : List ℕ) (m : ℕ) → agreeing magic bytes ≡ magic_length → magic_length + m ≤ length bytes → head_of (take (magic_length + m) bytes) ≡ head_in (magic_length + m) (frame_of (take m (drop magic_length bytes)))
+-- behind the magic the version stays
+cut_behind : (v : Version) (bytes : List ℕ) (m : ℕ) → agreeing (magic v) bytes ≡ magic_length → take (magic_length + m) bytes ≡ magic v ++ take m (drop magic_length bytes)
+cut_behind v bytes m agrees =
+    let rest = drop magic_length bytes in
+    ap (take (magic_length + m)) (magic_stands v bytes agrees) ∙ ap (λ (k : ℕ). take (k + m) (magic v ++ rest)) (sym (magic_long v)) ∙ take-append-add (magic v) rest m
+
+behind_magic : (v : Version) (bytes : List ℕ) (m : ℕ) → agreeing (magic v) bytes ≡ magic_length → magic_length + m ≤ length bytes → head_of (take (magic_length + m) bytes) ≡ head_in v (magic_length + m) (frame_of (take m (drop magic_length bytes)))
 unfolding head_of
-behind_magic bytes m agrees within =
+behind_magic v bytes m agrees within =
     let n = magic_length + m in
-    let len : length (take n bytes) ≡ n = omega (arith, length-take n bytes, within) in
-    let all : agreeing magic (take n bytes) ≡ magic_length = agrees_within magic bytes n agrees ∙ omega (arith, length-take n magic) in
-    ap (λ (a : ℕ). cond (eqb a magic_length) (head_in (length (take n bytes)) (frame_of (drop magic_length (take n bytes)))) (cond (eqb a (length (take n bytes))) (Err (Cut a)) (Err (Damaged a rule.Magic)))) all
-    ∙ ap (λ (l : ℕ). head_in l (frame_of (drop magic_length (take n bytes)))) len
-    ∙ ap (λ (l : List ℕ). head_in n (frame_of l)) (drop-take magic_length m bytes)
+    let cut = take n bytes in
+    let len : length cut ≡ n = omega (arith, length-take n bytes, within) in
+    let parts = cut_behind v bytes m agrees in
+    let is : version_of cut ≡ v = ap version_of parts ∙ version_spelled v (take m (drop magic_length bytes)) in
+    let all : agreeing (magic v) cut ≡ magic_length = ap (agreeing (magic v)) parts ∙ agrees_all (magic v) (take m (drop magic_length bytes)) ∙ magic_long v in
+    ap (λ (w : Version). cond (eqb (agreeing (magic w) cut) magic_length) (head_in w (length cut) (frame_of (drop magic_length cut))) (cond (eqb (agreeing (magic w) cut) (length cut)) (Err (Cut (agreeing (magic w) cut))) (Err (Damaged (agreeing (magic w) cut) rule.Magic)))) is
+    ∙ ap (λ (a : ℕ). cond (eqb a magic_length) (head_in v (length cut) (frame_of (drop magic_length cut))) (cond (eqb a (length cut)) (Err (Cut a)) (Err (Damaged a rule.Magic)))) all
+    ∙ ap (λ (l : ℕ). head_in v l (frame_of (drop magic_length cut))) len
+    ∙ ap (λ (l : List ℕ). head_in v n (frame_of l)) (drop-take magic_length m bytes)
 
 -- what a head is read as doesn't depend on the bytes behind its frame
-same_head : (size : ℕ) (m : ℕ) (f : Frame) (y : Head × ℕ) (other : ℕ) → head_in other (Some f) ≡ Ok y → head_in size (Some (cut_to m f)) ≡ Ok y
-same_head size m f y other e = e
+same_head : (v : Version) (size : ℕ) (m : ℕ) (f : Frame) (y : ReadHead) (other : ℕ) → head_in v other (Some f) ≡ Ok y → head_in v size (Some (cut_to m f)) ≡ Ok y
+same_head v size m f y other e = e
 
 -- ---- a trace
 
@@ -251,48 +261,49 @@ abbrev refused : TraceError → Result Trace TraceError
 refused e = Err e
 
 module _ (p : Program) (bytes : List ℕ) (x : Trace) (are : AreBytes bytes) (n : ℕ) (less : n < length bytes) where
-  with_rest : (y : Head × ℕ) (m : ℕ) → n ≡ y.1 + m → take y.1 bytes ≡ opening y.0 → head_of (take n bytes) ≡ Ok y → IsReadBehind p y.0 (drop y.1 bytes) (Ok x) → IsReadAs p (take n bytes) (Err (Cut n))
+  with_rest : (y : ReadHead) (m : ℕ) → n ≡ y.1 + m → take y.1 bytes ≡ opening y.2 y.0 → head_of (take n bytes) ≡ Ok y → IsReadBehind y.2 p y.0 (drop y.1 bytes) (Ok x) → IsReadAs p (take n bytes) (Err (Cut n))
   with_rest y m parts spelled is read =
       let fed = drop y.1 bytes in
       let rest : drop y.1 (take n bytes) ≡ take m fed = ap (λ (j : ℕ). drop y.1 (take j bytes)) parts ∙ drop-take y.1 m bytes in
-      let cut = behind_cut p y.0 fed x m (omega (arith, length-drop y.1 bytes, less, parts)) read in
-      let len : length (opening y.0 ++ take m fed) ≡ n = length-append (opening y.0) (take m fed) ∙ omega (arith, ap length spelled, length-take y.1 bytes, length-take m fed, length-drop y.1 bytes, less, parts) in
-      let there : IsReadBehind p y.0 (take m fed) (Err (Cut n)) = subst (λ (j : ℕ). IsReadBehind p y.0 (take m fed) (Err (Cut j))) len (inr cut) in
-      let moved : IsReadBehind p y.0 (drop y.1 (take n bytes)) (Err (Cut n)) = subst (λ (l : List ℕ). IsReadBehind p y.0 l (Err (Cut n))) (sym rest) there in
-      subst (λ (h : Result (Head × ℕ) TraceError). MatchResult h (λ z. IsReadBehind p z.0 (drop z.1 (take n bytes)) (Err (Cut n))) (λ e. refused (Cut n) ≡ refused e)) (sym is) moved
+      let cut = behind_cut y.2 p y.0 fed x m (omega (arith, length-drop y.1 bytes, less, parts)) read in
+      let len : length (opening y.2 y.0 ++ take m fed) ≡ n = length-append (opening y.2 y.0) (take m fed) ∙ omega (arith, ap length spelled, length-take y.1 bytes, length-take m fed, length-drop y.1 bytes, less, parts) in
+      let there : IsReadBehind y.2 p y.0 (take m fed) (Err (Cut n)) = subst (λ (j : ℕ). IsReadBehind y.2 p y.0 (take m fed) (Err (Cut j))) len (inr cut) in
+      let moved : IsReadBehind y.2 p y.0 (drop y.1 (take n bytes)) (Err (Cut n)) = subst (λ (l : List ℕ). IsReadBehind y.2 p y.0 l (Err (Cut n))) (sym rest) there in
+      subst (λ (h : Result ReadHead TraceError). MatchResult h (λ z. IsReadBehind z.2 p z.0 (drop z.1 (take n bytes)) (Err (Cut n))) (λ e. refused (Cut n) ≡ refused e)) (sym is) moved
 
   refused_there : head_of (take n bytes) ≡ Err (Cut n) → IsReadAs p (take n bytes) (Err (Cut n))
-  refused_there is = subst (λ (h : Result (Head × ℕ) TraceError). MatchResult h (λ z. IsReadBehind p z.0 (drop z.1 (take n bytes)) (Err (Cut n))) (λ e. refused (Cut n) ≡ refused e)) (sym is) refl
+  refused_there is = subst (λ (h : Result ReadHead TraceError). MatchResult h (λ z. IsReadBehind z.2 p z.0 (drop z.1 (take n bytes)) (Err (Cut n))) (λ e. refused (Cut n) ≡ refused e)) (sym is) refl
 
-  in_frame : (y : Head × ℕ) (f : Frame) (there : IsThere (drop magic_length bytes) f) (m : ℕ) → n ≡ magic_length + m → agreeing magic bytes ≡ magic_length → take y.1 bytes ≡ opening y.0 → y.1 ≡ magic_length + length f.whole
-      → head_in (length bytes) (Some f) ≡ Ok y → IsReadBehind p y.0 (drop y.1 bytes) (Ok x) → (b : Bool) → ltb m (opening_length + there.size) ≡ b → IsReadAs p (take n bytes) (Err (Cut n))
-  in_frame y f there m parts agrees spelled ends is read true short =
+  in_frame : (v : Version) (y : ReadHead) (f : Frame) (there : IsThere (drop magic_length bytes) f) (m : ℕ) → n ≡ magic_length + m → agreeing (magic v) bytes ≡ magic_length → take y.1 bytes ≡ opening y.2 y.0 → y.1 ≡ magic_length + length f.whole
+      → head_in v (length bytes) (Some f) ≡ Ok y → IsReadBehind y.2 p y.0 (drop y.1 bytes) (Ok x) → (b : Bool) → ltb m (opening_length + there.size) ≡ b → IsReadAs p (take n bytes) (Err (Cut n))
+  in_frame v y f there m parts agrees spelled ends is read true short =
       let none = no_frame_within (drop magic_length bytes) f there m (ltb-true _ _ short) in
-      refused_there (ap (λ (j : ℕ). head_of (take j bytes)) parts ∙ behind_magic bytes m agrees (omega (arith, less, parts)) ∙ ap (head_in (magic_length + m)) none ∙ ap (λ (j : ℕ). Err (Cut j)) (sym parts))
-  in_frame y f there m parts agrees spelled ends is read false long =
+      refused_there (ap (λ (j : ℕ). head_of (take j bytes)) parts ∙ behind_magic v bytes m agrees (omega (arith, less, parts)) ∙ ap (head_in v (magic_length + m)) none ∙ ap (λ (j : ℕ). Err (Cut j)) (sym parts))
+  in_frame v y f there m parts agrees spelled ends is read false long =
       let more = m - (opening_length + there.size) in
       let size : m ≡ (opening_length + there.size) + more = omega (arith, ltb-false _ _ long) in
       let whole = frame_within (drop magic_length bytes) f there m more size in
-      let head : head_of (take n bytes) ≡ Ok y = ap (λ (j : ℕ). head_of (take j bytes)) parts ∙ behind_magic bytes m agrees (omega (arith, less, parts)) ∙ ap (head_in (magic_length + m)) whole ∙ same_head (magic_length + m) more f y (length bytes) is in
+      let head : head_of (take n bytes) ≡ Ok y = ap (λ (j : ℕ). head_of (take j bytes)) parts ∙ behind_magic v bytes m agrees (omega (arith, less, parts)) ∙ ap (head_in v (magic_length + m)) whole ∙ same_head v (magic_length + m) more f y (length bytes) is in
       with_rest y more (omega (arith, parts, size, ends, whole_length (drop magic_length bytes) f there)) spelled head read
 
-  with_frame : (y : Head × ℕ) (o : Option Frame) → frame_of (drop magic_length bytes) ≡ o → agreeing magic bytes ≡ magic_length → take y.1 bytes ≡ opening y.0 → head_in (length bytes) o ≡ Ok y → IsReadBehind p y.0 (drop y.1 bytes) (Ok x)
+  with_frame : (v : Version) (y : ReadHead) (o : Option Frame) → frame_of (drop magic_length bytes) ≡ o → agreeing (magic v) bytes ≡ magic_length → take y.1 bytes ≡ opening y.2 y.0 → head_in v (length bytes) o ≡ Ok y → IsReadBehind y.2 p y.0 (drop y.1 bytes) (Ok x)
       → (b : Bool) → ltb n magic_length ≡ b → IsReadAs p (take n bytes) (Err (Cut n))
-  with_frame y Absent is agrees spelled e read b at = absurd cc
-  with_frame y (Some f) is agrees spelled e read true at = refused_there (in_magic bytes n agrees (ltb-true _ _ at) less)
-  with_frame y (Some f) is agrees spelled e read false at =
+  with_frame v y Absent is agrees spelled e read b at = absurd cc
+  with_frame v y (Some f) is agrees spelled e read true at = refused_there (in_magic v bytes n agrees (ltb-true _ _ at) less)
+  with_frame v y (Some f) is agrees spelled e read false at =
       let there = is_there (drop magic_length bytes) f is in
       let m = n - magic_length in
-      let l = lettered (eqb f.letter 72) (read_head_as (magic_length + length f.whole) (all_of (head_at f.payload))) (Damaged magic_length rule.FrameKind) y e in
-      let a = answered (magic_length + length f.whole) (all_of (head_at f.payload)) y l.1 in
-      in_frame y f there m (omega (arith, ltb-false _ _ at)) agrees spelled (sym a.1) e read (ltb m (opening_length + there.size)) refl
+      let l = lettered (eqb f.letter 72) (read_head_as v (magic_length + length f.whole) (all_of (head_at f.payload))) (Damaged magic_length rule.FrameKind) y e in
+      let a = answered v (magic_length + length f.whole) (all_of (head_at f.payload)) y l.1 in
+      in_frame v y f there m (omega (arith, ltb-false _ _ at)) agrees spelled (sym a.1) e read (ltb m (opening_length + there.size)) refl
 
-  with_head : (h : Result (Head × ℕ) TraceError) → head_of bytes ≡ h → MatchResult h (λ y. IsReadBehind p y.0 (drop y.1 bytes) (Ok x)) (λ e. Ok x ≡ Err e) → IsReadAs p (take n bytes) (Err (Cut n))
+  with_head : (h : Result ReadHead TraceError) → head_of bytes ≡ h → MatchResult h (λ y. IsReadBehind y.2 p y.0 (drop y.1 bytes) (Ok x)) (λ e. Ok x ≡ Err e) → IsReadAs p (take n bytes) (Err (Cut n))
   unfolding head_of
   with_head (Ok y) is read =
-      let count = agreeing magic bytes in
-      let r = refuses (eqb count magic_length) (head_in (length bytes) (frame_of (drop magic_length bytes))) (eqb count (length bytes)) (Cut count) (Damaged count rule.Magic) y is in
-      with_frame y (frame_of (drop magic_length bytes)) refl (eqb-true count magic_length r.0) (head_spelled bytes y.0 y.1 are is) r.1 read (ltb n magic_length) refl
+      let v = version_of bytes in
+      let count = agreeing (magic v) bytes in
+      let r = refuses (eqb count magic_length) (head_in v (length bytes) (frame_of (drop magic_length bytes))) (eqb count (length bytes)) (Cut count) (Damaged count rule.Magic) y is in
+      with_frame v y (frame_of (drop magic_length bytes)) refl (eqb-true count magic_length r.0) (head_spelled bytes y.0 y.1 y.2 are is) r.1 read (ltb n magic_length) refl
   with_head (Err e) is read = absurd cc
 
 pub prefix_cut : (p : Program) (bytes : List ℕ) (x : Trace) (n : ℕ) → AreBytes bytes → IsReadAs p bytes (Ok x) → n < length bytes → IsReadAs p (take n bytes) (Err (Cut n))

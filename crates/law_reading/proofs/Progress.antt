@@ -7,6 +7,7 @@ use Rattle.std.proofs.lemmas.Bool.{eqb-true}
 use Rattle.std.proofs.lemmas.List.{map-append, flat_map_more}
 use Rattle.std.proofs.lemmas.Slice.Eq.{bytes_eq-Decides}
 use Rattle.sha2.specs.Sha256.{sha256}
+use Rattle.wy_event.specs.declared.record.Version.{Version}
 use Rattle.wy_event.specs.declared.record.Event.{Event}
 use Rattle.wy_event.specs.declared.record.Coverage.{Coverage}
 use Rattle.wy_event.specs.declared.record.Head.{Head}
@@ -35,8 +36,8 @@ use Rattle.law_reading.proofs.SpelledSteps.{if_read}
 use Rattle.law_reading.proofs.SpelledEvents.{whole_event}
 
 -- the head, and the events one behind another
-abbrev pub front : Head → List ReadEvent → List ℕ
-front head placed = opening head ++ events_bytes (map event_in placed)
+abbrev pub front : Version → Head → List ReadEvent → List ℕ
+front v head placed = opening v head ++ events_bytes v (map event_in placed)
 
 -- behind these bytes, the frames that the stage has
 abbrev pub SpelledTo : List ℕ → Stage → List ℕ → Type 0
@@ -46,12 +47,12 @@ SpelledTo before (stages.Ended t) bytes = bytes ≡ before ++ tail_frames t
 SpelledTo before (stages.Sealed t seal) bytes = bytes ≡ sealed (before ++ tail_frames t)
 
 -- what stands is spelled so, and begins with what stood
-pub record Grown (head : Head) (s : Progress) (bytes : List ℕ) (t : Progress) : Type 0 where
-  pub told : SpelledTo (front head t.placed) t.stage t.before
+pub record Grown (v : Version) (head : Head) (s : Progress) (bytes : List ℕ) (t : Progress) : Type 0 where
+  pub told : SpelledTo (front v head t.placed) t.stage t.before
   pub before : t.before ≡ s.before ++ bytes
 
-abbrev pub Grows : Head → Progress → List ℕ → Next → Type 0
-Grows head s bytes next = IfOk next (λ t. Grown head s bytes t)
+abbrev pub Grows : Version → Head → Progress → List ℕ → Next → Type 0
+Grows v head s bytes next = IfOk next (λ t. Grown v head s bytes t)
 
 pub read_has : {A : Type 0} (f : A → Progress) (r : Result A DamageRule) (P : A → Type 0) (Q : Progress → Type 0) → IfOk r P → ((x : A) → P x → Q (f x)) → IfOk (read_as f r) Q
 read_has f (Ok x) P Q h k = k x h
@@ -62,27 +63,27 @@ framed bytes f letter payload shown e is = shown.whole_is ∙ ap (λ n. (n ∷ n
 
 -- ---- an event
 
-event_behind : (head : Head) (placed : List ReadEvent) (w : Written) (end : ℕ) (before whole : List ℕ) → before ≡ front head placed → whole ≡ event_frame (recorded w.event) → before ++ whole ≡ front head (placed ++ record { event = w.event; end = end } ∷ [])
+event_behind : (v : Version) (head : Head) (placed : List ReadEvent) (w : Written) (end : ℕ) (before whole : List ℕ) → before ≡ front v head placed → whole ≡ event_frame v (recorded w.event) → before ++ whole ≡ front v head (placed ++ record { event = w.event; end = end } ∷ [])
 unfolding events_bytes
-event_behind head placed w end before whole told is =
+event_behind v head placed w end before whole told is =
     ap (λ l. l ++ whole) told
-    ∙ ap (λ l. front head placed ++ l) is
-    ∙ flat_map_more (λ (e : Event). event_frame (recorded e)) (opening head) (map event_in placed) w.event
-    ∙ ap (λ (es : List Event). opening head ++ flat_map (λ (e : Event). event_frame (recorded e)) es) (sym (map-append event_in placed (record { event = w.event; end = end } ∷ [])))
+    ∙ ap (λ l. front v head placed ++ l) is
+    ∙ flat_map_more (λ (e : Event). event_frame v (recorded e)) (opening v head) (map event_in placed) w.event
+    ∙ ap (λ (es : List Event). opening v head ++ flat_map (λ (e : Event). event_frame v (recorded e)) es) (sym (map-append event_in placed (record { event = w.event; end = end } ∷ [])))
 
-event_grows : (r : Ranges) (head : Head) (s : Progress) (bytes : List ℕ) (f : Frame) → IsFrame bytes f → f.letter ≡ 69 → s.before ≡ front head s.placed → Grows head s f.whole (event_next r s f.whole f.payload)
+event_grows : (r : Ranges) (head : Head) (s : Progress) (bytes : List ℕ) (f : Frame) → IsFrame bytes f → f.letter ≡ 69 → s.before ≡ front r.version head s.placed → Grows r.version head s f.whole (event_next r s f.whole f.payload)
 unfolding event_next with_event event_frame
 event_grows r head s bytes f shown letter told =
-    read_has (with_event s f.whole) (all_of (event_at r (knowns s) s.output f.payload)) (λ w. f.payload ≡ event_payload (recorded w.event)) _ (if_read _ _ (λ w e. whole_event r (knowns s) s.output f.payload w shown.payload_bytes e)) (λ w is.
-    record { told = event_behind head s.placed w (length (s.before ++ f.whole)) s.before f.whole told (framed bytes f 69 (event_payload (recorded w.event)) shown letter is); before = refl })
+    read_has (with_event s f.whole) (all_of (event_at r (knowns s) s.output f.payload)) (λ w. f.payload ≡ event_payload r.version (recorded w.event)) _ (if_read _ _ (λ w e. whole_event r (knowns s) s.output f.payload w shown.payload_bytes e)) (λ w is.
+    record { told = event_behind r.version head s.placed w (length (s.before ++ f.whole)) s.before f.whole told (framed bytes f 69 (event_payload r.version (recorded w.event)) shown letter is); before = refl })
 
 -- ---- the coverage
 
-coverage_grows : (r : Ranges) (head : Head) (s : Progress) (bytes : List ℕ) (f : Frame) → IsFrame bytes f → f.letter ≡ 67 → s.before ≡ front head s.placed → Grows head s f.whole (coverage_next r s f.whole f.payload)
+coverage_grows : (v : Version) (r : Ranges) (head : Head) (s : Progress) (bytes : List ℕ) (f : Frame) → IsFrame bytes f → f.letter ≡ 67 → s.before ≡ front v head s.placed → Grows v head s f.whole (coverage_next r s f.whole f.payload)
 unfolding coverage_next with_stage coverage_frame
-coverage_grows r head s bytes f shown letter told =
+coverage_grows v r head s bytes f shown letter told =
     read_has (λ c. with_stage s f.whole (stages.Covered c)) (all_of (coverage_at r.statements (knowns s) f.payload)) (λ c. f.payload ≡ coverage_payload c) _ (if_read _ _ (λ c e. whole_coverage r.statements (knowns s) f.payload c shown.payload_bytes e)) (λ c is.
-    record { told = ap (λ l. l ++ f.whole) told ∙ ap (λ l. front head s.placed ++ l) (framed bytes f 67 (coverage_payload c) shown letter is); before = refl })
+    record { told = ap (λ l. l ++ f.whole) told ∙ ap (λ l. front v head s.placed ++ l) (framed bytes f 67 (coverage_payload c) shown letter is); before = refl })
 
 -- ---- the end
 
@@ -95,11 +96,11 @@ record Closes (c : Coverage) (payload : List ℕ) (t : Tail) : Type 0 where
   spelled : payload ≡ tail_payload t
   covers : t.coverage ≡ c
 
-end_grows : (steps : ℕ) (head : Head) (s : Progress) (c : Coverage) (bytes : List ℕ) (f : Frame) → IsFrame bytes f → f.letter ≡ 84 → s.before ≡ front head s.placed ++ coverage_frame c → Grows head s f.whole (end_next steps s c f.whole f.payload)
+end_grows : (v : Version) (steps : ℕ) (head : Head) (s : Progress) (c : Coverage) (bytes : List ℕ) (f : Frame) → IsFrame bytes f → f.letter ≡ 84 → s.before ≡ front v head s.placed ++ coverage_frame c → Grows v head s f.whole (end_next steps s c f.whole f.payload)
 unfolding end_next with_stage end_frame tail_frames
-end_grows steps head s c bytes f shown letter told =
+end_grows v steps head s c bytes f shown letter told =
     let totals : Totals = record { steps = steps; uses = s.uses; output = s.output } in
-    let before = front head s.placed in
+    let before = front v head s.placed in
     read_has (λ t. with_stage s f.whole (stages.Ended t)) (all_of (tail_at (knowns s) totals c f.payload)) (λ t. Closes c f.payload t) _
     (if_read (all_of (tail_at (knowns s) totals c f.payload)) (λ t. Closes c f.payload t) (λ t e. record { spelled = whole_tail (knowns s) totals c f.payload t shown.payload_bytes e; covers = tail_covers (knowns s) totals c f.payload t shown.payload_bytes e })) (λ t is.
     record {
@@ -113,10 +114,10 @@ pub tested : (b : Bool) (x y : Next) (Q : Progress → Type 0) → (b ≡ true �
 tested true x y Q h k = h refl
 tested false x y Q h k = k refl
 
-seal_grows : (head : Head) (s : Progress) (t : Tail) (bytes : List ℕ) (f : Frame) → IsFrame bytes f → f.letter ≡ 83 → s.before ≡ front head s.placed ++ tail_frames t → Grows head s f.whole (seal_next s t f.whole f.payload)
+seal_grows : (v : Version) (head : Head) (s : Progress) (t : Tail) (bytes : List ℕ) (f : Frame) → IsFrame bytes f → f.letter ≡ 83 → s.before ≡ front v head s.placed ++ tail_frames t → Grows v head s f.whole (seal_next s t f.whole f.payload)
 unfolding seal_next with_stage seal_frame sealed
-seal_grows head s t bytes f shown letter told =
-    let before = front head s.placed ++ tail_frames t in
+seal_grows v head s t bytes f shown letter told =
+    let before = front v head s.placed ++ tail_frames t in
     tested (eqb (length f.payload) seal_length) _ (Err (Violates rule.Length)) _ (λ _.
     tested (bytes_eq f.payload (sha256 s.before)) (Ok (with_stage s f.whole (stages.Sealed t (sha256 s.before)))) (Err Unsealed) _ (λ same.
     let payload : f.payload ≡ sha256 s.before = (bytes_eq-Decides f.payload (sha256 s.before)).0 same in
@@ -127,11 +128,11 @@ seal_grows head s t bytes f shown letter told =
 
 -- ---- any frame
 
-pub stage_grows : (r : Ranges) (steps : ℕ) (head : Head) (s : Progress) (stage : Stage) (bytes : List ℕ) (f : Frame) → IsFrame bytes f → SpelledTo (front head s.placed) stage s.before → Grows head s f.whole (next_at r steps s stage f)
+pub stage_grows : (r : Ranges) (steps : ℕ) (head : Head) (s : Progress) (stage : Stage) (bytes : List ℕ) (f : Frame) → IsFrame bytes f → SpelledTo (front r.version head s.placed) stage s.before → Grows r.version head s f.whole (next_at r steps s stage f)
 unfolding next_at open_next covered_next ended_next
 stage_grows r steps head s stages.Open bytes f shown told =
     tested (eqb f.letter 69) _ _ _ (λ e. event_grows r head s bytes f shown (eqb-true f.letter 69 e) told) (λ _.
-    tested (eqb f.letter 67) _ (Err (Violates rule.FrameKind)) _ (λ e. coverage_grows r head s bytes f shown (eqb-true f.letter 67 e) told) (λ _. tt))
-stage_grows r steps head s (stages.Covered c) bytes f shown told = tested (eqb f.letter 84) _ (Err (Violates rule.FrameKind)) _ (λ e. end_grows steps head s c bytes f shown (eqb-true f.letter 84 e) told) (λ _. tt)
-stage_grows r steps head s (stages.Ended t) bytes f shown told = tested (eqb f.letter 83) _ (Err (Violates rule.FrameKind)) _ (λ e. seal_grows head s t bytes f shown (eqb-true f.letter 83 e) told) (λ _. tt)
+    tested (eqb f.letter 67) _ (Err (Violates rule.FrameKind)) _ (λ e. coverage_grows r.version r head s bytes f shown (eqb-true f.letter 67 e) told) (λ _. tt))
+stage_grows r steps head s (stages.Covered c) bytes f shown told = tested (eqb f.letter 84) _ (Err (Violates rule.FrameKind)) _ (λ e. end_grows r.version steps head s c bytes f shown (eqb-true f.letter 84 e) told) (λ _. tt)
+stage_grows r steps head s (stages.Ended t) bytes f shown told = tested (eqb f.letter 83) _ (Err (Violates rule.FrameKind)) _ (λ e. seal_grows r.version head s t bytes f shown (eqb-true f.letter 83 e) told) (λ _. tt)
 stage_grows r steps head s (stages.Sealed t seal) bytes f shown told = tt

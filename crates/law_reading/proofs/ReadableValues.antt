@@ -1,7 +1,7 @@
 -- Values, units and uses are read.
-use Rattle.std.proofs.Common.{◌≡◌, ℕ, ◌<◌, ◌^◌, Bool, true, false, cond, eqb, List, ◌∷◌, ◌++◌, length, Some, Ok, refl, ap, ◌∙◌, append_assoc, ℤ, FitsSigned, All}
+use Rattle.std.proofs.Common.{◌≡◌, ℕ, ◌<◌, ◌^◌, Bool, true, false, cond, eqb, List, ◌∷◌, ◌++◌, length, Some, Ok, refl, sym, ap, ◌∙◌, append_assoc, ℤ, FitsSigned, All}
 use Rattle.std.specs.Prelude.{None as Absent}
-use Rattle.std.specs.Prelude.{nat_lt, slice_get}
+use Rattle.std.specs.Prelude.{nat_lt}
 use Rattle.std.specs.List.{flat_map}
 use mir.Val.{bits}
 use mir.ValLaws as laws
@@ -11,10 +11,12 @@ use Rattle.std.proofs.lemmas.Bool.{lt-ltb}
 use Rattle.std.proofs.lemmas.List.Elements.{recursion_from_All}
 use Rattle.wy_value.specs.declared.value.Value.{Value}
 use Rattle.wy_value.specs.declared.value.Value.TheVariants as val
+use Rattle.wy_event.specs.declared.record.Version.{Version}
+use Rattle.wy_event.specs.declared.record.Version.TheVariants as version
 use Rattle.wy_event.specs.declared.record.Use.{Use}
 use Rattle.wy_event.specs.declared.record.Use.TheVariants as used
 use Rattle.wy_fitting.specs.Fits.{IsNumber, IsUnit, ValueFits, UseFits}
-use Rattle.wy_spelling.specs.Spelling.{number, slot_bytes, value_bytes, units_bytes, use_bytes, uses_bytes}
+use Rattle.wy_spelling.specs.Spelling.{arm_number, arm_tag, number, slot_bytes, value_bytes, units_bytes, use_bytes, uses_bytes}
 use Rattle.wy_payload.specs.declared.ranges.Ranges.{Ranges}
 use Rattle.wy_payload.specs.declared.known.Known.{Known}
 use Rattle.wy_payload.specs.declared.known.Role.TheVariants as role
@@ -22,13 +24,16 @@ use Rattle.wy_payload.specs.declared.slot.SlotForm.TheVariants as form
 use Rattle.wy_payload.specs.declared.value.ValueTag.{ValueTag}
 use Rattle.wy_payload.specs.declared.value.ValueTag.TheVariants as tags
 use Rattle.wy_payload.specs.declared.value.ValueForm.{ValueForm}
+use Rattle.wy_payload.specs.declared.value.ValueForm.TheVariants as wanted_form
 use Rattle.wy_payload.specs.declared.event.UseTag.TheVariants as ways
 use Rattle.wy_payload.specs.Rules.{in_range}
 use Rattle.wy_payload.specs.Reading.{passed, number_at, reference_at, below_at, at_most_at}
 use Rattle.wy_payload.specs.Places.{slot_at}
-use Rattle.wy_payload.specs.Values.{value_tags, allows_value, int_rule, object_role, bool_at, int_at, plain_at, object_at, text_at, fixed_at, value_of, value_at, units_tag, units_at}
+use Rattle.wy_payload.specs.Values.{arm_at, arm_limit, value_tag, allows_value, int_rule, object_role, bool_at, int_at, plain_at, object_at, text_at, fixed_at, value_of, value_at, units_tag, units_at}
 use Rattle.wy_payload.specs.Events.{use_tag, place_at, use_of, use_at, uses_at}
 use Rattle.law_reading.specs.Readable.{Refers, ValueMayStand, UseMayStand}
+use Rattle.wy_payload.proofs.Tags.{listed_tag}
+use Rattle.law_reading.proofs.SpelledValues.{is_bit}
 use Rattle.law_reading.proofs.ReadableSteps.{Reads, then_is, passes, ranged, byte_is, is_16, is_64, number_is, tag_is, rows_are, both}
 use Rattle.law_reading.proofs.Parts.{reference_is, below_is, at_most_is, slot_is}
 
@@ -92,25 +97,44 @@ fixed_value : (r : Ranges) (n : ℕ) (rest : List ℕ) → IsNumber n → n < le
 unfolding fixed_at
 fixed_value r n rest fit below = then_is (number_at w32 (number n ++ rest)) _ (n, rest) _ (number_is n rest fit) (passes (in_range (nat_lt n (length r.fixed))) (val.Fixed n, rest) (ranged (nat_lt n (length r.fixed)) (lt-ltb n (length r.fixed) below)))
 
-tagged_is : (r : Ranges) (earlier : List Known) (wanted : ValueForm) (tag : ValueTag) (b : ℕ) (v : Value) (text rest : List ℕ) → slice_get value_tags b ≡ Some tag → allows_value wanted tag ≡ true → Reads (value_of r earlier wanted tag text) v rest → Reads (value_at r earlier wanted (b ∷ text)) v rest
+arm_is : (v : Version) (n : ℕ) (rest : List ℕ) → IsNumber n → n < arm_limit → Reads (arm_at v (arm_number v n ++ rest)) (val.Arm n) rest
+unfolding arm_at
+arm_is version.One n rest fit small =
+    ap (λ (m : ℕ). arm_at version.One (m ∷ rest)) (sym (is_bit n small))
+    ∙ then_is (number_at w8 (n ∷ rest)) _ (n, rest) _ (byte_is n rest) (passes (in_range (nat_lt n arm_limit)) (val.Arm n, rest) (ranged (nat_lt n arm_limit) (lt-ltb n arm_limit small)))
+arm_is version.Two n rest fit small = then_is (number_at w32 (number n ++ rest)) _ (n, rest) _ (number_is n rest fit) (passes (in_range (nat_lt n arm_limit)) (val.Arm n, rest) (ranged (nat_lt n arm_limit) (lt-ltb n arm_limit small)))
+
+-- a boolean stands where no arm is wanted, and an arm where one is
+bool_listed : (v : Version) (wanted : ValueForm) → allows_value wanted tags.Bool ≡ true → value_tag v wanted 1 ≡ Some tags.Bool
+bool_listed version.One wanted_form.Arm e = absurd cc
+bool_listed version.One _ e = refl
+bool_listed version.Two wanted e = refl
+
+arm_listed : (v : Version) (wanted : ValueForm) → allows_value wanted tags.Arm ≡ true → value_tag v wanted (arm_tag v) ≡ Some tags.Arm
+arm_listed version.One wanted_form.Arm e = refl
+arm_listed version.One _ e = absurd cc
+arm_listed version.Two wanted e = refl
+
+tagged_is : (r : Ranges) (earlier : List Known) (wanted : ValueForm) (tag : ValueTag) (b : ℕ) (v : Value) (text rest : List ℕ) → value_tag r.version wanted b ≡ Some tag → allows_value wanted tag ≡ true → Reads (value_of r earlier wanted tag text) v rest → Reads (value_at r earlier wanted (b ∷ text)) v rest
 unfolding value_at
 tagged_is r earlier wanted tag b v text rest is allowed h =
-    tag_is (slice_get value_tags) tag b text is _ _
+    tag_is (value_tag r.version wanted) tag b text is _ _
     (then_is (passed (in_range (allows_value wanted tag)) text) (value_of r earlier wanted tag) text _ (passes (in_range (allows_value wanted tag)) text (ranged (allows_value wanted tag) allowed)) h)
 
-pub value_is : (r : Ranges) (earlier : List Known) (wanted : ValueForm) (v : Value) (rest : List ℕ) → ValueFits v → ValueMayStand r earlier wanted v → Reads (value_at r earlier wanted (value_bytes v ++ rest)) v rest
+pub value_is : (r : Ranges) (earlier : List Known) (wanted : ValueForm) (v : Value) (rest : List ℕ) → ValueFits v → ValueMayStand r earlier wanted v → Reads (value_at r earlier wanted (value_bytes r.version v ++ rest)) v rest
 unfolding value_bytes value_of plain_at
-value_is r earlier wanted val.None rest fit may = tagged_is r earlier wanted tags.None 0 val.None rest rest refl may.form refl
-value_is r earlier wanted (val.Bool b) rest fit may = tagged_is r earlier wanted tags.Bool 1 (val.Bool b) (cond b 1 0 ∷ rest) rest refl may.form (bool_is b rest)
-value_is r earlier wanted (val.Byte z) rest fit may = tagged_is r earlier wanted tags.Byte 2 (val.Byte z) (cast_unsigned w8 z ∷ rest) rest refl may.form (byte_value z rest fit)
-value_is r earlier wanted (val.Short z) rest fit may = tagged_is r earlier wanted tags.Short 3 (val.Short z) (to_be_bytes w16 (cast_unsigned w16 z) ++ rest) rest refl may.form (short_value z rest fit)
-value_is r earlier wanted (val.Char n) rest fit may = tagged_is r earlier wanted tags.Char 4 (val.Char n) (to_be_bytes w16 n ++ rest) rest refl may.form (char_value n rest fit)
-value_is r earlier wanted (val.Int z) rest fit may = tagged_is r earlier wanted tags.Int 5 (val.Int z) (number (cast_unsigned w32 z) ++ rest) rest refl may.form (int_is wanted z rest fit may.there)
-value_is r earlier wanted (val.Long z) rest fit may = tagged_is r earlier wanted tags.Long 6 (val.Long z) (to_be_bytes w64 (cast_unsigned w64 z) ++ rest) rest refl may.form (long_value z rest fit)
-value_is r earlier wanted val.Null rest fit may = tagged_is r earlier wanted tags.Null 7 val.Null rest rest refl may.form refl
-value_is r earlier wanted (val.Object n) rest fit may = tagged_is r earlier wanted tags.Object 8 (val.Object n) (number n ++ rest) rest refl may.form (object_value earlier wanted n rest fit may.there)
-value_is r earlier wanted (val.Text n) rest fit may = tagged_is r earlier wanted tags.Text 9 (val.Text n) (number n ++ rest) rest refl may.form (text_value earlier n rest fit may.there)
-value_is r earlier wanted (val.Fixed n) rest fit may = tagged_is r earlier wanted tags.Fixed 10 (val.Fixed n) (number n ++ rest) rest refl may.form (fixed_value r n rest fit may.there)
+value_is r earlier wanted val.None rest fit may = tagged_is r earlier wanted tags.None 0 val.None rest rest (listed_tag r.version wanted 0 refl refl) may.form refl
+value_is r earlier wanted (val.Bool b) rest fit may = tagged_is r earlier wanted tags.Bool 1 (val.Bool b) (cond b 1 0 ∷ rest) rest (bool_listed r.version wanted may.form) may.form (bool_is b rest)
+value_is r earlier wanted (val.Byte z) rest fit may = tagged_is r earlier wanted tags.Byte 2 (val.Byte z) (cast_unsigned w8 z ∷ rest) rest (listed_tag r.version wanted 2 refl refl) may.form (byte_value z rest fit)
+value_is r earlier wanted (val.Short z) rest fit may = tagged_is r earlier wanted tags.Short 3 (val.Short z) (to_be_bytes w16 (cast_unsigned w16 z) ++ rest) rest (listed_tag r.version wanted 3 refl refl) may.form (short_value z rest fit)
+value_is r earlier wanted (val.Char n) rest fit may = tagged_is r earlier wanted tags.Char 4 (val.Char n) (to_be_bytes w16 n ++ rest) rest (listed_tag r.version wanted 4 refl refl) may.form (char_value n rest fit)
+value_is r earlier wanted (val.Int z) rest fit may = tagged_is r earlier wanted tags.Int 5 (val.Int z) (number (cast_unsigned w32 z) ++ rest) rest (listed_tag r.version wanted 5 refl refl) may.form (int_is wanted z rest fit may.there)
+value_is r earlier wanted (val.Long z) rest fit may = tagged_is r earlier wanted tags.Long 6 (val.Long z) (to_be_bytes w64 (cast_unsigned w64 z) ++ rest) rest (listed_tag r.version wanted 6 refl refl) may.form (long_value z rest fit)
+value_is r earlier wanted val.Null rest fit may = tagged_is r earlier wanted tags.Null 7 val.Null rest rest (listed_tag r.version wanted 7 refl refl) may.form refl
+value_is r earlier wanted (val.Object n) rest fit may = tagged_is r earlier wanted tags.Object 8 (val.Object n) (number n ++ rest) rest (listed_tag r.version wanted 8 refl refl) may.form (object_value earlier wanted n rest fit may.there)
+value_is r earlier wanted (val.Text n) rest fit may = tagged_is r earlier wanted tags.Text 9 (val.Text n) (number n ++ rest) rest (listed_tag r.version wanted 9 refl refl) may.form (text_value earlier n rest fit may.there)
+value_is r earlier wanted (val.Fixed n) rest fit may = tagged_is r earlier wanted tags.Fixed 10 (val.Fixed n) (number n ++ rest) rest (listed_tag r.version wanted 10 refl refl) may.form (fixed_value r n rest fit may.there)
+value_is r earlier wanted (val.Arm n) rest fit may = tagged_is r earlier wanted tags.Arm (arm_tag r.version) (val.Arm n) (arm_number r.version n ++ rest) rest (arm_listed r.version wanted may.form) may.form (arm_is r.version n rest fit may.there)
 
 -- ---- units
 

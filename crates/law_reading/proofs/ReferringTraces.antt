@@ -5,6 +5,7 @@ use Rattle.std.specs.Prelude.{Option, IfOk, MatchResult, slice_get}
 use Rattle.std.specs.Str.{bytes_eq}
 use Rattle.std.proofs.lemmas.List.{length-map, map-append}
 use Rattle.wy_kernel.specs.declared.program.Program.{Program}
+use Rattle.wy_event.specs.declared.record.Version.{Version}
 use Rattle.wy_event.specs.declared.record.Event.{Event}
 use Rattle.wy_event.specs.declared.record.Head.{Head}
 use Rattle.wy_event.specs.declared.record.Trace.{Trace}
@@ -27,7 +28,7 @@ use Rattle.wy_frames.specs.declared.stage.Stage.TheVariants as stages
 use Rattle.wy_frames.specs.Frames.{Frame, frame_of}
 use Rattle.wy_frames.specs.Progress.{Progress, start, event_in, known_as_placed, knowns, Violates, Unsealed, Next, read_as, with_event, with_stage, event_next, coverage_next, end_next, seal_length, seal_next, open_next, covered_next, ended_next, next_at, next_of}
 use Rattle.wy_frames.specs.Scan.{Goes, turn_next, without_frame, turn_frame, is_passed, turn, Leaves, nothing, frame}
-use Rattle.wy_frames.specs.Heads.{head_of}
+use Rattle.wy_frames.specs.Heads.{ReadHead, head_of}
 use Rattle.wy_frames.specs.Traces.{IsReadBehind, IsReadAs}
 use Rattle.wy_payload.proofs.Readers.{then_has}
 use Rattle.law_reading.proofs.ReferringNumbers.{Has, whatever}
@@ -133,25 +134,25 @@ leaves_sound r steps from bytes sound _ _ (frame s rest t others before e) = tur
 none_sound : Sound []
 none_sound = record { few = omega arith; refer = λ n e is. absurd cc }
 
-start_sound : (head : Head) → Sound (start head).placed
+start_sound : (v : Version) (head : Head) → Sound (start v head).placed
 unfolding start
-start_sound head = none_sound
+start_sound v head = none_sound
 
 record SoundTrace (x : Trace) : Type 0 where
   few : length x.events ≤ event_limit
   refer : AllRefersBelow x.events
 
-behind_sound : (p : Program) (head : Head) (fed : List ℕ) (x : Trace) → IsReadBehind p head fed (Ok x) → SoundTrace x
-behind_sound p head fed x h =
+behind_sound : (v : Version) (p : Program) (head : Head) (fed : List ℕ) (x : Trace) → IsReadBehind v p head fed (Ok x) → SoundTrace x
+behind_sound v p head fed x h =
     let t = h.0 in
-    let sound = leaves_sound (ranges_of p) head.steps (start head) fed (start_sound head) t h.1.rest h.1.leaves in
+    let sound = leaves_sound (ranges_of v p) head.steps (start v head) fed (start_sound v head) t h.1.rest h.1.leaves in
     record {
       few = omega (arith, ap (λ (es : List Event). length es) h.2.events, length-map t.placed event_in, sound.few);
       refer = subst AllRefersBelow (sym h.2.events) sound.refer;
     }
 
-with_head : (p : Program) (bytes : List ℕ) (x : Trace) (h : Result (Head × ℕ) TraceError) → MatchResult h (λ y. IsReadBehind p y.0 (drop y.1 bytes) (Ok x)) (λ e. Ok x ≡ Err e) → SoundTrace x
-with_head p bytes x (Ok y) is = behind_sound p y.0 (drop y.1 bytes) x is
+with_head : (p : Program) (bytes : List ℕ) (x : Trace) (h : Result ReadHead TraceError) → MatchResult h (λ y. IsReadBehind y.2 p y.0 (drop y.1 bytes) (Ok x)) (λ e. Ok x ≡ Err e) → SoundTrace x
+with_head p bytes x (Ok y) is = behind_sound y.2 p y.0 (drop y.1 bytes) x is
 with_head p bytes x (Err e) is = absurd cc
 
 pub refer_below : (p : Program) (bytes : List ℕ) (x : Trace) → IsReadAs p bytes (Ok x) → AllRefersBelow x.events

@@ -3,6 +3,7 @@ use Rattle.std.proofs.Common.{◌≡◌, ℕ, ◌+◌, ◌<◌, ◌≤◌, ◌^�
 use Rattle.std.specs.Prelude.{slice_get}
 use Rattle.std.specs.List.{AllByRecursion, concat}
 use Rattle.std.proofs.lemmas.List.{map-append, take_at, length-map}
+use Rattle.wy_event.specs.declared.record.Version.{Version}
 use Rattle.wy_event.specs.declared.record.Event.{Event}
 use Rattle.wy_event.specs.declared.record.Head.{Head}
 use Rattle.wy_event.specs.Record.{Recorded, recorded}
@@ -27,17 +28,17 @@ known_placed : (placed : List ReadEvent) → map known_as_placed placed ≡ map 
 known_placed [] = refl
 known_placed (x ∷ placed) = ap (λ l. known_of x.event ∷ l) (known_placed placed)
 
-known_all : (rs : List Recorded) → map known_of (map event_of rs) ≡ map known_in rs
-known_all [] = refl
-known_all (e ∷ rs) = ap (λ k. k ∷ map known_of (map event_of rs)) (event_known e) ∙ ap (λ l. known_in e ∷ l) (known_all rs)
+known_all : (v : Version) (rs : List Recorded) → map known_of (map (event_of v) rs) ≡ map known_in rs
+known_all v [] = refl
+known_all v (e ∷ rs) = ap (λ k. k ∷ map known_of (map (event_of v) rs)) (event_known v e) ∙ ap (λ l. known_in e ∷ l) (known_all v rs)
 
-pub told_all : (rs : List Recorded) → AllByRecursion Fits rs → map recorded (map event_of rs) ≡ map told rs
-told_all [] fit = refl
-told_all (e ∷ rs) fit = ap (λ k. k ∷ map recorded (map event_of rs)) (event_told e fit.0) ∙ ap (λ l. told e ∷ l) (told_all rs fit.1)
+pub told_all : (v : Version) (rs : List Recorded) → AllByRecursion Fits rs → map recorded (map (event_of v) rs) ≡ map (told v) rs
+told_all v [] fit = refl
+told_all v (e ∷ rs) fit = ap (λ k. k ∷ map recorded (map (event_of v) rs)) (event_told v e fit.0) ∙ ap (λ l. told v e ∷ l) (told_all v rs fit.1)
 
-frames_more : (rs : List Recorded) (e : Recorded) → concat (map event_frame (rs ++ e ∷ [])) ≡ concat (map event_frame rs) ++ event_frame e
-frames_more [] e = append-nil (event_frame e)
-frames_more (x ∷ rs) e = ap (λ l. event_frame x ++ l) (frames_more rs e) ∙ sym (append_assoc (event_frame x) (concat (map event_frame rs)) (event_frame e))
+frames_more : (v : Version) (rs : List Recorded) (e : Recorded) → concat (map (event_frame v) (rs ++ e ∷ [])) ≡ concat (map (event_frame v) rs) ++ event_frame v e
+frames_more v [] e = append-nil (event_frame v e)
+frames_more v (x ∷ rs) e = ap (λ l. event_frame v x ++ l) (frames_more v rs e) ∙ sym (append_assoc (event_frame v x) (concat (map (event_frame v) rs)) (event_frame v e))
 
 pub uses_more : (rs : List Recorded) (e : Recorded) → uses_in (rs ++ e ∷ []) ≡ uses_in rs + length e.uses
 unfolding uses_in
@@ -68,28 +69,28 @@ at_end (x ∷ rs) e left = at_end rs e left
 
 -- the frames of these records stand
 pub record Stood (r : Ranges) (head : Head) (done : List Recorded) (s : Progress) : Type 0 where
-  pub before : s.before ≡ opening head ++ concat (map event_frame done)
-  pub events : map event_in s.placed ≡ map event_of done
+  pub before : s.before ≡ opening r.version head ++ concat (map (event_frame r.version) done)
+  pub events : map event_in s.placed ≡ map (event_of r.version) done
   pub uses : s.uses ≡ uses_in done
   pub output : s.output ≡ printed r [] done
   pub open_stage : s.stage ≡ stages.Open
 
-pub start_stood : (r : Ranges) (head : Head) → Stood r head [] (start head)
+pub start_stood : (r : Ranges) (head : Head) → Stood r head [] (start r.version head)
 unfolding start uses_in printed
-start_stood r head = record { before = sym (append-nil (opening head)); events = refl; uses = refl; output = refl; open_stage = refl }
+start_stood r head = record { before = sym (append-nil (opening r.version head)); events = refl; uses = refl; output = refl; open_stage = refl }
 
 pub knowns_are : (r : Ranges) (head : Head) (done : List Recorded) (s : Progress) → Stood r head done s → knowns s ≡ map known_in done
-knowns_are r head done s h = known_placed s.placed ∙ ap (map known_of) h.events ∙ known_all done
+knowns_are r head done s h = known_placed s.placed ∙ ap (map known_of) h.events ∙ known_all r.version done
 
-more_stood : (r : Ranges) (head : Head) (done : List Recorded) (s : Progress) (e : Recorded) → Stood r head done s → Stood r head (done ++ e ∷ []) (with_event s (event_frame e) (written_of r (knowns s) s.output e))
+more_stood : (r : Ranges) (head : Head) (done : List Recorded) (s : Progress) (e : Recorded) → Stood r head done s → Stood r head (done ++ e ∷ []) (with_event s (event_frame r.version e) (written_of r (knowns s) s.output e))
 unfolding with_event
 more_stood r head done s e h =
-    let bytes = event_frame e in
-    let placed : ReadEvent = record { event = event_of e; end = length (s.before ++ bytes) } in
+    let bytes = event_frame r.version e in
+    let placed : ReadEvent = record { event = event_of r.version e; end = length (s.before ++ bytes) } in
     let prints : List Known → ℕ = λ earlier. output_of r earlier e.kind e.site e.value in
     record {
-      before = ap (λ l. l ++ bytes) h.before ∙ append_assoc (opening head) (concat (map event_frame done)) bytes ∙ ap (λ l. opening head ++ l) (sym (frames_more done e));
-      events = map-append event_in s.placed (placed ∷ []) ∙ ap (λ (l : List Event). l ++ event_of e ∷ []) h.events ∙ sym (map-append event_of done (e ∷ []));
+      before = ap (λ l. l ++ bytes) h.before ∙ append_assoc (opening r.version head) (concat (map (event_frame r.version) done)) bytes ∙ ap (λ l. opening r.version head ++ l) (sym (frames_more r.version done e));
+      events = map-append event_in s.placed (placed ∷ []) ∙ ap (λ (l : List Event). l ++ event_of r.version e ∷ []) h.events ∙ sym (map-append (event_of r.version) done (e ∷ []));
       uses = omega (arith, h.uses, uses_more done e);
       output = ap (λ (l : List Known). s.output + prints l) (knowns_are r head done s h) ∙ ap (λ n. n + prints (map known_in done)) h.output ∙ sym (printed_one r done e);
       open_stage = refl;
@@ -103,7 +104,7 @@ pub record Kept (r : Ranges) (rs : List Recorded) : Type 0 where
   pub may : AllMayStand r rs
   pub little : printed r [] rs ≤ output_limit
 
-one_behind : (r : Ranges) (head : Head) (done : List Recorded) (e : Recorded) (left : List Recorded) (s : Progress) → Kept r (done ++ e ∷ left) → Fits e → length (event_payload e) < 2 ^ 32 → Stood r head done s → Behind r (knowns s) s.output e
+one_behind : (r : Ranges) (head : Head) (done : List Recorded) (e : Recorded) (left : List Recorded) (s : Progress) → Kept r (done ++ e ∷ left) → Fits e → length (event_payload r.version e) < 2 ^ 32 → Stood r head done s → Behind r (knowns s) s.output e
 one_behind r head done e left s kept fit short h =
     let known = knowns_are r head done s h in
     let rs = done ++ e ∷ left in
@@ -126,20 +127,20 @@ pub record AllStood (r : Ranges) (steps : ℕ) (head : Head) (rs : List Recorded
   pub stood : Stood r head rs standing
   pub leaves : Leaves r steps from fed standing behind
 
-pub events_stand : (r : Ranges) (steps : ℕ) (head : Head) (from : Progress) (fed behind : List ℕ) (left done : List Recorded) (s : Progress) → Kept r (done ++ left) → AllByRecursion Fits left → length (concat (map event_frame left) ++ behind) ≤ trace_limit
-    → Stood r head done s → Leaves r steps from fed s (concat (map event_frame left) ++ behind) → AllStood r steps head (done ++ left) from fed behind
+pub events_stand : (r : Ranges) (steps : ℕ) (head : Head) (from : Progress) (fed behind : List ℕ) (left done : List Recorded) (s : Progress) → Kept r (done ++ left) → AllByRecursion Fits left → length (concat (map (event_frame r.version) left) ++ behind) ≤ trace_limit
+    → Stood r head done s → Leaves r steps from fed s (concat (map (event_frame r.version) left) ++ behind) → AllStood r steps head (done ++ left) from fed behind
 unfolding event_frame
 events_stand r steps head from fed behind [] done s kept fit small h leaves = record { standing = s; stood = subst (λ (l : List Recorded). Stood r head l s) (sym (append-nil done)) h; leaves = leaves }
 events_stand r steps head from fed behind (e ∷ left) done s kept fit small h leaves =
-    let others = concat (map event_frame left) ++ behind in
-    let parts : concat (map event_frame (e ∷ left)) ++ behind ≡ event_frame e ++ others = append_assoc (event_frame e) (concat (map event_frame left)) behind in
-    let within : length (event_frame e ++ others) ≤ trace_limit = subst (λ (l : List ℕ). length l ≤ trace_limit) parts small in
-    let long : length (event_frame e) ≤ trace_limit = omega (arith, within, length-append (event_frame e) others) in
-    let short : length (event_payload e) < 2 ^ 32 = omega (arith, long, frame_length 69 (event_payload e)) in
+    let others = concat (map (event_frame r.version) left) ++ behind in
+    let parts : concat (map (event_frame r.version) (e ∷ left)) ++ behind ≡ event_frame r.version e ++ others = append_assoc (event_frame r.version e) (concat (map (event_frame r.version) left)) behind in
+    let within : length (event_frame r.version e ++ others) ≤ trace_limit = subst (λ (l : List ℕ). length l ≤ trace_limit) parts small in
+    let long : length (event_frame r.version e) ≤ trace_limit = omega (arith, within, length-append (event_frame r.version e) others) in
+    let short : length (event_payload r.version e) < 2 ^ 32 = omega (arith, long, frame_length 69 (event_payload r.version e)) in
     let moved : (done ++ e ∷ []) ++ left ≡ done ++ e ∷ left = append_assoc done (e ∷ []) left in
-    let t = with_event s (event_frame e) (written_of r (knowns s) s.output e) in
+    let t = with_event s (event_frame r.version e) (written_of r (knowns s) s.output e) in
     let goes = event_goes r steps s e others h.open_stage (one_behind r head done e left s kept fit.0 short h) in
     subst (λ (l : List Recorded). AllStood r steps head l from fed behind) moved
-    (events_stand r steps head from fed behind left (done ++ e ∷ []) t (subst (Kept r) (sym moved) kept) fit.1 (omega (arith, within, length-append (event_frame e) others))
+    (events_stand r steps head from fed behind left (done ++ e ∷ []) t (subst (Kept r) (sym moved) kept) fit.1 (omega (arith, within, length-append (event_frame r.version e) others))
     (more_stood r head done s e h)
-    (one_frame s (event_frame e ++ others) t others (subst (λ (l : List ℕ). Leaves r steps from fed s l) parts leaves) goes))
+    (one_frame s (event_frame r.version e ++ others) t others (subst (λ (l : List ℕ). Leaves r steps from fed s l) parts leaves) goes))

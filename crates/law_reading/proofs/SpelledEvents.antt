@@ -3,6 +3,7 @@ use Rattle.std.proofs.Common.{◌≡◌, ℕ, List, [], ◌∷◌, ◌++◌, len
 use Rattle.std.specs.Prelude.{nat_lt, slice_get}
 use Rattle.std.specs.Int.{w32}
 use Rattle.std.proofs.lemmas.Result.{IfOk-at_ok}
+use Rattle.wy_event.specs.declared.record.Version.{Version}
 use Rattle.wy_event.specs.declared.record.Kind.{Kind}
 use Rattle.wy_event.specs.declared.record.Kind.TheVariants as kind
 use Rattle.wy_event.specs.Record.{recorded}
@@ -74,20 +75,20 @@ origin_has r earlier bytes are =
 
 -- ---- contents
 
-content_has : (r : Ranges) (earlier : List Known) (k : Kind) (entity : ℕ) (bytes : List ℕ) → AreBytes bytes → Spells bytes (λ (c : Content). content_bytes k c.value c.units) (content_at r earlier k entity bytes)
+content_has : (r : Ranges) (earlier : List Known) (k : Kind) (entity : ℕ) (bytes : List ℕ) → AreBytes bytes → Spells bytes (λ (c : Content). content_bytes r.version k c.value c.units) (content_at r earlier k entity bytes)
 unfolding content_at
 content_has r earlier kind.Text entity bytes are = then_has (units_at bytes) _ _ _ (units_have bytes are) (λ units s. s)
 content_has r earlier k entity bytes are = then_has (value_at r earlier (value_form k entity) bytes) _ _ _ (value_has r earlier (value_form k entity) bytes are) (λ value s. s)
 
 -- ---- events
 
-abbrev event_text : Written → List ℕ
-event_text w = event_payload (recorded w.event)
+abbrev event_text : Version → Written → List ℕ
+event_text v w = event_payload v (recorded w.event)
 
 origin_is : (o : Origin) → origin_text o ≡ kind_number o.kind ∷ number o.site ++ (optional (present o.frame) ++ (optional (present o.control) ++ optional (present o.entity)))
 origin_is o = rw (optional_present o.frame, optional_present o.control, optional_present o.entity) refl
 
-event_has : (r : Ranges) (earlier : List Known) (output : ℕ) (bytes : List ℕ) → AreBytes bytes → Spells bytes event_text (event_at r earlier output bytes)
+event_has : (r : Ranges) (earlier : List Known) (output : ℕ) (bytes : List ℕ) → AreBytes bytes → Spells bytes (event_text r.version) (event_at r earlier output bytes)
 unfolding event_at event_payload origin_bytes recorded
 event_has r earlier output bytes are =
     then_has (origin_at r earlier bytes) _ _ _ (origin_has r earlier bytes are) (λ o s.
@@ -95,14 +96,14 @@ event_has r earlier output bytes are =
     then_has (content_at r earlier o.0.kind o.0.entity slot.1) _ _ _ (content_has r earlier o.0.kind o.0.entity slot.1 t.rest_bytes) (λ c u.
     after (output_behind r earlier output o.0.kind o.0.site c.0.value) _ _ (λ total.
     then_has (uses_at r earlier c.1) _ _ _ (uses_have r earlier c.1 u.rest_bytes) (λ uses v.
-    let content = content_bytes o.0.kind c.0.value c.0.units in
+    let content = content_bytes r.version o.0.kind c.0.value c.0.units in
     let two = one_after slot.1 content c.1 (uses_bytes uses.0) uses.1 u v in
     let three = one_after o.1 (slot_bytes slot.0) slot.1 (content ++ uses_bytes uses.0) uses.1 t two in
     let all = one_after bytes (origin_text o.0) o.1 (slot_bytes slot.0 ++ (content ++ uses_bytes uses.0)) uses.1 s three in
     subst (λ (l : List ℕ). Spelled bytes (l ++ (slot_bytes slot.0 ++ (content ++ uses_bytes uses.0))) uses.1) (origin_is o.0) all)))))
 
-event_spelled : (r : Ranges) (earlier : List Known) (output : ℕ) (bytes : List ℕ) (x : Written × List ℕ) → AreBytes bytes → event_at r earlier output bytes ≡ Ok x → Spelled bytes (event_text x.0) x.1
-event_spelled r earlier output bytes x are e = IfOk-at_ok (λ (y : Written × List ℕ). Spelled bytes (event_text y.0) y.1) e (event_has r earlier output bytes are)
+event_spelled : (r : Ranges) (earlier : List Known) (output : ℕ) (bytes : List ℕ) (x : Written × List ℕ) → AreBytes bytes → event_at r earlier output bytes ≡ Ok x → Spelled bytes (event_text r.version x.0) x.1
+event_spelled r earlier output bytes x are e = IfOk-at_ok (λ (y : Written × List ℕ). Spelled bytes (event_text r.version y.0) y.1) e (event_has r earlier output bytes are)
 
-pub whole_event : (r : Ranges) (earlier : List Known) (output : ℕ) (payload : List ℕ) (w : Written) → AreBytes payload → all_of (event_at r earlier output payload) ≡ Ok w → payload ≡ event_payload (recorded w.event)
-whole_event r earlier output payload w are e = whole event_text payload (event_at r earlier output payload) w (λ x is. event_spelled r earlier output payload x are is) e
+pub whole_event : (r : Ranges) (earlier : List Known) (output : ℕ) (payload : List ℕ) (w : Written) → AreBytes payload → all_of (event_at r earlier output payload) ≡ Ok w → payload ≡ event_payload r.version (recorded w.event)
+whole_event r earlier output payload w are e = whole (event_text r.version) payload (event_at r earlier output payload) w (λ x is. event_spelled r earlier output payload x are is) e

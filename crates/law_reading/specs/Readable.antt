@@ -11,6 +11,7 @@ use Rattle.wy_event.specs.declared.record.Slot.{Slot}
 use Rattle.wy_event.specs.declared.record.Slot.TheVariants as slots
 use Rattle.wy_event.specs.declared.record.Tail.{Tail}
 use Rattle.wy_event.specs.declared.record.Use.{Use}
+use Rattle.wy_event.specs.declared.record.Version.{Version}
 use Rattle.wy_event.specs.declared.record.Use.TheVariants as used
 use Rattle.wy_event.specs.Record.{Recorded}
 use Rattle.wy_fitting.specs.Fits.{IsNumber, AllFit}
@@ -28,7 +29,7 @@ use Rattle.wy_payload.specs.declared.value.ValueTag.TheVariants as value_tag
 use Rattle.wy_payload.specs.Ranges.{known_as, ranges_of}
 use Rattle.wy_payload.specs.Rules.{reference_rule, site_rule, entity_rule, locals_in, field_rule}
 use Rattle.wy_payload.specs.Places.{slot_form, allows_slot}
-use Rattle.wy_payload.specs.Values.{value_form, allows_value, int_rule, object_role, output_of}
+use Rattle.wy_payload.specs.Values.{value_form, allows_value, arm_limit, int_rule, object_role, output_of}
 use Rattle.wy_kernel.specs.Limits.{steps_limit, input_limit, source_limit, event_limit, output_limit, index_limit}
 use Rattle.wy_payload.specs.Closing.{first_rule, cause_rule, last_rule}
 
@@ -85,13 +86,15 @@ tag_of_value val.Null = value_tag.Null
 tag_of_value (val.Object n) = value_tag.Object
 tag_of_value (val.Text n) = value_tag.Text
 tag_of_value (val.Fixed n) = value_tag.Fixed
+tag_of_value (val.Arm n) = value_tag.Arm
 
--- an int is a length or an input byte where one is wanted, and what a value refers to is there
+-- an int is a length or an input byte where one is wanted, what a value refers to is there, and an arm is that of a truth
 abbrev pub ValueIsThere : Ranges → List Known → ValueForm → Value → Type 0
 ValueIsThere r earlier wanted (val.Int z) = int_rule wanted z ≡ Absent
 ValueIsThere r earlier wanted (val.Object n) = Refers (object_role wanted) earlier n
 ValueIsThere r earlier wanted (val.Text n) = Refers role.Text earlier n
 ValueIsThere r earlier wanted (val.Fixed n) = n < length r.fixed
+ValueIsThere r earlier wanted (val.Arm n) = n < arm_limit
 ValueIsThere r earlier wanted _ = Unit {0}
 
 -- and it may stand here
@@ -161,12 +164,12 @@ pub record CountsAre (r : Ranges) (rs : List Recorded) (end : Tail) : Type 0 whe
 
 -- ---- a trace
 
--- the trace of a run keeps every rule of a reader
-pub record IsReadable (p : Program) (head : Head) (rs : List Recorded) (end : Tail) : Type 0 where
+-- the trace of a run keeps every rule of a reader of a version
+pub record IsReadable (v : Version) (p : Program) (head : Head) (rs : List Recorded) (end : Tail) : Type 0 where
   pub head_stands : HeadMayStand head
   pub fit : AllFit rs
   pub few : length rs ≤ event_limit
-  pub events_stand : AllMayStand (ranges_of p) rs
-  pub little_output : printed (ranges_of p) [] rs ≤ output_limit
+  pub events_stand : AllMayStand (ranges_of v p) rs
+  pub little_output : printed (ranges_of v p) [] rs ≤ output_limit
   pub end_stands : EndMayStand p.statements head.steps (map known_in rs) end
-  pub counts : CountsAre (ranges_of p) rs end
+  pub counts : CountsAre (ranges_of v p) rs end

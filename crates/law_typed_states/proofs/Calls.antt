@@ -125,6 +125,7 @@ module _ (G : Ground) (M : Methods G) (i : FrameKind) where
       object_chosen site v args (val.Char x) e t u h a = never_chosen site v args _ (λ n q. let z = subst (λ (x : Value). Is (p G) n (class_type md.class) x) e (h.by n q) in cc z)
       object_chosen site v args (val.Int x) e t u h a = never_chosen site v args _ (λ n q. let z = subst (λ (x : Value). Is (p G) n (class_type md.class) x) e (h.by n q) in cc z)
       object_chosen site v args (val.Long x) e t u h a = never_chosen site v args _ (λ n q. let z = subst (λ (x : Value). Is (p G) n (class_type md.class) x) e (h.by n q) in cc z)
+      object_chosen site v args (val.Arm n) e t u h a = never_chosen site v args _ (λ n q. subst (λ (x : Value). Is (p G) n (class_type md.class) x) e (h.by n q))
 
       pub chosen_types : (receiver : Run (A G) (Carried (A G))) (args : List (Run (A G) (Carried (A G)))) (site : ℕ) → T G M i receiver (class_type md.class) → AllTypes args md.params → T G M i (call_on w form.Chosen k receiver args site) md.result
       unfolding call_on call_form

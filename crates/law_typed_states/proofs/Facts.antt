@@ -124,6 +124,7 @@ module _ (G : Ground) where
   caught_is n (val.Char x) found c i h e = absurd (cc i)
   caught_is n (val.Int x) found c i h e = absurd (cc i)
   caught_is n (val.Long x) found c i h e = absurd (cc i)
+  caught_is n (val.Arm k) found c i h e = absurd i
 
   -- ---- receivers
 
@@ -290,6 +291,7 @@ module _ (G : Ground) where
   reference_passes n element ty found (val.Char x) r s h f e = absurd (subst IsReference h s)
   reference_passes n element ty found (val.Int x) r s h f e = absurd (subst IsReference h s)
   reference_passes n element ty found (val.Long x) r s h f e = absurd (subst IsReference h s)
+  reference_passes n element ty found (val.Arm k) r s h f e = absurd h
 
   passes_under : (n : Moment) (element ty found : Ty) (v : Value) → ElementsUnder (p G).classes element ty → Is (p G) n ty v → HasFound n v found → may_store (p G) element found v ≡ true → Is (p G) n element v
   passes_under n element ty found v (inl e) h f m = subst (λ t. Is (p G) n t v) (sym e) h

@@ -103,7 +103,7 @@ module _ (G : Ground) (M : Methods G) (i : FrameKind) where
 
   pub conditional_types : (test : Run (A G) (Carried (A G))) (a b : Option (Run (A G) (Carried (A G)))) (site : ℕ) (ty : Ty) → T test boolean_type → ArmOf a ty → ArmOf b ty → T (conditional test a b site) ty
   unfolding conditional
-  conditional_types test a b site ty d da db = record { by = λ P. scopes G (bind G (d.by P) (λ v. next G (notes_test G Around site v.value v) (λ e. chooses G (is_true v.value) (arm_gives e v.value a ty (newest _ _) da) (arm_gives e v.value b ty (newest _ _) db)))) }
+  conditional_types test a b site ty d da db = record { by = λ P. scopes G (bind G (d.by P) (λ v. next G (notes_test G Around site _ v) (λ e. chooses G (is_true v.value) (arm_gives e v.value a ty (newest _ _) da) (arm_gives e v.value b ty (newest _ _) db)))) }
 
   -- ---- methods
 

@@ -175,9 +175,9 @@ module _ (G : Ground) where
   unfolding Kept typed law_of counted steps_of law
   notes d c g = record { by = rule.keeps_recorded A typed d c _ (noted d c g) trivially trivially }
 
-  pub notes_test : {r : Region} {P : Known} (reach : Reach) (site : ℕ) (v : Value) (c : Carried A) → Does r P (activating reach (note (plain kind.Test site v) c)) (λ e. nothing)
+  pub notes_test : {r : Region} {P : Known} (reach : Reach) (site n : ℕ) (c : Carried A) → Does r P (activating reach (note (plain kind.Test site (val.Arm n)) c)) (λ e. nothing)
   unfolding Kept typed law_of counted steps_of law plain
-  notes_test reach site v c = gives_less (record { by = rule.keeps_entered A typed reach (plain kind.Test site v) c _ (noted _ c (a_test site v c)) tt trivially trivially }) (λ e. trivially)
+  notes_test reach site n c = gives_less (record { by = rule.keeps_entered A typed reach (plain kind.Test site (val.Arm n)) c _ (noted _ c (a_test site n c)) tt trivially trivially }) (λ e. trivially)
 
   pub notes_call : {r : Region} {P : Known} (reach : Reach) (site m : ℕ) (c : Carried A) → Does r P (activating reach (note (about kind.Call site m val.None) c)) (event A p (about kind.Call site m val.None))
   unfolding Kept typed law_of counted steps_of law about

@@ -16,7 +16,7 @@ use Rattle.wy_steps.specs.Steps.{constant, value_of, code_of}
 use Rattle.wy_meaning.specs.World.{World, plain, is_null}
 use Rattle.wy_meaning.specs.Text.{print, print_value, print_nothing}
 use Rattle.wy_meaning.specs.Expression.{eval, eval_part, part_or}
-use Rattle.wy_meaning.specs.Statement.{statement, tested, evaluated, declaration, if_form, while_form, for_test, for_form, jump, return_form, throw_form, Clause, caught, handle, at_throw, finally, try_form, print_form, other_or, exec, exec_act, exec_other, exec_all, exec_catches}
+use Rattle.wy_meaning.specs.Statement.{statement, armed, tested, evaluated, declaration, if_form, while_form, for_test, for_form, jump, return_form, throw_form, Clause, caught, handle, at_throw, finally, try_form, print_form, other_or, exec, exec_act, exec_other, exec_all, exec_catches}
 use Rattle.wy_typing.specs.Types.{boolean_type}
 use Rattle.wy_typing.specs.Statements.{Within, IsTyped, Acts, OtherTyped, AllTyped, CatchesTyped, IsTest, IsResult, IsOperand}
 use Rattle.law_induction.specs.Law.{nothing, both, Entails, FrameKind, In, a_return, a_jump}
@@ -47,9 +47,13 @@ module _ (G : Ground) (M : Methods G) (i : FrameKind) (result : Option Ty) where
     pub record Leaves {X : Type 0} (m : Run (A G) X) : Type 1 where
       pub by : (P : Known G) → Does G (In i) P m (λ x. nothing)
 
+    pub arms : (site reach n : ℕ) (v : Carried (A G)) → Leaves (armed site reach n v)
+    unfolding armed
+    arms site reach n v = record { by = λ P. next G (forgets G (frames G)) (λ f. next G (notes_test G (Through f reach) site n v) (λ e. gives G _ trivially)) }
+
     pub tests : (site reach : ℕ) (m : Run (A G) (Carried (A G))) → T G M i m boolean_type → Leaves (tested site reach m)
     unfolding tested
-    tests site reach m d = record { by = λ P. next G (forgets G (d.by P)) (λ v. next G (forgets G (frames G)) (λ f. next G (notes_test G (Through f reach) site v.value v) (λ e. gives G _ trivially))) }
+    tests site reach m d = record { by = λ P. next G (forgets G (d.by P)) (λ v. after G ((arms site reach _ v).by _) (gives G _ trivially)) }
 
     declares_local : (k : ℕ) → Leaves (declaration k)
     unfolding declaration

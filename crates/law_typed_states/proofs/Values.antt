@@ -106,11 +106,13 @@ module _ {A : Sets} (p : Program) (noted : List (Noted A)) where
   number prim.Int (val.Object k) p h = absurd h.stands.reference
   number prim.Int (val.Text k) p h = absurd h.reference
   number prim.Int (val.Fixed k) p h = absurd h.reference
+  number prim.Int (val.Arm k) p h = absurd h
   number prim.Int val.Null p (inl h) = absurd (cc)
   number prim.Int val.Null p (inr h) = absurd h
   number prim.Long (val.Object k) p h = absurd h.stands.reference
   number prim.Long (val.Text k) p h = absurd h.reference
   number prim.Long (val.Fixed k) p h = absurd h.reference
+  number prim.Long (val.Arm k) p h = absurd h
   number prim.Long val.Null p (inl h) = absurd (cc)
   number prim.Long val.Null p (inr h) = absurd h
   number prim.Bool _ p h = absurd p
@@ -128,6 +130,7 @@ module _ {A : Sets} (p : Program) (noted : List (Noted A)) where
   truth (val.Object k) h = absurd h.stands.reference
   truth (val.Text k) h = absurd h.reference
   truth (val.Fixed k) h = absurd h.reference
+  truth (val.Arm k) h = absurd h
   truth val.Null (inl h) = absurd (cc)
   truth val.Null (inr h) = absurd h
   truth _ h = absurd (cc)
@@ -181,6 +184,7 @@ module _ {A : Sets} (p : Program) (noted : List (Noted A)) where
   of_references o ty (val.Int z) b v n h e = absurd (nullable_basic ty prim.Int n h)
   of_references o ty (val.Long z) b v n h e = absurd (nullable_basic ty prim.Long n h)
   of_references o ty (val.Bool z) b v n h e = absurd (nullable_basic ty prim.Bool n h)
+  of_references o ty (val.Arm k) b v n h e = absurd h
 
   pub binary_is : (o : BinOp) (ta tb tc : Ty) (a b v : Value) → Operates p.classes o ta tb tc → I ta a → I tb b → binary_of o a b ≡ Some v → I tc v
   binary_is o ta tb tc a b v (numbers {p = q} s c p) ha hb e = (of_numbers o q a b v (number q a p ha) (number q b p hb) e).0 c
@@ -214,6 +218,7 @@ module _ {A : Sets} (p : Program) (noted : List (Noted A)) where
   converted_is to q (val.Text k) t n h = absurd h.reference
   converted_is to q (val.Fixed k) t n h = absurd h.reference
   converted_is to q val.None t n h = absurd (cc)
+  converted_is to q (val.Arm k) t n h = absurd h
 
   -- ---- a value where a type above its own is wanted
 
@@ -231,6 +236,7 @@ module _ {A : Sets} (p : Program) (noted : List (Noted A)) where
   fits_is a b (val.Object k) (inr r) h = refers_up k a b r.0 r.1 h
   fits_is a b (val.Text k) (inr r) h = stands_up _ a b r.0 r.1 h
   fits_is a b (val.Fixed k) (inr r) h = stands_up _ a b r.0 r.1 h
+  fits_is a b (val.Arm k) (inr r) h = absurd h
   fits_is a b val.Null (inr r) h = inr r.0
   fits_is a b val.None (inr r) h = absurd (low a b Void r h tt)
   fits_is a b (val.Bool x) (inr r) h = absurd (low a b boolean_type r h tt)

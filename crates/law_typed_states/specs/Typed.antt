@@ -65,6 +65,7 @@ Is p noted ty (val.Object n) = Refers p noted ty n
 Is p noted ty (val.Text n) = MayStand p text_type ty
 Is p noted ty (val.Fixed n) = MayStand p text_type ty
 Is p noted ty val.None = ty ≡ Void
+Is p noted ty (val.Arm n) = ⊥
 
 -- ---- bodies
 

@@ -2,11 +2,12 @@
 
 ghost use Rattle.std.specs.Prelude.{◌≤◌, IfSome, length};
 ghost use Rattle.wy_kernel.specs.Limits.{trace_limit};
+ghost use Rattle.wy_event.specs.declared.record.Version.{Version};
 ghost use Rattle.wy_spelling.specs.Spelling.{opening};
 
 use std::alloc::{AllocError, Global};
 use std::test::Fail;
-use wy_event::record::{Head, Trace};
+use wy_event::record::{Head, Trace, Version};
 use wy_frames::{DamageRule, Decoder, TraceError, decode, read_head};
 use wy_kernel::program::Program;
 use wy_kernel::types::NONE;
@@ -19,6 +20,17 @@ static TRACE: [u8; 102] = [
     0x00, 0x53, 0x00, 0x00, 0x00, 0x20, 0x22, 0x82, 0x25, 0x98, 0x43, 0xce, 0x4b, 0xa5, 0xe4, 0xee,
     0x06, 0xab, 0x58, 0xe4, 0x30, 0xa8, 0x47, 0x74, 0x54, 0xcf, 0x3c, 0xb9, 0xf9, 0xfd, 0xed, 0x32,
     0x28, 0x14, 0xe6, 0xee, 0x28, 0x8a,
+];
+
+/// The same in version 2.
+static TRACE_TWO: [u8; 102] = [
+    0x57, 0x48, 0x59, 0x54, 0x52, 0x41, 0x43, 0x32, 0x48, 0x00, 0x00, 0x00, 0x11, 0x00, 0x00, 0x00,
+    0x05, 0x00, 0x00, 0x00, 0x02, 0x68, 0x69, 0x00, 0x00, 0x00, 0x03, 0x61, 0x20, 0x62, 0x43, 0x00,
+    0x00, 0x00, 0x04, 0x00, 0x00, 0x00, 0x00, 0x54, 0x00, 0x00, 0x00, 0x15, 0x00, 0xff, 0xff, 0xff,
+    0xff, 0x00, 0x00, 0x00, 0x03, 0x00, 0x00, 0x00, 0x00, 0x00, 0x00, 0x00, 0x00, 0x00, 0x00, 0x00,
+    0x00, 0x53, 0x00, 0x00, 0x00, 0x20, 0xb5, 0x19, 0x00, 0xcb, 0x7e, 0x9b, 0x12, 0xc2, 0xdd, 0xff,
+    0xe8, 0x31, 0xf8, 0xf0, 0xdb, 0x26, 0x78, 0xec, 0x4c, 0x6b, 0x2a, 0xc6, 0x48, 0x46, 0xdb, 0x4f,
+    0x76, 0xb4, 0xff, 0x41, 0x1b, 0xf1,
 ];
 
 fn program(alloc: Global) -> Program {
@@ -53,15 +65,27 @@ fn is_the_run(trace: &Trace) -> bool {
 fn a_trace_is_read(rt: HostRuntime) -> Result<(), Fail> {
     let alloc = rt.alloc();
     let program = program(alloc);
-    let read = decode(alloc, TRACE.as_slice(), &program);
-    assert!(rt; matches!(&read, Ok(trace) if is_the_run(trace)));
+    for bytes in [TRACE.as_slice(), TRACE_TWO.as_slice()] {
+        let read = decode(alloc, bytes, &program);
+        assert!(rt; matches!(&read, Ok(trace) if is_the_run(trace)));
+    }
     Ok(())
 }
 
-/// The head, if its input and its source are short.
+#[test]
+fn a_head_has_the_version_of_its_bytes(rt: HostRuntime) -> Result<(), Fail> {
+    let alloc = rt.alloc();
+    let (_, _, first) = read_head(alloc, TRACE.as_slice())?;
+    let (_, _, second) = read_head(alloc, TRACE_TWO.as_slice())?;
+    assert!(rt; first == Version::One && second == Version::Two);
+    Ok(())
+}
+
+/// The head, if its input and its source are short, so that the trace of either version has room for it.
 #[tactic(auto, using(crate::proofs::Opening::opening_is_short))]
 pub fn short_head(head: Head) -> Option<Head>
-    ensures { IfSome result (λ head. length (opening head) ≤ trace_limit) }
+    ensures { IfSome result (λ head.
+        (version : Version) → length (opening version head) ≤ trace_limit) }
 {
     if head.input.as_slice().len() > 100 || head.source.as_slice().len() > 100 {
         return None;
@@ -73,11 +97,11 @@ pub fn short_head(head: Head) -> Option<Head>
 fn a_trace_is_read_byte_by_byte(rt: HostRuntime) -> Result<(), Fail> {
     let alloc = rt.alloc();
     let program = program(alloc);
-    let (head, end) = read_head(alloc, TRACE.as_slice())?;
+    let (head, end, version) = read_head(alloc, TRACE.as_slice())?;
     let Some(head) = short_head(head) else {
         return Err(Fail::new("the head is long"));
     };
-    let mut decoder = Decoder::new(alloc, head, &program);
+    let mut decoder = Decoder::new(alloc, head, version, &program);
     for (n, byte) in TRACE.iter().enumerate() {
         if n >= end as usize {
             assert!(rt; decoder.feed(&[*byte]) == Ok(()), "byte {n}");
@@ -92,18 +116,21 @@ fn a_trace_is_read_byte_by_byte(rt: HostRuntime) -> Result<(), Fail> {
 fn each_part_of_a_trace_is_cut(rt: HostRuntime) -> Result<(), Fail> {
     let alloc = rt.alloc();
     let program = program(alloc);
-    for n in 0..TRACE.len() {
-        let read = decode(alloc, &TRACE[..n], &program);
-        assert!(rt;
-            read.err() == Some(TraceError::Cut { byte: n as u32 }),
-            "{n} bytes"
-        );
+    for bytes in [TRACE.as_slice(), TRACE_TWO.as_slice()] {
+        for n in 0..bytes.len() {
+            assert!(rt; n < 1000);
+            let read = decode(alloc, &bytes[..n], &program);
+            assert!(rt;
+                read.err() == Some(TraceError::Cut { byte: n as u32 }),
+                "{n} bytes"
+            );
+        }
     }
     Ok(())
 }
 
 /// A byte, what stands there instead, and why that is no trace.
-static CHANGES: [(usize, u8, TraceError); 9] = [
+static CHANGES: [(usize, u8, TraceError); 11] = [
     (
         0,
         b'w',
@@ -112,6 +139,15 @@ static CHANGES: [(usize, u8, TraceError); 9] = [
             rule: DamageRule::Magic,
         },
     ),
+    (
+        7,
+        b'3',
+        TraceError::Damaged {
+            byte: 7,
+            rule: DamageRule::Magic,
+        },
+    ),
+    (7, b'2', TraceError::BadSeal),
     (
         8,
         b'E',

@@ -70,7 +70,7 @@ pub fn events(alloc: Global) -> Result<Vec<Event>, AllocError> {
     events.push(event(alloc, Kind::Set, MAIN, X, Value::Int(2), &[])?)?;
     events.push(event(alloc, Kind::Set, MAIN, Y, Value::Int(0), &[])?)?;
     let x = place(X, 6);
-    events.push(event(alloc, Kind::Test, MAIN, Slot::None, Value::Bool(true), &[x])?)?;
+    events.push(event(alloc, Kind::Test, MAIN, Slot::None, Value::Arm(1), &[x])?)?;
     let x = place(X, 7);
     events.push(event(alloc, Kind::Set, 6, Y, Value::Int(5), &[x])?)?;
     let y = place(Y, 8);

@@ -63,7 +63,7 @@ fn both_mirrors_have_the_trace(rt: HostRuntime) -> Result<(), Fail> {
     assert!(rt; left.phase == Phase::Done, "it is done");
     let first = left.first.expect(&rt, "the first");
     let second = left.second.expect(&rt, "the second");
-    assert!(rt; first.starts_with(b"WHYTRAC1H"), "it begins so");
+    assert!(rt; first.starts_with(b"WHYTRAC2H"), "it begins so");
     assert_eq!(rt; first.len(), 97, "8, and frames of 17, 9, 26 and 37");
     assert!(rt; first.as_slice() == second.as_slice(), "they are alike");
     assert!(rt; left.third.is_none(), "there is no third");

@@ -97,7 +97,7 @@ fn three_sinks_have_one_trace(rt: HostRuntime) -> Result<(), Fail> {
     let typed = program(&rt)?;
     let left = recorded(&rt, &typed.program, 0)?;
     assert!(rt; left.refused.is_none(), "it is recorded");
-    assert!(rt; left.first.starts_with(b"WHYTRAC1H"), "it begins so");
+    assert!(rt; left.first.starts_with(b"WHYTRAC2H"), "it begins so");
     assert!(rt;
         left.first.as_slice() == left.second.as_slice(),
         "in memory"

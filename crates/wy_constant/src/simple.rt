@@ -40,6 +40,7 @@ pub fn constant_in(v: Value) -> Const
         Value::Object(_) => Const::Null,
         Value::Text(_) => Const::Null,
         Value::Fixed(_) => Const::Null,
+        Value::Arm(_) => Const::Null,
     }
 }
 

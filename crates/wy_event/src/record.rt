@@ -108,6 +108,15 @@ pub struct Thrown {
 
 pub type Bytes = Sequence<u8>;
 
+/// The version of the bytes of a trace. They differ in how the arm of a Test is spelled, and in the bytes that name the format.
+#[derive(Clone, Copy, Debug, PartialEq, Eq)]
+pub enum Version {
+    /// An arm is spelled as the boolean that the test gave.
+    One,
+    /// An arm is spelled as a number.
+    Two,
+}
+
 /// What a run was given: its step budget, its input and the text of its program.
 #[derive(Drop)]
 pub struct Head {

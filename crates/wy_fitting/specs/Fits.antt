@@ -1,5 +1,5 @@
 -- Records whose numbers fit the bytes that a trace spells them in.
-use Rattle.std.specs.Prelude.{◌≡◌, ℕ, ◌<◌, ◌^◌, List, [], All, Option, IfSome, FitsSigned}
+use Rattle.std.specs.Prelude.{◌≡◌, ◌==◌, if◌then◌else◌, ℕ, ◌<◌, ◌^◌, List, [], All, Option, IfSome, FitsSigned}
 use Rattle.std.specs.Int.{w8, w16, w32, w64}
 use Rattle.wy_value.specs.declared.value.Value.{Value}
 use Rattle.wy_value.specs.declared.value.Value.TheVariants as val
@@ -11,6 +11,8 @@ use Rattle.wy_event.specs.declared.record.Use.{Use}
 use Rattle.wy_event.specs.declared.record.Use.TheVariants as used
 use Rattle.wy_event.specs.declared.record.Cover.{Cover}
 use Rattle.wy_event.specs.declared.record.Tail.{Tail}
+use Rattle.wy_event.specs.declared.record.Version.{Version}
+use Rattle.wy_event.specs.declared.record.Version.TheVariants as version
 use Rattle.wy_event.specs.Record.{Recorded}
 use Rattle.wy_kernel.specs.View.{NONE}
 
@@ -42,6 +44,7 @@ ValueFits (val.Long z) = FitsSigned w64 z
 ValueFits (val.Object n) = IsNumber n
 ValueFits (val.Text n) = IsNumber n
 ValueFits (val.Fixed n) = IsNumber n
+ValueFits (val.Arm n) = IsNumber n
 ValueFits _ = Unit {0}
 
 abbrev pub UseFits : Use → Type 0
@@ -80,32 +83,45 @@ pub record EndFits (t : Tail) : Type 0 where
 
 -- ---- what bytes tell
 
+-- version 1 spells an arm as a boolean, which tells an arm in a Test and else a boolean
+abbrev pub told_arm : Version → Value → Value
+told_arm version.One (val.Arm n) = val.Arm (if n == 1 then 1 else 0)
+told_arm version.One (val.Bool b) = val.Arm (if b then 1 else 0)
+told_arm version.One x = x
+told_arm version.Two x = x
+
+abbrev pub told_truth : Version → Value → Value
+told_truth version.One (val.Arm n) = val.Bool (n == 1)
+told_truth version.One x = x
+told_truth version.Two x = x
+
 -- nothing of the value of a Text, and nothing of the units of any other event
-abbrev pub told_value : Kind → Value → Value
-told_value kind.Text v = val.None
-told_value _ v = v
+abbrev pub told_value : Version → Kind → Value → Value
+told_value v kind.Text x = val.None
+told_value v kind.Test x = told_arm v x
+told_value v _ x = told_truth v x
 
 abbrev pub told_units : Kind → List ℕ → List ℕ
 told_units kind.Text units = units
 told_units _ units = []
 
--- the record that its bytes tell
-unfoldable pub told : Recorded → Recorded
-told e = record {
+-- the record that its bytes tell in a version
+unfoldable pub told : Version → Recorded → Recorded
+told v e = record {
   kind = e.kind;
   site = e.site;
   frame = e.frame;
   control = e.control;
   entity = e.entity;
   slot = e.slot;
-  value = told_value e.kind e.value;
+  value = told_value v e.kind e.value;
   units = told_units e.kind e.units;
   uses = e.uses;
 }
 
 -- bytes tell all of it
-abbrev pub IsTold : Recorded → Type 0
-IsTold e = told e ≡ e
+abbrev pub IsTold : Version → Recorded → Type 0
+IsTold v e = told v e ≡ e
 
-abbrev pub AllTold : List Recorded → Type 0
-AllTold rs = All IsTold rs
+abbrev pub AllTold : Version → List Recorded → Type 0
+AllTold v rs = All (IsTold v) rs

@@ -36,6 +36,7 @@ fn value_fits(value: Value)
         Value::Object(_) => {}
         Value::Text(_) => {}
         Value::Fixed(_) => {}
+        Value::Arm(_) => {}
         _ => {}
     }
 }

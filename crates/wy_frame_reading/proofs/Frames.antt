@@ -8,6 +8,7 @@ use Rattle.std.proofs.lemmas.Bool.{eqb-true, le-leb, le-ltb, leb-true, ltb-false
 use Rattle.std.proofs.lemmas.List.{append-nil, length-take, nil_from_length, take-append-drop, take_at}
 use Rattle.std.proofs.lemmas.Result.{IfOk-at_ok}
 use Rattle.wy_value.specs.declared.value.Value.{Value}
+use Rattle.wy_event.specs.declared.record.Version.{Version}
 use Rattle.wy_event.specs.declared.record.Kind.{Kind}
 use Rattle.wy_event.specs.declared.record.Kind.TheVariants as kind
 use Rattle.wy_event.specs.declared.record.Event.{Event}
@@ -92,90 +93,90 @@ payload_front bytes are =
 abbrev ended : Event × List ℕ → Result Event DamageRule
 ended x = cond (length x.1 == 0) (Ok x.0) (Err rule.Length)
 
-whole_back : (n : ℕ) (e : Recorded) → GoodRecord n e → whole_at n (event_payload e) ≡ Ok (event_of e)
+whole_back : (v : Version) (n : ℕ) (e : Recorded) → GoodRecord v n e → whole_at v n (event_payload v e) ≡ Ok (event_of e)
 unfolding whole_at
-whole_back n e good = bound (event_at n (event_payload e)) ended (event_of e, []) (Ok (event_of e)) (ap (event_at n) (sym (append-nil (event_payload e))) ∙ (event_read n).back e [] good) refl
+whole_back v n e good = bound (event_at v n (event_payload v e)) ended (event_of e, []) (Ok (event_of e)) (ap (event_at v n) (sym (append-nil (event_payload v e))) ∙ (event_read v n).back e [] good) refl
 
-abbrev IsWhole : ℕ → List ℕ → Event → Type 0
-IsWhole n payload x = (e : Recorded) × (x ≡ event_of e) × GoodRecord n e × (payload ≡ event_payload e)
+abbrev IsWhole : Version → ℕ → List ℕ → Event → Type 0
+IsWhole v n payload x = (e : Recorded) × (x ≡ event_of e) × GoodRecord v n e × (payload ≡ event_payload v e)
 
-whole_front : (n : ℕ) (payload : List ℕ) → AreBytes payload → IfOk (whole_at n payload) (IsWhole n payload)
+whole_front : (v : Version) (n : ℕ) (payload : List ℕ) → AreBytes payload → IfOk (whole_at v n payload) (IsWhole v n payload)
 unfolding whole_at
-whole_front n payload are =
-    then_has (event_at n payload) ended (λ r. (e : Recorded) × (r.0 ≡ event_of e) × GoodRecord n e × Spelled payload (event_payload e) r.1) (IsWhole n payload) ((event_read n).front payload are)
+whole_front v n payload are =
+    then_has (event_at v n payload) ended (λ r. (e : Recorded) × (r.0 ≡ event_of e) × GoodRecord v n e × Spelled payload (event_payload v e) r.1) (IsWhole v n payload) ((event_read v n).front payload are)
     (λ (x, rest) (e, is, good, s). by_rest x rest e is good s (length rest == 0) refl)
   where
-    by_rest : (x : Event) (rest : List ℕ) (e : Recorded) → x ≡ event_of e → GoodRecord n e → Spelled payload (event_payload e) rest → (b : Bool) → (length rest == 0) ≡ b → IfOk (cond b (Ok x) (Err rule.Length)) (IsWhole n payload)
-    by_rest x rest e is good s true none = (e, is, good, s.parts ∙ ap (λ l. event_payload e ++ l) (nil_from_length rest (eqb-true (length rest) 0 none)) ∙ append-nil (event_payload e))
+    by_rest : (x : Event) (rest : List ℕ) (e : Recorded) → x ≡ event_of e → GoodRecord v n e → Spelled payload (event_payload v e) rest → (b : Bool) → (length rest == 0) ≡ b → IfOk (cond b (Ok x) (Err rule.Length)) (IsWhole v n payload)
+    by_rest x rest e is good s true none = (e, is, good, s.parts ∙ ap (λ l. event_payload v e ++ l) (nil_from_length rest (eqb-true (length rest) 0 none)) ∙ append-nil (event_payload v e))
     by_rest x rest e is good s false none = tt
 
 -- ---- frames
 
-abbrev with_size : ℕ → ℕ × List ℕ → Result (Event × ℕ) DamageRule
-with_size n payload = whole_at n payload.1 >>= λ event. Ok (event, 5 + payload.0)
+abbrev with_size : Version → ℕ → ℕ × List ℕ → Result (Event × ℕ) DamageRule
+with_size v n payload = whole_at v n payload.1 >>= λ event. Ok (event, 5 + payload.0)
 
-frame_length : (e : Recorded) → length (event_frame e) ≡ 5 + length (event_payload e)
+frame_length : (v : Version) (e : Recorded) → length (event_frame v e) ≡ 5 + length (event_payload v e)
 unfolding event_frame
-frame_length e = omega (arith, length-append (69 ∷ number (length (event_payload e))) (event_payload e))
+frame_length v e = omega (arith, length-append (69 ∷ number (length (event_payload v e))) (event_payload v e))
 
-frame_parts : (e : Recorded) (rest : List ℕ) → event_frame e ++ rest ≡ 69 ∷ (number (length (event_payload e)) ++ (event_payload e ++ rest))
+frame_parts : (v : Version) (e : Recorded) (rest : List ℕ) → event_frame v e ++ rest ≡ 69 ∷ (number (length (event_payload v e)) ++ (event_payload v e ++ rest))
 unfolding event_frame
-frame_parts e rest = append_assoc (69 ∷ number (length (event_payload e))) (event_payload e) rest
+frame_parts v e rest = append_assoc (69 ∷ number (length (event_payload v e))) (event_payload v e) rest
 
 -- lists of a short payload are short
-few_units : (k : Kind) (v : Value) (us : List ℕ) → told_units k us ≡ us → length (content_bytes k v us) < 2 ^ 32 → length us < 2 ^ bits w32
-few_units kind.Text v us told short = units_are_few us short
-few_units k v us told short = subst (λ (l : List ℕ). length l < 2 ^ bits w32) told (omega arith)
+few_units : (v : Version) (k : Kind) (x : Value) (us : List ℕ) → told_units k us ≡ us → length (content_bytes v k x us) < 2 ^ 32 → length us < 2 ^ bits w32
+few_units v kind.Text x us told short = units_are_few us short
+few_units v k x us told short = subst (λ (l : List ℕ). length l < 2 ^ bits w32) told (omega arith)
 
-told_units_of : (e : Recorded) → IsTold e → told_units e.kind e.units ≡ e.units
+told_units_of : (v : Version) (e : Recorded) → IsTold v e → told_units e.kind e.units ≡ e.units
 unfolding told
-told_units_of e is = ap (λ r. r.units) is
+told_units_of v e is = ap (λ r. r.units) is
 
-good_of : (n : ℕ) (bytes : List ℕ) (e : Recorded) → BeginWith n bytes e → GoodRecord n e
+good_of : (v : Version) (n : ℕ) (bytes : List ℕ) (e : Recorded) → BeginWith v n bytes e → GoodRecord v n e
 unfolding event_payload
-good_of n bytes e begin =
+good_of v n bytes e begin =
     let us = uses_bytes e.uses in
-    let content = content_bytes e.kind e.value e.units in
+    let content = content_bytes v e.kind e.value e.units in
     let slot = slot_bytes e.slot in
     let within : length content + length us < 2 ^ 32 =
-    omega (arith, begin.short, frame_length e, length-append (origin_bytes e) (slot ++ (content ++ us)), length-append slot (content ++ us), length-append content us) in
+    omega (arith, begin.short, frame_length v e, length-append (origin_bytes e) (slot ++ (content ++ us)), length-append slot (content ++ us), length-append content us) in
     record {
       fits = begin.fits;
       below = begin.below;
       told = begin.told;
-      few_units = few_units e.kind e.value e.units (told_units_of e begin.told) (omega (arith, within));
+      few_units = few_units v e.kind e.value e.units (told_units_of v e begin.told) (omega (arith, within));
       few_uses = uses_are_few e.uses (omega (arith, within));
     }
 
-frame_back : (n : ℕ) (bytes : List ℕ) (e : Recorded) → BeginWith n bytes e → frame_at n bytes ≡ Ok (event_of e, 5 + length (event_payload e))
+frame_back : (v : Version) (n : ℕ) (bytes : List ℕ) (e : Recorded) → BeginWith v n bytes e → frame_at v n bytes ≡ Ok (event_of e, 5 + length (event_payload v e))
 unfolding frame_at
-frame_back n bytes e begin =
-    let payload = event_payload e in
-    let here : bytes ≡ 69 ∷ (number (length payload) ++ (payload ++ begin.rest)) = begin.starts ∙ frame_parts e begin.rest in
-    bound (payload_at bytes) (with_size n) (length payload, payload) (Ok (event_of e, 5 + length payload)) (ap payload_at here ∙ payload_back payload begin.rest (omega (arith, begin.short, frame_length e)))
-    (bound (whole_at n payload) (λ event. Ok (event, 5 + length payload)) (event_of e) (Ok (event_of e, 5 + length payload)) (whole_back n e (good_of n bytes e begin)) refl)
+frame_back v n bytes e begin =
+    let payload = event_payload v e in
+    let here : bytes ≡ 69 ∷ (number (length payload) ++ (payload ++ begin.rest)) = begin.starts ∙ frame_parts v e begin.rest in
+    bound (payload_at bytes) (with_size v n) (length payload, payload) (Ok (event_of e, 5 + length payload)) (ap payload_at here ∙ payload_back payload begin.rest (omega (arith, begin.short, frame_length v e)))
+    (bound (whole_at v n payload) (λ event. Ok (event, 5 + length payload)) (event_of e) (Ok (event_of e, 5 + length payload)) (whole_back v n e (good_of v n bytes e begin)) refl)
 
-abbrev IsFound : ℕ → List ℕ → Event × ℕ → Type 0
-IsFound n bytes r = (e : Recorded) × (r.0 ≡ event_of e) × BeginWith n bytes e × (r.1 ≡ length (event_frame e))
+abbrev IsFound : Version → ℕ → List ℕ → Event × ℕ → Type 0
+IsFound v n bytes r = (e : Recorded) × (r.0 ≡ event_of e) × BeginWith v n bytes e × (r.1 ≡ length (event_frame v e))
 
-frame_front : (n : ℕ) (bytes : List ℕ) → AreBytes bytes → IfOk (frame_at n bytes) (IsFound n bytes)
+frame_front : (v : Version) (n : ℕ) (bytes : List ℕ) → AreBytes bytes → IfOk (frame_at v n bytes) (IsFound v n bytes)
 unfolding frame_at
-frame_front n bytes are =
-    then_has (payload_at bytes) (with_size n) (IsSized bytes) (IsFound n bytes) (payload_front bytes are)
-    (λ (size, payload) sized. then_has (whole_at n payload) (λ event. Ok (event, 5 + size)) (IsWhole n payload) (IsFound n bytes) (whole_front n payload sized.are)
+frame_front v n bytes are =
+    then_has (payload_at bytes) (with_size v n) (IsSized bytes) (IsFound v n bytes) (payload_front bytes are)
+    (λ (size, payload) sized. then_has (whole_at v n payload) (λ event. Ok (event, 5 + size)) (IsWhole v n payload) (IsFound v n bytes) (whole_front v n payload sized.are)
     (λ x (e, is, good, spelled).
-    let long : size ≡ length (event_payload e) = sized.size ∙ ap length spelled in (
+    let long : size ≡ length (event_payload v e) = sized.size ∙ ap length spelled in (
       e,
       is,
       record {
         fits = good.fits;
         below = good.below;
         told = good.told;
-        short = omega (arith, frame_length e, long, sized.short);
+        short = omega (arith, frame_length v e, long, sized.short);
         rest = sized.rest;
-        starts = sized.parts ∙ ap (λ l. 69 ∷ (number size ++ (l ++ sized.rest))) spelled ∙ ap (λ k. 69 ∷ (number k ++ (event_payload e ++ sized.rest))) long ∙ sym (frame_parts e sized.rest);
+        starts = sized.parts ∙ ap (λ l. 69 ∷ (number size ++ (l ++ sized.rest))) spelled ∙ ap (λ k. 69 ∷ (number k ++ (event_payload v e ++ sized.rest))) long ∙ sym (frame_parts v e sized.rest);
       },
-      omega (arith, frame_length e, long),
+      omega (arith, frame_length v e, long),
     )))
 
 -- ---- what is found
@@ -192,21 +193,21 @@ not_both : (r : Framed) (d : DamageRule) (x : Event × ℕ) → r ≡ Err d → 
 not_both (Ok y) d x failed read = absurd cc
 not_both (Err e) d x failed read = absurd cc
 
-pub found_is : (n : ℕ) (bytes : List ℕ) (found : Event × ℕ) → AreBytes bytes → frame_at n bytes ≡ Ok found → BeginsWithEvent n bytes (Some found)
-found_is n bytes (x, size) are is = of (IfOk-at_ok (IsFound n bytes) is (frame_front n bytes are)) where
-  same : (y : Event) (k : ℕ) → frame_at n bytes ≡ Ok (y, k) → x ≡ y
+pub found_is : (v : Version) (n : ℕ) (bytes : List ℕ) (found : Event × ℕ) → AreBytes bytes → frame_at v n bytes ≡ Ok found → BeginsWithEvent v n bytes (Some found)
+found_is v n bytes (x, size) are is = of (IfOk-at_ok (IsFound v n bytes) is (frame_front v n bytes are)) where
+  same : (y : Event) (k : ℕ) → frame_at v n bytes ≡ Ok (y, k) → x ≡ y
   same y k also = ap (event_in x) (sym is ∙ also)
 
-  of : IsFound n bytes (x, size) → BeginsWithEvent n bytes (Some (x, size))
+  of : IsFound v n bytes (x, size) → BeginsWithEvent v n bytes (Some (x, size))
   of (e, made, begin, long) =
       let here : recorded x ≡ e = ap recorded made ∙ seen_again e begin.fits in (
-        subst (BeginWith n bytes) (sym here) begin,
-        long ∙ ap (λ r. length (event_frame r)) (sym here),
-        λ other also. sym (ap recorded (same (event_of other) _ (frame_back n bytes other also)) ∙ seen_again other also.fits),
+        subst (BeginWith v n bytes) (sym here) begin,
+        long ∙ ap (λ r. length (event_frame v r)) (sym here),
+        λ other also. sym (ap recorded (same (event_of other) _ (frame_back v n bytes other also)) ∙ seen_again other also.fits),
       )
 
-none_is : (n : ℕ) (bytes : List ℕ) (d : DamageRule) → frame_at n bytes ≡ Err d → BeginsWithEvent n bytes Absent
-none_is n bytes d is other begin = not_both (frame_at n bytes) d (event_of other, 5 + length (event_payload other)) is (frame_back n bytes other begin)
+none_is : (v : Version) (n : ℕ) (bytes : List ℕ) (d : DamageRule) → frame_at v n bytes ≡ Err d → BeginsWithEvent v n bytes Absent
+none_is v n bytes d is other begin = not_both (frame_at v n bytes) d (event_of other, 5 + length (event_payload v other)) is (frame_back v n bytes other begin)
 
-pub fails_is : (n : ℕ) (bytes : List ℕ) (f : Fault) (d : DamageRule) → f ≡ fault.Broken d → Fails f (frame_at n bytes) → BeginsWithEvent n bytes Absent
-fails_is n bytes f d is failed = none_is n bytes d (subst (λ (g : Fault). Fails g (frame_at n bytes)) is failed)
+pub fails_is : (v : Version) (n : ℕ) (bytes : List ℕ) (f : Fault) (d : DamageRule) → f ≡ fault.Broken d → Fails f (frame_at v n bytes) → BeginsWithEvent v n bytes Absent
+fails_is v n bytes f d is failed = none_is v n bytes d (subst (λ (g : Fault). Fails g (frame_at v n bytes)) is failed)

@@ -1,5 +1,5 @@
 -- A record whose numbers are in their bounds is read from its payload, and what is read there is such a record.
-use Rattle.std.proofs.Common.{◌≡◌, ℕ, ◌<◌, ◌^◌, Bool, true, false, cond, eqb, List, [], ◌∷◌, ◌++◌, length, Option, Some, refl, sym, ap, subst, arith, All}
+use Rattle.std.proofs.Common.{◌≡◌, ℕ, zero, suc, ◌<◌, ◌^◌, Bool, true, false, cond, eqb, List, [], ◌∷◌, ◌++◌, length, Option, Some, refl, sym, ap, subst, arith, All}
 use Rattle.std.specs.Prelude.{None as Absent}
 use Rattle.std.specs.Prelude.{◌==◌, ◌||◌, nat_lt}
 use mir.Val.{bits}
@@ -9,27 +9,32 @@ use Rattle.std.proofs.lemmas.Bool.{eqb-true, lt-ltb, ltb-true}
 use Rattle.std.proofs.lemmas.List.Elements.{All-from_recursion, recursion_from_All}
 use Rattle.wy_kernel.specs.View.{NONE, present}
 use Rattle.wy_value.specs.declared.value.Value.{Value}
+use Rattle.wy_value.specs.declared.value.Value.TheVariants as val
+use Rattle.wy_event.specs.declared.record.Version.{Version}
+use Rattle.wy_event.specs.declared.record.Version.TheVariants as version
 use Rattle.wy_event.specs.declared.record.Kind.{Kind}
 use Rattle.wy_event.specs.declared.record.Kind.TheVariants as kind
 use Rattle.wy_event.specs.declared.record.Use.{Use}
 use Rattle.wy_event.specs.declared.record.Event.{Event}
 use Rattle.wy_event.specs.Record.{Recorded, recorded}
-use Rattle.wy_fitting.specs.Fits.{Fits, IsPresent, IsTold, IsUnit, UseFits, ValueFits, told, told_units, told_value}
+use Rattle.wy_fitting.specs.Fits.{Fits, IsPresent, IsTold, IsUnit, UseFits, ValueFits, told, told_arm, told_truth, told_units, told_value}
 use Rattle.wy_spelling.specs.Spelling.{content_bytes, event_payload, kind_number, number, optional, origin_bytes, slot_bytes, uses_bytes}
 use Rattle.wy_spelling.proofs.Numbers.{optional_present}
 use Rattle.wy_view.specs.References.{OptionBelow, RefersBelow, UsesBelow, ValueBelow}
+use Rattle.wy_payload.specs.declared.value.ValueForm.TheVariants as form
 use Rattle.wy_payload.specs.declared.event.Content.{Content}
 use Rattle.wy_frame_reading.specs.Fields.{event_at}
 use Rattle.wy_frame_reading.proofs.Readers.{Reads, by_parts}
 use Rattle.wy_frame_reading.proofs.Numbers.{IsOptional}
 use Rattle.wy_frame_reading.proofs.Uses.{GoodUse}
+use Rattle.wy_frame_reading.proofs.Values.{IsSpelled}
 use Rattle.wy_frame_reading.proofs.Events.{GoodContent, GoodParts, Parts, parts_made, parts_read, parts_spelled}
 
 -- its numbers fit, it refers to events below n and moments up to n, its bytes tell all of it, and its lists are short
-pub record GoodRecord (n : ℕ) (e : Recorded) : Type 0 where
+pub record GoodRecord (v : Version) (n : ℕ) (e : Recorded) : Type 0 where
   pub fits : Fits e
   pub below : RefersBelow n e
-  pub told : IsTold e
+  pub told : IsTold v e
   pub few_units : length e.units < 2 ^ bits w32
   pub few_uses : length e.uses < 2 ^ bits w32
 
@@ -95,24 +100,62 @@ present_below n m (small, lower) = below_by m small n (eqb m NONE) refl lower
 abbrev content : Value → List ℕ → Content
 content v us = record { value = v; units = us }
 
+-- what is told as it is in a version is spelled as itself there, and what is spelled so is told
+bit : (n : ℕ) (b : Bool) → eqb n 1 ≡ b → cond b 1 0 ≡ n → n < 2
+bit n true at is = omega (arith, is)
+bit n false at is = omega (arith, is)
+
+bit_is : (n : ℕ) → n < 2 → cond (eqb n 1) 1 0 ≡ n
+bit_is zero small = refl
+bit_is (suc zero) small = refl
+bit_is (suc (suc n)) small = absurd (omega (arith, small))
+
+arm_in : Value → ℕ
+arm_in (val.Arm n) = n
+arm_in _ = 0
+
+spelled_arm : (v : Version) (x : Value) → told_arm v x ≡ x → IsSpelled v form.Arm x
+unfolding arm_in
+spelled_arm version.One (val.Bool b) is = absurd cc
+spelled_arm version.One (val.Arm n) is = bit n (eqb n 1) refl (ap arm_in is)
+spelled_arm version.One _ is = tt
+spelled_arm version.Two x is = tt
+
+spelled_other : (v : Version) (x : Value) → told_truth v x ≡ x → IsSpelled v form.Optional x
+spelled_other version.One (val.Arm n) is = absurd cc
+spelled_other version.One _ is = tt
+spelled_other version.Two x is = tt
+
+told_as_arm : (v : Version) (x : Value) → IsSpelled v form.Arm x → told_arm v x ≡ x
+told_as_arm version.One (val.Bool b) good = absurd good
+told_as_arm version.One (val.Arm n) good = ap val.Arm (bit_is n good)
+told_as_arm version.One _ good = refl
+told_as_arm version.Two x good = refl
+
+told_as_other : (v : Version) (x : Value) → IsSpelled v form.Optional x → told_truth v x ≡ x
+told_as_other version.One (val.Arm n) good = absurd good
+told_as_other version.One _ good = refl
+told_as_other version.Two x good = refl
+
 -- what is asked of a content
-record Content_parts (n : ℕ) (k : Kind) (v : Value) (us : List ℕ) : Type 0 where
-  fits : ValueFits v
-  lower : ValueBelow n v
+record Content_parts (v : Version) (n : ℕ) (k : Kind) (x : Value) (us : List ℕ) : Type 0 where
+  fits : ValueFits x
+  lower : ValueBelow n x
   units : All IsUnit us
   few : length us < 2 ^ bits w32
-  told_v : told_value k v ≡ v
+  told_v : told_value v k x ≡ x
   told_u : told_units k us ≡ us
 
-content_good : (n : ℕ) (k : Kind) (v : Value) (us : List ℕ) → Content_parts n k v us → GoodContent n k (content v us)
-content_good n kind.Text v us p = (sym p.told_v, (recursion_from_All IsUnit us p.units, p.few))
-content_good n k v us p = ((p.fits, p.lower), sym p.told_u)
+content_good : (v : Version) (n : ℕ) (k : Kind) (x : Value) (us : List ℕ) → Content_parts v n k x us → GoodContent v n k (content x us)
+content_good v n kind.Text x us p = (sym p.told_v, (recursion_from_All IsUnit us p.units, p.few))
+content_good v n kind.Test x us p = ((p.fits, p.lower, spelled_arm v x p.told_v), sym p.told_u)
+content_good v n k x us p = ((p.fits, p.lower, spelled_other v x p.told_v), sym p.told_u)
 
 no_units : (us : List ℕ) → us ≡ [] → All IsUnit us × (length us < 2 ^ bits w32)
 no_units us is = subst (λ (l : List ℕ). All IsUnit l × (length l < 2 ^ bits w32)) (sym is) (All-from_recursion IsUnit [] tt, omega arith)
 
-content_has : (n : ℕ) (k : Kind) (v : Value) (us : List ℕ) → GoodContent n k (content v us) → Content_parts n k v us
-content_has n kind.Text v us (none, (fit, few)) = record {
+content_has : (v : Version) (n : ℕ) (k : Kind) (x : Value) (us : List ℕ) → GoodContent v n k (content x us) → Content_parts v n k x us
+content_has v n kind.Text x us (none, (fit, few)) = record {
   fits = subst ValueFits (sym none) tt;
   lower = subst (ValueBelow n) (sym none) tt;
   units = All-from_recursion IsUnit us fit;
@@ -120,12 +163,20 @@ content_has n kind.Text v us (none, (fit, few)) = record {
   told_v = sym none;
   told_u = refl;
 }
-content_has n k v us ((fit, lower), none) = record {
+content_has v n kind.Test x us ((fit, lower, spelled), none) = record {
   fits = fit;
   lower = lower;
   units = (no_units us none).0;
   few = (no_units us none).1;
-  told_v = refl;
+  told_v = told_as_arm v x spelled;
+  told_u = sym none;
+}
+content_has v n k x us ((fit, lower, spelled), none) = record {
+  fits = fit;
+  lower = lower;
+  units = (no_units us none).0;
+  few = (no_units us none).1;
+  told_v = told_as_other v x spelled;
   told_u = sym none;
 }
 
@@ -156,38 +207,38 @@ abbrev record_of : Parts → Recorded
 record_of p = recorded (parts_made p)
 
 -- what is told of a record is it, by its parts
-told_parts : (e : Recorded) → IsTold e → (told_value e.kind e.value ≡ e.value) × (told_units e.kind e.units ≡ e.units)
+told_parts : (v : Version) (e : Recorded) → IsTold v e → (told_value v e.kind e.value ≡ e.value) × (told_units e.kind e.units ≡ e.units)
 unfolding told
-told_parts e is = (ap (λ r. r.value) is, ap (λ r. r.units) is)
+told_parts v e is = (ap (λ r. r.value) is, ap (λ r. r.units) is)
 
-told_all : (e : Recorded) → told_value e.kind e.value ≡ e.value → told_units e.kind e.units ≡ e.units → IsTold e
+told_all : (w : Version) (e : Recorded) → told_value w e.kind e.value ≡ e.value → told_units e.kind e.units ≡ e.units → IsTold w e
 unfolding told
-told_all e v us = λ i. record { kind = e.kind; site = e.site; frame = e.frame; control = e.control; entity = e.entity; slot = e.slot; value = v i; units = us i; uses = e.uses }
+told_all w e v us = λ i. record { kind = e.kind; site = e.site; frame = e.frame; control = e.control; entity = e.entity; slot = e.slot; value = v i; units = us i; uses = e.uses }
 
-parts_good : (n : ℕ) (e : Recorded) → GoodRecord n e → GoodParts n (parts_of e)
-parts_good n e good =
+parts_good : (v : Version) (n : ℕ) (e : Recorded) → GoodRecord v n e → GoodParts v n (parts_of e)
+parts_good v n e good =
     let fits = good.fits in
     let below = good.below in
-    let all = told_parts e good.told in (
+    let all = told_parts v e good.told in (
       (fits.site, raw_optional n e.frame fits.frame below.frame, raw_optional n e.control fits.control below.control, raw_small e.entity fits.entity),
       (
         (fits.slot, below.slot),
         (
-          content_good n e.kind e.value e.units (record { fits = fits.value; lower = below.value; units = fits.units; few = good.few_units; told_v = all.0; told_u = all.1 }),
+          content_good v n e.kind e.value e.units (record { fits = fits.value; lower = below.value; units = fits.units; few = good.few_units; told_v = all.0; told_u = all.1 }),
           (good_uses n e.uses (recursion_from_All UseFits e.uses fits.uses) below.uses, good.few_uses),
         ),
       ),
     )
 
-parts_told : (e : Recorded) → parts_spelled (parts_of e) ≡ event_payload e
+parts_told : (v : Version) (e : Recorded) → parts_spelled v (parts_of e) ≡ event_payload v e
 unfolding event_payload origin_bytes
-parts_told e =
-    λ i. kind_number e.kind ∷ number e.site ++ (raw_spelled e.frame i ++ (raw_spelled e.control i ++ raw_spelled e.entity i)) ++ (slot_bytes e.slot ++ (content_bytes e.kind e.value e.units ++ uses_bytes e.uses))
+parts_told v e =
+    λ i. kind_number e.kind ∷ number e.site ++ (raw_spelled e.frame i ++ (raw_spelled e.control i ++ raw_spelled e.entity i)) ++ (slot_bytes e.slot ++ (content_bytes v e.kind e.value e.units ++ uses_bytes e.uses))
 
-record_good : (n : ℕ) (p : Parts) → GoodParts n p → GoodRecord n (record_of p)
+record_good : (v : Version) (n : ℕ) (p : Parts) → GoodParts v n p → GoodRecord v n (record_of p)
 unfolding recorded
-record_good n (o, (x, (c, us))) ((site, frame, control, entity), ((fit, lower), (has, (all, few)))) =
-    let inner = content_has n o.kind c.value c.units has in
+record_good v n (o, (x, (c, us))) ((site, frame, control, entity), ((fit, lower), (has, (all, few)))) =
+    let inner = content_has v n o.kind c.value c.units has in
     record {
       fits = record {
         site = site;
@@ -200,14 +251,14 @@ record_good n (o, (x, (c, us))) ((site, frame, control, entity), ((fit, lower), 
         uses = All-from_recursion UseFits us (uses_fit n us all);
       };
       below = record { frame = present_below n o.frame frame; control = present_below n o.control control; slot = lower; value = inner.lower; uses = uses_below n us all };
-      told = told_all (record_of (o, (x, (c, us)))) inner.told_v inner.told_u;
+      told = told_all v (record_of (o, (x, (c, us)))) inner.told_v inner.told_u;
       few_units = inner.few;
       few_uses = few;
     }
 
-record_made : (n : ℕ) (p : Parts) → GoodParts n p → parts_made p ≡ event_of (record_of p)
+record_made : (v : Version) (n : ℕ) (p : Parts) → GoodParts v n p → parts_made p ≡ event_of (record_of p)
 unfolding recorded
-record_made n (o, (x, (c, us))) ((site, frame, control, entity), others) = λ i. record {
+record_made v n (o, (x, (c, us))) ((site, frame, control, entity), others) = λ i. record {
   kind = o.kind;
   site = o.site;
   frame = sym (present_raw o.frame frame.0) i;
@@ -219,14 +270,14 @@ record_made n (o, (x, (c, us))) ((site, frame, control, entity), others) = λ i.
   uses = us;
 }
 
-record_told : (p : Parts) → parts_spelled p ≡ event_payload (record_of p)
+record_told : (v : Version) (p : Parts) → parts_spelled v p ≡ event_payload v (record_of p)
 unfolding event_payload origin_bytes recorded
-record_told (o, (x, (c, us))) = rw (optional_present o.frame, optional_present o.control, optional_present o.entity) refl
+record_told v (o, (x, (c, us))) = rw (optional_present o.frame, optional_present o.control, optional_present o.entity) refl
 
-pub event_read : (n : ℕ) → Reads Recorded Event (GoodRecord n) event_payload event_of (event_at n)
-event_read n =
-    by_parts Parts Recorded Event (GoodParts n) parts_spelled parts_made (GoodRecord n) event_payload event_of (event_at n) parts_of record_of (parts_read n)
-    (λ e good. (parts_good n e good, refl, parts_told e)) (λ p good. (record_good n p good, record_made n p good, record_told p))
+pub event_read : (v : Version) (n : ℕ) → Reads Recorded Event (GoodRecord v n) (event_payload v) event_of (event_at v n)
+event_read v n =
+    by_parts Parts Recorded Event (GoodParts v n) (parts_spelled v) parts_made (GoodRecord v n) (event_payload v) event_of (event_at v n) parts_of record_of (parts_read v n)
+    (λ e good. (parts_good v n e good, refl, parts_told v e)) (λ p good. (record_good v n p good, record_made v n p good, record_told v p))
 
 -- memory holds the record
 pub seen_again : (e : Recorded) → Fits e → recorded (event_of e) ≡ e

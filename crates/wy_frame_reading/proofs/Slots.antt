@@ -1,5 +1,5 @@
 -- Slots are read as they are spelled.
-use Rattle.std.proofs.Common.{◌≡◌, ℕ, ◌<◌, ◌^◌, List, [], ◌∷◌, ◌++◌, Some, Ok, refl, arith}
+use Rattle.std.proofs.Common.{◌≡◌, ℕ, ◌<◌, ◌^◌, List, ◌∷◌, ◌++◌, Some, Ok, refl, arith}
 use Rattle.std.specs.Prelude.{IfOk, slice_get}
 use mir.Val.{bits}
 use Rattle.std.specs.Int.{w32}
@@ -94,5 +94,5 @@ pub slot : (n : ℕ) → Reads Slot Slot (GoodSlot n) slot_bytes (λ x. x) (slot
 unfolding slot_at
 slot n =
     by_parts Slot Slot Slot (GoodSlot n) (λ x. slot_number (slot_tag x) ∷ slot_rest x) (λ x. x) (GoodSlot n) slot_bytes (λ x. x) _ (λ x. x) (λ x. x)
-    (tagged SlotTag Slot (slice_get slot_tags) slot_number slot_tag slot_rest (GoodSlot n) (slot_of n) known placed (forth n) (back n))
+    (tagged SlotTag Slot (slice_get slot_tags) slot_number slot_tag slot_rest (GoodSlot n) (slot_of n) (λ x good. known (slot_tag x)) placed (forth n) (λ t can. back n t))
     (λ x good. (good, refl, slot_is x)) (λ x good. (good, refl, slot_is x))

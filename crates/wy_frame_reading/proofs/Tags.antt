@@ -47,13 +47,17 @@ module _ (T X : Type 0) (tag_of : ℕ → Option T) (number_of : T → ℕ) (tag
   abbrev Found : List ℕ → X × List ℕ → Type 0
   Found bytes r = (x : X) × (r.0 ≡ x) × Good x × Spelled bytes (tagged_spelled x) r.1
 
-  module _ (known : (t : T) → tag_of (number_of t) ≡ Some t) (placed : (b : ℕ) (t : T) → tag_of b ≡ Some t → number_of t ≡ b) where
-    pub tagged : ((x : X) (rest : List ℕ) → Good x → read_of (tag x) (body x ++ rest) ≡ Ok (x, rest)) → ((t : T) (bytes : List ℕ) → AreBytes bytes → IfOk (read_of t bytes) (Behind t bytes))
+  module _ (known : (x : X) → Good x → tag_of (number_of (tag x)) ≡ Some (tag x)) (placed : (b : ℕ) (t : T) → tag_of b ≡ Some t → number_of t ≡ b) where
+    -- the tag of some byte
+    abbrev pub CanBe : T → Type 0
+    CanBe t = (b : ℕ) × (tag_of b ≡ Some t)
+
+    pub tagged : ((x : X) (rest : List ℕ) → Good x → read_of (tag x) (body x ++ rest) ≡ Ok (x, rest)) → ((t : T) → CanBe t → (bytes : List ℕ) → AreBytes bytes → IfOk (read_of t bytes) (Behind t bytes))
         → Reads X X Good tagged_spelled (λ x. x) (λ bytes. number_at w8 bytes >>= λ b. known_tag (tag_of b.0) b.1 >>= λ t. read_of t.0 t.1)
     tagged forth back = record {
       back = λ x rest good. let b = number_of (tag x) in let text = body x ++ rest in
           bound (number_at w8 (b ∷ text)) (λ b. known_tag (tag_of b.0) b.1 >>= λ t. read_of t.0 t.1) (b, text) (Ok (x, rest)) (byte_back b text)
-          (bound (known_tag (tag_of b) text) (λ t. read_of t.0 t.1) (tag x, text) (Ok (x, rest)) (ap (λ o. known_tag o text) (known (tag x))) (forth x rest good));
+          (bound (known_tag (tag_of b) text) (λ t. read_of t.0 t.1) (tag x, text) (Ok (x, rest)) (ap (λ o. known_tag o text) (known x good)) (forth x rest good));
       front = λ bytes are. then_has (number_at w8 bytes) (λ b. known_tag (tag_of b.0) b.1 >>= λ t. read_of t.0 t.1) (λ r. (m : ℕ) × (r.0 ≡ m) × _ × Spelled bytes (m ∷ []) r.1) (Found bytes) (byte.front bytes are)
           (λ (b, rest) (m, is, small, s). of bytes rest b (tag_of b) refl (subst (λ (n : ℕ). Spelled bytes (n ∷ []) rest) (sym is) s));
     } where
@@ -64,7 +68,7 @@ module _ (T X : Type 0) (tag_of : ℕ → Option T) (number_of : T → ℕ) (tag
 
       of : (bytes rest : List ℕ) (b : ℕ) (o : Option T) → tag_of b ≡ o → Spelled bytes (b ∷ []) rest → IfOk (known_tag o rest >>= λ t. read_of t.0 t.1) (Found bytes)
       of bytes rest b Absent is s = tt
-      of bytes rest b (Some t) is s = joined bytes rest b t (placed b t is) s (read_of t rest) (back t rest s.rest_bytes)
+      of bytes rest b (Some t) is s = joined bytes rest b t (placed b t is) s (read_of t rest) (back t (b, is) rest s.rest_bytes)
 
 -- ---- one letter
 

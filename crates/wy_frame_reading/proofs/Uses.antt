@@ -95,7 +95,7 @@ one_use : (n : ℕ) → Reads Use Use (GoodUse n) use_bytes (λ u. u) (use_at n)
 unfolding use_at
 one_use n =
     by_parts Use Use Use (GoodUse n) (λ u. use_number (tag_of_use u) ∷ use_rest u) (λ u. u) (GoodUse n) use_bytes (λ u. u) _ (λ u. u) (λ u. u)
-    (tagged UseTag Use use_tag use_number tag_of_use use_rest (GoodUse n) (use_of n) known placed (forth n) (back n))
+    (tagged UseTag Use use_tag use_number tag_of_use use_rest (GoodUse n) (use_of n) (λ u good. known (tag_of_use u)) placed (forth n) (λ t can. back n t))
     (λ u good. (good, refl, use_is u)) (λ u good. (good, refl, use_is u))
 
 -- each is good, and there are few

@@ -1,5 +1,6 @@
 -- The fields of an event's frame, read from left to right with nothing asked of a number but its bound.
 use Rattle.std.specs.Prelude.{ℕ, ◌+◌, ◌==◌, ◌||◌, nat_lt, if◌then◌else◌, List, [], length, take, Result, Ok, Err, slice_get}
+use Rattle.std.specs.Prelude.{None as Absent}
 use Rattle.std.specs.Int.{w8, w32, cast_signed}
 use Rattle.wy_kernel.specs.View.{NONE}
 use Rattle.wy_value.specs.declared.value.Value.{Value}
@@ -11,20 +12,24 @@ use Rattle.wy_event.specs.declared.record.Slot.TheVariants as slots
 use Rattle.wy_event.specs.declared.record.Use.{Use}
 use Rattle.wy_event.specs.declared.record.Use.TheVariants as used
 use Rattle.wy_event.specs.declared.record.Event.{Event}
+use Rattle.wy_event.specs.declared.record.Version.{Version}
+use Rattle.wy_event.specs.declared.record.Version.TheVariants as version
 use Rattle.wy_payload.specs.declared.fault.DamageRule.{DamageRule}
 use Rattle.wy_payload.specs.declared.fault.DamageRule.TheVariants as rule
 use Rattle.wy_payload.specs.declared.slot.SlotTag.{SlotTag}
 use Rattle.wy_payload.specs.declared.slot.SlotTag.TheVariants as places
 use Rattle.wy_payload.specs.declared.value.ValueTag.{ValueTag}
 use Rattle.wy_payload.specs.declared.value.ValueTag.TheVariants as tags
+use Rattle.wy_payload.specs.declared.value.ValueForm.{ValueForm}
+use Rattle.wy_payload.specs.declared.value.ValueForm.TheVariants as form
 use Rattle.wy_payload.specs.declared.event.UseTag.{UseTag}
 use Rattle.wy_payload.specs.declared.event.UseTag.TheVariants as ways
 use Rattle.wy_payload.specs.declared.event.Origin.{Origin}
 use Rattle.wy_payload.specs.declared.event.Content.{Content}
-use Rattle.wy_payload.specs.Rules.{in_range}
+use Rattle.wy_payload.specs.Rules.{Broken, in_range}
 use Rattle.wy_payload.specs.Reading.{◌>>=◌, Read, all_of, passed, known_tag, number_at, below_at, at_most_at, rows_from}
 use Rattle.wy_payload.specs.Places.{slot_tags}
-use Rattle.wy_payload.specs.Values.{bool_at, plain_at, units_at, value_tags}
+use Rattle.wy_payload.specs.Values.{arm_width, bool_at, plain_at, units_at, value_tag}
 use Rattle.wy_payload.specs.Events.{kinds, use_tag}
 
 -- a number below a limit, or NONE
@@ -94,20 +99,36 @@ fixed_at bytes = do
   m ← number_at w32 bytes
   Ok (val.Fixed m.0, m.1)
 
--- behind its tag
-unfoldable pub value_of : ℕ → ValueTag → List ℕ → Read Value
-value_of n tags.Bool rest = bool_at rest
-value_of n tags.Int rest = int_at rest
-value_of n tags.Object rest = object_at n rest
-value_of n tags.Text rest = text_at n rest
-value_of n tags.Fixed rest = fixed_at rest
-value_of n tag rest = plain_at tag rest
+-- version 1 has no arm but 0 and 1
+abbrev pub arm_rule : Version → ℕ → Broken
+arm_rule version.One m = in_range (nat_lt m 2)
+arm_rule version.Two m = Absent
 
-unfoldable pub value_at : ℕ → List ℕ → Read Value
-value_at n bytes = do
+unfoldable pub arm_at : Version → List ℕ → Read Value
+arm_at v bytes = do
+  m ← number_at (arm_width v) bytes
+  passed (arm_rule v m.0) (val.Arm m.0, m.1)
+
+-- behind its tag
+unfoldable pub value_of : Version → ℕ → ValueTag → List ℕ → Read Value
+value_of v n tags.Bool rest = bool_at rest
+value_of v n tags.Int rest = int_at rest
+value_of v n tags.Object rest = object_at n rest
+value_of v n tags.Text rest = text_at n rest
+value_of v n tags.Fixed rest = fixed_at rest
+value_of v n tags.Arm rest = arm_at v rest
+value_of v n tag rest = plain_at tag rest
+
+-- an arm is wanted in a Test
+abbrev pub form_in : Kind → ValueForm
+form_in kind.Test = form.Arm
+form_in _ = form.Optional
+
+unfoldable pub value_at : Version → ValueForm → ℕ → List ℕ → Read Value
+value_at v wanted n bytes = do
   b ← number_at w8 bytes
-  tag ← known_tag (slice_get value_tags b.0) b.1
-  value_of n tag.0 tag.1
+  tag ← known_tag (value_tag v wanted b.0) b.1
+  value_of v n tag.0 tag.1
 
 -- ---- uses
 
@@ -162,27 +183,27 @@ origin_at n bytes = do
   Ok (record { kind = k.0; site = site.0; frame = frame.0; control = control.0; entity = entity.0 }, entity.1)
 
 -- the units of a Text, and the value of every other event
-unfoldable pub content_at : ℕ → Kind → List ℕ → Read Content
-content_at n kind.Text bytes = do
+unfoldable pub content_at : Version → ℕ → Kind → List ℕ → Read Content
+content_at v n kind.Text bytes = do
   units ← units_at bytes
   Ok (record { value = val.None; units = units.0 }, units.1)
-content_at n k bytes = do
-  value ← value_at n bytes
+content_at v n k bytes = do
+  value ← value_at v (form_in k) n bytes
   Ok (record { value = value.0; units = [] }, value.1)
 
-unfoldable pub event_at : ℕ → List ℕ → Read Event
-event_at n bytes = do
+unfoldable pub event_at : Version → ℕ → List ℕ → Read Event
+event_at v n bytes = do
   o ← origin_at n bytes
   slot ← slot_at n o.1
-  c ← content_at n o.0.kind slot.1
+  c ← content_at v n o.0.kind slot.1
   uses ← uses_at n c.1
   Ok (record { kind = o.0.kind; site = o.0.site; frame = o.0.frame; control = o.0.control; entity = o.0.entity; slot = slot.0; value = c.0.value; units = c.0.units; uses = uses.0 }, uses.1)
 
 -- ---- frames
 
 -- the event that is all of a payload
-unfoldable pub whole_at : ℕ → List ℕ → Result Event DamageRule
-whole_at n payload = all_of (event_at n payload)
+unfoldable pub whole_at : Version → ℕ → List ℕ → Result Event DamageRule
+whole_at v n payload = all_of (event_at v n payload)
 
 -- a trace has no longer payload
 abbrev pub payload_limit : ℕ
@@ -197,8 +218,8 @@ payload_at bytes = do
   if nat_lt (length size.1) size.0 then Err rule.Length else Ok (size.0, take size.0 size.1)
 
 -- the event, and the length of its frame
-unfoldable pub frame_at : ℕ → List ℕ → Result (Event × ℕ) DamageRule
-frame_at n bytes = do
+unfoldable pub frame_at : Version → ℕ → List ℕ → Result (Event × ℕ) DamageRule
+frame_at v n bytes = do
   payload ← payload_at bytes
-  event ← whole_at n payload.1
+  event ← whole_at v n payload.1
   Ok (event, 5 + payload.0)

@@ -1,18 +1,19 @@
 //! What the frame of an event holds.
 
+ghost use Rattle.std.specs.Prelude.{◌≡◌};
 ghost use Rattle.wy_payload.specs.Reading.{Gives, rows_from};
-ghost use Rattle.wy_frame_reading.specs.Fields.{choice_at, content_at, event_at, kind_at, origin_at, place_at, use_at, use_of, uses_at, used_value_at};
+ghost use Rattle.wy_frame_reading.specs.Fields.{choice_at, content_at, event_at, form_in, kind_at, origin_at, place_at, use_at, use_of, uses_at, used_value_at};
 
 use crate::field::optional;
 use crate::slot::slot;
 use crate::value::value;
 use std::alloc::Global;
-use wy_event::record::{Event, Kind, Use};
+use wy_event::record::{Event, Kind, Use, Version};
 use wy_event::sequence::Sequence;
 use wy_payload::event::{Content, Origin, UseTag, kind_of, tag_of};
 use wy_payload::fault::{DamageRule, Fault};
 use wy_payload::field::{at_most, below, u8_at, u32_at};
-use wy_payload::value::units;
+use wy_payload::value::{ValueForm, units};
 use wy_value::Value;
 
 #[tactic(auto, unfolding(crate::specs::Fields::place_at))]
@@ -111,9 +112,24 @@ fn read_origin(n: u32, bytes: &[u8]) -> Result<(Origin, &[u8]), Fault>
     ))
 }
 
+fn form_of(kind: Kind) -> ValueForm
+    ensures { result ≡ form_in kind }
+{
+    match kind {
+        Kind::Test => ValueForm::Arm,
+        _ => ValueForm::Optional,
+    }
+}
+
 #[tactic(auto, unfolding(crate::specs::Fields::content_at))]
-fn read_content(alloc: Global, n: u32, kind: Kind, bytes: &[u8]) -> Result<(Content, &[u8]), Fault>
-    ensures { Gives (λ x. (x.0, x.1.now)) result (content_at n kind bytes.now) }
+fn read_content(
+    alloc: Global,
+    version: Version,
+    n: u32,
+    kind: Kind,
+    bytes: &[u8],
+) -> Result<(Content, &[u8]), Fault>
+    ensures { Gives (λ x. (x.0, x.1.now)) result (content_at version n kind bytes.now) }
 {
     match kind {
         Kind::Text => {
@@ -128,7 +144,7 @@ fn read_content(alloc: Global, n: u32, kind: Kind, bytes: &[u8]) -> Result<(Cont
             ))
         }
         _ => {
-            let (value, rest) = value(n, bytes)?;
+            let (value, rest) = value(version, form_of(kind), n, bytes)?;
             let units = Sequence::new(Vec::new(alloc));
             Ok((Content { value, units }, rest))
         }
@@ -137,12 +153,12 @@ fn read_content(alloc: Global, n: u32, kind: Kind, bytes: &[u8]) -> Result<(Cont
 
 /// The event that a payload begins with, whose references are below n and whose moments are at most n.
 #[tactic(auto, unfolding(crate::specs::Fields::event_at))]
-pub fn event(alloc: Global, n: u32, bytes: &[u8]) -> Result<(Event, &[u8]), Fault>
-    ensures { Gives (λ x. (x.0, x.1.now)) result (event_at n bytes.now) }
+pub fn event(alloc: Global, version: Version, n: u32, bytes: &[u8]) -> Result<(Event, &[u8]), Fault>
+    ensures { Gives (λ x. (x.0, x.1.now)) result (event_at version n bytes.now) }
 {
     let (origin, rest) = read_origin(n, bytes)?;
     let (slot, rest) = slot(n, rest)?;
-    let (content, rest) = read_content(alloc, n, origin.kind, rest)?;
+    let (content, rest) = read_content(alloc, version, n, origin.kind, rest)?;
     let (uses, rest) = uses(alloc, n, rest)?;
     let event = Event {
         kind: origin.kind,

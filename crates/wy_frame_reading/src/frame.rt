@@ -8,7 +8,7 @@ ghost use Rattle.wy_frame_reading.specs.Fields.{frame_at, payload_at, payload_li
 use crate::event::event;
 use crate::field::ranged;
 use std::alloc::{AllocError, Global};
-use wy_event::record::Event;
+use wy_event::record::{Event, Version};
 use wy_payload::fault::{DamageRule, Fault};
 use wy_payload::field::{u8_at, u32_at};
 
@@ -21,10 +21,10 @@ const OPENING: u32 = 5;
 
 /// An event that is all of a payload.
 #[tactic(auto, unfolding(crate::specs::Fields::whole_at))]
-fn whole_event(alloc: Global, n: u32, payload: &[u8]) -> Result<Event, Fault>
-    ensures { Gives (λ e. e) result (whole_at n payload.now) }
+fn whole_event(alloc: Global, version: Version, n: u32, payload: &[u8]) -> Result<Event, Fault>
+    ensures { Gives (λ e. e) result (whole_at version n payload.now) }
 {
-    let (event, rest) = event(alloc, n, payload)?;
+    let (event, rest) = event(alloc, version, n, payload)?;
     if rest.is_empty() {
         Ok(event)
     } else {
@@ -53,20 +53,25 @@ fn payload(bytes: &[u8]) -> Result<(u32, &[u8]), Fault>
 
 /// The event whose frame stands at the front of bytes, and the length of the frame.
 #[tactic(auto, unfolding(crate::specs::Fields::frame_at))]
-fn front_event(alloc: Global, n: u32, bytes: &[u8]) -> Result<(Event, u32), Fault>
-    ensures { Gives (λ x. x) result (frame_at n bytes.now) }
+fn front_event(alloc: Global, version: Version, n: u32, bytes: &[u8]) -> Result<(Event, u32), Fault>
+    ensures { Gives (λ x. x) result (frame_at version n bytes.now) }
 {
     let (length, payload) = payload(bytes)?;
-    let event = whole_event(alloc, n, payload)?;
+    let event = whole_event(alloc, version, n, payload)?;
     Ok((event, OPENING + length))
 }
 
-/// Where bytes begin with the frame of an event whose references are below n and whose moments are at most n, the event
-/// and the length of its frame. None exactly where they begin with no such frame.
-pub fn read_event(alloc: Global, bytes: &[u8], n: u32) -> Result<Option<(Event, u32)>, AllocError>
-    ensures { IfOk result (λ found. BeginsWithEvent n bytes.now found) }
+/// Where bytes begin with the frame of an event, as a version spells it, whose references are below n and whose moments
+/// are at most n, the event and the length of its frame. None exactly where they begin with no such frame.
+pub fn read_event(
+    alloc: Global,
+    bytes: &[u8],
+    n: u32,
+    version: Version,
+) -> Result<Option<(Event, u32)>, AllocError>
+    ensures { IfOk result (λ found. BeginsWithEvent version n bytes.now found) }
 {
-    match front_event(alloc, n, bytes) {
+    match front_event(alloc, version, n, bytes) {
         Ok(found) => Ok(Some(found)),
         Err(Fault::Broken(_)) => Ok(None),
         Err(Fault::NoMemory) => Err(AllocError),

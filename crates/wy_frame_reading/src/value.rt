@@ -1,11 +1,15 @@
 //! Values behind their tags.
 
+ghost use Rattle.std.specs.Prelude.{◌≡◌};
 ghost use Rattle.wy_payload.specs.Reading.{Gives};
-ghost use Rattle.wy_frame_reading.specs.Fields.{fixed_at, int_at, object_at, text_at, value_at, value_of};
+ghost use Rattle.wy_payload.specs.Rules.{in_range};
+ghost use Rattle.wy_frame_reading.specs.Fields.{arm_at, arm_rule, fixed_at, int_at, object_at, text_at, value_at, value_of};
 
+use crate::field::ranged;
+use wy_event::record::Version;
 use wy_payload::fault::{DamageRule, Fault};
 use wy_payload::field::{below, u8_at, u32_at};
-use wy_payload::value::{ValueTag, plain, tag_of, truth};
+use wy_payload::value::{ValueForm, ValueTag, arm_number, plain, tag_of, truth};
 use wy_value::Value;
 
 #[tactic(auto, unfolding(crate::specs::Fields::int_at))]
@@ -40,9 +44,28 @@ fn fixed(bytes: &[u8]) -> Result<(Value, &[u8]), Fault>
     Ok((Value::Fixed(number), rest))
 }
 
+// Version 1 has no arm but 0 and 1.
+fn is_spelled(version: Version, n: u32) -> bool
+    ensures { in_range result ≡ arm_rule version n }
+{
+    match version {
+        Version::One => n < 2,
+        Version::Two => true,
+    }
+}
+
+#[tactic(auto, unfolding(crate::specs::Fields::arm_at))]
+fn arm(version: Version, bytes: &[u8]) -> Result<(Value, &[u8]), Fault>
+    ensures { Gives (λ x. (x.0, x.1.now)) result (arm_at version bytes.now) }
+{
+    let (n, rest) = arm_number(version, bytes)?;
+    let rest = ranged(is_spelled(version, n), rest)?;
+    Ok((Value::Arm(n), rest))
+}
+
 #[tactic(auto, unfolding(crate::specs::Fields::value_of))]
-fn behind_tag(n: u32, tag: ValueTag, rest: &[u8]) -> Result<(Value, &[u8]), Fault>
-    ensures { Gives (λ x. (x.0, x.1.now)) result (value_of n tag rest.now) }
+fn behind_tag(version: Version, n: u32, tag: ValueTag, rest: &[u8]) -> Result<(Value, &[u8]), Fault>
+    ensures { Gives (λ x. (x.0, x.1.now)) result (value_of version n tag rest.now) }
 {
     match tag {
         ValueTag::Bool => truth(rest),
@@ -50,16 +73,22 @@ fn behind_tag(n: u32, tag: ValueTag, rest: &[u8]) -> Result<(Value, &[u8]), Faul
         ValueTag::Object => object(n, rest),
         ValueTag::Text => text(n, rest),
         ValueTag::Fixed => fixed(rest),
+        ValueTag::Arm => arm(version, rest),
         _ => plain(tag, rest),
     }
 }
 
-/// A value of any form, whose event is below n.
+/// A value where an arm is wanted or any other, whose event is below n.
 #[tactic(auto, unfolding(crate::specs::Fields::value_at))]
-pub fn value(n: u32, bytes: &[u8]) -> Result<(Value, &[u8]), Fault>
-    ensures { Gives (λ x. (x.0, x.1.now)) result (value_at n bytes.now) }
+pub fn value(
+    version: Version,
+    wanted: ValueForm,
+    n: u32,
+    bytes: &[u8],
+) -> Result<(Value, &[u8]), Fault>
+    ensures { Gives (λ x. (x.0, x.1.now)) result (value_at version wanted n bytes.now) }
 {
     let (b, rest) = u8_at(bytes)?;
-    let tag = tag_of(b).ok_or(Fault::Broken(DamageRule::Range))?;
-    behind_tag(n, tag, rest)
+    let tag = tag_of(version, wanted, b).ok_or(Fault::Broken(DamageRule::Range))?;
+    behind_tag(version, n, tag, rest)
 }

@@ -4,6 +4,7 @@ use Rattle.std.specs.Prelude.{None as Absent}
 use Rattle.std.specs.Int.{w32, from_be_bytes}
 use Rattle.std.proofs.lemmas.Bool.{ltb-false, le-ltb}
 use Rattle.std.proofs.lemmas.List.{length-drop, take-append-le, drop-append-le, get_or_append_left}
+use Rattle.wy_event.specs.declared.record.Version.{Version}
 use Rattle.wy_event.specs.declared.record.Head.{Head}
 use Rattle.wy_payload.specs.declared.ranges.Ranges.{Ranges}
 use Rattle.wy_frames.specs.declared.stage.Stage.{Stage}
@@ -83,6 +84,6 @@ leaves_more r steps from bytes more _ _ (frame s rest t others before e) = frame
 
 -- ---- the start
 
-pub nothing_waits : (r : Ranges) (steps : ℕ) (head : Head) → turn r steps (start head) [] ≡ Waits
+pub nothing_waits : (r : Ranges) (steps : ℕ) (v : Version) (head : Head) → turn r steps (start v head) [] ≡ Waits
 unfolding turn start frame_of
-nothing_waits r steps head = refl
+nothing_waits r steps v head = refl

@@ -6,6 +6,7 @@ use Rattle.wy_event.specs.declared.record.Event.{Event}
 use Rattle.wy_event.specs.declared.record.Head.{Head}
 use Rattle.wy_event.specs.declared.record.Coverage.{Coverage}
 use Rattle.wy_event.specs.declared.record.Tail.{Tail}
+use Rattle.wy_event.specs.declared.record.Version.{Version}
 use Rattle.wy_spelling.specs.Spelling.{opening}
 use Rattle.wy_payload.specs.declared.fault.DamageRule.{DamageRule}
 use Rattle.wy_payload.specs.declared.fault.DamageRule.TheVariants as rule
@@ -29,8 +30,8 @@ pub record Progress : Type 0 where
   pub output : ℕ
   pub stage : Stage
 
-unfoldable pub start : Head → Progress
-start head = record { before = opening head; placed = []; uses = 0; output = 0; stage = stages.Open }
+unfoldable pub start : Version → Head → Progress
+start v head = record { before = opening v head; placed = []; uses = 0; output = 0; stage = stages.Open }
 
 abbrev pub event_in : ReadEvent → Event
 event_in p = p.event

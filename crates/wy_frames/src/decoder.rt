@@ -10,7 +10,7 @@ use crate::error::TraceError;
 use crate::scanner::Scanner;
 use crate::stage::ReadEvent;
 use std::alloc::{AllocError, Global};
-use wy_event::record::{Event, Head, Trace};
+use wy_event::record::{Event, Head, Trace, Version};
 use wy_event::sequence::Sequence;
 use wy_kernel::program::Program;
 
@@ -33,16 +33,17 @@ impl<'a> Decoder<'a> {
     ghost use Rattle.wy_frames.specs.Progress.{Progress, start};
     ghost use Rattle.wy_frames.specs.Decoding.{Decoded, Decodes, IsTrace};
     ghost use Rattle.wy_event.specs.declared.record.Head.{Head};
+    ghost use Rattle.wy_event.specs.declared.record.Version.{Version};
     ghost use Rattle.wy_frames.specs.declared.error.TraceError.{TraceError};
 
-    /// A decoder of what stands behind the frame of this head, by a program.
-    pub fn new(alloc: Global, head: Head, program: &'a Program) -> Decoder<'a>
-        requires { length (opening head) ≤ trace_limit }
-        ensures { Decodes result program.now head [] (start head) }
+    /// A decoder of what stands behind the frame of this head, in a version, by a program.
+    pub fn new(alloc: Global, head: Head, version: Version, program: &'a Program) -> Decoder<'a>
+        requires { length (opening version head) ≤ trace_limit }
+        ensures { Decodes result version program.now head [] (start version head) }
     {
         Decoder {
             alloc,
-            scanner: Scanner::behind(alloc, &head, program),
+            scanner: Scanner::behind(alloc, &head, version, program),
             head,
             placed: Vec::new(alloc),
         }
@@ -50,8 +51,9 @@ impl<'a> Decoder<'a> {
 
     /// Takes a piece more.
     pub fn feed(&mut self, piece: &[u8]) -> Result<(), TraceError>
-        ensures fed { (p : Program) (head : Head) (fed : List ℕ) (t : Progress)
-            → Decodes self.old p head fed t → Decoded result self.new p head (fed ++ piece.now) }
+        ensures fed { (v : Version) (p : Program) (head : Head) (fed : List ℕ) (t : Progress)
+            → Decodes self.old v p head fed t
+            → Decoded result self.new v p head (fed ++ piece.now) }
         ensures again { (e : TraceError) → self.old.scanner.failure ≡ Some e
             → (result ≡ Err e) × (self.new ≡ self.old) }
     {
@@ -60,8 +62,8 @@ impl<'a> Decoder<'a> {
 
     /// The trace, where it has come whole.
     pub fn finish(self) -> Result<Trace, TraceError>
-        ensures read { (p : Program) (head : Head) (fed : List ℕ) (t : Progress)
-            → Decodes self.entry p head fed t → IsTrace result head fed t }
+        ensures read { (v : Version) (p : Program) (head : Head) (fed : List ℕ) (t : Progress)
+            → Decodes self.entry v p head fed t → IsTrace result v head fed t }
         ensures again { (e : TraceError) → self.entry.scanner.failure ≡ Some e → result ≡ Err e }
     {
         let Decoder {

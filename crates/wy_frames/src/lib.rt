@@ -21,4 +21,4 @@ pub use reading::decode;
 pub use scanner::Scanner;
 pub use stage::ReadEvent;
 pub use wy_payload::fault::DamageRule;
-pub use wy_spelling::{encode_event, encode_head, encode_seal, encode_tail};
+pub use wy_spelling::{encode_event, encode_event_v1, encode_head, encode_seal, encode_tail};

@@ -11,8 +11,8 @@ use crate::past::Past;
 use crate::stage::Stage;
 use sha2::{Digest, Sha256};
 use std::alloc::Global;
-use wy_event::record::Head;
-use wy_spelling::MAGIC;
+use wy_event::record::{Head, Version};
+use wy_spelling::magic_of;
 
 /// The bytes of the magic and of a frame's letter and length.
 const OPENING: usize = 13;
@@ -56,19 +56,20 @@ fn add_head(hasher: &mut Sha256, head: &Head)
 
 #[tactic(auto, using(crate::proofs::Openings::payload_is_long))]
 fn payload_length(head: &Head) -> u32
-    requires { length (opening head.now) ≤ trace_limit }
+    requires { length (head_payload head.now) ≤ trace_limit }
     ensures { result ≡ length (head_payload head.now) }
 {
     (NUMBERS + head.input.as_slice().len() + head.source.as_slice().len()) as u32
 }
 
 // The digest of the magic and the frame of a head, so far.
-fn hashed(head: &Head) -> Sha256
-    requires { length (opening head.now) ≤ trace_limit }
-    ensures { Holds256 result (opening head.now) }
+#[tactic(auto, using(crate::proofs::Openings::payload_is_within))]
+fn hashed(version: Version, head: &Head) -> Sha256
+    requires { length (opening version head.now) ≤ trace_limit }
+    ensures { Holds256 result (opening version head.now) }
 {
     let mut hasher = Sha256::new();
-    add_bytes(&mut hasher, &MAGIC);
+    add_bytes(&mut hasher, &magic_of(version));
     add_bytes(&mut hasher, b"H");
     add_number(&mut hasher, payload_length(head));
     add_head(&mut hasher, head);
@@ -76,9 +77,10 @@ fn hashed(head: &Head) -> Sha256
 }
 
 impl Past {
-    pub fn start(alloc: Global, head: &Head) -> Past
-        requires { length (opening head.now) ≤ trace_limit }
-        ensures { Holds result (start head.now) }
+    #[tactic(auto, using(crate::proofs::Openings::payload_is_within))]
+    pub fn start(alloc: Global, version: Version, head: &Head) -> Past
+        requires { length (opening version head.now) ≤ trace_limit }
+        ensures { Holds result (start version head.now) }
     {
         let length = payload_length(head) as usize;
         Past {
@@ -87,7 +89,7 @@ impl Past {
             output: 0,
             at: (OPENING + length) as u32,
             stage: Stage::Open,
-            hasher: hashed(head),
+            hasher: hashed(version, head),
         }
     }
 }

@@ -3,6 +3,7 @@
 ghost use Rattle.std.specs.Prelude.{◌≡◌, ◌≤◌, true, length};
 ghost use Rattle.wy_kernel.specs.Limits.{trace_limit};
 ghost use Rattle.wy_spelling.specs.Spelling.{opening};
+ghost use Rattle.wy_event.specs.declared.record.Version.{Version};
 ghost use Rattle.wy_frames.specs.Traces.{ReadsAs};
 
 use crate::decoder::Decoder;
@@ -15,7 +16,8 @@ use wy_kernel::program::Program;
 
 #[tactic(auto, using(crate::proofs::Decoded::opening_is_short))]
 fn is_short(head: &Head) -> bool
-    ensures { result ≡ true → length (opening head.now) ≤ trace_limit }
+    ensures { result ≡ true
+        → (version : Version) → length (opening version head.now) ≤ trace_limit }
 {
     if head.input.as_slice().len() > INPUT_LIMIT as usize {
         return false;
@@ -31,7 +33,7 @@ pub fn decode(alloc: Global, bytes: &[u8], program: &Program) -> Result<Trace, T
     requires { length bytes.now ≤ trace_limit }
     ensures { ReadsAs result program.now bytes.now }
 {
-    let (head, end) = match read_head(alloc, bytes) {
+    let (head, end, version) = match read_head(alloc, bytes) {
         Ok(read) => read,
         Err(error) => return Err(error),
     };
@@ -39,7 +41,7 @@ pub fn decode(alloc: Global, bytes: &[u8], program: &Program) -> Result<Trace, T
         return Err(TraceError::NoMemory);
     }
     let (_, rest) = bytes.split_at(end as usize);
-    let mut decoder = Decoder::new(alloc, head, program);
+    let mut decoder = Decoder::new(alloc, head, version, program);
     match decoder.feed(rest) {
         Ok(()) => decoder.finish(),
         Err(error) => Err(error),

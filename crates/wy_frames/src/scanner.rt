@@ -12,7 +12,7 @@ use crate::stage::{ReadEvent, Stage};
 use crate::take::sum;
 use std::alloc::{AllocError, Global};
 use std::mem;
-use wy_event::record::{Head, Tail};
+use wy_event::record::{Head, Tail, Version};
 use wy_kernel::program::Program;
 use wy_payload::ranges::Ranges;
 use wy_payload::ranges_of_program;
@@ -22,6 +22,7 @@ use wy_payload::ranges_of_program;
 #[derive(Drop)]
 pub struct Scanner<'a> {
     alloc: Global,
+    version: Version,
     program: &'a Program,
     ranges: Option<Ranges>,
     steps: u32,
@@ -44,35 +45,38 @@ impl<'a> Scanner<'a> {
     ghost use Rattle.wy_frames.specs.Scanning.{Fed, Feeds, Finishes, KnowsRanges, Scanned, Scans};
     ghost use Rattle.wy_payload.specs.Ranges.{ranges_of};
     ghost use Rattle.wy_event.specs.declared.record.Head.{Head};
+    ghost use Rattle.wy_event.specs.declared.record.Version.{Version};
     ghost use Rattle.wy_frames.specs.declared.error.TraceError.{TraceError};
 
     // Behind the frame of a head.
-    pub fn behind(alloc: Global, head: &Head, program: &'a Program) -> Scanner<'a>
-        requires { length (opening head.now) ≤ trace_limit }
-        ensures { Scans result program.now head.now [] (start head.now) }
+    pub fn behind(alloc: Global, head: &Head, version: Version, program: &'a Program) -> Scanner<'a>
+        requires { length (opening version head.now) ≤ trace_limit }
+        ensures { Scans result version program.now head.now [] (start version head.now) }
     {
         Scanner {
             alloc,
+            version,
             program,
             ranges: None,
             steps: head.steps,
-            past: Past::start(alloc, head),
+            past: Past::start(alloc, version, head),
             rest: Vec::new(alloc),
             failure: None,
         }
     }
 
-    /// A scanner of what stands behind the frame of this head, by a program.
-    pub fn new(alloc: Global, head: Head, program: &'a Program) -> Scanner<'a>
-        requires { length (opening head) ≤ trace_limit }
-        ensures { Scans result program.now head [] (start head) }
+    /// A scanner of what stands behind the frame of this head, in a version, by a program.
+    pub fn new(alloc: Global, head: Head, version: Version, program: &'a Program) -> Scanner<'a>
+        requires { length (opening version head) ≤ trace_limit }
+        ensures { Scans result version program.now head [] (start version head) }
     {
-        Scanner::behind(alloc, &head, program)
+        Scanner::behind(alloc, &head, version, program)
     }
 
     fn ranges(&mut self) -> Result<Ranges, AllocError>
         ensures read { IfOk result (λ r. KnowsRanges self.old
-            → r ≡ ranges_of self.old.program.now) }
+            → r ≡ ranges_of self.old.version self.old.program.now) }
+        ensures version { self.new.version ≡ self.old.version }
         ensures program { self.new.program ≡ self.old.program }
         ensures steps { self.new.steps ≡ self.old.steps }
         ensures past { self.new.past ≡ self.old.past }
@@ -81,14 +85,14 @@ impl<'a> Scanner<'a> {
     {
         match self.ranges.take() {
             Some(ranges) => Ok(ranges),
-            None => ranges_of_program(self.alloc, self.program),
+            None => ranges_of_program(self.alloc, self.version, self.program),
         }
     }
 
     fn scan(&mut self, piece: &[u8], placed: &mut Vec<ReadEvent>) -> Result<(), TraceError>
-        ensures { (p : Program) (head : Head) (fed : List ℕ) (t : Progress)
-            → Scans self.old p head fed t
-            → Scanned result placed.old.items placed.new.items self.new p head
+        ensures { (v : Version) (p : Program) (head : Head) (fed : List ℕ) (t : Progress)
+            → Scans self.old v p head fed t
+            → Scanned result placed.old.items placed.new.items self.new v p head
             (fed ++ piece.now) t }
     {
         let ranges = self.ranges()?;
@@ -107,9 +111,9 @@ impl<'a> Scanner<'a> {
 
     /// Takes a piece more, and puts the events whose frames end in it behind others.
     pub fn feed_into(&mut self, piece: &[u8], placed: &mut Vec<ReadEvent>) -> Result<(), TraceError>
-        ensures fed { (p : Program) (head : Head) (fed : List ℕ) (t : Progress)
-            → Scans self.old p head fed t
-            → Fed result placed.old.items placed.new.items self.new p head (fed ++ piece.now) t }
+        ensures fed { (v : Version) (p : Program) (head : Head) (fed : List ℕ) (t : Progress)
+            → Scans self.old v p head fed t
+            → Fed result placed.old.items placed.new.items self.new v p head (fed ++ piece.now) t }
         ensures again { (e : TraceError) → self.old.failure ≡ Some e
             → (result ≡ Err e) × (self.new ≡ self.old) × (placed.new ≡ placed.old) }
     {
@@ -127,8 +131,8 @@ impl<'a> Scanner<'a> {
 
     /// Takes a piece more. It gives the events whose frames end in the piece, in their order.
     pub fn feed(&mut self, piece: &[u8]) -> Result<Vec<ReadEvent>, TraceError>
-        ensures fed { (p : Program) (head : Head) (fed : List ℕ) (t : Progress)
-            → Scans self.old p head fed t → Feeds result self.new p head (fed ++ piece.now) t }
+        ensures fed { (v : Version) (p : Program) (head : Head) (fed : List ℕ) (t : Progress)
+            → Scans self.old v p head fed t → Feeds result self.new v p head (fed ++ piece.now) t }
         ensures again { (e : TraceError) → self.old.failure ≡ Some e
             → (result ≡ Err e) × (self.new ≡ self.old) }
     {
@@ -149,8 +153,8 @@ impl<'a> Scanner<'a> {
 
     /// The end of the trace and its seal, where it has come whole.
     pub fn finish(mut self) -> Result<(Tail, [u8; 32]), TraceError>
-        ensures read { (p : Program) (head : Head) (fed : List ℕ) (t : Progress)
-            → Scans self.entry p head fed t → Finishes result head fed t }
+        ensures read { (v : Version) (p : Program) (head : Head) (fed : List ℕ) (t : Progress)
+            → Scans self.entry v p head fed t → Finishes result v head fed t }
         ensures again { (e : TraceError) → self.entry.failure ≡ Some e → result ≡ Err e }
     {
         if let Some(failure) = self.failure {

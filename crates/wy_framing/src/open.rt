@@ -8,16 +8,19 @@ use std::fs;
 use std::fs::{OpenFile, OpenOptions};
 use std::io::{ErrorKind, Read, Seek};
 use std::rt::Files;
+use wy_event::record::Version;
 use wy_outside::real::read_prefix;
 use wy_outside::shelf::ShelfError;
 use wy_outside::sink::SinkError;
-use wy_spelling::{MAGIC, MAGIC_LENGTH};
+use wy_spelling::{MAGIC_LENGTH, magic_of};
 
-// Nothing, or what begins as a trace does.
+// Nothing, or what begins as a trace of either version does.
 fn is_replaceable(held: &[u8]) -> bool
     ensures { IsTrue result ↔ IsReplaceable held.now }
 {
-    held.is_empty() || held.starts_with(&MAGIC)
+    held.is_empty()
+        || held.starts_with(&magic_of(Version::One))
+        || held.starts_with(&magic_of(Version::Two))
 }
 
 /// Whether a trace may take the place of what a file has left.

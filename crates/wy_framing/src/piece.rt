@@ -6,7 +6,7 @@ ghost use Rattle.wy_kernel.specs.Limits.{trace_limit};
 ghost use Rattle.wy_spelling.specs.Spelling.{event_frame, opening, seal_frame, tail_frames};
 
 use std::alloc::{AllocError, Global};
-use wy_event::record::{Event, Head, Tail};
+use wy_event::record::{Event, Head, Tail, Version};
 use wy_spelling::{encode_event, encode_head, encode_seal, encode_tail};
 
 /// Units, uses, statements, and bytes of a head that are few enough for any frame.
@@ -20,14 +20,14 @@ const MOST_TEXT: usize = 536_870_912;
 
 #[tactic(auto, using(crate::proofs::Room::event_has_room))]
 fn event_has_room(event: &Event) -> bool
-    ensures { OnTrue result (length (event_frame (recorded event.now)) ≤ trace_limit) }
+    ensures { OnTrue result (length (event_frame Version.Two (recorded event.now)) ≤ trace_limit) }
 {
     event.units.as_slice().len() <= MOST_UNITS && event.uses.as_slice().len() <= MOST_USES
 }
 
 #[tactic(auto, using(crate::proofs::Room::head_has_room))]
 fn head_has_room(head: &Head) -> bool
-    ensures { OnTrue result (length (opening head.now) ≤ trace_limit) }
+    ensures { OnTrue result (length (opening Version.Two head.now) ≤ trace_limit) }
 {
     head.input.as_slice().len() <= MOST_TEXT / 2 && head.source.as_slice().len() <= MOST_TEXT
 }
@@ -41,7 +41,7 @@ fn tail_has_room(tail: &Tail) -> bool
 
 /// The bytes before the first event.
 pub fn opening_of(alloc: Global, head: &Head) -> Result<Vec<u8>, AllocError>
-    ensures { IfOk result (λ bytes. bytes.items ≡ opening head.now) }
+    ensures { IfOk result (λ bytes. bytes.items ≡ opening Version.Two head.now) }
 {
     if !head_has_room(head) {
         return Err(AllocError);
@@ -50,7 +50,7 @@ pub fn opening_of(alloc: Global, head: &Head) -> Result<Vec<u8>, AllocError>
 }
 
 pub fn frame_of(alloc: Global, event: &Event) -> Result<Vec<u8>, AllocError>
-    ensures { IfOk result (λ bytes. bytes.items ≡ event_frame (recorded event.now)) }
+    ensures { IfOk result (λ bytes. bytes.items ≡ event_frame Version.Two (recorded event.now)) }
 {
     if !event_has_room(event) {
         return Err(AllocError);

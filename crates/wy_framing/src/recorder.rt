@@ -1,5 +1,6 @@
 //! The recorder.
 ghost use Rattle.std.specs.Prelude.{◌≡◌, ◌<◌, ◌^◌, [], false, map, vec_len};
+ghost use Rattle.wy_event.specs.declared.record.Version.{Version};
 ghost use Rattle.wy_record.specs.declared.recorder.Phase.{Phase};
 ghost use Rattle.wy_record.specs.Recorders.{opened};
 ghost use Rattle.wy_spelling.specs.Spelling.{closing, event_frame, opening};
@@ -10,7 +11,7 @@ use crate::piece::{frame_of, opening_of, tail_of, with_seal};
 use crate::serve::{Act, serve_all};
 use sha2::{Digest, Sha256};
 use std::alloc::{AllocError, Global};
-use wy_event::record::{Event, Head, Tail};
+use wy_event::record::{Event, Head, Tail, Version};
 use wy_record::{Phase, RecordError, Recorder};
 
 /// Writes the trace of a run to each of its mirrors, which are of any kinds. What it wrote is hashed
@@ -71,9 +72,9 @@ impl Recorder for FrameRecorder {
 
     ghost mirrors = { λ r. map (λ b. (TraceSink-box b).bytes b.value) r.mirrors.items };
 
-    ghost opening = { λ head. opening head };
+    ghost opening = { λ head. opening Version.Two head };
 
-    ghost frame = { λ event. event_frame event };
+    ghost frame = { λ event. event_frame Version.Two event };
 
     ghost closing = { λ tail bytes. closing tail bytes };
 

@@ -113,85 +113,85 @@ bank_run : told bank (49 ∷ 48 ∷ 48 ∷ 44 ∷ 50 ∷ 48 ∷ 48 ∷ 44 ∷ 51
       (event kind.Set 194 (Some 2) (Some 2) Absent (slot.Local 2 2) (val.Int (pos 0)) ([]) ([])) ∷
       (event kind.Read 206 (Some 2) (Some 2) Absent slot.None (val.Int (pos 49)) ([]) ([])) ∷
       (event kind.Set 199 (Some 2) (Some 2) Absent (slot.Local 2 3) (val.Int (pos 49)) ([]) (used.Value 35 ∷ [])) ∷
-      (event kind.Test 209 (Some 2) (Some 2) Absent slot.None (val.Bool true) ([]) (used.Place (slot.Local 2 3) 37 ∷ [])) ∷
+      (event kind.Test 209 (Some 2) (Some 2) Absent slot.None (val.Arm 1) ([]) (used.Place (slot.Local 2 3) 37 ∷ [])) ∷
       (event kind.Set 218 (Some 2) (Some 37) Absent (slot.Local 2 4) (val.Int (pos 0)) ([]) ([])) ∷
-      (event kind.Test 227 (Some 2) (Some 37) Absent slot.None (val.Bool true) ([]) (used.Place (slot.Local 2 3) 39 ∷ [])) ∷
-      (event kind.Test 222 (Some 2) (Some 37) Absent slot.None (val.Bool true) ([]) (used.Choice 39 ∷ used.Place (slot.Local 2 3) 40 ∷ [])) ∷
+      (event kind.Test 227 (Some 2) (Some 37) Absent slot.None (val.Arm 1) ([]) (used.Place (slot.Local 2 3) 39 ∷ [])) ∷
+      (event kind.Test 222 (Some 2) (Some 37) Absent slot.None (val.Arm 1) ([]) (used.Choice 39 ∷ used.Place (slot.Local 2 3) 40 ∷ [])) ∷
       (event kind.Set 234 (Some 2) (Some 40) Absent (slot.Local 2 4) (val.Int (pos 1)) ([]) (used.Place (slot.Local 2 4) 41 ∷ used.Place (slot.Local 2 3) 41 ∷ [])) ∷
       (event kind.Read 252 (Some 2) (Some 40) Absent slot.None (val.Int (pos 48)) ([]) ([])) ∷
       (event kind.Set 246 (Some 2) (Some 40) Absent (slot.Local 2 3) (val.Int (pos 48)) ([]) (used.Value 42 ∷ [])) ∷
-      (event kind.Test 227 (Some 2) (Some 40) Absent slot.None (val.Bool true) ([]) (used.Place (slot.Local 2 3) 44 ∷ [])) ∷
-      (event kind.Test 222 (Some 2) (Some 40) Absent slot.None (val.Bool true) ([]) (used.Choice 44 ∷ used.Place (slot.Local 2 3) 45 ∷ [])) ∷
+      (event kind.Test 227 (Some 2) (Some 40) Absent slot.None (val.Arm 1) ([]) (used.Place (slot.Local 2 3) 44 ∷ [])) ∷
+      (event kind.Test 222 (Some 2) (Some 40) Absent slot.None (val.Arm 1) ([]) (used.Choice 44 ∷ used.Place (slot.Local 2 3) 45 ∷ [])) ∷
       (event kind.Set 234 (Some 2) (Some 45) Absent (slot.Local 2 4) (val.Int (pos 10)) ([]) (used.Place (slot.Local 2 4) 46 ∷ used.Place (slot.Local 2 3) 46 ∷ [])) ∷
       (event kind.Read 252 (Some 2) (Some 45) Absent slot.None (val.Int (pos 48)) ([]) ([])) ∷
       (event kind.Set 246 (Some 2) (Some 45) Absent (slot.Local 2 3) (val.Int (pos 48)) ([]) (used.Value 47 ∷ [])) ∷
-      (event kind.Test 227 (Some 2) (Some 45) Absent slot.None (val.Bool true) ([]) (used.Place (slot.Local 2 3) 49 ∷ [])) ∷
-      (event kind.Test 222 (Some 2) (Some 45) Absent slot.None (val.Bool true) ([]) (used.Choice 49 ∷ used.Place (slot.Local 2 3) 50 ∷ [])) ∷
+      (event kind.Test 227 (Some 2) (Some 45) Absent slot.None (val.Arm 1) ([]) (used.Place (slot.Local 2 3) 49 ∷ [])) ∷
+      (event kind.Test 222 (Some 2) (Some 45) Absent slot.None (val.Arm 1) ([]) (used.Choice 49 ∷ used.Place (slot.Local 2 3) 50 ∷ [])) ∷
       (event kind.Set 234 (Some 2) (Some 50) Absent (slot.Local 2 4) (val.Int (pos 100)) ([]) (used.Place (slot.Local 2 4) 51 ∷ used.Place (slot.Local 2 3) 51 ∷ [])) ∷
       (event kind.Read 252 (Some 2) (Some 50) Absent slot.None (val.Int (pos 44)) ([]) ([])) ∷
       (event kind.Set 246 (Some 2) (Some 50) Absent (slot.Local 2 3) (val.Int (pos 44)) ([]) (used.Value 52 ∷ [])) ∷
-      (event kind.Test 227 (Some 2) (Some 50) Absent slot.None (val.Bool false) ([]) (used.Place (slot.Local 2 3) 54 ∷ [])) ∷
-      (event kind.Test 222 (Some 2) (Some 50) Absent slot.None (val.Bool false) ([]) (used.Value 54 ∷ [])) ∷
+      (event kind.Test 227 (Some 2) (Some 50) Absent slot.None (val.Arm 0) ([]) (used.Place (slot.Local 2 3) 54 ∷ [])) ∷
+      (event kind.Test 222 (Some 2) (Some 50) Absent slot.None (val.Arm 0) ([]) (used.Value 54 ∷ [])) ∷
       (event kind.Call 266 (Some 2) (Some 37) (Some 41) slot.None val.None ([]) (used.Place (slot.Local 2 1) 56 ∷ used.Place (slot.Local 2 2) 56 ∷ used.Place (slot.Elem 4 0) 56 ∷ [])) ∷
       (event kind.Bind 43 (Some 56) (Some 56) Absent (slot.Local 56 0) (val.Object 7) ([]) (used.Place (slot.Local 2 1) 56 ∷ used.Place (slot.Local 2 2) 56 ∷ used.Place (slot.Elem 4 0) 56 ∷ [])) ∷
       (event kind.Bind 46 (Some 56) (Some 56) Absent (slot.Local 56 1) (val.Int (pos 100)) ([]) (used.Place (slot.Local 2 4) 56 ∷ [])) ∷
-      (event kind.Test 49 (Some 56) (Some 56) Absent slot.None (val.Bool false) ([]) (used.Place (slot.Local 56 1) 59 ∷ [])) ∷
+      (event kind.Test 49 (Some 56) (Some 56) Absent slot.None (val.Arm 0) ([]) (used.Place (slot.Local 56 1) 59 ∷ [])) ∷
       (event kind.Set 63 (Some 56) (Some 59) Absent (slot.Field 7 1) (val.Int (pos 100)) ([]) (used.Place (slot.Local 56 0) 60 ∷ used.Place (slot.Local 56 0) 60 ∷ used.Place (slot.Field 7 1) 60 ∷ used.Place (slot.Local 56 1) 60 ∷ [])) ∷
       (event kind.Return 66 (Some 56) (Some 56) Absent slot.None val.None ([]) ([])) ∷
       (event kind.Set 288 (Some 2) (Some 37) Absent (slot.Local 2 2) (val.Int (pos 1)) ([]) (used.Place (slot.Local 2 2) 62 ∷ [])) ∷
       (event kind.Read 297 (Some 2) (Some 37) Absent slot.None (val.Int (pos 50)) ([]) ([])) ∷
       (event kind.Set 291 (Some 2) (Some 37) Absent (slot.Local 2 3) (val.Int (pos 50)) ([]) (used.Value 63 ∷ [])) ∷
-      (event kind.Test 209 (Some 2) (Some 37) Absent slot.None (val.Bool true) ([]) (used.Place (slot.Local 2 3) 65 ∷ [])) ∷
+      (event kind.Test 209 (Some 2) (Some 37) Absent slot.None (val.Arm 1) ([]) (used.Place (slot.Local 2 3) 65 ∷ [])) ∷
       (event kind.Set 218 (Some 2) (Some 65) Absent (slot.Local 2 4) (val.Int (pos 0)) ([]) ([])) ∷
-      (event kind.Test 227 (Some 2) (Some 65) Absent slot.None (val.Bool true) ([]) (used.Place (slot.Local 2 3) 67 ∷ [])) ∷
-      (event kind.Test 222 (Some 2) (Some 65) Absent slot.None (val.Bool true) ([]) (used.Choice 67 ∷ used.Place (slot.Local 2 3) 68 ∷ [])) ∷
+      (event kind.Test 227 (Some 2) (Some 65) Absent slot.None (val.Arm 1) ([]) (used.Place (slot.Local 2 3) 67 ∷ [])) ∷
+      (event kind.Test 222 (Some 2) (Some 65) Absent slot.None (val.Arm 1) ([]) (used.Choice 67 ∷ used.Place (slot.Local 2 3) 68 ∷ [])) ∷
       (event kind.Set 234 (Some 2) (Some 68) Absent (slot.Local 2 4) (val.Int (pos 2)) ([]) (used.Place (slot.Local 2 4) 69 ∷ used.Place (slot.Local 2 3) 69 ∷ [])) ∷
       (event kind.Read 252 (Some 2) (Some 68) Absent slot.None (val.Int (pos 48)) ([]) ([])) ∷
       (event kind.Set 246 (Some 2) (Some 68) Absent (slot.Local 2 3) (val.Int (pos 48)) ([]) (used.Value 70 ∷ [])) ∷
-      (event kind.Test 227 (Some 2) (Some 68) Absent slot.None (val.Bool true) ([]) (used.Place (slot.Local 2 3) 72 ∷ [])) ∷
-      (event kind.Test 222 (Some 2) (Some 68) Absent slot.None (val.Bool true) ([]) (used.Choice 72 ∷ used.Place (slot.Local 2 3) 73 ∷ [])) ∷
+      (event kind.Test 227 (Some 2) (Some 68) Absent slot.None (val.Arm 1) ([]) (used.Place (slot.Local 2 3) 72 ∷ [])) ∷
+      (event kind.Test 222 (Some 2) (Some 68) Absent slot.None (val.Arm 1) ([]) (used.Choice 72 ∷ used.Place (slot.Local 2 3) 73 ∷ [])) ∷
       (event kind.Set 234 (Some 2) (Some 73) Absent (slot.Local 2 4) (val.Int (pos 20)) ([]) (used.Place (slot.Local 2 4) 74 ∷ used.Place (slot.Local 2 3) 74 ∷ [])) ∷
       (event kind.Read 252 (Some 2) (Some 73) Absent slot.None (val.Int (pos 48)) ([]) ([])) ∷
       (event kind.Set 246 (Some 2) (Some 73) Absent (slot.Local 2 3) (val.Int (pos 48)) ([]) (used.Value 75 ∷ [])) ∷
-      (event kind.Test 227 (Some 2) (Some 73) Absent slot.None (val.Bool true) ([]) (used.Place (slot.Local 2 3) 77 ∷ [])) ∷
-      (event kind.Test 222 (Some 2) (Some 73) Absent slot.None (val.Bool true) ([]) (used.Choice 77 ∷ used.Place (slot.Local 2 3) 78 ∷ [])) ∷
+      (event kind.Test 227 (Some 2) (Some 73) Absent slot.None (val.Arm 1) ([]) (used.Place (slot.Local 2 3) 77 ∷ [])) ∷
+      (event kind.Test 222 (Some 2) (Some 73) Absent slot.None (val.Arm 1) ([]) (used.Choice 77 ∷ used.Place (slot.Local 2 3) 78 ∷ [])) ∷
       (event kind.Set 234 (Some 2) (Some 78) Absent (slot.Local 2 4) (val.Int (pos 200)) ([]) (used.Place (slot.Local 2 4) 79 ∷ used.Place (slot.Local 2 3) 79 ∷ [])) ∷
       (event kind.Read 252 (Some 2) (Some 78) Absent slot.None (val.Int (pos 44)) ([]) ([])) ∷
       (event kind.Set 246 (Some 2) (Some 78) Absent (slot.Local 2 3) (val.Int (pos 44)) ([]) (used.Value 80 ∷ [])) ∷
-      (event kind.Test 227 (Some 2) (Some 78) Absent slot.None (val.Bool false) ([]) (used.Place (slot.Local 2 3) 82 ∷ [])) ∷
-      (event kind.Test 222 (Some 2) (Some 78) Absent slot.None (val.Bool false) ([]) (used.Value 82 ∷ [])) ∷
+      (event kind.Test 227 (Some 2) (Some 78) Absent slot.None (val.Arm 0) ([]) (used.Place (slot.Local 2 3) 82 ∷ [])) ∷
+      (event kind.Test 222 (Some 2) (Some 78) Absent slot.None (val.Arm 0) ([]) (used.Value 82 ∷ [])) ∷
       (event kind.Call 266 (Some 2) (Some 65) (Some 45) slot.None val.None ([]) (used.Place (slot.Local 2 1) 84 ∷ used.Place (slot.Local 2 2) 84 ∷ used.Place (slot.Elem 4 1) 84 ∷ [])) ∷
       (event kind.Bind 93 (Some 84) (Some 84) Absent (slot.Local 84 0) (val.Object 16) ([]) (used.Place (slot.Local 2 1) 84 ∷ used.Place (slot.Local 2 2) 84 ∷ used.Place (slot.Elem 4 1) 84 ∷ [])) ∷
       (event kind.Bind 96 (Some 84) (Some 84) Absent (slot.Local 84 1) (val.Int (pos 200)) ([]) (used.Place (slot.Local 2 4) 84 ∷ [])) ∷
       (event kind.Call 102 (Some 84) (Some 84) (Some 41) slot.None val.None ([]) (used.Place (slot.Local 84 0) 87 ∷ [])) ∷
       (event kind.Bind 43 (Some 87) (Some 87) Absent (slot.Local 87 0) (val.Object 16) ([]) (used.Place (slot.Local 84 0) 87 ∷ [])) ∷
       (event kind.Bind 46 (Some 87) (Some 87) Absent (slot.Local 87 1) (val.Int (pos 220)) ([]) (used.Place (slot.Local 84 1) 87 ∷ used.Place (slot.Local 84 1) 87 ∷ [])) ∷
-      (event kind.Test 49 (Some 87) (Some 87) Absent slot.None (val.Bool false) ([]) (used.Place (slot.Local 87 1) 90 ∷ [])) ∷
+      (event kind.Test 49 (Some 87) (Some 87) Absent slot.None (val.Arm 0) ([]) (used.Place (slot.Local 87 1) 90 ∷ [])) ∷
       (event kind.Set 63 (Some 87) (Some 90) Absent (slot.Field 16 1) (val.Int (pos 220)) ([]) (used.Place (slot.Local 87 0) 91 ∷ used.Place (slot.Local 87 0) 91 ∷ used.Place (slot.Field 16 1) 91 ∷ used.Place (slot.Local 87 1) 91 ∷ [])) ∷
       (event kind.Return 66 (Some 87) (Some 87) Absent slot.None val.None ([]) ([])) ∷
       (event kind.Return 110 (Some 84) (Some 84) Absent slot.None val.None ([]) ([])) ∷
       (event kind.Set 288 (Some 2) (Some 65) Absent (slot.Local 2 2) (val.Int (pos 2)) ([]) (used.Place (slot.Local 2 2) 94 ∷ [])) ∷
       (event kind.Read 297 (Some 2) (Some 65) Absent slot.None (val.Int (pos 51)) ([]) ([])) ∷
       (event kind.Set 291 (Some 2) (Some 65) Absent (slot.Local 2 3) (val.Int (pos 51)) ([]) (used.Value 95 ∷ [])) ∷
-      (event kind.Test 209 (Some 2) (Some 65) Absent slot.None (val.Bool true) ([]) (used.Place (slot.Local 2 3) 97 ∷ [])) ∷
+      (event kind.Test 209 (Some 2) (Some 65) Absent slot.None (val.Arm 1) ([]) (used.Place (slot.Local 2 3) 97 ∷ [])) ∷
       (event kind.Set 218 (Some 2) (Some 97) Absent (slot.Local 2 4) (val.Int (pos 0)) ([]) ([])) ∷
-      (event kind.Test 227 (Some 2) (Some 97) Absent slot.None (val.Bool true) ([]) (used.Place (slot.Local 2 3) 99 ∷ [])) ∷
-      (event kind.Test 222 (Some 2) (Some 97) Absent slot.None (val.Bool true) ([]) (used.Choice 99 ∷ used.Place (slot.Local 2 3) 100 ∷ [])) ∷
+      (event kind.Test 227 (Some 2) (Some 97) Absent slot.None (val.Arm 1) ([]) (used.Place (slot.Local 2 3) 99 ∷ [])) ∷
+      (event kind.Test 222 (Some 2) (Some 97) Absent slot.None (val.Arm 1) ([]) (used.Choice 99 ∷ used.Place (slot.Local 2 3) 100 ∷ [])) ∷
       (event kind.Set 234 (Some 2) (Some 100) Absent (slot.Local 2 4) (val.Int (pos 3)) ([]) (used.Place (slot.Local 2 4) 101 ∷ used.Place (slot.Local 2 3) 101 ∷ [])) ∷
       (event kind.Read 252 (Some 2) (Some 100) Absent slot.None (val.Int (pos 48)) ([]) ([])) ∷
       (event kind.Set 246 (Some 2) (Some 100) Absent (slot.Local 2 3) (val.Int (pos 48)) ([]) (used.Value 102 ∷ [])) ∷
-      (event kind.Test 227 (Some 2) (Some 100) Absent slot.None (val.Bool true) ([]) (used.Place (slot.Local 2 3) 104 ∷ [])) ∷
-      (event kind.Test 222 (Some 2) (Some 100) Absent slot.None (val.Bool true) ([]) (used.Choice 104 ∷ used.Place (slot.Local 2 3) 105 ∷ [])) ∷
+      (event kind.Test 227 (Some 2) (Some 100) Absent slot.None (val.Arm 1) ([]) (used.Place (slot.Local 2 3) 104 ∷ [])) ∷
+      (event kind.Test 222 (Some 2) (Some 100) Absent slot.None (val.Arm 1) ([]) (used.Choice 104 ∷ used.Place (slot.Local 2 3) 105 ∷ [])) ∷
       (event kind.Set 234 (Some 2) (Some 105) Absent (slot.Local 2 4) (val.Int (pos 30)) ([]) (used.Place (slot.Local 2 4) 106 ∷ used.Place (slot.Local 2 3) 106 ∷ [])) ∷
       (event kind.Read 252 (Some 2) (Some 105) Absent slot.None (val.Int (pos 48)) ([]) ([])) ∷
       (event kind.Set 246 (Some 2) (Some 105) Absent (slot.Local 2 3) (val.Int (pos 48)) ([]) (used.Value 107 ∷ [])) ∷
-      (event kind.Test 227 (Some 2) (Some 105) Absent slot.None (val.Bool true) ([]) (used.Place (slot.Local 2 3) 109 ∷ [])) ∷
-      (event kind.Test 222 (Some 2) (Some 105) Absent slot.None (val.Bool true) ([]) (used.Choice 109 ∷ used.Place (slot.Local 2 3) 110 ∷ [])) ∷
+      (event kind.Test 227 (Some 2) (Some 105) Absent slot.None (val.Arm 1) ([]) (used.Place (slot.Local 2 3) 109 ∷ [])) ∷
+      (event kind.Test 222 (Some 2) (Some 105) Absent slot.None (val.Arm 1) ([]) (used.Choice 109 ∷ used.Place (slot.Local 2 3) 110 ∷ [])) ∷
       (event kind.Set 234 (Some 2) (Some 110) Absent (slot.Local 2 4) (val.Int (pos 300)) ([]) (used.Place (slot.Local 2 4) 111 ∷ used.Place (slot.Local 2 3) 111 ∷ [])) ∷
       (event kind.Read 252 (Some 2) (Some 110) Absent slot.None (val.Int (pos 44)) ([]) ([])) ∷
       (event kind.Set 246 (Some 2) (Some 110) Absent (slot.Local 2 3) (val.Int (pos 44)) ([]) (used.Value 112 ∷ [])) ∷
-      (event kind.Test 227 (Some 2) (Some 110) Absent slot.None (val.Bool false) ([]) (used.Place (slot.Local 2 3) 114 ∷ [])) ∷
-      (event kind.Test 222 (Some 2) (Some 110) Absent slot.None (val.Bool false) ([]) (used.Value 114 ∷ [])) ∷
+      (event kind.Test 227 (Some 2) (Some 110) Absent slot.None (val.Arm 0) ([]) (used.Place (slot.Local 2 3) 114 ∷ [])) ∷
+      (event kind.Test 222 (Some 2) (Some 110) Absent slot.None (val.Arm 0) ([]) (used.Value 114 ∷ [])) ∷
       (event kind.Call 266 (Some 2) (Some 97) (Some 48) slot.None val.None ([]) (used.Place (slot.Local 2 1) 116 ∷ used.Place (slot.Local 2 2) 116 ∷ used.Place (slot.Elem 4 2) 116 ∷ [])) ∷
       (event kind.Bind 129 (Some 116) (Some 116) Absent (slot.Local 116 0) (val.Object 25) ([]) (used.Place (slot.Local 2 1) 116 ∷ used.Place (slot.Local 2 2) 116 ∷ used.Place (slot.Elem 4 2) 116 ∷ [])) ∷
       (event kind.Bind 132 (Some 116) (Some 116) Absent (slot.Local 116 1) (val.Int (pos 300)) ([]) (used.Place (slot.Local 2 4) 116 ∷ [])) ∷
@@ -221,7 +221,7 @@ bank_run : told bank (49 ∷ 48 ∷ 48 ∷ 44 ∷ 50 ∷ 48 ∷ 48 ∷ 44 ∷ 51
       (event kind.Bind 2147483652 (Some 141) (Some 141) Absent (slot.Local 141 0) (val.Object 119) ([]) (used.Place (slot.Local 139 0) 141 ∷ [])) ∷
       (event kind.Return 2147483652 (Some 141) (Some 141) Absent slot.None (val.Fixed 4) ([]) (used.Place (slot.Local 141 0) 143 ∷ used.Place (slot.Field 119 0) 143 ∷ [])) ∷
       (event kind.Set 2147483653 (Some 139) (Some 139) Absent (slot.Local 139 1) (val.Fixed 4) ([]) (used.Value 143 ∷ [])) ∷
-      (event kind.Test 2147483653 (Some 139) (Some 139) Absent slot.None (val.Bool false) ([]) (used.Place (slot.Local 139 1) 145 ∷ [])) ∷
+      (event kind.Test 2147483653 (Some 139) (Some 139) Absent slot.None (val.Arm 0) ([]) (used.Place (slot.Local 139 1) 145 ∷ [])) ∷
       (event kind.Text 2147483653 (Some 139) (Some 145) Absent slot.None val.None (codes "java.lang.IllegalStateException") (used.Place (slot.Local 139 0) 146 ∷ [])) ∷
       (event kind.Text 2147483653 (Some 139) (Some 145) Absent slot.None val.None (codes "java.lang.IllegalStateException: ") (used.Value 146 ∷ [])) ∷
       (event kind.Text 2147483653 (Some 139) (Some 145) Absent slot.None val.None (codes "java.lang.IllegalStateException: frozen") (used.Value 147 ∷ used.Place (slot.Local 139 1) 148 ∷ [])) ∷
@@ -230,32 +230,32 @@ bank_run : told bank (49 ∷ 48 ∷ 48 ∷ 44 ∷ 50 ∷ 48 ∷ 48 ∷ 44 ∷ 51
       (event kind.Set 288 (Some 2) (Some 97) Absent (slot.Local 2 2) (val.Int (pos 3)) ([]) (used.Place (slot.Local 2 2) 151 ∷ [])) ∷
       (event kind.Read 297 (Some 2) (Some 97) Absent slot.None (val.Int (pos 52)) ([]) ([])) ∷
       (event kind.Set 291 (Some 2) (Some 97) Absent (slot.Local 2 3) (val.Int (pos 52)) ([]) (used.Value 152 ∷ [])) ∷
-      (event kind.Test 209 (Some 2) (Some 97) Absent slot.None (val.Bool true) ([]) (used.Place (slot.Local 2 3) 154 ∷ [])) ∷
+      (event kind.Test 209 (Some 2) (Some 97) Absent slot.None (val.Arm 1) ([]) (used.Place (slot.Local 2 3) 154 ∷ [])) ∷
       (event kind.Set 218 (Some 2) (Some 154) Absent (slot.Local 2 4) (val.Int (pos 0)) ([]) ([])) ∷
-      (event kind.Test 227 (Some 2) (Some 154) Absent slot.None (val.Bool true) ([]) (used.Place (slot.Local 2 3) 156 ∷ [])) ∷
-      (event kind.Test 222 (Some 2) (Some 154) Absent slot.None (val.Bool true) ([]) (used.Choice 156 ∷ used.Place (slot.Local 2 3) 157 ∷ [])) ∷
+      (event kind.Test 227 (Some 2) (Some 154) Absent slot.None (val.Arm 1) ([]) (used.Place (slot.Local 2 3) 156 ∷ [])) ∷
+      (event kind.Test 222 (Some 2) (Some 154) Absent slot.None (val.Arm 1) ([]) (used.Choice 156 ∷ used.Place (slot.Local 2 3) 157 ∷ [])) ∷
       (event kind.Set 234 (Some 2) (Some 157) Absent (slot.Local 2 4) (val.Int (pos 4)) ([]) (used.Place (slot.Local 2 4) 158 ∷ used.Place (slot.Local 2 3) 158 ∷ [])) ∷
       (event kind.Read 252 (Some 2) (Some 157) Absent slot.None (val.Int (pos 48)) ([]) ([])) ∷
       (event kind.Set 246 (Some 2) (Some 157) Absent (slot.Local 2 3) (val.Int (pos 48)) ([]) (used.Value 159 ∷ [])) ∷
-      (event kind.Test 227 (Some 2) (Some 157) Absent slot.None (val.Bool true) ([]) (used.Place (slot.Local 2 3) 161 ∷ [])) ∷
-      (event kind.Test 222 (Some 2) (Some 157) Absent slot.None (val.Bool true) ([]) (used.Choice 161 ∷ used.Place (slot.Local 2 3) 162 ∷ [])) ∷
+      (event kind.Test 227 (Some 2) (Some 157) Absent slot.None (val.Arm 1) ([]) (used.Place (slot.Local 2 3) 161 ∷ [])) ∷
+      (event kind.Test 222 (Some 2) (Some 157) Absent slot.None (val.Arm 1) ([]) (used.Choice 161 ∷ used.Place (slot.Local 2 3) 162 ∷ [])) ∷
       (event kind.Set 234 (Some 2) (Some 162) Absent (slot.Local 2 4) (val.Int (pos 40)) ([]) (used.Place (slot.Local 2 4) 163 ∷ used.Place (slot.Local 2 3) 163 ∷ [])) ∷
       (event kind.Read 252 (Some 2) (Some 162) Absent slot.None (val.Int (negsuc 0)) ([]) ([])) ∷
       (event kind.Set 246 (Some 2) (Some 162) Absent (slot.Local 2 3) (val.Int (negsuc 0)) ([]) (used.Value 164 ∷ [])) ∷
-      (event kind.Test 227 (Some 2) (Some 162) Absent slot.None (val.Bool false) ([]) (used.Place (slot.Local 2 3) 166 ∷ [])) ∷
-      (event kind.Test 222 (Some 2) (Some 162) Absent slot.None (val.Bool false) ([]) (used.Value 166 ∷ [])) ∷
+      (event kind.Test 227 (Some 2) (Some 162) Absent slot.None (val.Arm 0) ([]) (used.Place (slot.Local 2 3) 166 ∷ [])) ∷
+      (event kind.Test 222 (Some 2) (Some 162) Absent slot.None (val.Arm 0) ([]) (used.Value 166 ∷ [])) ∷
       (event kind.Call 266 (Some 2) (Some 154) (Some 41) slot.None val.None ([]) (used.Place (slot.Local 2 1) 168 ∷ used.Place (slot.Local 2 2) 168 ∷ used.Place (slot.Elem 4 0) 168 ∷ [])) ∷
       (event kind.Bind 43 (Some 168) (Some 168) Absent (slot.Local 168 0) (val.Object 7) ([]) (used.Place (slot.Local 2 1) 168 ∷ used.Place (slot.Local 2 2) 168 ∷ used.Place (slot.Elem 4 0) 168 ∷ [])) ∷
       (event kind.Bind 46 (Some 168) (Some 168) Absent (slot.Local 168 1) (val.Int (pos 40)) ([]) (used.Place (slot.Local 2 4) 168 ∷ [])) ∷
-      (event kind.Test 49 (Some 168) (Some 168) Absent slot.None (val.Bool false) ([]) (used.Place (slot.Local 168 1) 171 ∷ [])) ∷
+      (event kind.Test 49 (Some 168) (Some 168) Absent slot.None (val.Arm 0) ([]) (used.Place (slot.Local 168 1) 171 ∷ [])) ∷
       (event kind.Set 63 (Some 168) (Some 171) Absent (slot.Field 7 1) (val.Int (pos 140)) ([]) (used.Place (slot.Local 168 0) 172 ∷ used.Place (slot.Local 168 0) 172 ∷ used.Place (slot.Field 7 1) 172 ∷ used.Place (slot.Local 168 1) 172 ∷ [])) ∷
       (event kind.Return 66 (Some 168) (Some 168) Absent slot.None val.None ([]) ([])) ∷
       (event kind.Set 288 (Some 2) (Some 154) Absent (slot.Local 2 2) (val.Int (pos 4)) ([]) (used.Place (slot.Local 2 2) 174 ∷ [])) ∷
       (event kind.Read 297 (Some 2) (Some 154) Absent slot.None (val.Int (negsuc 0)) ([]) ([])) ∷
       (event kind.Set 291 (Some 2) (Some 154) Absent (slot.Local 2 3) (val.Int (negsuc 0)) ([]) (used.Value 175 ∷ [])) ∷
-      (event kind.Test 209 (Some 2) (Some 154) Absent slot.None (val.Bool false) ([]) (used.Place (slot.Local 2 3) 177 ∷ [])) ∷
+      (event kind.Test 209 (Some 2) (Some 154) Absent slot.None (val.Arm 0) ([]) (used.Place (slot.Local 2 3) 177 ∷ [])) ∷
       (event kind.Set 304 (Some 2) (Some 2) Absent (slot.Local 2 6) (val.Int (pos 0)) ([]) ([])) ∷
-      (event kind.Test 301 (Some 2) (Some 2) Absent slot.None (val.Bool true) ([]) (used.Place (slot.Local 2 6) 179 ∷ used.Place (slot.Local 2 1) 179 ∷ [])) ∷
+      (event kind.Test 301 (Some 2) (Some 2) Absent slot.None (val.Arm 1) ([]) (used.Place (slot.Local 2 6) 179 ∷ used.Place (slot.Local 2 1) 179 ∷ [])) ∷
       (event kind.Call 330 (Some 2) (Some 179) (Some 43) slot.None val.None ([]) (used.Place (slot.Local 2 1) 180 ∷ used.Place (slot.Local 2 6) 180 ∷ used.Place (slot.Elem 4 0) 180 ∷ [])) ∷
       (event kind.Bind 75 (Some 180) (Some 180) Absent (slot.Local 180 0) (val.Object 7) ([]) (used.Place (slot.Local 2 1) 180 ∷ used.Place (slot.Local 2 6) 180 ∷ used.Place (slot.Elem 4 0) 180 ∷ [])) ∷
       (event kind.Return 79 (Some 180) (Some 180) Absent slot.None (val.Fixed 2) ([]) ([])) ∷
@@ -266,7 +266,7 @@ bank_run : told bank (49 ∷ 48 ∷ 48 ∷ 44 ∷ 50 ∷ 48 ∷ 48 ∷ 44 ∷ 51
       (event kind.Text 334 (Some 2) (Some 179) Absent slot.None val.None (codes "plain: 140") (used.Value 183 ∷ used.Value 186 ∷ [])) ∷
       (event kind.Print 323 (Some 2) (Some 179) Absent slot.None (val.Text 187) ([]) (used.Value 187 ∷ [])) ∷
       (event kind.Set 315 (Some 2) (Some 179) Absent (slot.Local 2 6) (val.Int (pos 1)) ([]) (used.Place (slot.Local 2 6) 189 ∷ [])) ∷
-      (event kind.Test 301 (Some 2) (Some 179) Absent slot.None (val.Bool true) ([]) (used.Place (slot.Local 2 6) 190 ∷ used.Place (slot.Local 2 1) 190 ∷ [])) ∷
+      (event kind.Test 301 (Some 2) (Some 179) Absent slot.None (val.Arm 1) ([]) (used.Place (slot.Local 2 6) 190 ∷ used.Place (slot.Local 2 1) 190 ∷ [])) ∷
       (event kind.Call 330 (Some 2) (Some 190) (Some 46) slot.None val.None ([]) (used.Place (slot.Local 2 1) 191 ∷ used.Place (slot.Local 2 6) 191 ∷ used.Place (slot.Elem 4 1) 191 ∷ [])) ∷
       (event kind.Bind 113 (Some 191) (Some 191) Absent (slot.Local 191 0) (val.Object 16) ([]) (used.Place (slot.Local 2 1) 191 ∷ used.Place (slot.Local 2 6) 191 ∷ used.Place (slot.Elem 4 1) 191 ∷ [])) ∷
       (event kind.Return 117 (Some 191) (Some 191) Absent slot.None (val.Fixed 3) ([]) ([])) ∷
@@ -277,7 +277,7 @@ bank_run : told bank (49 ∷ 48 ∷ 48 ∷ 44 ∷ 50 ∷ 48 ∷ 48 ∷ 44 ∷ 51
       (event kind.Text 334 (Some 2) (Some 190) Absent slot.None val.None (codes "bonus: 220") (used.Value 194 ∷ used.Value 197 ∷ [])) ∷
       (event kind.Print 323 (Some 2) (Some 190) Absent slot.None (val.Text 198) ([]) (used.Value 198 ∷ [])) ∷
       (event kind.Set 315 (Some 2) (Some 190) Absent (slot.Local 2 6) (val.Int (pos 2)) ([]) (used.Place (slot.Local 2 6) 200 ∷ [])) ∷
-      (event kind.Test 301 (Some 2) (Some 190) Absent slot.None (val.Bool true) ([]) (used.Place (slot.Local 2 6) 201 ∷ used.Place (slot.Local 2 1) 201 ∷ [])) ∷
+      (event kind.Test 301 (Some 2) (Some 190) Absent slot.None (val.Arm 1) ([]) (used.Place (slot.Local 2 6) 201 ∷ used.Place (slot.Local 2 1) 201 ∷ [])) ∷
       (event kind.Call 330 (Some 2) (Some 201) (Some 49) slot.None val.None ([]) (used.Place (slot.Local 2 1) 202 ∷ used.Place (slot.Local 2 6) 202 ∷ used.Place (slot.Elem 4 2) 202 ∷ [])) ∷
       (event kind.Bind 145 (Some 202) (Some 202) Absent (slot.Local 202 0) (val.Object 25) ([]) (used.Place (slot.Local 2 1) 202 ∷ used.Place (slot.Local 2 6) 202 ∷ used.Place (slot.Elem 4 2) 202 ∷ [])) ∷
       (event kind.Return 149 (Some 202) (Some 202) Absent slot.None (val.Fixed 4) ([]) ([])) ∷
@@ -288,7 +288,7 @@ bank_run : told bank (49 ∷ 48 ∷ 48 ∷ 44 ∷ 50 ∷ 48 ∷ 48 ∷ 44 ∷ 51
       (event kind.Text 334 (Some 2) (Some 201) Absent slot.None val.None (codes "frozen: 0") (used.Value 205 ∷ used.Value 208 ∷ [])) ∷
       (event kind.Print 323 (Some 2) (Some 201) Absent slot.None (val.Text 209) ([]) (used.Value 209 ∷ [])) ∷
       (event kind.Set 315 (Some 2) (Some 201) Absent (slot.Local 2 6) (val.Int (pos 3)) ([]) (used.Place (slot.Local 2 6) 211 ∷ [])) ∷
-      (event kind.Test 301 (Some 2) (Some 201) Absent slot.None (val.Bool false) ([]) (used.Place (slot.Local 2 6) 212 ∷ used.Place (slot.Local 2 1) 212 ∷ [])) ∷
+      (event kind.Test 301 (Some 2) (Some 201) Absent slot.None (val.Arm 0) ([]) (used.Place (slot.Local 2 6) 212 ∷ used.Place (slot.Local 2 1) 212 ∷ [])) ∷
       (event kind.Return 346 (Some 2) (Some 2) Absent slot.None val.None ([]) ([])) ∷
       [];
   output = codes "java.lang.IllegalStateException: frozen\nplain: 140\nbonus: 220\nfrozen: 0\n";

@@ -29,9 +29,9 @@ use Rattle.wy_meaning.specs.Expression.{constant_value, part_or, update, unary, 
 use Rattle.wy_meaning.specs.Library.{text_arg, int_in, unit_or_fail, part_or_fail, int_or_fail, parse, absolute, greater, lesser, byte_value, read_byte, base_name, brackets_text, type_name, number_of_object, hexadecimal, library_one, library_two, library_three, library, library_form}
 use Rattle.wy_meaning.specs.Place.{initialize_source, initialize, local_spot, static_spot, field_spot, index_in, checked_index, element_spot, find, lacks_value, fetch, read_place, assign, may_store, check_store, store, set_place, promoted, operated, primitive_of, divided, update_place}
 use Rattle.wy_meaning.specs.Run.{call_body, init_block, world, main_run, start, outcome, end, stop_number, stop_of, last_of_stop, last_of_reason, last_of, covers, tail_of, history, events, output, tail, final_store}
-use Rattle.wy_meaning.specs.Statement.{statement, tested, evaluated, declaration, if_form, turns, while_form, do_form, for_test, for_form, jump, return_form, throw_form, caught, handle, at_throw, finally, try_form, print_form, other_or, exec, exec_act, exec_other, exec_all, exec_catches}
+use Rattle.wy_meaning.specs.Statement.{statement, armed, tested, evaluated, declaration, if_form, turns, while_form, do_form, for_test, for_form, jump, return_form, throw_form, caught, handle, at_throw, finally, try_form, print_form, other_or, exec, exec_act, exec_other, exec_all, exec_catches}
 use Rattle.wy_meaning.specs.Text.{call_chosen, shown_as, shown, spelled_as, make_text, concatenated, cat, append_place, line_end, print, print_value, print_nothing}
-use Rattle.wy_meaning.specs.World.{plain, about, into, spelling, class_code, throwing, fail, is_true, type_in, type_of, units_in, units_of, natural_of, length_in, length_of, is_text, is_null, object_of, all_of}
+use Rattle.wy_meaning.specs.World.{plain, about, into, spelling, class_code, throwing, fail, is_true, arm_of_truth, type_in, type_of, units_in, units_of, natural_of, length_in, length_of, is_text, is_null, object_of, all_of}
 
 pub record Told : Type 0 where
   pub events : List Recorded
@@ -50,7 +50,7 @@ tell es bytes t = record { events = es; output = bytes; stop = t.stop; last = t.
 
 -- the run of a program, with the coverage of the statements of its text
 unfoldable pub told : part.Program → List ℕ → ℕ → Told
-unfolding package.lib.Utf8.encode int_wrap fmt_digits utf16_chars class method field body init_body fixed_text local_site is_source full_name primitive_code base_code type_code base_of type_of_code element_type class_of_type is_array is_one_of is_above class_below is_subclass same_primitive base_below is_object brackets_below is_below same_units same_types is_instance runs_as declared_in or_above find_method dispatch none only union union_of present recorded same_slot is_write writes is_entity creates_as creates is_so or_else written creation last_write with_role use_source use_sources event_sources sources_of sources is_data source_events closure_within closure data_closure go_on ◌>>=◌ ◌>>◌ return leave stop go_on_left catching choose constant with_value joined joined_all value_of chosen pay tick steps_left frame event_in event_at is_init_of has_init is_begun held_of read slot_with no_value declare parent control_set next_event made with_event room_for noting note held_by with_stored writing note_write default_primitive default_value code_of default_in owner_in if_empty with_created creating note_new with_active entered go_in activating active_again scoped same_frame ends_with outlasting without end_reaches reaching frame_again in_frame with_elements take_elements with_units take_units room_for_output write_out take_byte next_byte cover_with covering first_moment begun ended left_by stop_cause event_of arrives end_normally be_left cover_end covered make_array for_each subarrays is_negative any_negative make_arrays create_array first_site rest_sites set_elements create_filled new_array call_uses bound bind_all is_void end_body at_return run_body frame_of_call call_method at_failure initialize_above initialization text_equals call_on_text call_form call_on call_static construct create constant_value part_or update unary binary convert cast instance_of arm conditional call eval locate eval_part eval_row text_arg int_in unit_or_fail part_or_fail int_or_fail parse absolute greater lesser byte_value read_byte primitive_name base_name brackets_text type_name number_of_object hexadecimal library_one library_two library_three library library_form initialize_source initialize local_spot static_spot field_spot index_in checked_index element_spot find lacks_value fetch read_place assign may_store check_store store set_place promoted operated primitive_of divided update_place call_body init_block world main_run start outcome end stop_number stop_of last_of_stop last_of_reason last_of covers tail_of history events output tail final_store statement tested evaluated declaration if_form turns while_form do_form for_test for_form jump return_form throw_form caught handle at_throw finally try_form print_form other_or exec exec_act exec_other exec_all exec_catches call_chosen shown_as shown spelled_as make_text concatenated cat append_place line_end print print_value print_nothing plain about into spelling class_code throwing fail is_true type_in type_of units_in units_of natural_of length_in length_of is_text is_null object_of all_of
+unfolding package.lib.Utf8.encode int_wrap fmt_digits utf16_chars class method field body init_body fixed_text local_site is_source full_name primitive_code base_code type_code base_of type_of_code element_type class_of_type is_array is_one_of is_above class_below is_subclass same_primitive base_below is_object brackets_below is_below same_units same_types is_instance runs_as declared_in or_above find_method dispatch none only union union_of present recorded same_slot is_write writes is_entity creates_as creates is_so or_else written creation last_write with_role use_source use_sources event_sources sources_of sources is_data source_events closure_within closure data_closure go_on ◌>>=◌ ◌>>◌ return leave stop go_on_left catching choose constant with_value joined joined_all value_of chosen pay tick steps_left frame event_in event_at is_init_of has_init is_begun held_of read slot_with no_value declare parent control_set next_event made with_event room_for noting note held_by with_stored writing note_write default_primitive default_value code_of default_in owner_in if_empty with_created creating note_new with_active entered go_in activating active_again scoped same_frame ends_with outlasting without end_reaches reaching frame_again in_frame with_elements take_elements with_units take_units room_for_output write_out take_byte next_byte cover_with covering first_moment begun ended left_by stop_cause event_of arrives end_normally be_left cover_end covered make_array for_each subarrays is_negative any_negative make_arrays create_array first_site rest_sites set_elements create_filled new_array call_uses bound bind_all is_void end_body at_return run_body frame_of_call call_method at_failure initialize_above initialization text_equals call_on_text call_form call_on call_static construct create constant_value part_or update unary binary convert cast instance_of arm conditional call eval locate eval_part eval_row text_arg int_in unit_or_fail part_or_fail int_or_fail parse absolute greater lesser byte_value read_byte primitive_name base_name brackets_text type_name number_of_object hexadecimal library_one library_two library_three library library_form initialize_source initialize local_spot static_spot field_spot index_in checked_index element_spot find lacks_value fetch read_place assign may_store check_store store set_place promoted operated primitive_of divided update_place call_body init_block world main_run start outcome end stop_number stop_of last_of_stop last_of_reason last_of covers tail_of history events output tail final_store statement armed tested evaluated declaration if_form turns while_form do_form for_test for_form jump return_form throw_form caught handle at_throw finally try_form print_form other_or exec exec_act exec_other exec_all exec_catches call_chosen shown_as shown spelled_as make_text concatenated cat append_place line_end print print_value print_nothing plain about into spelling class_code throwing fail is_true arm_of_truth type_in type_of units_in units_of natural_of length_in length_of is_text is_null object_of all_of
 told p input budget = tell (events carries_nothing p input budget) (output carries_nothing p input budget) (tail carries_nothing p input budget)
 
 abbrev pub numbers_in : Numbers → ℕ → ℕ → List ℕ

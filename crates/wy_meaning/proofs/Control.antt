@@ -98,22 +98,22 @@ jumps_run : told jumps [] 1000 ≡ record {
       (event kind.Call 108 (Some 2) (Some 2) (Some 37) slot.None val.None ([]) ([])) ∷
       (event kind.Bind 8 (Some 4) (Some 4) Absent (slot.Local 4 0) (val.Int (pos 3)) ([]) ([])) ∷
       (event kind.Set 16 (Some 4) (Some 4) Absent (slot.Local 4 1) (val.Int (pos 0)) ([]) ([])) ∷
-      (event kind.Test 13 (Some 4) (Some 4) Absent slot.None (val.Bool true) ([]) (used.Place (slot.Local 4 1) 7 ∷ used.Place (slot.Local 4 0) 7 ∷ [])) ∷
-      (event kind.Test 30 (Some 4) (Some 7) Absent slot.None (val.Bool false) ([]) (used.Place (slot.Local 4 1) 8 ∷ [])) ∷
-      (event kind.Test 39 (Some 4) (Some 8) Absent slot.None (val.Bool false) ([]) (used.Place (slot.Local 4 1) 9 ∷ [])) ∷
-      (event kind.Test 47 (Some 4) (Some 9) Absent slot.None (val.Bool false) ([]) (used.Place (slot.Local 4 0) 10 ∷ [])) ∷
+      (event kind.Test 13 (Some 4) (Some 4) Absent slot.None (val.Arm 1) ([]) (used.Place (slot.Local 4 1) 7 ∷ used.Place (slot.Local 4 0) 7 ∷ [])) ∷
+      (event kind.Test 30 (Some 4) (Some 7) Absent slot.None (val.Arm 0) ([]) (used.Place (slot.Local 4 1) 8 ∷ [])) ∷
+      (event kind.Test 39 (Some 4) (Some 8) Absent slot.None (val.Arm 0) ([]) (used.Place (slot.Local 4 1) 9 ∷ [])) ∷
+      (event kind.Test 47 (Some 4) (Some 9) Absent slot.None (val.Arm 0) ([]) (used.Place (slot.Local 4 0) 10 ∷ [])) ∷
       (event kind.Call 74 (Some 4) (Some 10) (Some 38) slot.None val.None ([]) ([])) ∷
       (event kind.Return 89 (Some 11) (Some 11) Absent slot.None val.None ([]) ([])) ∷
       (event kind.Set 25 (Some 4) (Some 9) Absent (slot.Local 4 1) (val.Int (pos 1)) ([]) (used.Place (slot.Local 4 1) 13 ∷ [])) ∷
-      (event kind.Test 13 (Some 4) (Some 9) Absent slot.None (val.Bool true) ([]) (used.Place (slot.Local 4 1) 14 ∷ used.Place (slot.Local 4 0) 14 ∷ [])) ∷
-      (event kind.Test 30 (Some 4) (Some 14) Absent slot.None (val.Bool true) ([]) (used.Place (slot.Local 4 1) 15 ∷ [])) ∷
+      (event kind.Test 13 (Some 4) (Some 9) Absent slot.None (val.Arm 1) ([]) (used.Place (slot.Local 4 1) 14 ∷ used.Place (slot.Local 4 0) 14 ∷ [])) ∷
+      (event kind.Test 30 (Some 4) (Some 14) Absent slot.None (val.Arm 1) ([]) (used.Place (slot.Local 4 1) 15 ∷ [])) ∷
       (event kind.Jump 36 (Some 4) (Some 15) Absent slot.None val.None ([]) ([])) ∷
       (event kind.Call 74 (Some 4) (Some 15) (Some 38) slot.None val.None ([]) ([])) ∷
       (event kind.Return 89 (Some 17) (Some 17) Absent slot.None val.None ([]) ([])) ∷
       (event kind.Set 25 (Some 4) (Some 14) Absent (slot.Local 4 1) (val.Int (pos 2)) ([]) (used.Place (slot.Local 4 1) 19 ∷ [])) ∷
-      (event kind.Test 13 (Some 4) (Some 14) Absent slot.None (val.Bool true) ([]) (used.Place (slot.Local 4 1) 20 ∷ used.Place (slot.Local 4 0) 20 ∷ [])) ∷
-      (event kind.Test 30 (Some 4) (Some 20) Absent slot.None (val.Bool false) ([]) (used.Place (slot.Local 4 1) 21 ∷ [])) ∷
-      (event kind.Test 39 (Some 4) (Some 21) Absent slot.None (val.Bool true) ([]) (used.Place (slot.Local 4 1) 22 ∷ [])) ∷
+      (event kind.Test 13 (Some 4) (Some 14) Absent slot.None (val.Arm 1) ([]) (used.Place (slot.Local 4 1) 20 ∷ used.Place (slot.Local 4 0) 20 ∷ [])) ∷
+      (event kind.Test 30 (Some 4) (Some 20) Absent slot.None (val.Arm 0) ([]) (used.Place (slot.Local 4 1) 21 ∷ [])) ∷
+      (event kind.Test 39 (Some 4) (Some 21) Absent slot.None (val.Arm 1) ([]) (used.Place (slot.Local 4 1) 22 ∷ [])) ∷
       (event kind.Jump 45 (Some 4) (Some 22) Absent slot.None val.None ([]) ([])) ∷
       (event kind.Call 74 (Some 4) (Some 22) (Some 38) slot.None val.None ([]) ([])) ∷
       (event kind.Return 89 (Some 24) (Some 24) Absent slot.None val.None ([]) ([])) ∷
@@ -122,10 +122,10 @@ jumps_run : told jumps [] 1000 ≡ record {
       (event kind.Call 120 (Some 2) (Some 2) (Some 37) slot.None val.None ([]) ([])) ∷
       (event kind.Bind 8 (Some 28) (Some 28) Absent (slot.Local 28 0) (val.Int (pos 9)) ([]) ([])) ∷
       (event kind.Set 16 (Some 28) (Some 28) Absent (slot.Local 28 1) (val.Int (pos 0)) ([]) ([])) ∷
-      (event kind.Test 13 (Some 28) (Some 28) Absent slot.None (val.Bool true) ([]) (used.Place (slot.Local 28 1) 31 ∷ used.Place (slot.Local 28 0) 31 ∷ [])) ∷
-      (event kind.Test 30 (Some 28) (Some 31) Absent slot.None (val.Bool false) ([]) (used.Place (slot.Local 28 1) 32 ∷ [])) ∷
-      (event kind.Test 39 (Some 28) (Some 32) Absent slot.None (val.Bool false) ([]) (used.Place (slot.Local 28 1) 33 ∷ [])) ∷
-      (event kind.Test 47 (Some 28) (Some 33) Absent slot.None (val.Bool true) ([]) (used.Place (slot.Local 28 0) 34 ∷ [])) ∷
+      (event kind.Test 13 (Some 28) (Some 28) Absent slot.None (val.Arm 1) ([]) (used.Place (slot.Local 28 1) 31 ∷ used.Place (slot.Local 28 0) 31 ∷ [])) ∷
+      (event kind.Test 30 (Some 28) (Some 31) Absent slot.None (val.Arm 0) ([]) (used.Place (slot.Local 28 1) 32 ∷ [])) ∷
+      (event kind.Test 39 (Some 28) (Some 32) Absent slot.None (val.Arm 0) ([]) (used.Place (slot.Local 28 1) 33 ∷ [])) ∷
+      (event kind.Test 47 (Some 28) (Some 33) Absent slot.None (val.Arm 1) ([]) (used.Place (slot.Local 28 0) 34 ∷ [])) ∷
       (event kind.New 54 (Some 28) (Some 34) (Some 21) slot.None val.None ([]) ([])) ∷
       (event kind.Call 54 (Some 28) (Some 34) (Some 11) slot.None val.None ([]) ([])) ∷
       (event kind.Bind 2147483659 (Some 36) (Some 36) Absent (slot.Local 36 0) (val.Object 35) ([]) (used.Value 35 ∷ [])) ∷

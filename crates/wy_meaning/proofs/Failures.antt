@@ -279,7 +279,7 @@ fell_off_run : told fell_off [] 1000 ≡ record {
       (event kind.Bind 29 (Some 2) (Some 2) Absent (slot.Local 2 0) (val.Object 1) ([]) (used.Value 1 ∷ [])) ∷
       (event kind.Call 33 (Some 2) (Some 2) (Some 37) slot.None val.None ([]) ([])) ∷
       (event kind.Bind 8 (Some 4) (Some 4) Absent (slot.Local 4 0) (val.Int (pos 1)) ([]) ([])) ∷
-      (event kind.Test 11 (Some 4) (Some 4) Absent slot.None (val.Bool false) ([]) (used.Place (slot.Local 4 0) 6 ∷ [])) ∷
+      (event kind.Test 11 (Some 4) (Some 4) Absent slot.None (val.Arm 0) ([]) (used.Place (slot.Local 4 0) 6 ∷ [])) ∷
       [];
   output = [];
   stop = 10;

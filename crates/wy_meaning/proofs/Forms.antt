@@ -41,7 +41,7 @@ test_in_a_catch_run : told test_in_a_catch [] 1000 ≡ record {
       (event kind.New 13 (Some 2) (Some 2) (Some 22) slot.None val.None ([]) ([])) ∷
       (event kind.Throw 13 (Some 2) (Some 2) Absent slot.None (val.Object 4) ([]) (used.Value 4 ∷ [])) ∷
       (event kind.Catch 20 (Some 2) (Some 2) Absent (slot.Local 2 1) (val.Object 4) ([]) (used.Value 5 ∷ [])) ∷
-      (event kind.Test 22 (Some 2) (Some 6) Absent slot.None (val.Bool false) ([]) ([])) ∷
+      (event kind.Test 22 (Some 2) (Some 6) Absent slot.None (val.Arm 0) ([]) ([])) ∷
       (event kind.Print 30 (Some 2) (Some 7) Absent slot.None (val.Int (pos 1)) ([]) ([])) ∷
       (event kind.Return 40 (Some 2) (Some 2) Absent slot.None val.None ([]) ([])) ∷
       [];
@@ -56,7 +56,7 @@ unfolding told
 test_in_a_catch_run = refl
 
 -- int x = args instanceof Object ? -2 : 3; boolean b = x == -2 || false; Object o = (Object) args; Throwable t = (Throwable) o;
--- A Test of an expression ends with the expression. What was not chosen leaves no use, and an empty arm has the value of the Test.
+-- A Test of an expression ends with the expression. What was not chosen leaves no use, and an empty arm has the value of the condition.
 abbrev choices_and_casts : Program
 choices_and_casts = program
     ((class_named (codes "Main") 1 (Some 0) ([])) ∷ [])
@@ -73,9 +73,9 @@ choices_and_casts_run : told choices_and_casts [] 1000 ≡ record {
       (event kind.New 6 Absent Absent (Some 16777233) slot.None (val.Int (pos 0)) ([]) ([])) ∷
       (event kind.Call 6 Absent Absent (Some 37) slot.None val.None ([]) ([])) ∷
       (event kind.Bind 11 (Some 2) (Some 2) Absent (slot.Local 2 0) (val.Object 1) ([]) (used.Value 1 ∷ [])) ∷
-      (event kind.Test 12 (Some 2) (Some 2) Absent slot.None (val.Bool true) ([]) (used.Place (slot.Local 2 0) 4 ∷ [])) ∷
+      (event kind.Test 12 (Some 2) (Some 2) Absent slot.None (val.Arm 1) ([]) (used.Place (slot.Local 2 0) 4 ∷ [])) ∷
       (event kind.Set 10 (Some 2) (Some 2) Absent (slot.Local 2 1) (val.Int (negsuc 1)) ([]) (used.Choice 4 ∷ [])) ∷
-      (event kind.Test 15 (Some 2) (Some 2) Absent slot.None (val.Bool true) ([]) (used.Place (slot.Local 2 1) 6 ∷ [])) ∷
+      (event kind.Test 15 (Some 2) (Some 2) Absent slot.None (val.Arm 1) ([]) (used.Place (slot.Local 2 1) 6 ∷ [])) ∷
       (event kind.Set 14 (Some 2) (Some 2) Absent (slot.Local 2 2) (val.Bool true) ([]) (used.Value 6 ∷ [])) ∷
       (event kind.Set 17 (Some 2) (Some 2) Absent (slot.Local 2 3) (val.Object 1) ([]) (used.Place (slot.Local 2 0) 8 ∷ [])) ∷
       (event kind.New 20 (Some 2) (Some 2) (Some 24) slot.None val.None ([]) (used.Place (slot.Local 2 3) 9 ∷ [])) ∷
@@ -111,9 +111,9 @@ unassigned_run : told unassigned [] 1000 ≡ record {
       (event kind.Bind 11 (Some 2) (Some 2) Absent (slot.Local 2 0) (val.Object 1) ([]) (used.Value 1 ∷ [])) ∷
       (event kind.Set 12 (Some 2) (Some 2) Absent (slot.Local 2 2) (val.Int (pos 0)) ([]) ([])) ∷
       (event kind.Set 16 (Some 2) (Some 2) Absent (slot.Local 2 2) (val.Int (pos 1)) ([]) (used.Place (slot.Local 2 2) 5 ∷ [])) ∷
-      (event kind.Test 14 (Some 2) (Some 2) Absent slot.None (val.Bool true) ([]) (used.Place (slot.Local 2 2) 6 ∷ [])) ∷
+      (event kind.Test 14 (Some 2) (Some 2) Absent slot.None (val.Arm 1) ([]) (used.Place (slot.Local 2 2) 6 ∷ [])) ∷
       (event kind.Set 16 (Some 2) (Some 6) Absent (slot.Local 2 2) (val.Int (pos 2)) ([]) (used.Place (slot.Local 2 2) 7 ∷ [])) ∷
-      (event kind.Test 14 (Some 2) (Some 6) Absent slot.None (val.Bool false) ([]) (used.Place (slot.Local 2 2) 8 ∷ [])) ∷
+      (event kind.Test 14 (Some 2) (Some 6) Absent slot.None (val.Arm 0) ([]) (used.Place (slot.Local 2 2) 8 ∷ [])) ∷
       [];
   output = [];
   stop = 9;

@@ -46,7 +46,7 @@ p1_run : told p1 [] 1000 ≡ record {
       (event kind.Bind 11 (Some 2) (Some 2) Absent (slot.Local 2 0) (val.Object 1) ([]) (used.Value 1 ∷ [])) ∷
       (event kind.Set 15 (Some 2) (Some 2) Absent (slot.Local 2 1) (val.Int (pos 2)) ([]) ([])) ∷
       (event kind.Set 20 (Some 2) (Some 2) Absent (slot.Local 2 2) (val.Int (pos 0)) ([]) ([])) ∷
-      (event kind.Test 24 (Some 2) (Some 2) Absent slot.None (val.Bool true) ([]) (used.Place (slot.Local 2 1) 6 ∷ [])) ∷
+      (event kind.Test 24 (Some 2) (Some 2) Absent slot.None (val.Arm 1) ([]) (used.Place (slot.Local 2 1) 6 ∷ [])) ∷
       (event kind.Set 32 (Some 2) (Some 6) Absent (slot.Local 2 2) (val.Int (pos 5)) ([]) (used.Place (slot.Local 2 1) 7 ∷ [])) ∷
       (event kind.Print 43 (Some 2) (Some 2) Absent slot.None (val.Int (pos 5)) ([]) (used.Place (slot.Local 2 2) 8 ∷ [])) ∷
       (event kind.Return 47 (Some 2) (Some 2) Absent slot.None val.None ([]) ([])) ∷
@@ -127,17 +127,17 @@ loop_guards_run : told loop_guards [] 1000 ≡ record {
       (event kind.Call 6 Absent Absent (Some 37) slot.None val.None ([]) ([])) ∷
       (event kind.Bind 11 (Some 2) (Some 2) Absent (slot.Local 2 0) (val.Object 1) ([]) (used.Value 1 ∷ [])) ∷
       (event kind.Set 15 (Some 2) (Some 2) Absent (slot.Local 2 1) (val.Int (pos 0)) ([]) ([])) ∷
-      (event kind.Test 19 (Some 2) (Some 2) Absent slot.None (val.Bool true) ([]) (used.Place (slot.Local 2 1) 5 ∷ [])) ∷
+      (event kind.Test 19 (Some 2) (Some 2) Absent slot.None (val.Arm 1) ([]) (used.Place (slot.Local 2 1) 5 ∷ [])) ∷
       (event kind.Set 27 (Some 2) (Some 5) Absent (slot.Local 2 1) (val.Int (pos 1)) ([]) (used.Place (slot.Local 2 1) 6 ∷ [])) ∷
-      (event kind.Test 32 (Some 2) (Some 5) Absent slot.None (val.Bool false) ([]) (used.Place (slot.Local 2 1) 7 ∷ [])) ∷
-      (event kind.Test 40 (Some 2) (Some 7) Absent slot.None (val.Bool true) ([]) (used.Place (slot.Local 2 1) 8 ∷ [])) ∷
+      (event kind.Test 32 (Some 2) (Some 5) Absent slot.None (val.Arm 0) ([]) (used.Place (slot.Local 2 1) 7 ∷ [])) ∷
+      (event kind.Test 40 (Some 2) (Some 7) Absent slot.None (val.Arm 1) ([]) (used.Place (slot.Local 2 1) 8 ∷ [])) ∷
       (event kind.Jump 46 (Some 2) (Some 8) Absent slot.None val.None ([]) ([])) ∷
-      (event kind.Test 19 (Some 2) (Some 7) Absent slot.None (val.Bool true) ([]) (used.Place (slot.Local 2 1) 10 ∷ [])) ∷
+      (event kind.Test 19 (Some 2) (Some 7) Absent slot.None (val.Arm 1) ([]) (used.Place (slot.Local 2 1) 10 ∷ [])) ∷
       (event kind.Set 27 (Some 2) (Some 10) Absent (slot.Local 2 1) (val.Int (pos 2)) ([]) (used.Place (slot.Local 2 1) 11 ∷ [])) ∷
-      (event kind.Test 32 (Some 2) (Some 10) Absent slot.None (val.Bool false) ([]) (used.Place (slot.Local 2 1) 12 ∷ [])) ∷
-      (event kind.Test 40 (Some 2) (Some 12) Absent slot.None (val.Bool false) ([]) (used.Place (slot.Local 2 1) 13 ∷ [])) ∷
+      (event kind.Test 32 (Some 2) (Some 10) Absent slot.None (val.Arm 0) ([]) (used.Place (slot.Local 2 1) 12 ∷ [])) ∷
+      (event kind.Test 40 (Some 2) (Some 12) Absent slot.None (val.Arm 0) ([]) (used.Place (slot.Local 2 1) 13 ∷ [])) ∷
       (event kind.Print 53 (Some 2) (Some 13) Absent slot.None (val.Int (pos 2)) ([]) (used.Place (slot.Local 2 1) 14 ∷ [])) ∷
-      (event kind.Test 19 (Some 2) (Some 12) Absent slot.None (val.Bool false) ([]) (used.Place (slot.Local 2 1) 15 ∷ [])) ∷
+      (event kind.Test 19 (Some 2) (Some 12) Absent slot.None (val.Arm 0) ([]) (used.Place (slot.Local 2 1) 15 ∷ [])) ∷
       (event kind.Return 58 (Some 2) (Some 2) Absent slot.None val.None ([]) ([])) ∷
       [];
   output = codes "2\n";

@@ -17,7 +17,7 @@ use Rattle.wy_event.specs.declared.record.Kind.TheVariants as kind
 use Rattle.wy_steps.specs.Sets.{Sets}
 use Rattle.wy_steps.specs.State.{Carried, Run, Around, ◌>>=◌, ◌>>◌, return, choose}
 use Rattle.wy_steps.specs.Steps.{Made, constant, joined, with_value, value_of, chosen, tick, note, activating, scoped}
-use Rattle.wy_meaning.specs.World.{World, plain, fail, class_cast, is_true, is_null, type_of}
+use Rattle.wy_meaning.specs.World.{World, plain, fail, class_cast, is_true, arm_of_truth, is_null, type_of}
 use Rattle.wy_meaning.specs.Place.{Located, AtLocal, AtStatic, AtField, AtElem, read_place, set_place, update_place, divided}
 use Rattle.wy_meaning.specs.Text.{cat, append_place}
 use Rattle.wy_meaning.specs.Call.{call_on, call_static, create}
@@ -74,7 +74,7 @@ instance_of w ty operand = do
   found ← type_of v.value
   return (with_value (val.Bool (if is_null v.value then false else is_below w.program found ty)) v)
 
--- the arm that was chosen; an empty one has the value of the Test
+-- the arm that was chosen; an empty one has the value of the condition
 unfoldable pub arm : {A : Sets} → Made A → Value → Option (Run A (Carried A)) → Run A (Carried A)
 arm e v Absent = return (value_of e v)
 arm e v (Some m) = do
@@ -85,7 +85,7 @@ arm e v (Some m) = do
 unfoldable pub conditional : {A : Sets} → Run A (Carried A) → Option (Run A (Carried A)) → Option (Run A (Carried A)) → ℕ → Run A (Carried A)
 conditional test if_true if_false site = scoped (do
   v ← test
-  e ← activating Around (note (plain kind.Test site v.value) v)
+  e ← activating Around (note (plain kind.Test site (val.Arm (arm_of_truth (is_true v.value)))) v)
   choose (is_true v.value) (arm e v.value if_true) (arm e v.value if_false))
 
 unfoldable pub call : {A : Sets} → World A → CallForm → ℕ → Option (Run A (Carried A)) → List (Run A (Carried A)) → ℕ → Run A (Carried A)

@@ -3,13 +3,13 @@ use Rattle.std.specs.Prelude.{ℕ, zero, suc, Bool, true, List, [], ◌∷◌, O
 use Rattle.std.specs.Prelude.{None as Absent}
 use Rattle.wy_kernel.specs.Form.{Statement, Stmt, Act, Block, Eval, Declare, If, While, Do, For, Labelled, Jump, Return, Throw, Try, Print, Other, nothing, this, Statements, done, first, Catches, uncaught, catch}
 use Rattle.wy_kernel.specs.Program.{Program, is_subclass, class_of_type}
-use Rattle.wy_value.specs.declared.value.Value.TheVariants.{None as Nothing}
+use Rattle.wy_value.specs.declared.value.Value.TheVariants.{None as Nothing, Arm}
 use Rattle.wy_event.specs.declared.record.Kind.TheVariants as kind
 use Rattle.wy_event.specs.declared.record.Slot.TheVariants.{Local}
 use Rattle.wy_steps.specs.Sets.{Sets}
 use Rattle.wy_steps.specs.State.{Carried, Run, Through, Reason, Jumped, Returned, Threw, StepLimit, ◌>>=◌, ◌>>◌, return, leave, stop, catching, choose}
 use Rattle.wy_steps.specs.Steps.{constant, value_of, tick, steps_left, frame, code_of, declare, note, note_write, activating, reaching, covered}
-use Rattle.wy_meaning.specs.World.{World, plain, into, fail, throwing, null_pointer, is_true, is_null, type_of}
+use Rattle.wy_meaning.specs.World.{World, plain, into, fail, throwing, null_pointer, is_true, arm_of_truth, is_null, type_of}
 use Rattle.wy_meaning.specs.Text.{print_value, print_nothing}
 use Rattle.wy_meaning.specs.Expression.{eval, eval_part, part_or}
 
@@ -19,12 +19,18 @@ statement number m = do
   tick
   reaching number (covered number m)
 
--- the condition of a statement, and its Test, which is active until its reach ends
-unfoldable pub tested : {A : Sets} → ℕ → ℕ → Run A (Carried A) → Run A Bool
+-- the Test of a statement, with the arm that it takes; it is active until its reach ends
+unfoldable pub armed : {A : Sets} → (site reach arm : ℕ) → Carried A → Run A Unit
+armed site reach n v = do
+  f ← frame
+  e ← activating (Through f reach) (note (plain kind.Test site (Arm n)) v)
+  return tt
+
+-- the condition of a statement, and its Test
+unfoldable pub tested : {A : Sets} → (site reach : ℕ) → Run A (Carried A) → Run A Bool
 tested site reach test = do
   v ← test
-  f ← frame
-  e ← activating (Through f reach) (note (plain kind.Test site v.value) v)
+  armed site reach (arm_of_truth (is_true v.value)) v
   return (is_true v.value)
 
 unfoldable pub evaluated : {A : Sets} → Run A (Carried A) → Run A Unit

@@ -84,6 +84,11 @@ unfoldable pub is_true : Value → Bool
 is_true (Boolean b) = b
 is_true _ = false
 
+-- the arm that a test of two ends takes: 1 where it is true, 0 where it is false
+unfoldable pub arm_of_truth : Bool → ℕ
+arm_of_truth true = 1
+arm_of_truth false = 0
+
 unfoldable pub object_in : Value → ℕ
 object_in (Object n) = n
 object_in _ = 0

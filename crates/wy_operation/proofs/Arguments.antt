@@ -6,7 +6,7 @@ use Rattle.wy_kernel.specs.declared.types.Ty.{Ty}
 use Rattle.wy_kernel.specs.declared.form.LibOp.TheVariants as op
 use Rattle.wy_kernel.specs.Program.{Program}
 use Rattle.wy_value.specs.declared.value.Value.{Value}
-use Rattle.wy_value.specs.declared.value.Value.TheVariants.{None as Nothing, Bool as Boolean, Byte, Short, Char, Int, Long, Null, Object, Text, Fixed}
+use Rattle.wy_value.specs.declared.value.Value.TheVariants.{None as Nothing, Bool as Boolean, Byte, Short, Char, Int, Long, Null, Object, Text, Fixed, Arm}
 use Rattle.wy_value.specs.Number.{wrapped}
 use Rattle.wy_value.specs.Numeral.{int_of}
 use Rattle.wy_value.specs.Text.{difference}
@@ -51,6 +51,7 @@ module _ (w : World nothing) (site : ℕ) (all : Carried nothing) where
   there_is (Object n) is s = absurd (cc)
   there_is (Text n) is s = refl
   there_is (Fixed n) is s = refl
+  there_is (Arm n) is s = absurd (cc)
 
   missing_is : (v : Value) → is_text v ≡ false → (s : State nothing) → text_arg w site all v s ≡ fail w null_pointer site all s
   unfolding text_arg is_text
@@ -65,6 +66,7 @@ module _ (w : World nothing) (site : ℕ) (all : Carried nothing) where
   missing_is (Object n) is s = refl
   missing_is (Text n) is s = absurd (cc)
   missing_is (Fixed n) is s = absurd (cc)
+  missing_is (Arm n) is s = refl
 
   parsed_is : (v : Value) → is_text v ≡ true → (s : State nothing) → parse w site all v s ≡ (units_of w v >>= (λ units. int_or_fail w site all (int_of units))) s
   unfolding parse is_text
@@ -79,6 +81,7 @@ module _ (w : World nothing) (site : ℕ) (all : Carried nothing) where
   parsed_is (Object n) is s = absurd (cc)
   parsed_is (Text n) is s = refl
   parsed_is (Fixed n) is s = refl
+  parsed_is (Arm n) is s = absurd (cc)
 
   unparsed_is : (v : Value) → is_text v ≡ false → (s : State nothing) → parse w site all v s ≡ fail w number_format site all s
   unfolding parse is_text
@@ -93,6 +96,7 @@ module _ (w : World nothing) (site : ℕ) (all : Carried nothing) where
   unparsed_is (Object n) is s = refl
   unparsed_is (Text n) is s = absurd (cc)
   unparsed_is (Fixed n) is s = absurd (cc)
+  unparsed_is (Arm n) is s = refl
 
   not_object_is : (v : Value) → ((n : ℕ) → v ≡ Object n → ⊥) → (s : State nothing) → object_of w site all v s ≡ fail w null_pointer site all s
   unfolding object_of
@@ -107,6 +111,7 @@ module _ (w : World nothing) (site : ℕ) (all : Carried nothing) where
   not_object_is (Object n) none s = absurd (none n refl)
   not_object_is (Text n) none s = refl
   not_object_is (Fixed n) none s = refl
+  not_object_is (Arm n) none s = refl
 
 module _ {X : Type 0} (p : Program) (w : World nothing) (m n : Shape) (site : ℕ) (all : Carried nothing) (view : X → Carried nothing) where
   -- a text that is there, and what comes of its units

@@ -1,19 +1,19 @@
 -- Tests, and what ends a statement or a body.
-use Rattle.std.proofs.Common.{◌≡◌, ℕ, Bool, true, false, List, [], length, refl, Result, Ok, Err}
+use Rattle.std.proofs.Common.{◌≡◌, ℕ, Bool, true, false, List, [], length, refl, ap, ◌∙◌, subst, Result, Ok, Err}
 use Rattle.std.specs.Prelude.{nat_lt, nat_le, ◌+◌}
 use Rattle.wy_kernel.specs.Program.{Program}
 use Rattle.wy_value.specs.declared.value.Value.{Value}
-use Rattle.wy_value.specs.declared.value.Value.TheVariants.{None as Nothing}
+use Rattle.wy_value.specs.declared.value.Value.TheVariants.{None as Nothing, Arm}
 use Rattle.wy_event.specs.declared.record.Kind.TheVariants as kind
 use Rattle.wy_event.specs.declared.record.Use.{Use}
 use Rattle.wy_steps.specs.Sets.{nothing}
 use Rattle.wy_steps.specs.State as run
-use Rattle.wy_steps.specs.State.{State, Carried, Run, Outcome, Done, Reach, Around, Through, EventLimit, UseLimit, FellOff, go_on, ◌>>=◌, return, leave, stop, choose}
+use Rattle.wy_steps.specs.State.{State, Carried, Run, Outcome, Done, Reach, Around, Through, EventLimit, UseLimit, FellOff, go_on, ◌>>=◌, ◌>>◌, return, leave, stop, choose}
 use Rattle.wy_kernel.specs.Limits.{event_limit, use_limit}
-use Rattle.wy_steps.specs.Steps.{Made, activating, constant, entered, frame, go_in, made, note, noting, room_for, value_of, with_event}
-use Rattle.wy_meaning.specs.World.{World, fail, is_null, is_true, null_pointer, plain, throwing}
+use Rattle.wy_steps.specs.Steps.{Made, activating, constant, entered, frame, go_in, made, next_event, note, noting, room_for, value_of, with_event}
+use Rattle.wy_meaning.specs.World.{World, arm_of_truth, fail, is_null, is_true, null_pointer, plain, throwing}
 use Rattle.wy_meaning.specs.Call.{end_body}
-use Rattle.wy_meaning.specs.Statement.{jump, return_form, tested, throw_form}
+use Rattle.wy_meaning.specs.Statement.{armed, jump, return_form, tested, throw_form}
 use Rattle.wy_operation.specs.Around.{Ends, Leaves}
 use Rattle.wy_operation.proofs.Exceptions.{fails, throws}
 use Rattle.wy_operation.proofs.Runs.{answers_as, done_first}
@@ -27,49 +27,78 @@ use Rattle.wy_state.proofs.Onward.{answers_after, onward_as, onward_same, onward
 
 -- ---- tests
 
-module _ (site reach : ℕ) (v : Value) (us : List Use) where
+module _ (site reach arm : ℕ) (v : Value) (us : List Use) where
   abbrev pub test_event : Run nothing (Made nothing)
-  test_event = note (plain kind.Test site v) (given v us)
+  test_event = note (plain kind.Test site (Arm arm)) (given (Arm arm) us)
 
-  abbrev pub then_true : Made nothing → Run nothing Bool
-  then_true e = activate_through e.number reach >>= (λ _. return (is_true v))
-
-  test_is : (s : State nothing) → tested site reach (return (given v us)) s ≡ (test_event >>= then_true) s
-  unfolding tested frame activating go_in entered note room_for noting choose stop with_event made ◌>>=◌ go_on return
-  test_is s = cases (nat_lt (length s.noted) event_limit) (nat_le (s.uses + length us) use_limit)
+  -- an event is the same whatever value its operands have
+  value_aside : (s : State nothing) → note (plain kind.Test site (Arm arm)) (given v us) s ≡ test_event s
+  unfolding note room_for noting next_event choose stop
+  value_aside s = cases (nat_lt (length s.noted) event_limit) (nat_le (s.uses + length us) use_limit)
     where
-      cases : (few fits : Bool) → go_on (go_in (Through s.frame reach) (choose few (choose fits (noting (plain kind.Test site v) (given v us)) (stop UseLimit)) (stop EventLimit) s)) (λ e. return (is_true v)) ≡
-          go_on (choose few (choose fits (noting (plain kind.Test site v) (given v us)) (stop UseLimit)) (stop EventLimit) s) then_true
+      cases : (few fits : Bool) → choose few (choose fits (noting (plain kind.Test site (Arm arm)) (given v us)) (stop UseLimit)) (stop EventLimit) s ≡
+          choose few (choose fits (noting (plain kind.Test site (Arm arm)) (given (Arm arm) us)) (stop UseLimit)) (stop EventLimit) s
+      cases true true = refl
+      cases true false = refl
+      cases false fits = refl
+
+  abbrev pub then_on : Made nothing → Run nothing (Unit {0})
+  then_on e = activate_through e.number reach >>= (λ _. return tt)
+
+  armed_is : (s : State nothing) → armed site reach arm (given v us) s ≡ (test_event >>= then_on) s
+  unfolding armed frame activating go_in entered note room_for noting next_event choose stop with_event made ◌>>=◌ go_on return
+  armed_is s = cases (nat_lt (length s.noted) event_limit) (nat_le (s.uses + length us) use_limit)
+    where
+      cases : (few fits : Bool) → go_on (go_in (Through s.frame reach) (choose few (choose fits (noting (plain kind.Test site (Arm arm)) (given v us)) (stop UseLimit)) (stop EventLimit) s)) (λ e. return tt) ≡
+          go_on (choose few (choose fits (noting (plain kind.Test site (Arm arm)) (given (Arm arm) us)) (stop UseLimit)) (stop EventLimit) s) then_on
       cases true true = refl
       cases true false = refl
       cases false fits = refl
 
   module _ (p : Program) (m n : Shape) where
-    pub test_goes : (l : Shape) (e : ℕ) (b : Bool) → b ≡ is_true v → Onward p m test_event l (return (made_of e)) → Onward p l (activate_through e reach) n (return tt) → Onward p m (tested site reach (return (given v us))) n (return b)
-    test_goes l e b is noted active = rw is (onward_as test_is (onward_then (done_first test_event then_true (made_of e) noted) (done_first (activate_through e reach) (λ _. return (is_true v)) tt active)))
+    pub armed_goes : (l : Shape) (e : ℕ) → Onward p m test_event l (return (made_of e)) → Onward p l (activate_through e reach) n (return tt) → Onward p m (armed site reach arm (given v us)) n (return tt)
+    armed_goes l e noted active = onward_as armed_is (onward_then (done_first test_event then_on (made_of e) noted) (done_first (activate_through e reach) (λ _. return tt) tt active))
 
-    pub test_halts : (e : Halt) → StepGives p made_of (Err e) m test_event n → StepGives p (itself {X = Bool}) (Err e) m (tested site reach (return (given v us))) n
-    test_halts e a = answers_after p m n test_event made_of itself then_true _ e test_is a
+    pub armed_halts : (e : Halt) → StepGives p made_of (Err e) m test_event n → StepGives p (itself {X = Unit {0}}) (Err e) m (armed site reach arm (given v us)) n
+    armed_halts e a = answers_after p m n test_event made_of itself then_on _ e armed_is a
 
     -- ---- those of an expression
 
     abbrev pub then_active : Made nothing → Run nothing (Made nothing)
     then_active e = activate Around e.number >>= (λ _. return e)
 
-    around_is : (s : State nothing) → activating Around test_event s ≡ (test_event >>= then_active) s
+    around_is : (s : State nothing) → activating Around (note (plain kind.Test site (Arm arm)) (given v us)) s ≡ (test_event >>= then_active) s
     unfolding activating go_in entered go_on ◌>>=◌ return
-    around_is s = cases (test_event s)
+    around_is s = ap (go_in Around) (value_aside s) ∙ cases (test_event s)
       where
         cases : (o : Outcome nothing (Made nothing)) → go_in Around o ≡ go_on o then_active
         cases (Done e t) = refl
         cases (run.Left why t) = refl
         cases (run.Stopped why t) = refl
 
-    pub around_goes : (l : Shape) (e : ℕ) → Onward p m test_event l (return (made_of e)) → Onward p l (activate Around e) n (return tt) → Onward p m (activating Around test_event) n (return (made_of e))
+    pub around_goes : (l : Shape) (e : ℕ) → Onward p m test_event l (return (made_of e)) → Onward p l (activate Around e) n (return tt) → Onward p m (activating Around (note (plain kind.Test site (Arm arm)) (given v us))) n (return (made_of e))
     around_goes l e noted active = onward_as around_is (onward_then (done_first test_event then_active (made_of e) noted) (done_first (activate Around e) (λ _. return (made_of e)) tt active))
 
-    pub around_halts : (e : Halt) → StepGives p made_of (Err e) m test_event n → StepGives p made_of (Err e) m (activating Around test_event) n
+    pub around_halts : (e : Halt) → StepGives p made_of (Err e) m test_event n → StepGives p made_of (Err e) m (activating Around (note (plain kind.Test site (Arm arm)) (given v us))) n
     around_halts e a = answers_after p m n test_event made_of made_of then_active _ e around_is a
+
+-- ---- conditions
+
+module _ (site reach : ℕ) (v : Value) (us : List Use) (p : Program) (m n : Shape) where
+  abbrev arm_noted : Run nothing (Unit {0})
+  arm_noted = armed site reach (arm_of_truth (is_true v)) (given v us)
+
+  tested_is : (s : State nothing) → tested site reach (return (given v us)) s ≡ (arm_noted >>= (λ _. return (is_true v))) s
+  unfolding tested ◌>>=◌ ◌>>◌ go_on return
+  tested_is s = refl
+
+  pub tested_goes : (b : Bool) (arm : ℕ) → b ≡ is_true v → arm ≡ arm_of_truth b → Onward p m (armed site reach arm (given v us)) n (return tt) → Onward p m (tested site reach (return (given v us))) n (return b)
+  tested_goes b arm is takes a =
+      rw is (onward_as tested_is (done_first arm_noted (λ _. return (is_true v)) tt (subst (λ k. Onward p m (armed site reach k (given v us)) n (return tt)) (takes ∙ ap arm_of_truth is) a)))
+
+  pub tested_halts : (b : Bool) (arm : ℕ) (e : Halt) → b ≡ is_true v → arm ≡ arm_of_truth b → StepGives p (itself {X = Unit {0}}) (Err e) m (armed site reach arm (given v us)) n → StepGives p (itself {X = Bool}) (Err e) m (tested site reach (return (given v us))) n
+  tested_halts b arm e is takes a =
+      answers_after p m n arm_noted itself itself (λ _. return (is_true v)) _ e tested_is (subst (λ k. StepGives p (itself {X = Unit {0}}) (Err e) m (armed site reach k (given v us)) n) (takes ∙ ap arm_of_truth is) a)
 
 -- ---- jumps and returns
 

@@ -4,7 +4,7 @@ use Rattle.std.proofs.lemmas.Bool.{and_from, and_parts, eq-eqb, eqb-true}
 use Rattle.std.specs.Prelude.{◌==◌}
 use Rattle.wy_kernel.specs.Program.{Program, fixed_text, same_units}
 use Rattle.wy_value.specs.declared.value.Value.{Value}
-use Rattle.wy_value.specs.declared.value.Value.TheVariants.{None as Nothing, Bool as Boolean, Byte, Short, Char, Int, Long, Null, Object, Text, Fixed}
+use Rattle.wy_value.specs.declared.value.Value.TheVariants.{None as Nothing, Bool as Boolean, Byte, Short, Char, Int, Long, Null, Object, Text, Fixed, Arm}
 use Rattle.wy_value.specs.Encoding.{utf8_of}
 use Rattle.wy_value.specs.Numeral.{text_of}
 use Rattle.wy_event.specs.declared.record.Use.{Use}
@@ -57,6 +57,7 @@ units_done w Null s = refl
 units_done w (Object n) s = refl
 units_done w (Text n) s = refl
 units_done w (Fixed n) s = refl
+units_done w (Arm n) s = refl
 
 -- ---- texts that are made
 
@@ -104,6 +105,7 @@ module _ (w : World nothing) where
   plain_is (Object n) is s = refl
   plain_is (Text n) is s = cc
   plain_is (Fixed n) is s = cc
+  plain_is (Arm n) is s = refl
 
   text_is : (v : Value) → is_text v ≡ true → (s : State nothing) → spelled_as w v s ≡ units_of w v s
   unfolding spelled_as is_text
@@ -118,6 +120,7 @@ module _ (w : World nothing) where
   text_is (Object n) is s = cc
   text_is (Text n) is s = refl
   text_is (Fixed n) is s = refl
+  text_is (Arm n) is s = cc
 
   module _ (p : Program) (m : Shape) (v : Value) where
     pub plain_spelled : (xs : List ℕ) → is_text v ≡ false → xs ≡ text_of v → Onward p m (spelled_as w v) m (return xs)

@@ -2,6 +2,7 @@
 use Rattle.std.proofs.Common.{◌≡◌, ℕ, List, length, drop, Option, Some, Ok, Err, sym, ap, ◌∙◌, subst}
 use Rattle.std.specs.Prelude.{None as Absent}
 use Rattle.wy_kernel.specs.declared.program.Program.{Program}
+use Rattle.wy_event.specs.declared.record.Version.{Version}
 use Rattle.wy_event.specs.declared.record.Head.{Head}
 use Rattle.wy_event.specs.declared.record.Tail.{Tail}
 use Rattle.wy_spelling.specs.Spelling.{opening}
@@ -27,40 +28,40 @@ others_of files name from fed bytes (others, there, is) found = is ∙ ap (drop 
   some_is : {x y : List ℕ} → Some x ≡ Some y → x ≡ y
   some_is e = cc
 
-module _ (held : Option Files) (name : List ℕ) (p : Program) (head : Head) (may : MayBeOpened held name head) where
-  pub opened : (laws : Laws) (r : Reading) (fed : List ℕ) (t : Progress) → Reads r p head fed t → (pages : Pages) (tail : Tail) → IsWhole pages tail head fed t → AreBytes (opening head) → AreOthers held name (length (opening head)) fed → Opens held name p (Ok (pages, tail))
+module _ (held : Option Files) (name : List ℕ) (v : Version) (p : Program) (head : Head) (may : MayBeOpened held name v head) where
+  pub opened : (laws : Laws) (r : Reading) (fed : List ℕ) (t : Progress) → Reads r v p head fed t → (pages : Pages) (tail : Tail) → IsWhole pages tail v head fed t → AreBytes (opening v head) → AreOthers held name (length (opening v head)) fed → Opens held name p (Ok (pages, tail))
   opened laws r fed t h pages tail w are others = by held may others where
-    by : (held : Option Files) → MayBeOpened held name head → AreOthers held name (length (opening head)) fed → Opens held name p (Ok (pages, tail))
+    by : (held : Option Files) → MayBeOpened held name v head → AreOthers held name (length (opening v head)) fed → Opens held name p (Ok (pages, tail))
     by Absent may others = tt
-    by (Some files) may others = λ bytes there. is_opened laws r p head fed t h pages tail w are bytes (may bytes there) (others_of files name (length (opening head)) fed bytes others there)
+    by (Some files) may others = λ bytes there. is_opened laws r v p head fed t h pages tail w are bytes (may bytes there) (others_of files name (length (opening v head)) fed bytes others there)
 
-  pub unsealed : (r : Reading) (fed : List ℕ) (t : Progress) (e : TraceError) → Reads r p head fed t → AreOthers held name (length (opening head)) fed → ReadsAll (Err e) head fed t → Opens held name p (Err (Refusal e))
+  pub unsealed : (r : Reading) (fed : List ℕ) (t : Progress) (e : TraceError) → Reads r v p head fed t → AreOthers held name (length (opening v head)) fed → ReadsAll (Err e) v head fed t → Opens held name p (Err (Refusal e))
   unsealed r fed t e h others reads = by held may others where
-    as_read : (e : TraceError) (bytes : List ℕ) → BeginsWith head bytes → fed ≡ drop (length (opening head)) bytes → ReadsAll (Err e) head fed t → OpensAs (Err (Refusal e)) p bytes
-    as_read (trace.Cut byte) bytes begin behind (place, open_stage) = cut_whole p head bytes fed r.scanner.rest.items t byte begin.read behind h.scans.leaves h.scans.waits place open_stage
+    as_read : (e : TraceError) (bytes : List ℕ) → BeginsWith v head bytes → fed ≡ drop (length (opening v head)) bytes → ReadsAll (Err e) v head fed t → OpensAs (Err (Refusal e)) p bytes
+    as_read (trace.Cut byte) bytes begin behind (place, open_stage) = cut_whole v p head bytes fed r.scanner.rest.items t byte begin.read behind h.scans.leaves h.scans.waits place open_stage
     as_read trace.NoMemory bytes begin behind reads = tt
     as_read (trace.Damaged byte rule) bytes begin behind reads = absurd reads
     as_read trace.BadSeal bytes begin behind reads = absurd reads
 
-    by : (held : Option Files) → MayBeOpened held name head → AreOthers held name (length (opening head)) fed → Opens held name p (Err (Refusal e))
+    by : (held : Option Files) → MayBeOpened held name v head → AreOthers held name (length (opening v head)) fed → Opens held name p (Err (Refusal e))
     by Absent may others = tt
-    by (Some files) may others = λ bytes there. as_read e bytes (may bytes there) (others_of files name (length (opening head)) fed bytes others there) reads
+    by (Some files) may others = λ bytes there. as_read e bytes (may bytes there) (others_of files name (length (opening v head)) fed bytes others there) reads
 
-  pub unread : (e : PageError) → IsUnread held name p head e → Opens held name p (Err e)
+  pub unread : (e : PageError) → IsUnread held name v p head e → Opens held name p (Err e)
   unread e refused = by held may e refused where
     never : (files : Files) (bytes : List ℕ) → files name ≡ Absent → files name ≡ Some bytes → ⊥
     never files bytes gone there = let both : Some bytes ≡ Absent = sym there ∙ gone in cc
 
-    by : (held : Option Files) → MayBeOpened held name head → (e : PageError) → IsUnread held name p head e → Opens held name p (Err e)
+    by : (held : Option Files) → MayBeOpened held name v head → (e : PageError) → IsUnread held name v p head e → Opens held name p (Err e)
     by Absent may e refused = tt
     by (Some files) may (Refusal trace.NoMemory) refused = λ bytes there. tt
-    by (Some files) may (Refusal (trace.Cut byte)) (fed, next, refused) = λ bytes there. refused_whole p head bytes fed (trace.Cut byte) (may bytes there).read (next bytes there) refused
-    by (Some files) may (Refusal (trace.Damaged byte rule)) (fed, next, refused) = λ bytes there. refused_whole p head bytes fed (trace.Damaged byte rule) (may bytes there).read (next bytes there) refused
-    by (Some files) may (Refusal trace.BadSeal) (fed, next, refused) = λ bytes there. refused_whole p head bytes fed trace.BadSeal (may bytes there).read (next bytes there) refused
+    by (Some files) may (Refusal (trace.Cut byte)) (fed, next, refused) = λ bytes there. refused_whole v p head bytes fed (trace.Cut byte) (may bytes there).read (next bytes there) refused
+    by (Some files) may (Refusal (trace.Damaged byte rule)) (fed, next, refused) = λ bytes there. refused_whole v p head bytes fed (trace.Damaged byte rule) (may bytes there).read (next bytes there) refused
+    by (Some files) may (Refusal trace.BadSeal) (fed, next, refused) = λ bytes there. refused_whole v p head bytes fed trace.BadSeal (may bytes there).read (next bytes there) refused
     by (Some files) may (View view.ReadFault) refused = λ bytes there. tt
     by (Some files) may (View view.NoMemory) refused = λ bytes there. tt
     by (Some files) may (View view.Gone) refused = λ bytes there. never files bytes refused there
     by (Some files) may (View (view.Changed block kept found)) refused = absurd refused
 
-pub end_stands : (law : ReadEndsStand) (r : Reading) (p : Program) (head : Head) (fed : List ℕ) (t : Progress) → Reads r p head fed t → (pages : Pages) (tail : Tail) → IsWhole pages tail head fed t → EndStands p.statements pages.count tail
-end_stands law r p head fed t h pages tail w = subst (λ (n : ℕ). EndStands p.statements n tail) (sym (whole_count head fed t pages tail w)) (law p head fed t r.scanner.rest.items tail pages.seal h.scans.leaves w.sealed)
+pub end_stands : (law : ReadEndsStand) (r : Reading) (v : Version) (p : Program) (head : Head) (fed : List ℕ) (t : Progress) → Reads r v p head fed t → (pages : Pages) (tail : Tail) → IsWhole pages tail v head fed t → EndStands p.statements pages.count tail
+end_stands law r v p head fed t h pages tail w = subst (λ (n : ℕ). EndStands p.statements n tail) (sym (whole_count v head fed t pages tail w)) (law v p head fed t r.scanner.rest.items tail pages.seal h.scans.leaves w.sealed)

@@ -4,6 +4,8 @@ use Rattle.std.specs.Prelude.{◌%◌, ◌&&◌, nat_lt, slice_index}
 use Rattle.std.specs.Int.{byte_at, bytes_high_first}
 use Rattle.std.proofs.lemmas.Bool.{cases_lt, ltb-true}
 use Rattle.std.proofs.lemmas.List.{get_or_append_left, get_or-append-add}
+use Rattle.wy_event.specs.declared.record.Version.{Version}
+use Rattle.wy_event.specs.declared.record.Version.TheVariants as version
 use Rattle.wy_event.specs.declared.record.Head.{Head}
 use Rattle.wy_spelling.specs.Spelling.{head_frame, head_payload, magic, number, opening}
 use Rattle.law_reading.specs.Spelled.{AreBytes}
@@ -34,14 +36,18 @@ high_bytes (suc k) n = byte_then (byte_at k n) (bytes_high_first k n) (is_byte k
 of_number : (n : ℕ) → AreBytes (number n)
 of_number n = high_bytes 4 n
 
-of_magic : AreBytes magic
-of_magic = by magic refl where
+of_magic : (v : Version) → AreBytes (magic v)
+of_magic v = by (magic v) (each v) where
   small : (n : ℕ) → nat_lt n 256 ≡ true → n < 256
   small n is = ltb-true n 256 is
 
   all_small : List ℕ → Bool
   all_small [] = true
   all_small (b ∷ bytes) = nat_lt b 256 && all_small bytes
+
+  each : (v : Version) → all_small (magic v) ≡ true
+  each version.One = refl
+  each version.Two = refl
 
   both : (a b : Bool) → (a && b) ≡ true → (a ≡ true) × (b ≡ true)
   both true b is = (refl, is)
@@ -59,9 +65,9 @@ of_payload head input source =
     let sized = number (length head.input) ++ behind in
     bytes_then (number head.steps) sized (of_number head.steps) (bytes_then (number (length head.input)) behind (of_number (length head.input)) (bytes_then head.input last input (bytes_then (number (length head.source)) head.source (of_number (length head.source)) source)))
 
-pub head_bytes : (head : Head) → AreBytes head.input → AreBytes head.source → AreBytes (opening head)
+pub head_bytes : (v : Version) (head : Head) → AreBytes head.input → AreBytes head.source → AreBytes (opening v head)
 unfolding opening head_frame
-head_bytes head input source =
+head_bytes v head input source =
     let payload = head_payload head in
     let sized = number (length payload) ++ payload in
-    bytes_then magic (72 ∷ sized) of_magic (byte_then 72 sized (omega arith) (bytes_then (number (length payload)) payload (of_number (length payload)) (of_payload head input source)))
+    bytes_then (magic v) (72 ∷ sized) (of_magic v) (byte_then 72 sized (omega arith) (bytes_then (number (length payload)) payload (of_number (length payload)) (of_payload head input source)))

@@ -7,6 +7,7 @@ use Rattle.std.proofs.Math.Logic.{∥∥₁_elim}
 use Rattle.std.proofs.Props.{props}
 use Rattle.lru.specs.LruCache.{LruCache, lru_cache, promoted, put_entries}
 use Rattle.lru.proofs.CallerLemmas.{Contains-promoted}
+use Rattle.wy_event.specs.declared.record.Version.{Version}
 use Rattle.wy_event.specs.declared.record.Event.{Event}
 use Rattle.wy_event.specs.Record.{Recorded, recorded}
 use Rattle.wy_outside.specs.Shelf.{Files}
@@ -21,13 +22,14 @@ Held = List (ℕ × Vec Event Global)
 
 -- each block that is held is of these records
 abbrev HeldOf : Pages → List ℕ → Held → Type 0
-HeldOf p bytes held = (h : ℕ × Vec Event Global) → Contains held h → map recorded h.1.items ≡ block_of h.0 (records_of p.starts p.count bytes)
+HeldOf p bytes held = (h : ℕ × Vec Event Global) → Contains held h → map recorded h.1.items ≡ block_of h.0 (records_of p.version p.starts p.count bytes)
 
-kept_of : (old new : Pages) → KeepsFile old new → (held : Held) (bytes : List ℕ) → IsOf old.starts old.digests old.count held bytes → IsOf new.starts new.digests new.count held bytes
+kept_of : (old new : Pages) → KeepsFile old new → (held : Held) (bytes : List ℕ) → IsOf old.version old.starts old.digests old.count held bytes → IsOf new.version new.starts new.digests new.count held bytes
 kept_of old new k held bytes is =
-    subst (λ (s : Vec ℕ Global). IsOf s new.digests new.count held bytes) (sym k.starts) (subst (λ (d : Vec (List ℕ) Global). IsOf old.starts d new.count held bytes) (sym k.digests) (subst (λ (c : ℕ). IsOf old.starts old.digests c held bytes) (sym k.count) is))
+    subst (λ (v : Version). IsOf v new.starts new.digests new.count held bytes) (sym k.version)
+    (subst (λ (s : Vec ℕ Global). IsOf old.version s new.digests new.count held bytes) (sym k.starts) (subst (λ (d : Vec (List ℕ) Global). IsOf old.version old.starts d new.count held bytes) (sym k.digests) (subst (λ (c : ℕ). IsOf old.version old.starts old.digests c held bytes) (sym k.count) is)))
 
-with_held : (p : Pages) (held new : Held) (bytes : List ℕ) → IsOf p.starts p.digests p.count held bytes → HeldOf p bytes new → IsOf p.starts p.digests p.count new bytes
+with_held : (p : Pages) (held new : Held) (bytes : List ℕ) → IsOf p.version p.starts p.digests p.count held bytes → HeldOf p bytes new → IsOf p.version p.starts p.digests p.count new bytes
 with_held p held new bytes is are = record { digests = is.digests; frames = is.frames; held = are }
 
 -- once what is held changes to blocks of the same records
@@ -62,12 +64,12 @@ fits_put old new held b cap events k now told is = fits old new held k (changes 
   changes : (held : Option Files) → IsBlockTold old held b events.items → Changes old new held
   changes None told = tt
   changes (Some files) told = λ bytes named are.
-      let here : map recorded events.items ≡ block_of b (records_of old.starts old.count bytes) = told ∙ ap (λ o. block_of b (records_of old.starts old.count (unwrap_or o []))) named in
-      subst (λ (c : LruCache ℕ (Vec Event Global)). HeldOf old bytes c.entries) (sym now) (put_has (λ h. map recorded h.1.items ≡ block_of h.0 (records_of old.starts old.count bytes)) old.held b events here are)
+      let here : map recorded events.items ≡ block_of b (records_of old.version old.starts old.count bytes) = told ∙ ap (λ o. block_of b (records_of old.version old.starts old.count (unwrap_or o []))) named in
+      subst (λ (c : LruCache ℕ (Vec Event Global)). HeldOf old bytes c.entries) (sym now) (put_has (λ h. map recorded h.1.items ≡ block_of h.0 (records_of old.version old.starts old.count bytes)) old.held b events here are)
 
 -- the records stay with the file
 pub records_kept : (old new : Pages) (held : Option Files) → KeepsFile old new → records_told new held ≡ records_told old held
-records_kept old new held k = λ i. option_map (λ files. records_of (k.starts i) (k.count i) (unwrap_or (files (string_bytes (k.name i))) [])) held
+records_kept old new held k = λ i. option_map (λ files. records_of (k.version i) (k.starts i) (k.count i) (unwrap_or (files (string_bytes (k.name i))) [])) held
 
 pub told_kept : (old new : Pages) (was held : Option Files) (b : ℕ) (events : List Event) → KeepsFile old new → held ≡ was → IsBlockTold old was b events → IsBlockTold new held b events
 told_kept old new was held b events k same told = subst (λ (o : Option (List Recorded)). IfSome o (λ rs. map recorded events ≡ block_of b rs)) (sym (ap (records_told new) same ∙ records_kept old new was k)) told

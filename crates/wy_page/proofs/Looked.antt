@@ -55,7 +55,7 @@ module _ (n : ℕ) where
       where
         told : (files : Files) → IsOfShelf p (Some files) → IfSome (records_told p (Some files)) (λ rs. slice_get rs n ≡ Some (recorded e))
         told files (bytes, named, of) =
-            let records = records_of p.starts p.count bytes in
+            let records = records_of p.version p.starts p.count bytes in
             let among : Contains p.held.entries (block, events) = Contains-from_lookup (eqb-true) block events p.held.entries there in
             let here : slice_get (map recorded events.items) place ≡ Some (recorded e) = slice_get-map recorded events.items place ∙ ap (option_map recorded) is in
             subst (λ (o : Option (List Recorded)). IfSome o (λ rs. slice_get rs n ≡ Some (recorded e))) (sym (records_named p files bytes named))

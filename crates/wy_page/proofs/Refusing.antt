@@ -2,6 +2,7 @@
 use Rattle.std.proofs.Common.{◌≡◌, ℕ, List, [], ◌∷◌, ◌++◌, length, take, drop, Option, Some, Result, Ok, Err, refl, sym, ap, ◌∙◌, subst, inl, inr, take-append-drop}
 use Rattle.std.specs.Prelude.{None as Absent}
 use Rattle.wy_kernel.specs.declared.program.Program.{Program}
+use Rattle.wy_event.specs.declared.record.Version.{Version}
 use Rattle.wy_event.specs.declared.record.Head.{Head}
 use Rattle.wy_event.specs.declared.record.Trace.{Trace}
 use Rattle.wy_payload.specs.declared.ranges.Ranges.{Ranges}
@@ -65,25 +66,25 @@ refused_more r steps from bytes more BadSeal x = is_refused_more r steps from by
 
 -- ---- of a file
 
-read_with : (p : Program) (head : Head) (bytes : List ℕ) (r : Result Trace TraceError) → head_of bytes ≡ Ok (head, length (opening head)) → IsReadBehind p head (drop (length (opening head)) bytes) r → IsReadAs p bytes r
-read_with p head bytes r e h = rw e h
+read_with : (v : Version) (p : Program) (head : Head) (bytes : List ℕ) (r : Result Trace TraceError) → head_of bytes ≡ Ok (head, length (opening v head), v) → IsReadBehind v p head (drop (length (opening v head)) bytes) r → IsReadAs p bytes r
+read_with v p head bytes r e h = rw e h
 
 -- which begins so behind its head
-pub refused_whole : (p : Program) (head : Head) (bytes fed : List ℕ) (e : TraceError) → head_of bytes ≡ Ok (head, length (opening head)) → fed ≡ take (length fed) (drop (length (opening head)) bytes) → Refused (ranges_of p) head.steps (start head) fed e → ReadsAs (Err e) p bytes
-refused_whole p head bytes fed e is begin refused = by e (subst (λ (l : List ℕ). Refused (ranges_of p) head.steps (start head) l e) whole (refused_more (ranges_of p) head.steps (start head) fed (drop (length fed) rest) e refused)) where
+pub refused_whole : (v : Version) (p : Program) (head : Head) (bytes fed : List ℕ) (e : TraceError) → head_of bytes ≡ Ok (head, length (opening v head), v) → fed ≡ take (length fed) (drop (length (opening v head)) bytes) → Refused (ranges_of v p) head.steps (start v head) fed e → ReadsAs (Err e) p bytes
+refused_whole v p head bytes fed e is begin refused = by e (subst (λ (l : List ℕ). Refused (ranges_of v p) head.steps (start v head) l e) whole (refused_more (ranges_of v p) head.steps (start v head) fed (drop (length fed) rest) e refused)) where
   rest : List ℕ
-  rest = drop (length (opening head)) bytes
+  rest = drop (length (opening v head)) bytes
 
   whole : fed ++ drop (length fed) rest ≡ rest
   whole = ap (λ l. l ++ drop (length fed) rest) begin ∙ take-append-drop (length fed) rest
 
-  by : (d : TraceError) → Refused (ranges_of p) head.steps (start head) rest d → ReadsAs (Err d) p bytes
+  by : (d : TraceError) → Refused (ranges_of v p) head.steps (start v head) rest d → ReadsAs (Err d) p bytes
   by NoMemory x = tt
-  by (Cut byte) x = read_with p head bytes (Err (Cut byte)) is (inl x)
-  by (Damaged byte r) x = read_with p head bytes (Err (Damaged byte r)) is (inl x)
-  by BadSeal x = read_with p head bytes (Err BadSeal) is (inl x)
+  by (Cut byte) x = read_with v p head bytes (Err (Cut byte)) is (inl x)
+  by (Damaged byte r) x = read_with v p head bytes (Err (Damaged byte r)) is (inl x)
+  by BadSeal x = read_with v p head bytes (Err BadSeal) is (inl x)
 
 -- all of which was read, with no seal
-pub cut_whole : (p : Program) (head : Head) (bytes fed rest : List ℕ) (t : Progress) (byte : ℕ) → head_of bytes ≡ Ok (head, length (opening head)) → fed ≡ drop (length (opening head)) bytes → Leaves (ranges_of p) head.steps (start head) fed t rest → turn (ranges_of p) head.steps t rest ≡ Waits → byte ≡ length (opening head ++ fed) → IsUnsealed t.stage → ReadsAs (Err (Cut byte)) p bytes
-cut_whole p head bytes fed rest t byte is behind leaves waits place unsealed =
-    read_with p head bytes (Err (Cut byte)) is (subst (λ (l : List ℕ). IsReadBehind p head l (Err (Cut byte))) behind (inr (t, record { rest = rest; leaves = leaves; waits = waits }, unsealed, ap Cut place)))
+pub cut_whole : (v : Version) (p : Program) (head : Head) (bytes fed rest : List ℕ) (t : Progress) (byte : ℕ) → head_of bytes ≡ Ok (head, length (opening v head), v) → fed ≡ drop (length (opening v head)) bytes → Leaves (ranges_of v p) head.steps (start v head) fed t rest → turn (ranges_of v p) head.steps t rest ≡ Waits → byte ≡ length (opening v head ++ fed) → IsUnsealed t.stage → ReadsAs (Err (Cut byte)) p bytes
+cut_whole v p head bytes fed rest t byte is behind leaves waits place unsealed =
+    read_with v p head bytes (Err (Cut byte)) is (subst (λ (l : List ℕ). IsReadBehind v p head l (Err (Cut byte))) behind (inr (t, record { rest = rest; leaves = leaves; waits = waits }, unsealed, ap Cut place)))

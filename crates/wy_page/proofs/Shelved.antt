@@ -8,6 +8,7 @@ use Rattle.std.proofs.lemmas.Bool.{cases_lt}
 use Rattle.std.proofs.lemmas.List.{drop-drop, length-drop, length-take, take_all}
 use Rattle.wy_kernel.specs.Limits.{trace_limit}
 use Rattle.wy_kernel.specs.declared.program.Program.{Program}
+use Rattle.wy_event.specs.declared.record.Version.{Version}
 use Rattle.wy_event.specs.declared.record.Head.{Head}
 use Rattle.wy_spelling.specs.Spelling.{opening}
 use Rattle.wy_payload.specs.Ranges.{ranges_of}
@@ -60,19 +61,19 @@ pub next_on : (held : Option Files) (name : List ℕ) (from at wanted : ℕ) (fe
 next_on Absent name from at wanted fed piece next place read = tt
 next_on (Some files) name from at wanted fed piece next place read = λ bytes there. both_next from at wanted bytes fed piece.items (next bytes there) place (piece_is files name bytes piece.items at wanted there read)
 
-pub others_are : (held : Option Files) (name : List ℕ) (head : Head) (at wanted most : ℕ) (fed : List ℕ) (piece : Vec ℕ Global) → MayBeOpened held name head → AreNext held name (length (opening head)) fed → at ≡ length (opening head) + length fed → at ≤ trace_limit → wanted ≡ min most (trace_limit - at) → length piece.items < most → ReadsPart held name at wanted (Ok piece) → AreOthers held name (length (opening head)) (fed ++ piece.items)
-others_are Absent name head at wanted most fed piece may next place within is less read = tt
-others_are (Some files) name head at wanted most fed piece may next place within is less read = by (files name) refl read where
-  by : (o : Option (List ℕ)) → files name ≡ o → option_map (λ all. take wanted (drop at all)) o ≡ Some piece.items → AreOthers (Some files) name (length (opening head)) (fed ++ piece.items)
+pub others_are : (held : Option Files) (name : List ℕ) (v : Version) (head : Head) (at wanted most : ℕ) (fed : List ℕ) (piece : Vec ℕ Global) → MayBeOpened held name v head → AreNext held name (length (opening v head)) fed → at ≡ length (opening v head) + length fed → at ≤ trace_limit → wanted ≡ min most (trace_limit - at) → length piece.items < most → ReadsPart held name at wanted (Ok piece) → AreOthers held name (length (opening v head)) (fed ++ piece.items)
+others_are Absent name v head at wanted most fed piece may next place within is less read = tt
+others_are (Some files) name v head at wanted most fed piece may next place within is less read = by (files name) refl read where
+  by : (o : Option (List ℕ)) → files name ≡ o → option_map (λ all. take wanted (drop at all)) o ≡ Some piece.items → AreOthers (Some files) name (length (opening v head)) (fed ++ piece.items)
   by Absent there none = absurd cc
-  by (Some bytes) there some = (bytes, there, all_there (length (opening head)) at wanted bytes fed piece.items (next bytes there) place (some_is some) (may bytes there).short within most is less) where
+  by (Some bytes) there some = (bytes, there, all_there (length (opening v head)) at wanted bytes fed piece.items (next bytes there) place (some_is some) (may bytes there).short within most is less) where
     some_is : {x y : List ℕ} → Some x ≡ Some y → x ≡ y
     some_is e = cc
 
 -- ---- what is refused
 
-pub trace_refused : (held : Option Files) (name : List ℕ) (p : Program) (head : Head) (fed : List ℕ) (e : TraceError) → AreNext held name (length (opening head)) fed → Refused (ranges_of p) head.steps (start head) fed e → IsUnread held name p head (Refusal e)
-trace_refused held name p head fed trace.NoMemory next refused = tt
-trace_refused held name p head fed (trace.Cut byte) next refused = (fed, next, refused)
-trace_refused held name p head fed (trace.Damaged byte r) next refused = (fed, next, refused)
-trace_refused held name p head fed trace.BadSeal next refused = (fed, next, refused)
+pub trace_refused : (held : Option Files) (name : List ℕ) (v : Version) (p : Program) (head : Head) (fed : List ℕ) (e : TraceError) → AreNext held name (length (opening v head)) fed → Refused (ranges_of v p) head.steps (start v head) fed e → IsUnread held name v p head (Refusal e)
+trace_refused held name v p head fed trace.NoMemory next refused = tt
+trace_refused held name v p head fed (trace.Cut byte) next refused = (fed, next, refused)
+trace_refused held name v p head fed (trace.Damaged byte r) next refused = (fed, next, refused)
+trace_refused held name v p head fed trace.BadSeal next refused = (fed, next, refused)

@@ -30,24 +30,24 @@ record BlockRead (p : Pages) (files : Files) (b : ℕ) (bytes : List ℕ) : Type
   pub digest : slice_get p.digests.items b ≡ Some (sha256 bytes)
   pub records : List Recorded
   pub told : records_told p (Some files) ≡ Some records
-  pub frames : AreFrames (block_length * b) (block_of b records) bytes
+  pub frames : AreFrames p.version (block_length * b) (block_of b records) bytes
   pub size : length (block_of b records) ≡ size_of_block p.count b
 
 size_of : (b count : ℕ) (records : List Recorded) → length records ≡ count → length (block_of b records) ≡ size_of_block count b
 size_of b count records is = omega (arith, length-take block_length (drop (block_length * b) records), length-drop (block_length * b) records, is)
 
-pub records_named : (p : Pages) (files : Files) (bytes : List ℕ) → files (string_bytes p.name) ≡ Some bytes → records_told p (Some files) ≡ Some (records_of p.starts p.count bytes)
-records_named p files bytes named = ap (λ o. Some (records_of p.starts p.count (unwrap_or o []))) named
+pub records_named : (p : Pages) (files : Files) (bytes : List ℕ) → files (string_bytes p.name) ≡ Some bytes → records_told p (Some files) ≡ Some (records_of p.version p.starts p.count bytes)
+records_named p files bytes named = ap (λ o. Some (records_of p.version p.starts p.count (unwrap_or o []))) named
 
 block_read : (p : Pages) (files : Files) (b : ℕ) (bytes : Vec ℕ Global) → IsOfShelf p (Some files) → b < length p.digests.items → ReadsPart (Some files) (string_bytes p.name) (slice_index p.starts.items b) (slice_index p.starts.items (b + 1) - slice_index p.starts.items b) (Ok bytes) → BlockRead p files b bytes.items
 block_read p files b bytes (file, named, of) within read =
     let part : block_bytes p.starts b file ≡ bytes.items = some_is (ap (option_map (block_bytes p.starts b)) (sym named) ∙ read) in
     record {
       digest = of.digests b within ∙ ap (λ l. Some (sha256 l)) part;
-      records = records_of p.starts p.count file;
+      records = records_of p.version p.starts p.count file;
       told = records_named p files file named;
-      frames = subst (AreFrames (block_length * b) (block_of b (records_of p.starts p.count file))) part (of.frames b within);
-      size = size_of b p.count (records_of p.starts p.count file) (length_from 0 p.count (drop (slice_index p.starts.items 0) file));
+      frames = subst (AreFrames p.version (block_length * b) (block_of b (records_of p.version p.starts p.count file))) part (of.frames b within);
+      size = size_of b p.count (records_of p.version p.starts p.count file) (length_from p.version 0 p.count (drop (slice_index p.starts.items 0) file));
     }
   where
     some_is : {x y : List ℕ} → Some x ≡ Some y → x ≡ y
@@ -55,7 +55,7 @@ block_read p files b bytes (file, named, of) within read =
 
 -- the events that its bytes are read as are its records
 abbrev AsItsRecords : Pages → ℕ → List ℕ → List Event → Type 0
-AsItsRecords p b bytes events = ReadAs (block_length * b) (size_of_block p.count b) bytes events
+AsItsRecords p b bytes events = ReadAs p.version (block_length * b) (size_of_block p.count b) bytes events
 
 told_some : (p : Pages) (files : Files) (b : ℕ) (bytes : List ℕ) (events : List Event) → BlockRead p files b bytes → AsItsRecords p b bytes events → IsBlockTold p (Some files) b events
 told_some p files b bytes events r read = subst (λ (o : Option (List Recorded)). IfSome o (λ rs. map recorded events ≡ block_of b rs)) (sym r.told) (read (block_of b r.records) r.frames r.size)
@@ -79,7 +79,7 @@ never_gone p (Some files) from len of gone = ∥∥₁_elim of (hlevel props) (�
 
 pub told_long : (p : Pages) (held : Option Files) → IfSome (records_told p held) (λ rs. length rs ≡ p.count)
 told_long p None = tt
-told_long p (Some files) = length_from 0 p.count (drop (slice_index p.starts.items 0) (unwrap_or (files (string_bytes p.name)) []))
+told_long p (Some files) = length_from p.version 0 p.count (drop (slice_index p.starts.items 0) (unwrap_or (files (string_bytes p.name)) []))
 
 module _ (p : Pages) (held : Option Files) (b : ℕ) (bytes : Vec ℕ Global) (of : ∥ IsOfShelf p held ∥₁) (within : b < length p.digests.items) (read : ReadsPart held (string_bytes p.name) (slice_index p.starts.items b) (slice_index p.starts.items (b + 1) - slice_index p.starts.items b) (Ok bytes)) where
   pub told_if : (r : Result (Vec Event Global) ViewError) → IfOk r (λ events. AsItsRecords p b bytes.items events.items) → IfOk r (λ events. IsBlockTold p held b events.items)

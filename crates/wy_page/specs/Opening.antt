@@ -6,11 +6,12 @@ use Rattle.wy_kernel.specs.declared.program.Program.{Program}
 use Rattle.wy_event.specs.declared.record.Head.{Head}
 use Rattle.wy_event.specs.declared.record.Tail.{Tail}
 use Rattle.wy_event.specs.declared.record.Trace.{Trace}
+use Rattle.wy_event.specs.declared.record.Version.{Version}
 use Rattle.wy_event.specs.Record.{recorded}
 use Rattle.wy_spelling.specs.Spelling.{opening}
 use Rattle.wy_payload.specs.Ranges.{ranges_of}
 use Rattle.wy_frames.specs.declared.error.TraceError.TheVariants as trace
-use Rattle.wy_frames.specs.Heads.{head_of}
+use Rattle.wy_frames.specs.Heads.{head_of, version_of}
 use Rattle.wy_frames.specs.Progress.{start}
 use Rattle.wy_frames.specs.Scan.{Refused}
 use Rattle.wy_frames.specs.Traces.{IsReadAs, ReadsAs}
@@ -25,22 +26,23 @@ use Rattle.wy_page.specs.declared.pages.Pages.{Pages}
 use Rattle.wy_page.specs.Paged.{records_of}
 use Rattle.wy_page.specs.Reads.{AreNext}
 
--- the named file, where it is told and there, begins with the magic and the frame of this head, as it is spelled and read, and is short enough for a trace
-pub record BeginsWith (head : Head) (bytes : List ℕ) : Type 0 where
+-- the named file, where it is told and there, begins with the magic of a version and the frame of this head, as it is spelled and read, and is short enough for a trace
+pub record BeginsWith (v : Version) (head : Head) (bytes : List ℕ) : Type 0 where
   pub rest : List ℕ
-  pub spelled : bytes ≡ opening head ++ rest
-  pub read : head_of bytes ≡ Ok (head, length (opening head))
+  pub spelled : bytes ≡ opening v head ++ rest
+  pub read : head_of bytes ≡ Ok (head, length (opening v head), v)
   pub short : length bytes ≤ trace_limit
 
-abbrev pub MayBeOpened : Option Files → List ℕ → Head → Type 0
-MayBeOpened held name head = IfSome held (λ files. (bytes : List ℕ) → files name ≡ Some bytes → BeginsWith head bytes)
+abbrev pub MayBeOpened : Option Files → List ℕ → Version → Head → Type 0
+MayBeOpened held name v head = IfSome held (λ files. (bytes : List ℕ) → files name ≡ Some bytes → BeginsWith v head bytes)
 
--- these are the records, the end and the seal of the trace that bytes are read as
+-- these are the version, the records, the end and the seal of the trace that bytes are read as
 pub record IsOpened (pages : Pages) (tail : Tail) (p : Program) (bytes : List ℕ) : Type 0 where
   pub trace : Trace
   pub read : IsReadAs p bytes (Ok trace)
+  pub version_is : pages.version ≡ version_of bytes
   pub tail_is : tail ≡ trace.tail
-  pub records_are : records_of pages.starts pages.count bytes ≡ map recorded trace.events
+  pub records_are : records_of pages.version pages.starts pages.count bytes ≡ map recorded trace.events
   pub are_bytes : AreBytes bytes
   pub seal_is : EndsWithSeal bytes pages.seal
 
@@ -59,13 +61,13 @@ Opens held name p r = IfSome held (λ files. (bytes : List ℕ) → files name �
 -- ---- what is refused, and for what
 
 -- behind the head, of a file that is told, these bytes come first, and something is wrong with them; or there is no file
-abbrev pub IsUnread : Option Files → List ℕ → Program → Head → PageError → Type 0
-IsUnread held name p head (Refusal trace.NoMemory) = Unit {0}
-IsUnread held name p head (Refusal e) = (fed : List ℕ) × AreNext held name (length (opening head)) fed × Refused (ranges_of p) head.steps (start head) fed e
-IsUnread held name p head (View view.ReadFault) = Unit {0}
-IsUnread held name p head (View view.NoMemory) = Unit {0}
-IsUnread held name p head (View view.Gone) = IfSome held (λ files. files name ≡ Absent)
-IsUnread held name p head (View (view.Changed block kept found)) = ⊥
+abbrev pub IsUnread : Option Files → List ℕ → Version → Program → Head → PageError → Type 0
+IsUnread held name v p head (Refusal trace.NoMemory) = Unit {0}
+IsUnread held name v p head (Refusal e) = (fed : List ℕ) × AreNext held name (length (opening v head)) fed × Refused (ranges_of v p) head.steps (start v head) fed e
+IsUnread held name v p head (View view.ReadFault) = Unit {0}
+IsUnread held name v p head (View view.NoMemory) = Unit {0}
+IsUnread held name v p head (View view.Gone) = IfSome held (λ files. files name ≡ Absent)
+IsUnread held name v p head (View (view.Changed block kept found)) = ⊥
 
 -- what the shelf counted: each of its refusals has its cause, only ReadFault is a fault, and only Gone a miss
 abbrev pub OpenCounts : {X : Type 0} → Result X PageError → ℕ → ℕ → ℕ → ℕ → Type 0
@@ -78,4 +80,4 @@ OpenCounts r faults now misses later = (now ≡ faults) × (later ≡ misses)
 
 -- a front from which the head is read says that the file begins so
 abbrev pub FrontsBeginTraces : Type 0
-FrontsBeginTraces = (front others : List ℕ) (head : Head) (end : ℕ) → AreBytes front → head_of front ≡ Ok (head, end) → length (front ++ others) ≤ trace_limit → BeginsWith head (front ++ others) × (end ≡ length (opening head))
+FrontsBeginTraces = (front others : List ℕ) (head : Head) (end : ℕ) (v : Version) → AreBytes front → head_of front ≡ Ok (head, end, v) → length (front ++ others) ≤ trace_limit → BeginsWith v head (front ++ others) × (end ≡ length (opening v head))

@@ -6,8 +6,9 @@ use Rattle.sha2.specs.Sha256.{sha256}
 use Rattle.wy_event.specs.Record.{Recorded, recorded}
 use Rattle.wy_outside.specs.Shelf.{Files}
 use Rattle.wy_view.specs.Counts.{Rose}
-use Rattle.wy_view.specs.View.{Lender, Told}
+use Rattle.wy_view.specs.View.{Told}
 use Rattle.wy_event.specs.declared.record.Event.{Event}
+use Rattle.wy_event.specs.declared.record.Version.{Version}
 use Rattle.std.specs.Borrow.{GName}
 use Rattle.std.specs.declared.alloc.Global.{Global}
 use Rattle.wy_view.specs.declared.view.ViewError.{ViewError}
@@ -21,22 +22,22 @@ abbrev pub block_bytes : Vec ℕ Global → ℕ → List ℕ → List ℕ
 block_bytes starts b bytes = take (slice_index starts.items (b + 1) - slice_index starts.items b) (drop (slice_index starts.items b) bytes)
 
 -- the records of so many frames, from where the first block begins
-abbrev pub records_of : Vec ℕ Global → ℕ → List ℕ → List Recorded
-records_of starts count bytes = records_from 0 count (drop (slice_index starts.items 0) bytes)
+abbrev pub records_of : Version → Vec ℕ Global → ℕ → List ℕ → List Recorded
+records_of v starts count bytes = records_from v 0 count (drop (slice_index starts.items 0) bytes)
 
 -- those of the named file, where the files are told
 abbrev pub records_told : Pages → Option Files → Option (List Recorded)
-records_told p held = option_map (λ files. records_of p.starts p.count (unwrap_or (files (string_bytes p.name)) [])) held
+records_told p held = option_map (λ files. records_of p.version p.starts p.count (unwrap_or (files (string_bytes p.name)) [])) held
 
 -- what is kept is of these bytes: the digest of each block, whose frames are those of its records; and each block that is held
-pub record IsOf (starts : Vec ℕ Global) (sums : Vec (List ℕ) Global) (count : ℕ) (blocks : List (ℕ × Vec Event Global)) (bytes : List ℕ) : Type 0 where
+pub record IsOf (v : Version) (starts : Vec ℕ Global) (sums : Vec (List ℕ) Global) (count : ℕ) (blocks : List (ℕ × Vec Event Global)) (bytes : List ℕ) : Type 0 where
   pub digests : (b : ℕ) → b < length sums.items → slice_get sums.items b ≡ Some (sha256 (block_bytes starts b bytes))
-  pub frames : (b : ℕ) → b < length sums.items → AreFrames (block_length * b) (block_of b (records_of starts count bytes)) (block_bytes starts b bytes)
-  pub held : (h : ℕ × Vec Event Global) → Contains blocks h → map recorded h.1.items ≡ block_of h.0 (records_of starts count bytes)
+  pub frames : (b : ℕ) → b < length sums.items → AreFrames v (block_length * b) (block_of b (records_of v starts count bytes)) (block_bytes starts b bytes)
+  pub held : (h : ℕ × Vec Event Global) → Contains blocks h → map recorded h.1.items ≡ block_of h.0 (records_of v starts count bytes)
 
 -- and they are those of the named file, where the files are told
 abbrev pub IsOfShelf : Pages → Option Files → Type 0
-IsOfShelf p held = IfSome held (λ files. (bytes : List ℕ) × (files (string_bytes p.name) ≡ Some bytes) × IsOf p.starts p.digests p.count p.held.entries bytes)
+IsOfShelf p held = IfSome held (λ files. (bytes : List ℕ) × (files (string_bytes p.name) ≡ Some bytes) × IsOf p.version p.starts p.digests p.count p.held.entries bytes)
 
 -- the blocks that are held, and what was counted
 abbrev pub order_of : Pages → ℕ → Order
@@ -53,6 +54,7 @@ pub record IsFresh (p : Pages) (name : String Global) : Type 0 where
 -- the file that it is of stays
 pub record KeepsFile (old new : Pages) : Type 0 where
   pub name : new.name ≡ old.name
+  pub version : new.version ≡ old.version
   pub starts : new.starts ≡ old.starts
   pub digests : new.digests ≡ old.digests
   pub seal : new.seal ≡ old.seal
@@ -80,7 +82,7 @@ IsNoBlock old new block bytes e = IsChange old new block bytes e
 
 -- they are read from bytes that have the digest which was kept of the block
 abbrev pub HasDigest : Pages → ℕ → List Event → Type 0
-HasDigest p b events = (bytes : List ℕ) × (slice_get p.digests.items b ≡ Some (sha256 bytes)) × ReadAs (block_length * b) (size_of_block p.count b) bytes events
+HasDigest p b events = (bytes : List ℕ) × (slice_get p.digests.items b ≡ Some (sha256 bytes)) × ReadAs p.version (block_length * b) (size_of_block p.count b) bytes events
 
 -- these are the records of the block, where the files are told
 abbrev pub IsBlockTold : Pages → Option Files → ℕ → List Event → Type 0

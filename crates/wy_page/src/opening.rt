@@ -2,6 +2,7 @@
 
 ghost use Rattle.std.specs.Prelude.{◌≡◌, ◌+◌, ◌≤◌, ◌++◌, [], ℕ, List, IfErr, IfOk, OnOk, drop, length, map, string_bytes};
 ghost use Rattle.wy_event.specs.declared.record.Head.{Head};
+ghost use Rattle.wy_event.specs.declared.record.Version.{Version};
 ghost use Rattle.wy_event.specs.Record.{recorded};
 ghost use Rattle.wy_fitting.specs.Fits.{AllFit};
 ghost use Rattle.wy_frames.specs.Progress.{Progress, event_in, start};
@@ -24,7 +25,7 @@ use law_placing::{
 use law_reading::decoded_events_refer_below;
 use std::alloc::{AllocError, Global};
 use std::slice;
-use wy_event::record::{Head, Tail};
+use wy_event::record::{Head, Tail, Version};
 use wy_fitting::events_fit;
 use wy_frames::{ReadEvent, Scanner, TraceError};
 use wy_kernel::limit::TRACE_LIMIT;
@@ -42,6 +43,7 @@ const HEAD_NUMBERS: usize = 25;
 #[derive(Drop)]
 pub(crate) struct Reading<'a> {
     pub alloc: Global,
+    pub version: Version,
     pub scanner: Scanner<'a>,
     pub marks: Marks,
     pub bytes: Vec<u8>,
@@ -49,9 +51,9 @@ pub(crate) struct Reading<'a> {
 }
 
 #[tactic(auto, using(wy_frames::proofs::Openings::opening_is_long, wy_frames::proofs::Openings::payload_is_long))]
-fn place_behind(head: &Head) -> u32
-    requires { length (opening head.now) ≤ trace_limit }
-    ensures { result ≡ length (opening head.now) }
+fn place_behind(version: Version, head: &Head) -> u32
+    requires { length (opening version head.now) ≤ trace_limit }
+    ensures { result ≡ length (opening version head.now) }
 {
     (HEAD_NUMBERS + head.input.as_slice().len() + head.source.as_slice().len()) as u32
 }
@@ -75,8 +77,8 @@ fn are_bytes(bytes: &[u8])
 {}
 
 #[tactic(auto, using(crate::proofs::Bytes::head_bytes))]
-fn is_of_bytes(head: &Head)
-    ensures { AreBytes (opening head.now) }
+fn is_of_bytes(version: Version, head: &Head)
+    ensures { AreBytes (opening version head.now) }
 {
     are_bytes(head.input.as_slice());
     are_bytes(head.source.as_slice());
@@ -84,14 +86,15 @@ fn is_of_bytes(head: &Head)
 
 impl<'a> Reading<'a> {
     /// Behind the frame of a head.
-    fn begin(alloc: Global, head: &Head, program: &'a Program) -> Reading<'a>
-        requires { length (opening head.now) ≤ trace_limit }
-        ensures { Reads result program.now head.now [] (start head.now) }
+    fn begin(alloc: Global, head: &Head, version: Version, program: &'a Program) -> Reading<'a>
+        requires { length (opening version head.now) ≤ trace_limit }
+        ensures { Reads result version program.now head.now [] (start version head.now) }
     {
-        let at = place_behind(head);
+        let at = place_behind(version, head);
         Reading {
             alloc,
-            scanner: Scanner::behind(alloc, head, program),
+            version,
+            scanner: Scanner::behind(alloc, head, version, program),
             marks: Marks::begin(alloc, at),
             bytes: Vec::new(alloc),
             at,
@@ -111,6 +114,7 @@ impl<'a> Reading<'a> {
         ensures left { OnOk result ((all : List ℕ)
             → self.old.bytes.items ≡ drop self.old.marks.from all
             → self.new.bytes.items ≡ drop self.new.marks.from all) }
+        ensures version { self.new.version ≡ self.old.version }
         ensures scanner { self.new.scanner ≡ self.old.scanner }
         ensures at { self.new.at ≡ self.old.at }
     {
@@ -125,8 +129,9 @@ impl<'a> Reading<'a> {
     fn take(&mut self, piece: &[u8]) -> Result<(), TraceError>
         requires reading { IsReading self.old }
         requires room { self.old.at + length piece.now ≤ trace_limit }
-        ensures read { (p : Program) (head : Head) (fed : List ℕ) (t : Progress)
-            → Reads self.old p head fed t → ReadsOn result self.new p head (fed ++ piece.now) }
+        ensures read { (v : Version) (p : Program) (head : Head) (fed : List ℕ) (t : Progress)
+            → Reads self.old v p head fed t
+            → ReadsOn result self.new v p head (fed ++ piece.now) }
         ensures at { OnOk result (self.new.at ≡ self.old.at + length piece.now) }
     {
         let placed = match self.scanner.feed(piece) {
@@ -146,13 +151,14 @@ impl<'a> Reading<'a> {
     /// What is kept of the trace that was read, and its end.
     fn finish(self, name: String) -> Result<(Pages, Tail), TraceError>
         requires reading { IsReading self }
-        ensures read { (p : Program) (head : Head) (fed : List ℕ) (t : Progress)
-            → Reads self.entry p head fed t → ReadsAll result head fed t }
+        ensures read { (v : Version) (p : Program) (head : Head) (fed : List ℕ) (t : Progress)
+            → Reads self.entry v p head fed t → ReadsAll result v head fed t }
         ensures fresh { IfOk result (λ x. IsFresh x.0 name) }
     {
         read_events_are_placed();
         let Reading {
             alloc,
+            version,
             scanner,
             mut marks,
             bytes,
@@ -170,7 +176,7 @@ impl<'a> Reading<'a> {
             count,
             end: _,
         } = marks;
-        let pages = Pages::fresh(alloc, name, starts, digests, seal, count)?;
+        let pages = Pages::fresh(alloc, name, version, starts, digests, seal, count)?;
         Ok((pages, tail))
     }
 }
@@ -181,15 +187,16 @@ fn read_whole<'a, S: Shelf>(
     shelf: &mut S,
     name: &str,
     head: &Head,
+    version: Version,
     program: &'a Program,
 ) -> Result<Reading<'a>, PageError>
-    requires short { length (opening head.now) ≤ trace_limit }
-    requires file { MayBeOpened (S.held shelf.old) name.now head.now }
+    requires short { length (opening version head.now) ≤ trace_limit }
+    requires file { MayBeOpened (S.held shelf.old) name.now version head.now }
     ensures read { IfOk result (λ r. (fed : List ℕ) × (t : Progress)
-        × Reads r program.now head.now fed t
-        × AreOthers (S.held shelf.old) name.now (length (opening head.now)) fed) }
+        × Reads r version program.now head.now fed t
+        × AreOthers (S.held shelf.old) name.now (length (opening version head.now)) fed) }
     ensures refused { IfErr result (λ e.
-        IsUnread (S.held shelf.old) name.now program.now head.now e) }
+        IsUnread (S.held shelf.old) name.now version program.now head.now e) }
     ensures counts { OpenCounts result (S.faults shelf.old) (S.faults shelf.new)
         (S.misses shelf.old) (S.misses shelf.new) }
     ensures fulls { S.fulls shelf.new ≡ S.fulls shelf.old }
@@ -197,7 +204,7 @@ fn read_whole<'a, S: Shelf>(
     ensures faults_kept { S.faults shelf.old ≤ S.faults shelf.new }
     ensures misses_kept { S.misses shelf.old ≤ S.misses shelf.new }
 {
-    let mut reading = Reading::begin(alloc, head, program);
+    let mut reading = Reading::begin(alloc, head, version, program);
     'pieces: loop {
         let wanted = PIECE.min(TRACE_LIMIT - reading.at);
         let piece = match shelf.read_at(alloc, name, reading.at, wanted) {
@@ -214,7 +221,7 @@ fn read_whole<'a, S: Shelf>(
 }
 
 impl Pages {
-    /// Reads a trace on a shelf whole, once, and checks it by a program as a reader of all its bytes does: what stands
+    /// Reads a trace of a version on a shelf whole, once, and checks it by a program as a reader of all its bytes does: what stands
     /// behind the frame of its head, which was read before, up to the most bytes that a trace has.
     /// It keeps where each block of its events lies, and the digest of these bytes. The end is handed out beside.
     pub fn open<S: Shelf>(
@@ -222,10 +229,11 @@ impl Pages {
         shelf: &mut S,
         name: &str,
         head: &Head,
+        version: Version,
         program: &Program,
     ) -> Result<(Pages, Tail), PageError>
-        requires short { length (opening head.now) ≤ trace_limit }
-        requires file { MayBeOpened (S.held shelf.old) name.now head.now }
+        requires short { length (opening version head.now) ≤ trace_limit }
+        requires file { MayBeOpened (S.held shelf.old) name.now version head.now }
         ensures trace { Opens (S.held shelf.old) name.now program.now result }
         ensures fits { IfOk result (λ x. IsOfShelf x.0 (S.held shelf.old)) }
         ensures named { IfOk result (λ x. string_bytes x.0.name ≡ name.now) }
@@ -243,12 +251,12 @@ impl Pages {
         read_ends_stand();
         read_traces_end_sealed();
         decoded_events_refer_below();
-        is_of_bytes(head);
+        is_of_bytes(version, head);
         let kept = match String::from_str(alloc, name) {
             Ok(kept) => kept,
             Err(_) => return Err(PageError::View(ViewError::NoMemory)),
         };
-        let reading = match read_whole(alloc, shelf, name, head, program) {
+        let reading = match read_whole(alloc, shelf, name, head, version, program) {
             Ok(reading) => reading,
             Err(error) => return Err(error),
         };

@@ -16,7 +16,7 @@ use lru::LruCache;
 use sha2::{Digest, Sha256};
 use std::alloc::{AllocError, Global};
 use std::num::NonZeroUsize;
-use wy_event::record::Event;
+use wy_event::record::{Event, Version};
 use wy_outside::count::one_more;
 use wy_outside::shelf::{Shelf, ShelfError};
 use wy_view::ViewError;
@@ -24,12 +24,13 @@ use wy_view::ViewError;
 /// How many events a block has, but the last.
 pub const BLOCK: u32 = 1024;
 
-/// A named file that was read as a trace: where each block of its events begins, where the last ends, and the digest of
+/// A named file that was read as a trace of a version: where each block of its events begins, where the last ends, and the digest of
 /// each block's bytes; the seal of the trace; the blocks that are held, and what was counted.
 #[derive(Drop)]
 pub struct Pages {
     pub(crate) alloc: Global,
     pub(crate) name: String,
+    pub(crate) version: Version,
     pub(crate) starts: Vec<u32>,
     pub(crate) digests: Vec<[u8; 32]>,
     pub(crate) seal: [u8; 32],
@@ -68,12 +69,14 @@ impl Pages {
     pub(crate) fn fresh(
         alloc: Global,
         name: String,
+        version: Version,
         starts: Vec<u32>,
         digests: Vec<[u8; 32]>,
         seal: [u8; 32],
         count: u32,
     ) -> Result<Pages, AllocError>
         requires { ArePlaces count starts.items digests.items }
+        ensures version { IfOk result (λ p. p.version ≡ version) }
         ensures starts { IfOk result (λ p. p.starts ≡ starts) }
         ensures digests { IfOk result (λ p. p.digests ≡ digests) }
         ensures seal { IfOk result (λ p. p.seal ≡ seal) }
@@ -84,6 +87,7 @@ impl Pages {
         Ok(Pages {
             alloc,
             name,
+            version,
             starts,
             digests,
             seal,
@@ -195,19 +199,25 @@ impl Pages {
     fn decode(&self, block: u32, bytes: &[u8]) -> Result<Vec<Event>, AllocError>
         requires { block < length self.now.digests.items }
         ensures block { IfOk result (λ events. IsBlock self.now.count block events.items) }
-        ensures read { IfOk result (λ events. ReadAs (block_length * block)
+        ensures read { IfOk result (λ events. ReadAs self.now.version (block_length * block)
             (size_of_block self.now.count block) bytes.now events.items) }
     {
         let count = self.count;
         let first = block * BLOCK;
-        read_block(self.alloc, first, BLOCK.min(count - first), bytes)
+        read_block(
+            self.alloc,
+            self.version,
+            first,
+            BLOCK.min(count - first),
+            bytes,
+        )
     }
 
     /// The events of a block, by its bytes, where these have the digest that was kept.
     pub(crate) fn events_of(&mut self, block: u32, bytes: &[u8]) -> Result<Vec<Event>, ViewError>
         requires { block < length self.old.digests.items }
         ensures block { IfOk result (λ events. IsBlock self.old.count block events.items) }
-        ensures read { IfOk result (λ events. ReadAs (block_length * block)
+        ensures read { IfOk result (λ events. ReadAs self.old.version (block_length * block)
             (size_of_block self.old.count block) bytes.now events.items) }
         ensures kept { IfOk result (λ _.
             slice_get self.old.digests.items block ≡ Some (sha256 bytes.now)) }

@@ -1,4 +1,4 @@
--- What the ranges of a trace read of a program, and what is known of the events before one.
+-- What the ranges of a trace of a version read of a program, and what is known of the events before one.
 use Rattle.std.specs.Prelude.{ℕ, List, length, map}
 use Rattle.wy_kernel.specs.declared.program.Program.{Program}
 use Rattle.wy_kernel.specs.Parts.{program_of}
@@ -7,13 +7,15 @@ use Rattle.wy_value.specs.Encoding.{utf8_of}
 use Rattle.wy_event.specs.declared.record.Event.{Event}
 use Rattle.wy_event.specs.declared.record.Kind.{Kind}
 use Rattle.wy_event.specs.declared.record.Kind.TheVariants as kind
+use Rattle.wy_event.specs.declared.record.Version.{Version}
 use Rattle.wy_payload.specs.Bodies.{locals_of, newlines_of}
 use Rattle.wy_payload.specs.declared.ranges.Ranges.{Ranges}
 use Rattle.wy_payload.specs.declared.known.Known.{Known}
 use Rattle.wy_payload.specs.declared.known.Known.TheVariants as known
 
-unfoldable pub ranges_of : Program → Ranges
-ranges_of p = record {
+unfoldable pub ranges_of : Version → Program → Ranges
+ranges_of v p = record {
+  version = v;
   tokens = length p.lines.items;
   classes = length p.classes.items;
   methods = length p.methods.items;

@@ -1,7 +1,7 @@
 -- Values and the units of texts: which may stand where, how they are read, and how many bytes a Print of one writes.
-use Rattle.std.specs.Prelude.{ℕ, zero, suc, ℤ, pos, negsuc, ◌+◌, Bool, true, false, nat_lt, nat_le, ◌==◌, if◌then◌else◌, List, [], ◌∷◌, length, Option, Some, Result, Ok, slice_get, slice_index}
+use Rattle.std.specs.Prelude.{ℕ, zero, suc, ℤ, pos, negsuc, ◌+◌, Bool, true, false, not, nat_lt, nat_le, ◌==◌, if◌then◌else◌, List, [], ◌∷◌, length, Option, Some, Result, Ok, slice_get, slice_index}
 use Rattle.std.specs.Prelude.{None as Absent}
-use Rattle.std.specs.Int.{w8, w16, w32, w64, cast_signed}
+use Rattle.std.specs.Int.{Width, w8, w16, w32, w64, cast_signed}
 use Rattle.std.specs.List.{list_any}
 use Rattle.wy_kernel.specs.Limits.{output_limit}
 use Rattle.wy_value.specs.declared.value.Value.{Value}
@@ -10,6 +10,9 @@ use Rattle.wy_value.specs.Numeral.{has_text, text_of}
 use Rattle.wy_value.specs.Encoding.{utf8_of}
 use Rattle.wy_event.specs.declared.record.Kind.{Kind}
 use Rattle.wy_event.specs.declared.record.Kind.TheVariants as kind
+use Rattle.wy_event.specs.declared.record.Version.{Version}
+use Rattle.wy_event.specs.declared.record.Version.TheVariants as version
+use Rattle.wy_spelling.specs.Spelling.{arm_tag}
 use Rattle.wy_payload.specs.declared.fault.DamageRule.{DamageRule}
 use Rattle.wy_payload.specs.declared.ranges.Ranges.{Ranges}
 use Rattle.wy_payload.specs.declared.known.Known.{Known}
@@ -27,12 +30,21 @@ use Rattle.wy_payload.specs.Reading.{◌>>=◌, Read, passed, known_tag, number_
 abbrev pub value_tags : List ValueTag
 value_tags = tags.None ∷ tags.Bool ∷ tags.Byte ∷ tags.Short ∷ tags.Char ∷ tags.Int ∷ tags.Long ∷ tags.Null ∷ tags.Object ∷ tags.Text ∷ tags.Fixed ∷ []
 
--- a New of an array has its length; what is about nothing has no value
+-- the tag is that of an arm, which version 1 has only where an arm is wanted
+abbrev pub is_arm_tag : Version → ValueForm → ℕ → Bool
+is_arm_tag version.One form.Arm b = b == arm_tag version.One
+is_arm_tag version.One _ b = false
+is_arm_tag version.Two _ b = b == arm_tag version.Two
+
+abbrev pub value_tag : Version → ValueForm → ℕ → Option ValueTag
+value_tag v wanted b = if is_arm_tag v wanted b then Some tags.Arm else slice_get value_tags b
+
+-- a New of an array has its length, and a Test an arm; what is about nothing has no value
 abbrev pub value_form : Kind → ℕ → ValueForm
 value_form kind.New entity = if nat_le brackets_unit entity then form.Length else form.Nothing
 value_form kind.Bind entity = form.Any
 value_form kind.Set entity = form.Any
-value_form kind.Test entity = form.Truth
+value_form kind.Test entity = form.Arm
 value_form kind.Read entity = form.Byte
 value_form kind.Print entity = form.Printed
 value_form kind.Return entity = form.Optional
@@ -44,17 +56,20 @@ abbrev pub is_none : ValueTag → Bool
 is_none tags.None = true
 is_none _ = false
 
+-- an arm is the value of a Test alone
+abbrev pub is_arm : ValueTag → Bool
+is_arm tags.Arm = true
+is_arm _ = false
+
+-- what a slot may hold
 abbrev pub is_some : ValueTag → Bool
 is_some tags.None = false
+is_some tags.Arm = false
 is_some _ = true
 
 abbrev pub is_int : ValueTag → Bool
 is_int tags.Int = true
 is_int _ = false
-
-abbrev pub is_truth : ValueTag → Bool
-is_truth tags.Bool = true
-is_truth _ = false
 
 abbrev pub is_object : ValueTag → Bool
 is_object tags.Object = true
@@ -65,14 +80,15 @@ abbrev pub is_printed : ValueTag → Bool
 is_printed tags.Byte = false
 is_printed tags.Short = false
 is_printed tags.Object = false
+is_printed tags.Arm = false
 is_printed _ = true
 
 abbrev pub allows_value : ValueForm → ValueTag → Bool
 allows_value form.Nothing t = is_none t
 allows_value form.Any t = is_some t
-allows_value form.Optional t = true
+allows_value form.Optional t = not (is_arm t)
 allows_value form.Length t = is_int t
-allows_value form.Truth t = is_truth t
+allows_value form.Arm t = is_arm t
 allows_value form.Byte t = is_int t
 allows_value form.Printed t = is_printed t
 allows_value form.Thrown t = is_object t
@@ -107,6 +123,20 @@ unfoldable pub int_at : ValueForm → List ℕ → Read Value
 int_at wanted bytes = do
   n ← number_at w32 bytes
   passed (int_rule wanted (cast_signed w32 n.0)) (val.Int (cast_signed w32 n.0), n.1)
+
+-- in the byte of a boolean, or as a number
+abbrev pub arm_width : Version → Width
+arm_width version.One = w8
+arm_width version.Two = w32
+
+-- a test gave 0 for false or 1 for true
+abbrev pub arm_limit : ℕ
+arm_limit = 2
+
+unfoldable pub arm_at : Version → List ℕ → Read Value
+arm_at v bytes = do
+  n ← number_at (arm_width v) bytes
+  passed (in_range (nat_lt n.0 arm_limit)) (val.Arm n.0, n.1)
 
 -- a number whatever it is
 unfoldable pub plain_at : ValueTag → List ℕ → Read Value
@@ -147,12 +177,13 @@ value_of r earlier wanted tags.Int rest = int_at wanted rest
 value_of r earlier wanted tags.Object rest = object_at earlier wanted rest
 value_of r earlier wanted tags.Text rest = text_at earlier rest
 value_of r earlier wanted tags.Fixed rest = fixed_at r rest
+value_of r earlier wanted tags.Arm rest = arm_at r.version rest
 value_of r earlier wanted tag rest = plain_at tag rest
 
 unfoldable pub value_at : Ranges → List Known → ValueForm → List ℕ → Read Value
 value_at r earlier wanted bytes = do
   b ← number_at w8 bytes
-  tag ← known_tag (slice_get value_tags b.0) b.1
+  tag ← known_tag (value_tag r.version wanted b.0) b.1
   rest ← passed (in_range (allows_value wanted tag.0)) tag.1
   value_of r earlier wanted tag.0 rest
 

@@ -38,7 +38,7 @@ fn is_simple(value: Value) -> bool
 {
     !matches!(
         value,
-        Value::None | Value::Object(_) | Value::Text(_) | Value::Fixed(_)
+        Value::None | Value::Object(_) | Value::Text(_) | Value::Fixed(_) | Value::Arm(_)
     )
 }
 

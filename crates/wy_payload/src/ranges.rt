@@ -8,6 +8,7 @@ ghost use Rattle.wy_payload.specs.Bodies.{locals_of, newlines_of};
 
 use crate::newline::put_all;
 use std::alloc::{AllocError, Global};
+use wy_event::record::Version;
 use wy_event::sequence::Sequence;
 use wy_kernel::form::Body;
 use wy_kernel::program::Program;
@@ -15,9 +16,10 @@ use wy_kernel::statements::statements_of;
 use wy_kernel::types::Field;
 use wy_value::to_utf8;
 
-/// The counts of a program, and what its fields, bodies, constant texts and prints are.
+/// The version of a trace; the counts of its program, and what its fields, bodies, constant texts and prints are.
 #[derive(Drop)]
 pub struct Ranges {
+    pub version: Version,
     pub tokens: usize,
     pub classes: usize,
     pub methods: usize,

@@ -5,15 +5,21 @@ ghost use Rattle.wy_payload.specs.Ranges.{ranges_of};
 
 use crate::ranges::{Ranges, counts_of, lengths_of, newlines, statics_of};
 use std::alloc::{AllocError, Global};
+use wy_event::record::Version;
 use wy_event::sequence::Sequence;
 use wy_kernel::program::Program;
 
-/// The ranges of a program.
+/// The ranges of a trace of this version, by its program.
 #[tactic(auto, unfolding(crate::specs::Ranges::ranges_of))]
-pub fn ranges_of_program(alloc: Global, program: &Program) -> Result<Ranges, AllocError>
-    ensures { IfOk result (λ r. r ≡ ranges_of program.now) }
+pub fn ranges_of_program(
+    alloc: Global,
+    version: Version,
+    program: &Program,
+) -> Result<Ranges, AllocError>
+    ensures { IfOk result (λ r. r ≡ ranges_of version program.now) }
 {
     Ok(Ranges {
+        version,
         tokens: program.lines.len(),
         classes: program.classes.len(),
         methods: program.methods.len(),

@@ -3,7 +3,7 @@
 ghost use Rattle.std.specs.Prelude.{◌≡◌, ◌+◌, ◌<◌, ◌^◌, length, slice_get, IfOk};
 ghost use Rattle.std.specs.Int.{w16};
 ghost use Rattle.wy_payload.specs.Reading.{Gives, number_at, rows_from};
-ghost use Rattle.wy_payload.specs.Values.{allows_value, bool_at, fixed_at, int_at, int_rule, object_at, object_role, plain_at, text_at, units_at, value_at, value_form, value_of, value_tags};
+ghost use Rattle.wy_payload.specs.Values.{allows_value, arm_at, arm_width, bool_at, fixed_at, int_at, int_rule, is_arm_tag, object_at, object_role, plain_at, text_at, units_at, value_at, value_form, value_of, value_tag, value_tags};
 
 use crate::fault::{DamageRule, Fault};
 use crate::field::{passing, reference, u8_at, u16_at, u32_at, u64_at};
@@ -11,7 +11,7 @@ use crate::known::{Known, Role};
 use crate::ranges::Ranges;
 use crate::rules;
 use std::alloc::Global;
-use wy_event::record::Kind;
+use wy_event::record::{Kind, Version};
 use wy_kernel::code::BRACKETS_UNIT;
 use wy_value::Value;
 
@@ -28,6 +28,7 @@ pub enum ValueTag {
     Object,
     Text,
     Fixed,
+    Arm,
 }
 
 /// Which values may stand in a field.
@@ -38,7 +39,8 @@ pub enum ValueForm {
     Optional,
     /// The length of an array.
     Length,
-    Truth,
+    /// What a test gave.
+    Arm,
     /// A byte of the input, or -1 at its end.
     Byte,
     Printed,
@@ -46,7 +48,16 @@ pub enum ValueForm {
     Caught,
 }
 
+/// The tag of a boolean, with which version 1 spells an arm.
+const TRUTH_TAG: u8 = 1;
+
 const UNITS_TAG: u8 = 11;
+
+/// The tag of an arm in version 2.
+const ARM_TAG: u8 = 12;
+
+/// The arms of a test: 0 for false and 1 for true.
+const ARMS: u32 = 2;
 
 pub fn form_of(kind: Kind, entity: u32) -> ValueForm
     ensures { result ≡ value_form kind entity }
@@ -54,7 +65,7 @@ pub fn form_of(kind: Kind, entity: u32) -> ValueForm
     match kind {
         Kind::New if entity >= BRACKETS_UNIT => ValueForm::Length,
         Kind::Bind | Kind::Set => ValueForm::Any,
-        Kind::Test => ValueForm::Truth,
+        Kind::Test => ValueForm::Arm,
         Kind::Read => ValueForm::Byte,
         Kind::Print => ValueForm::Printed,
         Kind::Return => ValueForm::Optional,
@@ -64,7 +75,16 @@ pub fn form_of(kind: Kind, entity: u32) -> ValueForm
     }
 }
 
-pub fn tag_of(b: u8) -> Option<ValueTag>
+fn is_arm(version: Version, wanted: ValueForm, b: u8) -> bool
+    ensures { result ≡ is_arm_tag version wanted b }
+{
+    match version {
+        Version::One => matches!(wanted, ValueForm::Arm) && b == TRUTH_TAG,
+        Version::Two => b == ARM_TAG,
+    }
+}
+
+fn listed_tag(b: u8) -> Option<ValueTag>
     ensures { result ≡ slice_get value_tags b }
 {
     match b {
@@ -83,18 +103,30 @@ pub fn tag_of(b: u8) -> Option<ValueTag>
     }
 }
 
+/// The tag that a byte is where a form is wanted.
+pub fn tag_of(version: Version, wanted: ValueForm, b: u8) -> Option<ValueTag>
+    ensures { result ≡ value_tag version wanted b }
+{
+    if is_arm(version, wanted, b) {
+        Some(ValueTag::Arm)
+    } else {
+        listed_tag(b)
+    }
+}
+
 fn is_allowed(wanted: ValueForm, tag: ValueTag) -> bool
     ensures { result ≡ allows_value wanted tag }
 {
     match wanted {
         ValueForm::Nothing => matches!(tag, ValueTag::None),
-        ValueForm::Any => !matches!(tag, ValueTag::None),
-        ValueForm::Optional => true,
+        ValueForm::Any => !matches!(tag, ValueTag::None | ValueTag::Arm),
+        ValueForm::Optional => !matches!(tag, ValueTag::Arm),
         ValueForm::Length | ValueForm::Byte => matches!(tag, ValueTag::Int),
-        ValueForm::Truth => matches!(tag, ValueTag::Bool),
-        ValueForm::Printed => {
-            !matches!(tag, ValueTag::Byte | ValueTag::Short | ValueTag::Object)
-        }
+        ValueForm::Arm => matches!(tag, ValueTag::Arm),
+        ValueForm::Printed => !matches!(
+            tag,
+            ValueTag::Byte | ValueTag::Short | ValueTag::Object | ValueTag::Arm
+        ),
         ValueForm::Thrown | ValueForm::Caught => matches!(tag, ValueTag::Object),
     }
 }
@@ -193,6 +225,28 @@ fn fixed<'a>(ranges: &Ranges, bytes: &'a [u8]) -> Result<(Value, &'a [u8]), Faul
     Ok((Value::Fixed(n), rest))
 }
 
+/// The number of an arm, in as many bytes as a version has for it.
+pub fn arm_number(version: Version, bytes: &[u8]) -> Result<(u32, &[u8]), Fault>
+    ensures { Gives (λ x. (x.0, x.1.now)) result (number_at (arm_width version) bytes.now) }
+{
+    match version {
+        Version::One => {
+            let (b, rest) = u8_at(bytes)?;
+            Ok((u32::from(b), rest))
+        }
+        Version::Two => u32_at(bytes),
+    }
+}
+
+#[tactic(auto, unfolding(crate::specs::Values::arm_at))]
+fn arm(version: Version, bytes: &[u8]) -> Result<(Value, &[u8]), Fault>
+    ensures { Gives (λ x. (x.0, x.1.now)) result (arm_at version bytes.now) }
+{
+    let (n, rest) = arm_number(version, bytes)?;
+    let rest = passing(rules::range_rule(n < ARMS), rest)?;
+    Ok((Value::Arm(n), rest))
+}
+
 #[tactic(auto, unfolding(crate::specs::Values::value_of))]
 fn behind_tag<'a>(
     ranges: &Ranges,
@@ -210,6 +264,7 @@ fn behind_tag<'a>(
         ValueTag::Object => object(earlier, wanted, rest),
         ValueTag::Text => text(earlier, rest),
         ValueTag::Fixed => fixed(ranges, rest),
+        ValueTag::Arm => arm(ranges.version, rest),
         _ => plain(tag, rest),
     }
 }
@@ -226,7 +281,7 @@ pub fn value<'a>(
         (value_at ranges.now earlier.now wanted bytes.now) }
 {
     let (b, rest) = u8_at(bytes)?;
-    let tag = tag_of(b).ok_or(Fault::Broken(DamageRule::Range))?;
+    let tag = tag_of(ranges.version, wanted, b).ok_or(Fault::Broken(DamageRule::Range))?;
     let rest = passing(rules::range_rule(is_allowed(wanted, tag)), rest)?;
     behind_tag(ranges, earlier, wanted, tag, rest)
 }

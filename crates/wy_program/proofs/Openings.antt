@@ -1,8 +1,9 @@
 -- What the opening of a trace comes to.
 use Rattle.std.proofs.Common.{◌≡◌, subst, inl, inr, ℕ, List, Result, Ok, Err, IfOk, IfErr}
 use Rattle.wy_event.specs.declared.record.Head.{Head}
+use Rattle.wy_event.specs.declared.record.Version.{Version}
 use Rattle.wy_kernel.specs.declared.program.Program.{Program}
-use Rattle.wy_frames.specs.Heads.{GivesDue, head_of}
+use Rattle.wy_frames.specs.Heads.{GivesDue, ReadHead, head_of}
 use Rattle.wy_frames.specs.Traces.{ReadsAs}
 use Rattle.wy_frames.specs.declared.error.TraceError.{TraceError}
 use Rattle.wy_frames.specs.declared.error.TraceError.TheVariants.{Cut, Damaged, BadSeal, NoMemory}
@@ -19,25 +20,25 @@ no_trace_under source bytes p (Damaged byte rule) is read = (p, is, read)
 no_trace_under source bytes p BadSeal is read = (p, is, read)
 no_trace_under source bytes p NoMemory is read = tt
 
-pub opened_by_head : (source bytes : List ℕ) (head : Head) (end : ℕ) (r : Result OpenTrace OpeningError) → head_of bytes ≡ Ok (head, end) → source ≡ head.source → IfOk r (OpensUnder source bytes) → IfOk r (Opens bytes)
-opened_by_head source bytes head end (Ok o) at same opens = (head, end, at, subst (λ s. OpensUnder s bytes o) same opens)
-opened_by_head source bytes head end (Err e) at same opens = tt
+pub opened_by_head : (source bytes : List ℕ) (head : Head) (end : ℕ) (v : Version) (r : Result OpenTrace OpeningError) → head_of bytes ≡ Ok (head, end, v) → source ≡ head.source → IfOk r (OpensUnder source bytes) → IfOk r (Opens bytes)
+opened_by_head source bytes head end v (Ok o) at same opens = (head, end, v, at, subst (λ s. OpensUnder s bytes o) same opens)
+opened_by_head source bytes head end v (Err e) at same opens = tt
 
-no_trace_by_head : (source bytes : List ℕ) (head : Head) (end : ℕ) (e : TraceError) → head_of bytes ≡ Ok (head, end) → source ≡ head.source → IsNoTraceUnder source bytes e → IsNoTrace bytes e
-no_trace_by_head source bytes head end (Cut byte) at same none = inr (head, end, at, subst (λ s. IsNoTraceUnder s bytes (Cut byte)) same none)
-no_trace_by_head source bytes head end (Damaged byte rule) at same none = inr (head, end, at, subst (λ s. IsNoTraceUnder s bytes (Damaged byte rule)) same none)
-no_trace_by_head source bytes head end BadSeal at same none = inr (head, end, at, subst (λ s. IsNoTraceUnder s bytes BadSeal) same none)
-no_trace_by_head source bytes head end NoMemory at same none = tt
+no_trace_by_head : (source bytes : List ℕ) (head : Head) (end : ℕ) (v : Version) (e : TraceError) → head_of bytes ≡ Ok (head, end, v) → source ≡ head.source → IsNoTraceUnder source bytes e → IsNoTrace bytes e
+no_trace_by_head source bytes head end v (Cut byte) at same none = inr (head, end, v, at, subst (λ s. IsNoTraceUnder s bytes (Cut byte)) same none)
+no_trace_by_head source bytes head end v (Damaged byte rule) at same none = inr (head, end, v, at, subst (λ s. IsNoTraceUnder s bytes (Damaged byte rule)) same none)
+no_trace_by_head source bytes head end v BadSeal at same none = inr (head, end, v, at, subst (λ s. IsNoTraceUnder s bytes BadSeal) same none)
+no_trace_by_head source bytes head end v NoMemory at same none = tt
 
-unopened : (source bytes : List ℕ) (head : Head) (end : ℕ) (e : OpeningError) → head_of bytes ≡ Ok (head, end) → source ≡ head.source → IsUnopenedUnder source bytes e → IsUnopenedFor bytes e
-unopened source bytes head end (Source e) at same why = (head, end, at, subst (λ s. IsCauseOf s e) same why)
-unopened source bytes head end (Trace e) at same why = no_trace_by_head source bytes head end e at same why
+unopened : (source bytes : List ℕ) (head : Head) (end : ℕ) (v : Version) (e : OpeningError) → head_of bytes ≡ Ok (head, end, v) → source ≡ head.source → IsUnopenedUnder source bytes e → IsUnopenedFor bytes e
+unopened source bytes head end v (Source e) at same why = (head, end, v, at, subst (λ s. IsCauseOf s e) same why)
+unopened source bytes head end v (Trace e) at same why = no_trace_by_head source bytes head end v e at same why
 
-pub refused_by_head : (source bytes : List ℕ) (head : Head) (end : ℕ) (r : Result OpenTrace OpeningError) → head_of bytes ≡ Ok (head, end) → source ≡ head.source → IfErr r (IsUnopenedUnder source bytes) → IfErr r (IsUnopenedFor bytes)
-refused_by_head source bytes head end (Ok o) at same why = tt
-refused_by_head source bytes head end (Err e) at same why = unopened source bytes head end e at same why
+pub refused_by_head : (source bytes : List ℕ) (head : Head) (end : ℕ) (v : Version) (r : Result OpenTrace OpeningError) → head_of bytes ≡ Ok (head, end, v) → source ≡ head.source → IfErr r (IsUnopenedUnder source bytes) → IfErr r (IsUnopenedFor bytes)
+refused_by_head source bytes head end v (Ok o) at same why = tt
+refused_by_head source bytes head end v (Err e) at same why = unopened source bytes head end v e at same why
 
-abbrev unread : TraceError → Result (Head × ℕ) TraceError
+abbrev unread : TraceError → Result ReadHead TraceError
 unread e = Err e
 
 pub no_head : (bytes : List ℕ) (e : TraceError) → GivesDue (unread e) (head_of bytes) → IsNoTrace bytes e

@@ -1,6 +1,7 @@
 -- What the opening of a trace gives: the program of its head and what it records, or why there is none.
 use Rattle.std.specs.Prelude.{◌≡◌, ◌⊎◌, ℕ, List, Ok, Err}
 use Rattle.wy_event.specs.declared.record.Head.{Head}
+use Rattle.wy_event.specs.declared.record.Version.{Version}
 use Rattle.wy_kernel.specs.declared.program.Program.{Program}
 use Rattle.wy_frames.specs.Heads.{head_of}
 use Rattle.wy_frames.specs.Traces.{IsReadAs}
@@ -31,7 +32,7 @@ IsUnopenedUnder source bytes (Trace e) = IsNoTraceUnder source bytes e
 
 -- the bytes begin with a head, of whose source this holds
 abbrev pub ByHead : List ℕ → (List ℕ → Type 0) → Type 0
-ByHead bytes holds = (head : Head) × (end : ℕ) × (head_of bytes ≡ Ok (head, end)) × holds head.source
+ByHead bytes holds = (head : Head) × (end : ℕ) × (v : Version) × (head_of bytes ≡ Ok (head, end, v)) × holds head.source
 
 abbrev pub Opens : List ℕ → OpenTrace → Type 0
 Opens bytes o = ByHead bytes (λ source. OpensUnder source bytes o)

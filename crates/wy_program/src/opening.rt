@@ -37,7 +37,7 @@ pub fn trace_of_bytes(alloc: Global, bytes: &[u8]) -> Result<OpenTrace, OpeningE
 {
     heads_are_short();
     match read_head(alloc, bytes) {
-        Ok((head, _)) => trace_under(alloc, head.source.as_slice(), bytes),
+        Ok((head, _, _)) => trace_under(alloc, head.source.as_slice(), bytes),
         Err(error) => Err(OpeningError::Trace(error)),
     }
 }

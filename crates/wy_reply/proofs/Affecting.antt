@@ -74,25 +74,25 @@ module _ (p : Program) (input : List ℕ) (steps : ℕ) (run : Runs p input step
 
 -- ---- what is told
 
-tells_affects : (p : memory.Program) (t : Trace) (w : Wanted) (s : ℕ) (x : List ℕ) → Tells p t w s x → (asks : List ℕ) → w ≡ Affects asks → s ≡ 0 →
+tells_affects : (p : memory.Program) (seal : List ℕ) (t : Trace) (w : Wanted) (s : ℕ) (x : List ℕ) → Tells p seal t w s x → (asks : List ℕ) → w ≡ Affects asks → s ≡ 0 →
     (r : Result (List ℕ) Refused) × (r ≡ Ok x) × AffectsIs (program_of p) p.lines.items (map recorded t.events) asks r
-tells_affects p t _ _ _ output asks same zero_is = absurd (cc)
-tells_affects p t _ _ _ (affects question (Ok text) is) asks same zero_is = let e : question ≡ asks = cc in (Ok text, refl, subst (λ (q : List ℕ). AffectsIs (program_of p) p.lines.items (map recorded t.events) q (Ok text)) e is)
-tells_affects p t _ _ _ (affects question (Err NotRead) is) asks same zero_is = absurd (omega (arith, zero_is))
-tells_affects p t _ _ _ (affects question (Err (NoSuch n)) is) asks same zero_is = absurd (omega (arith, zero_is))
-tells_affects p t _ _ _ (why question answer is) asks same zero_is = absurd (cc)
-tells_affects p t _ _ _ questions asks same zero_is = absurd (cc)
-tells_affects p t _ _ _ (whynot word answer is) asks same zero_is = absurd (cc)
-tells_affects p t _ _ _ (explore input status text is) asks same zero_is = absurd (cc)
-tells_affects p t _ _ _ (audit v is) asks same zero_is = absurd (cc)
-tells_affects p t _ _ _ (certify question answer is) asks same zero_is = absurd (cc)
-tells_affects p t _ _ _ (scoped said call answer is) asks same zero_is = absurd (cc)
-tells_affects p t _ _ _ (check bytes r is judged) asks same zero_is = absurd (cc)
-tells_affects p t _ _ _ (lacking status text) asks same zero_is = absurd (cc)
+tells_affects p seal t _ _ _ output asks same zero_is = absurd (cc)
+tells_affects p seal t _ _ _ (affects question (Ok text) is) asks same zero_is = let e : question ≡ asks = cc in (Ok text, refl, subst (λ (q : List ℕ). AffectsIs (program_of p) p.lines.items (map recorded t.events) q (Ok text)) e is)
+tells_affects p seal t _ _ _ (affects question (Err NotRead) is) asks same zero_is = absurd (omega (arith, zero_is))
+tells_affects p seal t _ _ _ (affects question (Err (NoSuch n)) is) asks same zero_is = absurd (omega (arith, zero_is))
+tells_affects p seal t _ _ _ (why question answer is) asks same zero_is = absurd (cc)
+tells_affects p seal t _ _ _ questions asks same zero_is = absurd (cc)
+tells_affects p seal t _ _ _ (whynot word answer is) asks same zero_is = absurd (cc)
+tells_affects p seal t _ _ _ (explore input status text is) asks same zero_is = absurd (cc)
+tells_affects p seal t _ _ _ (audit v is) asks same zero_is = absurd (cc)
+tells_affects p seal t _ _ _ (certify question answer is) asks same zero_is = absurd (cc)
+tells_affects p seal t _ _ _ (scoped said call answer is) asks same zero_is = absurd (cc)
+tells_affects p seal t _ _ _ (check bytes r is judged) asks same zero_is = absurd (cc)
+tells_affects p seal t _ _ _ (lacking status text) asks same zero_is = absurd (cc)
 
-pub told_affected : (p : memory.Program) (t : Trace) (w : Wanted) (s : ℕ) (x : List ℕ) (input : List ℕ) (steps : ℕ) → Runs (program_of p) input steps → map recorded t.events ≡ events nothing (program_of p) input steps →
-    Tells p t w s x → s ≡ 0 → (asks : List ℕ) → w ≡ Affects asks → AffectedAnswer (program_of p) p.lines.items input steps asks x
-told_affected p t w s x input steps run read tells done asks same =
-    let r = tells_affects p t w s x tells asks same done in
+pub told_affected : (p : memory.Program) (seal : List ℕ) (t : Trace) (w : Wanted) (s : ℕ) (x : List ℕ) (input : List ℕ) (steps : ℕ) → Runs (program_of p) input steps → map recorded t.events ≡ events nothing (program_of p) input steps →
+    Tells p seal t w s x → s ≡ 0 → (asks : List ℕ) → w ≡ Affects asks → AffectedAnswer (program_of p) p.lines.items input steps asks x
+told_affected p seal t w s x input steps run read tells done asks same =
+    let r = tells_affects p seal t w s x tells asks same done in
     answer_affected (program_of p) input steps run p.lines.items asks x r.0 r.1
     (subst (λ (rs : List Recorded). AffectsIs (program_of p) p.lines.items rs asks r.0) (read ∙ sym run.same) r.2)

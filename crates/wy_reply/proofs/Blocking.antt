@@ -33,29 +33,29 @@ answer_blocked p lines input steps covers word text are _ same (ran line place n
 answer_blocked p lines input steps covers word text are _ same (not_there line place names less) = absurd (cc)
 answer_blocked p lines input steps covers word text are _ same (not_read none) = absurd (cc)
 
-tells_whynot : (p : memory.Program) (t : Trace) (w : Wanted) (s : ℕ) (x : List ℕ) → Tells p t w s x → (word : List ℕ) → w ≡ WhyNot word → s ≡ 0 →
+tells_whynot : (p : memory.Program) (seal : List ℕ) (t : Trace) (w : Wanted) (s : ℕ) (x : List ℕ) → Tells p seal t w s x → (word : List ℕ) → w ≡ WhyNot word → s ≡ 0 →
     (r : Result (List ℕ) Denied) × (r ≡ Ok x) × WhynotIs (program_of p) p.lines.items (map recorded t.events) (covers_of t) word r
-tells_whynot p t _ _ _ output word same zero_is = absurd (cc)
-tells_whynot p t _ _ _ (why question answer is) word same zero_is = absurd (cc)
-tells_whynot p t _ _ _ (affects question answer is) word same zero_is = absurd (cc)
-tells_whynot p t _ _ _ questions word same zero_is = absurd (cc)
-tells_whynot p t _ _ _ (whynot asked (Ok text) is) word same zero_is =
+tells_whynot p seal t _ _ _ output word same zero_is = absurd (cc)
+tells_whynot p seal t _ _ _ (why question answer is) word same zero_is = absurd (cc)
+tells_whynot p seal t _ _ _ (affects question answer is) word same zero_is = absurd (cc)
+tells_whynot p seal t _ _ _ questions word same zero_is = absurd (cc)
+tells_whynot p seal t _ _ _ (whynot asked (Ok text) is) word same zero_is =
     let e : asked ≡ word = cc in
     (Ok text, refl, subst (λ (q : List ℕ). WhynotIs (program_of p) p.lines.items (map recorded t.events) (covers_of t) q (Ok text)) e is)
-tells_whynot p t _ _ _ (whynot asked (Err NotRead) is) word same zero_is = absurd (omega (arith, zero_is))
-tells_whynot p t _ _ _ (whynot asked (Err (NoSuch n)) is) word same zero_is = absurd (omega (arith, zero_is))
-tells_whynot p t _ _ _ (whynot asked (Err (Ran line place count first)) is) word same zero_is = absurd (omega (arith, zero_is))
-tells_whynot p t _ _ _ (explore input status text is) word same zero_is = absurd (cc)
-tells_whynot p t _ _ _ (audit v is) word same zero_is = absurd (cc)
-tells_whynot p t _ _ _ (certify question answer is) word same zero_is = absurd (cc)
-tells_whynot p t _ _ _ (scoped said call answer is) word same zero_is = absurd (cc)
-tells_whynot p t _ _ _ (check bytes r is judged) word same zero_is = absurd (cc)
-tells_whynot p t _ _ _ (lacking status text) word same zero_is = absurd (cc)
+tells_whynot p seal t _ _ _ (whynot asked (Err NotRead) is) word same zero_is = absurd (omega (arith, zero_is))
+tells_whynot p seal t _ _ _ (whynot asked (Err (NoSuch n)) is) word same zero_is = absurd (omega (arith, zero_is))
+tells_whynot p seal t _ _ _ (whynot asked (Err (Ran line place count first)) is) word same zero_is = absurd (omega (arith, zero_is))
+tells_whynot p seal t _ _ _ (explore input status text is) word same zero_is = absurd (cc)
+tells_whynot p seal t _ _ _ (audit v is) word same zero_is = absurd (cc)
+tells_whynot p seal t _ _ _ (certify question answer is) word same zero_is = absurd (cc)
+tells_whynot p seal t _ _ _ (scoped said call answer is) word same zero_is = absurd (cc)
+tells_whynot p seal t _ _ _ (check bytes r is judged) word same zero_is = absurd (cc)
+tells_whynot p seal t _ _ _ (lacking status text) word same zero_is = absurd (cc)
 
-pub told_blocked : (p : memory.Program) (t : Trace) (s : ℕ) (x : List ℕ) (input : List ℕ) (steps : ℕ) → map recorded t.events ≡ events nothing (program_of p) input steps → AreCovers (program_of p) input steps (covers_of t) →
-    (word : List ℕ) → Tells p t (WhyNot word) s x → s ≡ 0 → BlockedAnswer (program_of p) p.lines.items input steps word x
-told_blocked p t s x input steps read covers word tells done =
-    let r = tells_whynot p t (WhyNot word) s x tells word refl done in
+pub told_blocked : (p : memory.Program) (seal : List ℕ) (t : Trace) (s : ℕ) (x : List ℕ) (input : List ℕ) (steps : ℕ) → map recorded t.events ≡ events nothing (program_of p) input steps → AreCovers (program_of p) input steps (covers_of t) →
+    (word : List ℕ) → Tells p seal t (WhyNot word) s x → s ≡ 0 → BlockedAnswer (program_of p) p.lines.items input steps word x
+told_blocked p seal t s x input steps read covers word tells done =
+    let r = tells_whynot p seal t (WhyNot word) s x tells word refl done in
     answer_blocked (program_of p) p.lines.items input steps (covers_of t) word x covers r.0 r.1
     (subst (λ (rs : List Recorded). WhynotIs (program_of p) p.lines.items rs (covers_of t) word r.0) read r.2)
 

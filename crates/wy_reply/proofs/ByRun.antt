@@ -8,9 +8,10 @@ use Rattle.wy_kernel.specs.Parts.{program_of}
 use Rattle.wy_event.specs.Record.{recorded}
 use Rattle.wy_event.specs.declared.record.Head.{Head}
 use Rattle.wy_event.specs.declared.record.Trace.{Trace}
+use Rattle.wy_event.specs.declared.record.Version.{Version}
 use Rattle.wy_fitting.specs.Fits.{EndFits}
 use Rattle.wy_kernel.specs.Limits.{trace_limit}
-use Rattle.wy_frames.specs.Heads.{head_of}
+use Rattle.wy_frames.specs.Heads.{ReadHead, head_of}
 use Rattle.wy_frames.specs.Traces.{IsReadAs, IsReadBehind}
 use Rattle.wy_frames.specs.declared.error.TraceError.{TraceError}
 use Rattle.law_reading.specs.Spelled.{AreBytes, RecordedEndsAreReadBack, RecordedHeadsAreReadBack, RecordedTracesAreReadBack}
@@ -25,9 +26,9 @@ use Rattle.wy_reply.specs.declared.status.Status.TheVariants.{Done}
 use Rattle.wy_reply.specs.Statuses.{code_of}
 use Rattle.wy_reply.specs.Recordings.{IsTraceOf, trace_spelling}
 use Rattle.wy_reply.specs.Tellings.{Wanted, Output, Explore, Questions, Why, Affects, Certify, Check, WhyNot, Scope, Audit, Tells, covers_of}
-use Rattle.wy_reply.specs.ByRun.{AnswersByRun, HasSource, TellingsAreByRuns, TellsRun}
+use Rattle.wy_reply.specs.ByRun.{AnswersByRun, CanTell, HasSource, TellingsAreByRuns, TellsRun}
 use Rattle.wy_reply.proofs.Affecting.{told_affected}
-use Rattle.wy_reply.proofs.Carrying.{Runs, all_told, told_carried}
+use Rattle.wy_reply.proofs.Carrying.{Runs, told_carried, told_in}
 use Rattle.wy_reply.proofs.Blocking.{covers_read, told_blocked}
 
 -- what is known of runs and of what is read of their traces
@@ -49,55 +50,55 @@ run_of : Laws → (p : Program) (input : List ℕ) (steps : ℕ) → Runs p inpu
 run_of laws p input steps = record { same = laws.same p input steps; carried = laws.carried p input steps; stores = laws.stores p input steps }
 
 -- the records that are read are those of the run
-read_back : Laws → (p q : memory.Program) (source input : List ℕ) (steps : ℕ) (bytes : List ℕ) (x : Trace) → AreBytes bytes → length bytes ≤ trace_limit → IsTraceOf trace_spelling (program_of q) source input steps bytes →
-    IsReadAs p bytes (Ok x) → map recorded x.events ≡ events nothing (program_of q) input steps
-read_back laws p q source input steps bytes x are short is reads =
-    laws.back p is.head (events nothing (program_of q) input steps) is.end bytes x are short is.events_fit is.spelled reads (all_told (program_of q) input steps (laws.shaped (program_of q) input steps))
+read_back : Laws → (v : Version) (p q : memory.Program) (source input : List ℕ) (steps : ℕ) (bytes : List ℕ) (x : Trace) → AreBytes bytes → length bytes ≤ trace_limit → CanTell v (events nothing (program_of q) input steps) →
+    IsTraceOf (trace_spelling v) (program_of q) source input steps bytes → IsReadAs p bytes (Ok x) → map recorded x.events ≡ events nothing (program_of q) input steps
+read_back laws v p q source input steps bytes x are short can is reads =
+    laws.back v p is.head (events nothing (program_of q) input steps) is.end bytes x are short is.events_fit is.spelled reads (told_in v (program_of q) input steps (laws.shaped (program_of q) input steps) can)
 
 -- and its covers
-ends_back : Laws → (p q : memory.Program) (source input : List ℕ) (steps : ℕ) (bytes : List ℕ) (x : Trace) → AreBytes bytes → length bytes ≤ trace_limit → EndFits x.tail → IsTraceOf trace_spelling (program_of q) source input steps bytes →
+ends_back : Laws → (v : Version) (p q : memory.Program) (source input : List ℕ) (steps : ℕ) (bytes : List ℕ) (x : Trace) → AreBytes bytes → length bytes ≤ trace_limit → EndFits x.tail → IsTraceOf (trace_spelling v) (program_of q) source input steps bytes →
     IsReadAs p bytes (Ok x) → map covered_of (covers_of x) ≡ (meaning.tail nothing (program_of q) input steps).coverage
-ends_back laws p q source input steps bytes x are short fit is reads =
-    covers_read (program_of q) input steps x is.end (laws.ends p is.head (events nothing (program_of q) input steps) is.end bytes x are short is.events_fit is.spelled reads is.end_fits fit) is.end_is
+ends_back laws v p q source input steps bytes x are short fit is reads =
+    covers_read (program_of q) input steps x is.end (laws.ends v p is.head (events nothing (program_of q) input steps) is.end bytes x are short is.events_fit is.spelled reads is.end_fits fit) is.end_is
 
-told_by_run : Laws → (p : memory.Program) (t : Trace) (s : ℕ) (x input : List ℕ) (steps : ℕ) → map recorded t.events ≡ events nothing (program_of p) input steps →
-    map covered_of (covers_of t) ≡ (meaning.tail nothing (program_of p) input steps).coverage → (w : Wanted) → Tells p t w s x → s ≡ 0 → AnswersByRun (program_of p) p.lines.items input steps w x
-told_by_run laws p t s x input steps read covers Output tells done = tt
-told_by_run laws p t s x input steps read covers (Explore keys) tells done = tt
-told_by_run laws p t s x input steps read covers Questions tells done = tt
-told_by_run laws p t s x input steps read covers (Why asks) tells done = told_carried p t (Why asks) s x input steps (run_of laws (program_of p) input steps) read tells done asks refl
-told_by_run laws p t s x input steps read covers (Affects asks) tells done = told_affected p t (Affects asks) s x input steps (run_of laws (program_of p) input steps) read tells done asks refl
-told_by_run laws p t s x input steps read covers (WhyNot word) tells done = told_blocked p t s x input steps read covers word tells done
-told_by_run laws p t s x input steps read covers Audit tells done = tt
-told_by_run laws p t s x input steps read covers (Certify asks) tells done = tt
-told_by_run laws p t s x input steps read covers (Scope word call) tells done = tt
-told_by_run laws p t s x input steps read covers (Check given) tells done = tt
+told_by_run : Laws → (p : memory.Program) (seal : List ℕ) (t : Trace) (s : ℕ) (x input : List ℕ) (steps : ℕ) → map recorded t.events ≡ events nothing (program_of p) input steps →
+    map covered_of (covers_of t) ≡ (meaning.tail nothing (program_of p) input steps).coverage → (w : Wanted) → Tells p seal t w s x → s ≡ 0 → AnswersByRun (program_of p) p.lines.items input steps w x
+told_by_run laws p seal t s x input steps read covers Output tells done = tt
+told_by_run laws p seal t s x input steps read covers (Explore keys) tells done = tt
+told_by_run laws p seal t s x input steps read covers Questions tells done = tt
+told_by_run laws p seal t s x input steps read covers (Why asks) tells done = told_carried p seal t (Why asks) s x input steps (run_of laws (program_of p) input steps) read tells done asks refl
+told_by_run laws p seal t s x input steps read covers (Affects asks) tells done = told_affected p seal t (Affects asks) s x input steps (run_of laws (program_of p) input steps) read tells done asks refl
+told_by_run laws p seal t s x input steps read covers (WhyNot word) tells done = told_blocked p seal t s x input steps read covers word tells done
+told_by_run laws p seal t s x input steps read covers Audit tells done = tt
+told_by_run laws p seal t s x input steps read covers (Certify asks) tells done = tt
+told_by_run laws p seal t s x input steps read covers (Scope word call) tells done = tt
+told_by_run laws p seal t s x input steps read covers (Check given) tells done = tt
 
-tells_run : Laws → (p : memory.Program) (bytes : List ℕ) (w : Wanted) (t : Trace) (s : ℕ) (text : List ℕ) → AreBytes bytes → length bytes ≤ trace_limit → EndFits t.tail → IsReadAs p bytes (Ok t) → Tells p t w s text → s ≡ 0 → TellsRun p bytes w text
-tells_run laws p bytes w t s text are short fit reads tells done = λ source input steps is.
-    told_by_run laws p t s text input steps (read_back laws p p source input steps bytes t are short is reads) (ends_back laws p p source input steps bytes t are short fit is reads) w tells done
+tells_run : Laws → (p : memory.Program) (bytes seal : List ℕ) (w : Wanted) (t : Trace) (s : ℕ) (text : List ℕ) → AreBytes bytes → length bytes ≤ trace_limit → EndFits t.tail → IsReadAs p bytes (Ok t) → Tells p seal t w s text → s ≡ 0 → TellsRun p bytes w text
+tells_run laws p bytes seal w t s text are short fit reads tells done = λ v source input steps can is.
+    told_by_run laws p seal t s text input steps (read_back laws v p p source input steps bytes t are short can is reads) (ends_back laws v p p source input steps bytes t are short fit is reads) w tells done
 
-pub under_run : Laws → (p : memory.Program) (bytes : List ℕ) (w : Wanted) (t : Trace) (r : Result Answer AllocError) → AreBytes bytes → length bytes ≤ trace_limit → EndFits t.tail → IsReadAs p bytes (Ok t) →
-    IfOk r (λ answer. Tells p t w (code_of answer.status) answer.text.items) → IfOk r (λ answer. answer.status ≡ Done → TellsRun p bytes w answer.text.items)
-under_run laws p bytes w t (Ok answer) are short fit reads tells = λ done. tells_run laws p bytes w t (code_of answer.status) answer.text.items are short fit reads tells (ap code_of done)
-under_run laws p bytes w t (Err e) are short fit reads tells = tt
+pub under_run : Laws → (p : memory.Program) (bytes seal : List ℕ) (w : Wanted) (t : Trace) (r : Result Answer AllocError) → AreBytes bytes → length bytes ≤ trace_limit → EndFits t.tail → IsReadAs p bytes (Ok t) →
+    IfOk r (λ answer. Tells p seal t w (code_of answer.status) answer.text.items) → IfOk r (λ answer. answer.status ≡ Done → TellsRun p bytes w answer.text.items)
+under_run laws p bytes seal w t (Ok answer) are short fit reads tells = λ done. tells_run laws p bytes seal w t (code_of answer.status) answer.text.items are short fit reads tells (ap code_of done)
+under_run laws p bytes seal w t (Err e) are short fit reads tells = tt
 
-abbrev headed : Head × ℕ → Result (Head × ℕ) TraceError
+abbrev headed : ReadHead → Result ReadHead TraceError
 headed y = Ok y
 
-one_head : (y z : Head × ℕ) → headed y ≡ headed z → y ≡ z
+one_head : (y z : ReadHead) → headed y ≡ headed z → y ≡ z
 one_head y z e = cc
 
-head_in_trace : (p : memory.Program) (bytes : List ℕ) (x : Trace) (h : Result (Head × ℕ) TraceError) (head : Head) (end : ℕ) → MatchResult h (λ y. IsReadBehind p y.0 (drop y.1 bytes) (Ok x)) (λ e. Ok x ≡ Err e) →
-    h ≡ Ok (head, end) → x.head ≡ head
-head_in_trace p bytes x (Ok y) head end (t, stand, has) is = has.head_is ∙ ap (λ (z : Head × ℕ). z.0) (one_head y (head, end) is)
-head_in_trace p bytes x (Err e) head end reads is = absurd (cc)
+head_in_trace : (p : memory.Program) (bytes : List ℕ) (x : Trace) (h : Result ReadHead TraceError) (head : Head) (end : ℕ) (u : Version) → MatchResult h (λ y. IsReadBehind y.2 p y.0 (drop y.1 bytes) (Ok x)) (λ e. Ok x ≡ Err e) →
+    h ≡ Ok (head, end, u) → x.head ≡ head
+head_in_trace p bytes x (Ok y) head end u (t, stand, has) is = has.head_is ∙ ap (λ (z : ReadHead). z.0) (one_head y (head, end, u) is)
+head_in_trace p bytes x (Err e) head end u reads is = absurd (cc)
 
 has_source : Laws → (p : memory.Program) (bytes : List ℕ) (x : Trace) → AreBytes bytes → length bytes ≤ trace_limit → IsReadAs p bytes (Ok x) → HasSource bytes
-has_source laws p bytes x are short reads = λ q source input steps is head end at.
+has_source laws p bytes x are short reads = λ v q source input steps is head end u at.
     let few : is.head.steps < 2 ^ 32 = subst (λ n. n < 2 ^ 32) (sym is.steps_are) is.steps_fit in
-    let read : x.head ≡ is.head = laws.heads p is.head (events nothing q input steps) is.end bytes x are short is.events_fit is.spelled reads few in
-    ap (λ (h : Head). h.source) (sym (head_in_trace p bytes x (head_of bytes) head end reads at) ∙ read) ∙ is.source_is
+    let read : x.head ≡ is.head = laws.heads v p is.head (events nothing q input steps) is.end bytes x are short is.events_fit is.spelled reads few in
+    ap (λ (h : Head). h.source) (sym (head_in_trace p bytes x (head_of bytes) head end u reads at) ∙ read) ∙ is.source_is
 
 pub under_source : Laws → (p : memory.Program) (bytes : List ℕ) (x : Trace) (r : Result Answer AllocError) → AreBytes bytes → length bytes ≤ trace_limit → IsReadAs p bytes (Ok x) →
     IfOk r (λ answer. answer.status ≡ Done → HasSource bytes)
@@ -105,4 +106,4 @@ under_source laws p bytes x (Ok answer) are short reads = λ done. has_source la
 under_source laws p bytes x (Err e) are short reads = tt
 
 pub by_runs : Laws → TellingsAreByRuns
-by_runs laws p bytes t is fit = (has_source laws p bytes t is.are_bytes is.short is.reads, λ w text tells. tells_run laws p bytes w t 0 text is.are_bytes is.short fit is.reads tells refl)
+by_runs laws p bytes t is fit = (has_source laws p bytes t is.are_bytes is.short is.reads, λ seal w text tells. tells_run laws p bytes seal w t 0 text is.are_bytes is.short fit is.reads tells refl)

@@ -8,6 +8,8 @@ use Rattle.wy_kernel.specs.Program.{Program}
 use Rattle.wy_kernel.specs.Parts.{program_of}
 use Rattle.wy_value.specs.declared.value.Value.{Value}
 use Rattle.wy_value.specs.declared.value.Value.TheVariants as val
+use Rattle.wy_event.specs.declared.record.Version.{Version}
+use Rattle.wy_event.specs.declared.record.Version.TheVariants as version
 use Rattle.wy_event.specs.Record.{Recorded, recorded}
 use Rattle.wy_event.specs.Sources.{Owners, closure, data_closure, last_write, written, creation, is_so, or_else, writes, creates}
 use Rattle.wy_event.specs.declared.record.Kind.{Kind}
@@ -30,6 +32,7 @@ use Rattle.wy_ask.specs.Questions as question
 use Rattle.wy_ask.proofs.Stores.{print_below}
 use Rattle.wy_telling.specs.Answers.{Refused, NotRead, NoSuch, answered, not_there, not_read, marked_lines}
 use Rattle.wy_telling.specs.Why.{WhyIs, why_text}
+use Rattle.wy_reply.specs.ByRun.{CanTell}
 use Rattle.wy_reply.specs.Tellings.{Wanted, Why, Tells, affects, certify, check, lacking, scoped, why, whynot, questions, explore, audit, output}
 use Rattle.wy_reply.specs.Carried.{CarriedAnswer, Means, SameSets, static, field, element, local}
 
@@ -47,8 +50,9 @@ nothing_is val.Null h = absurd h
 nothing_is (val.Object n) h = absurd h
 nothing_is (val.Text n) h = absurd h
 nothing_is (val.Fixed n) h = absurd h
+nothing_is (val.Arm n) h = absurd h
 
-value_is : (k : Kind) (v : Value) → ValueOf k v → told_value k v ≡ v
+value_is : (k : Kind) (v : Value) → ValueOf k v → told_value version.Two k v ≡ v
 value_is kind.Text v h = nothing_is v h
 value_is kind.Init v h = refl
 value_is kind.New v h = refl
@@ -90,7 +94,7 @@ units_are kind.Jump (u ∷ us) h = absurd h
 units_are kind.Throw (u ∷ us) h = absurd h
 units_are kind.Catch (u ∷ us) h = absurd h
 
-shaped_is_told : (rs : List Recorded) (n : ℕ) (e : Recorded) → Shaped rs n e → IsTold e
+shaped_is_told : (rs : List Recorded) (n : ℕ) (e : Recorded) → Shaped rs n e → IsTold version.Two e
 unfolding told
 shaped_is_told rs n e s = λ i. record {
   kind = e.kind;
@@ -110,8 +114,13 @@ all_by_number P [] each k d less = absurd (omega (arith, less))
 all_by_number P (r ∷ rs) each zero d less = each 0 r refl
 all_by_number P (r ∷ rs) each (suc k) d less = all_by_number P rs (λ n e at. each (suc n) e at) k d (omega (arith, less))
 
-pub all_told : (p : Program) (input : List ℕ) (steps : ℕ) → RecordsAreShaped nothing p input steps → AllTold (events nothing p input steps)
-all_told p input steps shaped = all_by_number IsTold (events nothing p input steps) (λ n e at. shaped_is_told (events nothing p input steps) n e (shaped n e at))
+pub all_told : (p : Program) (input : List ℕ) (steps : ℕ) → RecordsAreShaped nothing p input steps → AllTold version.Two (events nothing p input steps)
+all_told p input steps shaped = all_by_number (IsTold version.Two) (events nothing p input steps) (λ n e at. shaped_is_told (events nothing p input steps) n e (shaped n e at))
+
+-- a version that can tell the events of a run tells all of them
+pub told_in : (v : Version) (p : Program) (input : List ℕ) (steps : ℕ) → RecordsAreShaped nothing p input steps → CanTell v (events nothing p input steps) → AllTold v (events nothing p input steps)
+told_in version.One p input steps shaped can = can
+told_in version.Two p input steps shaped can = all_told p input steps shaped
 
 -- ---- an answer is below the end
 
@@ -260,25 +269,25 @@ answer_carried p lines input steps asks text run _ same (not_read none) = absurd
 
 -- ---- what is told
 
-tells_why : (p : memory.Program) (t : Trace) (w : Wanted) (s : ℕ) (x : List ℕ) → Tells p t w s x → (asks : List ℕ) → w ≡ Why asks → s ≡ 0 →
+tells_why : (p : memory.Program) (seal : List ℕ) (t : Trace) (w : Wanted) (s : ℕ) (x : List ℕ) → Tells p seal t w s x → (asks : List ℕ) → w ≡ Why asks → s ≡ 0 →
     (r : Result (List ℕ) Refused) × (r ≡ Ok x) × WhyIs (program_of p) p.lines.items (map recorded t.events) asks r
-tells_why p t _ _ _ output asks same zero_is = absurd (cc)
-tells_why p t _ _ _ (why question (Ok text) is) asks same zero_is = let e : question ≡ asks = cc in (Ok text, refl, subst (λ (q : List ℕ). WhyIs (program_of p) p.lines.items (map recorded t.events) q (Ok text)) e is)
-tells_why p t _ _ _ (why question (Err NotRead) is) asks same zero_is = absurd (omega (arith, zero_is))
-tells_why p t _ _ _ (why question (Err (NoSuch n)) is) asks same zero_is = absurd (omega (arith, zero_is))
-tells_why p t _ _ _ (affects question answer is) asks same zero_is = absurd (cc)
-tells_why p t _ _ _ questions asks same zero_is = absurd (cc)
-tells_why p t _ _ _ (whynot word answer is) asks same zero_is = absurd (cc)
-tells_why p t _ _ _ (explore input status text is) asks same zero_is = absurd (cc)
-tells_why p t _ _ _ (audit v is) asks same zero_is = absurd (cc)
-tells_why p t _ _ _ (certify question answer is) asks same zero_is = absurd (cc)
-tells_why p t _ _ _ (scoped said call answer is) asks same zero_is = absurd (cc)
-tells_why p t _ _ _ (check bytes r is judged) asks same zero_is = absurd (cc)
-tells_why p t _ _ _ (lacking status text) asks same zero_is = absurd (cc)
+tells_why p seal t _ _ _ output asks same zero_is = absurd (cc)
+tells_why p seal t _ _ _ (why question (Ok text) is) asks same zero_is = let e : question ≡ asks = cc in (Ok text, refl, subst (λ (q : List ℕ). WhyIs (program_of p) p.lines.items (map recorded t.events) q (Ok text)) e is)
+tells_why p seal t _ _ _ (why question (Err NotRead) is) asks same zero_is = absurd (omega (arith, zero_is))
+tells_why p seal t _ _ _ (why question (Err (NoSuch n)) is) asks same zero_is = absurd (omega (arith, zero_is))
+tells_why p seal t _ _ _ (affects question answer is) asks same zero_is = absurd (cc)
+tells_why p seal t _ _ _ questions asks same zero_is = absurd (cc)
+tells_why p seal t _ _ _ (whynot word answer is) asks same zero_is = absurd (cc)
+tells_why p seal t _ _ _ (explore input status text is) asks same zero_is = absurd (cc)
+tells_why p seal t _ _ _ (audit v is) asks same zero_is = absurd (cc)
+tells_why p seal t _ _ _ (certify question answer is) asks same zero_is = absurd (cc)
+tells_why p seal t _ _ _ (scoped said call answer is) asks same zero_is = absurd (cc)
+tells_why p seal t _ _ _ (check bytes r is judged) asks same zero_is = absurd (cc)
+tells_why p seal t _ _ _ (lacking status text) asks same zero_is = absurd (cc)
 
-pub told_carried : (p : memory.Program) (t : Trace) (w : Wanted) (s : ℕ) (x : List ℕ) (input : List ℕ) (steps : ℕ) → Runs (program_of p) input steps → map recorded t.events ≡ events nothing (program_of p) input steps →
-    Tells p t w s x → s ≡ 0 → (asks : List ℕ) → w ≡ Why asks → CarriedAnswer (program_of p) p.lines.items input steps asks x
-told_carried p t w s x input steps run read tells done asks same =
-    let r = tells_why p t w s x tells asks same done in
+pub told_carried : (p : memory.Program) (seal : List ℕ) (t : Trace) (w : Wanted) (s : ℕ) (x : List ℕ) (input : List ℕ) (steps : ℕ) → Runs (program_of p) input steps → map recorded t.events ≡ events nothing (program_of p) input steps →
+    Tells p seal t w s x → s ≡ 0 → (asks : List ℕ) → w ≡ Why asks → CarriedAnswer (program_of p) p.lines.items input steps asks x
+told_carried p seal t w s x input steps run read tells done asks same =
+    let r = tells_why p seal t w s x tells asks same done in
     answer_carried (program_of p) p.lines.items input steps asks x run r.0 r.1
     (subst (λ (rs : List Recorded). WhyIs (program_of p) p.lines.items rs asks r.0) (read ∙ sym run.same) r.2)

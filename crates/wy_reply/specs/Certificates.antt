@@ -5,6 +5,7 @@ use Rattle.sha2.specs.Sha256.{sha256}
 use Rattle.wy_kernel.specs.Program.{Program}
 use Rattle.wy_event.specs.Record.{Recorded}
 use Rattle.wy_event.specs.declared.record.Trace.{Trace}
+use Rattle.wy_event.specs.declared.record.Version.{Version}
 use Rattle.wy_spelling.specs.Spelling.{events_bytes, opening, tail_frames}
 use Rattle.wy_why.specs.declared.answer.Answer.{Answer}
 use Rattle.wy_ask.specs.Asked.{owners}
@@ -16,9 +17,9 @@ use Rattle.wy_telling.specs.Answers.{AnswerIs, Refused, Telling, TellsAnswer}
 use Rattle.wy_view.specs.declared.view.ViewError.TheVariants.{NoMemory}
 use Rattle.wy_reply.specs.Lines.{certificate_event_line, certificate_not_read_line, good_line, other_trace_line}
 
--- the seal of a trace: the digest of all bytes before it
-abbrev pub seal_of : Trace → List ℕ
-seal_of t = sha256 (opening t.head ++ (events_bytes t.events ++ tail_frames t.tail))
+-- the seal of a trace in a version: the digest of all bytes before it
+abbrev pub seal_of : Version → Trace → List ℕ
+seal_of v t = sha256 (opening v t.head ++ (events_bytes v t.events ++ tail_frames t.tail))
 
 -- ---- the certificate of an event
 

@@ -7,6 +7,7 @@ use Rattle.wy_kernel.specs.Parts.{program_of}
 use Rattle.wy_event.specs.Record.{Recorded}
 use Rattle.wy_event.specs.declared.record.Head.{Head}
 use Rattle.wy_event.specs.declared.record.Tail.{Tail}
+use Rattle.wy_event.specs.declared.record.Version.{Version}
 use Rattle.wy_fitting.specs.Fits.{AllFit, EndFits}
 use Rattle.wy_spelling.specs.Spelling as bytes_of
 use Rattle.wy_steps.specs.Sets.{nothing}
@@ -31,9 +32,9 @@ pub record Spelling : Type 0 where
 abbrev pub spelling : (Head → List ℕ) → (Recorded → List ℕ) → (Tail → List ℕ → List ℕ) → Spelling
 spelling opening frame closing = record { opening = opening; frame = frame; closing = closing }
 
--- the spelling of a trace in bytes
-abbrev pub trace_spelling : Spelling
-trace_spelling = spelling bytes_of.opening bytes_of.event_frame bytes_of.closing
+-- the spelling of a trace in bytes, in a version
+abbrev pub trace_spelling : Version → Spelling
+trace_spelling v = spelling (bytes_of.opening v) (bytes_of.event_frame v) bytes_of.closing
 
 -- these bytes are the trace of the run of a program, as it is spelled so: the run's head, its events in order, and its end; each number of them fits the bytes that it is spelled in
 pub record IsTraceOf (s : Spelling) (p : Program) (source input : List ℕ) (steps : ℕ) (bytes : List ℕ) : Type 0 where

@@ -9,6 +9,7 @@ use Rattle.wy_event.specs.declared.record.Trace.{Trace}
 use Rattle.wy_payload.specs.declared.fault.DamageRule.{DamageRule}
 use Rattle.wy_frames.specs.declared.error.TraceError.{TraceError}
 use Rattle.wy_frames.specs.declared.error.TraceError.TheVariants.{Cut, Damaged, BadSeal}
+use Rattle.wy_frames.specs.Heads.{version_of}
 use Rattle.wy_frames.specs.Traces.{IsReadAs}
 use Rattle.wy_meaning.specs.Kept.{kept_tail}
 use Rattle.wy_machine.specs.Audits.{AuditIs}
@@ -124,36 +125,36 @@ audit_line verdict.Tail = tail_differs_line
 abbrev pub covers_of : Trace → List Cover
 covers_of t = t.tail.coverage.statements
 
--- the status and the text of what a trace tells
-pub data Tells (p : Program) (t : Trace) : Wanted → ℕ → List ℕ → Type 0 where
-  output : Tells p t Output 0 (output_text (program_of p) p.lines.items (map recorded t.events) t.tail)
+-- the status and the text of what a trace with this seal tells
+pub data Tells (p : Program) (seal : List ℕ) (t : Trace) : Wanted → ℕ → List ℕ → Type 0 where
+  output : Tells p seal t Output 0 (output_text (program_of p) p.lines.items (map recorded t.events) t.tail)
   why : (question : List ℕ) (answer : Result (List ℕ) Refused) → WhyIs (program_of p) p.lines.items (map recorded t.events) question answer
-      → Tells p t (Why question) (answer_status answer) (answer_text answer)
+      → Tells p seal t (Why question) (answer_status answer) (answer_text answer)
   affects : (question : List ℕ) (answer : Result (List ℕ) Refused) → AffectsIs (program_of p) p.lines.items (map recorded t.events) question answer
-      → Tells p t (Affects question) (answer_status answer) (answer_text answer)
+      → Tells p seal t (Affects question) (answer_status answer) (answer_text answer)
   certify : (question : List ℕ) (answer : Result (List ℕ) Refused)
-      → CertifyIs (program_of p) p.lines.items (map recorded t.events) (seal_of t) question answer
-      → Tells p t (Certify question) (answer_status answer) (answer_text answer)
-  questions : Tells p t Questions 0
+      → CertifyIs (program_of p) p.lines.items (map recorded t.events) seal question answer
+      → Tells p seal t (Certify question) (answer_status answer) (answer_text answer)
+  questions : Tells p seal t Questions 0
       (questions_text (program_of p) p.lines.items (map recorded t.events) (covers_of t))
   whynot : (word : List ℕ) (answer : Result (List ℕ) Denied)
       → WhynotIs (program_of p) p.lines.items (map recorded t.events) (covers_of t) word answer
-      → Tells p t (WhyNot word) (whynot_status answer) (whynot_answer answer)
+      → Tells p seal t (WhyNot word) (whynot_status answer) (whynot_answer answer)
   scoped : (word : List ℕ) (call : ℕ) (answer : Result (List ℕ) scope.Refused)
       → ScopeIs (program_of p) p.lines.items (map recorded t.events) word call answer
-      → Tells p t (Scope word call) (scope_status answer) (scope_answer answer)
+      → Tells p seal t (Scope word call) (scope_status answer) (scope_answer answer)
   explore : (input : List ℕ) (status : ℕ) (text : List ℕ)
-      → Talks (scene_of p t.events (covers_of t)) input status text → Tells p t (Explore input) status text
-  audit : (v : Verdict) → AuditIs (program_of p) t.head (map recorded t.events) (kept_tail t.tail) v → Tells p t Audit (audit_status v) (audit_line v)
+      → Talks (scene_of p t.events (covers_of t)) input status text → Tells p seal t (Explore input) status text
+  audit : (v : Verdict) → AuditIs (program_of p) t.head (map recorded t.events) (kept_tail t.tail) v → Tells p seal t Audit (audit_status v) (audit_line v)
   check : (bytes : List ℕ) (r : Result found.Answer CertError) → IsVerdict r
-      → Judges (owners (program_of p)) (Some (map recorded t.events)) (seal_of t) bytes r
-      → Tells p t (Check (Bytes bytes)) (verdict_status r) (verdict_line r)
-  lacking : (status : ℕ) (text : List ℕ) → Tells p t (Check (Lacking status text)) status text
+      → Judges (owners (program_of p)) (Some (map recorded t.events)) seal bytes r
+      → Tells p seal t (Check (Bytes bytes)) (verdict_status r) (verdict_line r)
+  lacking : (status : ℕ) (text : List ℕ) → Tells p seal t (Check (Lacking status text)) status text
 
 -- the status and the text that are due for bytes: what is wrong with them first, or what the trace tells that they are read as
 pub data DueUnder (p : Program) (bytes : List ℕ) (w : Wanted) : ℕ → List ℕ → Type 0 where
   refused : (e : TraceError) (line : List ℕ) → IsReadAs p bytes (Err e) → IsTraceLine e line → DueUnder p bytes w 5 line
-  told : (t : Trace) (status : ℕ) (text : List ℕ) → IsReadAs p bytes (Ok t) → Tells p t w status text → DueUnder p bytes w status text
+  told : (t : Trace) (status : ℕ) (text : List ℕ) → IsReadAs p bytes (Ok t) → Tells p (seal_of (version_of bytes) t) t w status text → DueUnder p bytes w status text
 
 -- ---- what is wanted, in memory
 

@@ -1,10 +1,10 @@
 //! What is answered from a trace.
-ghost use Rattle.std.specs.Prelude.{◌≡◌, ◌<◌, ◌≤◌, ◌-◌, ◌^◌, IfOk, drop, false, length};
+ghost use Rattle.std.specs.Prelude.{◌≡◌, ◌<◌, ◌≤◌, ◌-◌, ◌^◌, ℕ, List, IfOk, drop, false, length};
 ghost use Rattle.wy_reply.specs.declared.status.Status.TheVariants.{Done};
 ghost use Rattle.wy_reply.specs.ByRun.{HasSource, TellsRun};
 ghost use Rattle.wy_reply.specs.Statuses.{code_of, is_of_files};
 ghost use Rattle.wy_reply.specs.Opening.{IsDecoded, IsViewable};
-ghost use Rattle.wy_reply.specs.Certificates.{WantsMemory, seal_of};
+ghost use Rattle.wy_reply.specs.Certificates.{WantsMemory};
 ghost use Rattle.wy_reply.specs.Tellings.{Bytes, DueUnder, RefusesTrace, SaysVerdict, Tells, inquiry_of, wanted_of};
 ghost use Rattle.wy_reply.specs.Tellings as wanted;
 
@@ -75,7 +75,7 @@ pub fn answer_to_trace_error(alloc: Global, error: TraceError) -> Result<Answer,
 }
 
 fn answer_to_audit(alloc: Global, program: &Program, trace: Trace) -> Result<Answer, AllocError>
-    ensures due { IfOk result (λ answer. Tells program.now trace wanted.Audit
+    ensures due { (seal : List ℕ) → IfOk result (λ answer. Tells program.now seal trace wanted.Audit
         (code_of answer.status) answer.text.items) }
     ensures settled { IfOk result (λ answer. is_of_files answer.status ≡ false) }
 {
@@ -95,8 +95,7 @@ fn answer_to_check(
     certificate: &[u8],
 ) -> Result<Answer, AllocError>
     requires viewable { IsViewable trace }
-    requires seal { seal.now ≡ seal_of trace }
-    ensures due { IfOk result (λ answer. Tells program.now trace
+    ensures due { IfOk result (λ answer. Tells program.now seal.now trace
         (wanted.Check (Bytes certificate.now)) (code_of answer.status) answer.text.items) }
     ensures settled { IfOk result (λ answer. is_of_files answer.status ≡ false) }
 {
@@ -137,10 +136,9 @@ fn answer_from_memory(
     inquiry: Inquiry<'_>,
 ) -> Result<Answer, AllocError>
     requires viewable { IsViewable trace }
-    requires seal { seal.now ≡ seal_of trace }
     requires few_fields { length program.now.fields.items < 2 ^ 32 }
-    ensures due { IfOk result (λ answer. Tells program.now trace (inquiry_of inquiry.entry)
-        (code_of answer.status) answer.text.items) }
+    ensures due { IfOk result (λ answer. Tells program.now seal.now trace
+        (inquiry_of inquiry.entry) (code_of answer.status) answer.text.items) }
     ensures settled { IfOk result (λ answer. is_of_files answer.status ≡ false) }
 {
     let Trace { events, tail, .. } = trace;
@@ -164,10 +162,9 @@ fn tell(
     wanted: Wanted<'_>,
 ) -> Result<Answer, AllocError>
     requires viewable { IsViewable trace }
-    requires seal { seal.now ≡ seal_of trace }
     requires few_fields { length program.now.fields.items < 2 ^ 32 }
-    ensures due { IfOk result (λ answer. Tells program.now trace (wanted_of wanted.entry)
-        (code_of answer.status) answer.text.items) }
+    ensures due { IfOk result (λ answer. Tells program.now seal.now trace
+        (wanted_of wanted.entry) (code_of answer.status) answer.text.items) }
     ensures settled { IfOk result (λ answer. is_of_files answer.status ≡ false) }
 {
     match wanted {

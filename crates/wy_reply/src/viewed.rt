@@ -3,7 +3,6 @@ ghost use Rattle.std.specs.Prelude.{◌≡◌, ◌<◌, ◌^◌, ℕ, List, IfOk
 ghost use Rattle.wy_ask.specs.Opened.{IsOpenedOf};
 ghost use Rattle.wy_event.specs.declared.record.Trace.{Trace};
 ghost use Rattle.wy_event.specs.Record.{recorded};
-ghost use Rattle.wy_reply.specs.Certificates.{seal_of};
 ghost use Rattle.wy_reply.specs.Opening.{IsViewOf};
 ghost use Rattle.wy_reply.specs.Statuses.{code_of, is_of_files};
 ghost use Rattle.wy_reply.specs.Tellings.{DeniesAs, SaysAsTold, SaysScope, Tells, inquiry_of};
@@ -51,8 +50,9 @@ fn answer_to_output<V: EventView>(
     tail: &Tail,
     view: &mut V,
 ) -> Result<Answer, ViewError>
-    ensures due { (t : Trace) → (V.tells view.old).records ≡ Some (map recorded t.events)
-        → tail.now ≡ t.tail → IfOk result (λ answer. Tells program.now t wanted.Output
+    ensures due { (seal : List ℕ) (t : Trace)
+        → (V.tells view.old).records ≡ Some (map recorded t.events)
+        → tail.now ≡ t.tail → IfOk result (λ answer. Tells program.now seal t wanted.Output
         (code_of answer.status) answer.text.items) }
     ensures settled { IfOk result (λ answer. is_of_files answer.status ≡ false) }
     ensures keeps { Keeps (V.tells view.old) (V.tells view.new) }
@@ -67,8 +67,9 @@ fn answer_to_why<V: EventView>(
     question: &str,
 ) -> Result<Answer, ViewError>
     requires { IsOpenedOf (V.tells opened.old.view) opened.old }
-    ensures due { (t : Trace) → IsViewOf t (V.tells opened.old.view) opened.old.coverage.now
-        → IfOk result (λ answer. Tells opened.old.program.now t (wanted.Why question.now)
+    ensures due { (seal : List ℕ) (t : Trace)
+        → IsViewOf t (V.tells opened.old.view) opened.old.coverage.now
+        → IfOk result (λ answer. Tells opened.old.program.now seal t (wanted.Why question.now)
         (code_of answer.status) answer.text.items) }
     ensures settled { IfOk result (λ answer. is_of_files answer.status ≡ false) }
     ensures keeps { Keeps (V.tells opened.old.view) (V.tells opened.new.view) }
@@ -84,8 +85,9 @@ fn answer_to_affects<V: EventView>(
     question: &str,
 ) -> Result<Answer, ViewError>
     requires { IsOpenedOf (V.tells opened.old.view) opened.old }
-    ensures due { (t : Trace) → IsViewOf t (V.tells opened.old.view) opened.old.coverage.now
-        → IfOk result (λ answer. Tells opened.old.program.now t (wanted.Affects question.now)
+    ensures due { (seal : List ℕ) (t : Trace)
+        → IsViewOf t (V.tells opened.old.view) opened.old.coverage.now
+        → IfOk result (λ answer. Tells opened.old.program.now seal t (wanted.Affects question.now)
         (code_of answer.status) answer.text.items) }
     ensures settled { IfOk result (λ answer. is_of_files answer.status ≡ false) }
     ensures keeps { Keeps (V.tells opened.old.view) (V.tells opened.new.view) }
@@ -103,8 +105,7 @@ fn answer_to_certify<V: EventView>(
 ) -> Result<Answer, ViewError>
     requires { IsOpenedOf (V.tells opened.old.view) opened.old }
     ensures due { (t : Trace) → IsViewOf t (V.tells opened.old.view) opened.old.coverage.now
-        → seal.now ≡ seal_of t
-        → IfOk result (λ answer. Tells opened.old.program.now t (wanted.Certify question.now)
+        → IfOk result (λ answer. Tells opened.old.program.now seal.now t (wanted.Certify question.now)
         (code_of answer.status) answer.text.items) }
     ensures settled { IfOk result (λ answer. is_of_files answer.status ≡ false) }
     ensures keeps { Keeps (V.tells opened.old.view) (V.tells opened.new.view) }
@@ -119,8 +120,9 @@ fn answer_to_questions<V: EventView>(
     opened: &mut Opened<'_, V>,
 ) -> Result<Answer, ViewError>
     requires { IsOpenedOf (V.tells opened.old.view) opened.old }
-    ensures due { (t : Trace) → IsViewOf t (V.tells opened.old.view) opened.old.coverage.now
-        → IfOk result (λ answer. Tells opened.old.program.now t wanted.Questions
+    ensures due { (seal : List ℕ) (t : Trace)
+        → IsViewOf t (V.tells opened.old.view) opened.old.coverage.now
+        → IfOk result (λ answer. Tells opened.old.program.now seal t wanted.Questions
         (code_of answer.status) answer.text.items) }
     ensures settled { IfOk result (λ answer. is_of_files answer.status ≡ false) }
     ensures keeps { Keeps (V.tells opened.old.view) (V.tells opened.new.view) }
@@ -135,8 +137,9 @@ fn answer_to_statement<V: EventView>(
     statement: &str,
 ) -> Result<Answer, AllocError>
     requires { IsOpenedOf (V.tells opened.now.view) opened.now }
-    ensures due { (t : Trace) → IsViewOf t (V.tells opened.now.view) opened.now.coverage.now
-        → IfOk result (λ answer. Tells opened.now.program.now t (wanted.WhyNot statement.now)
+    ensures due { (seal : List ℕ) (t : Trace)
+        → IsViewOf t (V.tells opened.now.view) opened.now.coverage.now
+        → IfOk result (λ answer. Tells opened.now.program.now seal t (wanted.WhyNot statement.now)
         (code_of answer.status) answer.text.items) }
     ensures settled { IfOk result (λ answer. is_of_files answer.status ≡ false) }
 {
@@ -179,9 +182,10 @@ fn answer_to_scope<V: EventView>(
     call: u32,
 ) -> Result<Answer, ViewError>
     requires { IsOpenedOf (V.tells opened.old.view) opened.old }
-    ensures due { (t : Trace) → IsViewOf t (V.tells opened.old.view) opened.old.coverage.now
-        → IfOk result (λ answer. Tells opened.old.program.now t (wanted.Scope statement.now call)
-        (code_of answer.status) answer.text.items) }
+    ensures due { (seal : List ℕ) (t : Trace)
+        → IsViewOf t (V.tells opened.old.view) opened.old.coverage.now
+        → IfOk result (λ answer. Tells opened.old.program.now seal t
+        (wanted.Scope statement.now call) (code_of answer.status) answer.text.items) }
     ensures settled { IfOk result (λ answer. is_of_files answer.status ≡ false) }
     ensures keeps { Keeps (V.tells opened.old.view) (V.tells opened.new.view) }
     ensures answers { KeepsCounts result (V.tells opened.old.view) (V.tells opened.new.view) }
@@ -218,8 +222,8 @@ pub fn answer_to_opened<V: EventView>(
 ) -> Result<Answer, ViewError>
     requires { IsOpenedOf (V.tells opened.old.view) opened.old }
     ensures due { (t : Trace) → IsViewOf t (V.tells opened.old.view) opened.old.coverage.now
-        → tail.now ≡ t.tail → seal.now ≡ seal_of t
-        → IfOk result (λ answer. Tells opened.old.program.now t (inquiry_of inquiry.entry)
+        → tail.now ≡ t.tail
+        → IfOk result (λ answer. Tells opened.old.program.now seal.now t (inquiry_of inquiry.entry)
         (code_of answer.status) answer.text.items) }
     ensures settled { IfOk result (λ answer. is_of_files answer.status ≡ false) }
     ensures keeps { Keeps (V.tells opened.old.view) (V.tells opened.new.view) }
@@ -251,9 +255,9 @@ pub fn answer_to_view<V: EventView>(
     requires { length program.now.fields.items < 2 ^ 32 }
     ensures answered { IsSome answer.new }
     ensures due { (t : Trace) → (V.tells view).records ≡ Some (map recorded t.events)
-        → tail.now ≡ t.tail → seal.now ≡ seal_of t
-        → IfSome answer.new (λ r. IfOk r (λ given. Tells program.now t (inquiry_of inquiry.entry)
-        (code_of given.status) given.text.items)) }
+        → tail.now ≡ t.tail
+        → IfSome answer.new (λ r. IfOk r (λ given. Tells program.now seal.now t
+        (inquiry_of inquiry.entry) (code_of given.status) given.text.items)) }
     ensures settled { IfSome answer.new (λ r.
         IfOk r (λ given. is_of_files given.status ≡ false)) }
     ensures keeps { Keeps (V.tells view) (V.tells result) }
@@ -287,8 +291,8 @@ fn answer_indexed<V: EventView, L: Ledger>(
     requires parts { blank.parts ≡ L.parts }
     requires some { 0 < blank.parts }
     ensures due { (t : Trace) → (V.tells view).records ≡ Some (map recorded t.events)
-        → tail.now ≡ t.tail → seal.now ≡ seal_of t
-        → IfOk result.1 (λ answer. Tells program.now t (inquiry_of inquiry.entry)
+        → tail.now ≡ t.tail
+        → IfOk result.1 (λ answer. Tells program.now seal.now t (inquiry_of inquiry.entry)
         (code_of answer.status) answer.text.items) }
     ensures settled { IfOk result.1 (λ answer. is_of_files answer.status ≡ false) }
     ensures keeps { Keeps (V.tells view) (V.tells result.0) }

@@ -35,11 +35,11 @@ trace =
     ∷ event kind.Bind 2 (Some 2) Absent value.None
     ∷ event kind.Call 40 (Some 2) (Some 1) value.None
     ∷ event kind.Bind 10 (Some 4) Absent (value.Int (pos 1))
-    ∷ event kind.Test guard (Some 4) Absent (value.Bool false)
+    ∷ event kind.Test guard (Some 4) Absent (value.Arm 0)
     ∷ event kind.Return 30 (Some 4) Absent value.None
     ∷ event kind.Call 50 (Some 2) (Some 1) value.None
     ∷ event kind.Bind 10 (Some 8) Absent (value.Int (pos 2))
-    ∷ event kind.Test guard (Some 8) Absent (value.Bool true)
+    ∷ event kind.Test guard (Some 8) Absent (value.Arm 1)
     ∷ event kind.Print 25 (Some 8) Absent value.None
     ∷ event kind.Return 30 (Some 8) Absent value.None
     ∷ event kind.Return 60 (Some 2) Absent value.None

@@ -40,8 +40,7 @@ arms_into p n = flat_map (arm_of_way n) (ways_of p)
 -- ---- events
 
 abbrev pub arm_taken : ℕ → Value → Option Point
-arm_taken site (value.Bool true) = Some (point.Arm site 1)
-arm_taken site (value.Bool false) = Some (point.Arm site 0)
+arm_taken site (value.Arm n) = Some (point.Arm site n)
 arm_taken site _ = Absent
 
 abbrev pub passed_as : Kind → Option ℕ → ℕ → Value → Option Point

@@ -9,13 +9,12 @@ use wy_kernel::types::NONE;
 use wy_static::point::Point;
 use wy_value::Value;
 
-/// The arm of a test that gave a value.
+/// The arm that a test took by its value.
 fn arm_taken(site: u32, value: Value) -> Option<Point>
     ensures { result ≡ arm_taken site value }
 {
     match value {
-        Value::Bool(true) => Some(Point::Arm { site, value: 1 }),
-        Value::Bool(false) => Some(Point::Arm { site, value: 0 }),
+        Value::Arm(arm) => Some(Point::Arm { site, value: arm }),
         _ => None,
     }
 }

@@ -10,6 +10,8 @@ use Rattle.wy_event.specs.declared.record.Cover.{Cover}
 use Rattle.wy_event.specs.declared.record.Coverage.{Coverage}
 use Rattle.wy_event.specs.declared.record.Head.{Head}
 use Rattle.wy_event.specs.declared.record.Tail.{Tail}
+use Rattle.wy_event.specs.declared.record.Version.{Version}
+use Rattle.wy_event.specs.declared.record.Version.TheVariants as version
 use Rattle.wy_event.specs.Record.{Recorded, recorded}
 use Rattle.wy_kernel.specs.Limits.{trace_limit}
 use Rattle.wy_spelling.specs.Spelling.{number, origin_bytes, slot_bytes, content_bytes, units_bytes, use_bytes, uses_bytes, event_payload, event_frame, cover_bytes, coverage_payload, coverage_frame, end_frame, tail_frames, magic, head_payload, head_frame, opening, tail_payload, count_bytes}
@@ -42,24 +44,24 @@ right_short : (a b : List ℕ) (n : ℕ) → length (a ++ b) < n → length b < 
 right_short a b n short = omega (arith, length-append a b, short)
 
 -- from the content on
-content_on : (e : Recorded) → length (event_payload e) < 2 ^ 32 → length (content_bytes e.kind e.value e.units ++ uses_bytes e.uses) < 2 ^ 32
+content_on : (v : Version) (e : Recorded) → length (event_payload v e) < 2 ^ 32 → length (content_bytes v e.kind e.value e.units ++ uses_bytes e.uses) < 2 ^ 32
 unfolding event_payload
-content_on e short =
+content_on v e short =
     let uses = uses_bytes e.uses in
-    let content = content_bytes e.kind e.value e.units ++ uses in
+    let content = content_bytes v e.kind e.value e.units ++ uses in
     right_short (slot_bytes e.slot) content (2 ^ 32) (right_short (origin_bytes e) (slot_bytes e.slot ++ content) (2 ^ 32) short)
 
-pub content_is_short : (e : Event) → length (event_payload (recorded e)) < 2 ^ 32 → length (content_bytes e.kind e.value e.units) < 2 ^ 32
+pub content_is_short : (v : Version) (e : Event) → length (event_payload v (recorded e)) < 2 ^ 32 → length (content_bytes v e.kind e.value e.units) < 2 ^ 32
 unfolding recorded
-content_is_short e short = left_short (content_bytes e.kind e.value e.units) (uses_bytes e.uses) (2 ^ 32) (content_on (recorded e) short)
+content_is_short v e short = left_short (content_bytes v e.kind e.value e.units) (uses_bytes e.uses) (2 ^ 32) (content_on v (recorded e) short)
 
-pub uses_are_short : (e : Event) → length (event_payload (recorded e)) < 2 ^ 32 → length (uses_bytes e.uses) < 2 ^ 32
+pub uses_are_short : (v : Version) (e : Event) → length (event_payload v (recorded e)) < 2 ^ 32 → length (uses_bytes e.uses) < 2 ^ 32
 unfolding recorded
-uses_are_short e short = right_short (content_bytes e.kind e.value e.units) (uses_bytes e.uses) (2 ^ 32) (content_on (recorded e) short)
+uses_are_short v e short = right_short (content_bytes v e.kind e.value e.units) (uses_bytes e.uses) (2 ^ 32) (content_on v (recorded e) short)
 
-pub payload_is_short : (e : Recorded) → length (event_frame e) ≤ trace_limit → length (event_payload e) < 2 ^ 32
+pub payload_is_short : (v : Version) (e : Recorded) → length (event_frame v e) ≤ trace_limit → length (event_payload v e) < 2 ^ 32
 unfolding event_frame
-payload_is_short e short = omega (arith, length-append (69 ∷ number (length (event_payload e))) (event_payload e), short)
+payload_is_short v e short = omega (arith, length-append (69 ∷ number (length (event_payload v e))) (event_payload v e), short)
 
 cover_is_some : (c : Cover) → 1 ≤ length (cover_bytes c)
 unfolding cover_bytes
@@ -73,9 +75,13 @@ pub coverage_is_short : (t : Tail) → length (tail_frames t) ≤ trace_limit �
 unfolding tail_frames coverage_frame
 coverage_is_short t short = omega (arith, length-append (coverage_frame t.coverage) (end_frame t), length-append (67 ∷ number (length (coverage_payload t.coverage))) (coverage_payload t.coverage), short)
 
-pub head_is_short : (h : Head) → length (opening h) ≤ trace_limit → length (head_payload h) < 2 ^ 32
+pub magic_long : (v : Version) → length (magic v) ≡ 8
+magic_long version.One = refl
+magic_long version.Two = refl
+
+pub head_is_short : (v : Version) (h : Head) → length (opening v h) ≤ trace_limit → length (head_payload h) < 2 ^ 32
 unfolding opening head_frame
-head_is_short h short = omega (arith, length-append magic (head_frame h), length-append (72 ∷ number (length (head_payload h))) (head_payload h), short)
+head_is_short v h short = omega (arith, length-append (magic v) (head_frame h), length-append (72 ∷ number (length (head_payload h))) (head_payload h), short)
 
 pub tail_length : (t : Tail) → length (tail_payload t) ≡ 21
 unfolding tail_payload count_bytes

@@ -4,19 +4,33 @@ ghost use Rattle.std.specs.Prelude.{◌≡◌, ◌<◌, ◌≤◌, ◌^◌, ◌+
 ghost use Rattle.wy_event.specs.Record.{recorded};
 ghost use Rattle.wy_kernel.specs.View.{present};
 ghost use Rattle.wy_kernel.specs.Limits.{trace_limit};
-ghost use Rattle.wy_spelling.specs.Spelling.{kind_number, optional, count_bytes, origin_bytes, coverage_frame, coverage_payload, end_frame, event_frame, event_payload, frame, head_frame, head_payload, magic, number, opening, seal_frame, tail_frames, tail_payload};
+ghost use Rattle.wy_spelling.specs.Spelling.{FitsOne, kind_number, optional, count_bytes, origin_bytes, coverage_frame, coverage_payload, end_frame, event_frame, event_payload, frame, head_frame, head_payload, magic, number, opening, seal_frame, tail_frames, tail_payload};
 
 use crate::write::{
     put_bytes, put_content, put_each_cover, put_number, put_slot, put_tagged, put_uses,
 };
 use std::alloc::{AllocError, Global};
-use wy_event::record::{Coverage, Event, Head, Kind, Tail};
+use wy_event::record::{Coverage, Event, Head, Kind, Tail, Version};
 
-/// The first bytes of a trace.
-pub const MAGIC: [u8; 8] = *b"WHYTRAC1";
+const MAGIC_ONE: [u8; 8] = *b"WHYTRAC1";
 
-/// How many they are.
+const MAGIC_TWO: [u8; 8] = *b"WHYTRAC2";
+
+/// How many bytes name the format.
 pub const MAGIC_LENGTH: u32 = 8;
+
+/// The version that is written.
+const WRITTEN: Version = Version::Two;
+
+/// The first bytes of a trace of a version.
+pub fn magic_of(version: Version) -> [u8; 8]
+    ensures { result ≡ magic version }
+{
+    match version {
+        Version::One => MAGIC_ONE,
+        Version::Two => MAGIC_TWO,
+    }
+}
 
 /// The bytes of a letter and a length before what a frame holds.
 const OPENING_LENGTH: usize = 5;
@@ -79,26 +93,49 @@ fn put_origin(out: &mut Vec<u8>, event: &Event) -> Result<(), AllocError>
 }
 
 #[tactic(auto, using(crate::proofs::Lengths::content_is_short, crate::proofs::Lengths::uses_are_short), unfolding(crate::specs::Spelling::event_payload, wy_event::specs::Record::recorded))]
-fn put_event(out: &mut Vec<u8>, event: &Event) -> Result<(), AllocError>
-    requires { length (event_payload (recorded event.now)) < 2 ^ 32 }
-    ensures { OnOk result (out.new.items ≡ out.old.items ++ event_payload (recorded event.now)) }
+fn put_event(out: &mut Vec<u8>, version: Version, event: &Event) -> Result<(), AllocError>
+    requires { length (event_payload version (recorded event.now)) < 2 ^ 32 }
+    ensures { OnOk result (out.new.items
+        ≡ out.old.items ++ event_payload version (recorded event.now)) }
 {
     put_origin(out, event)?;
     put_slot(out, event.slot)?;
-    put_content(out, event.kind, event.value, event.units.as_slice())?;
+    put_content(
+        out,
+        version,
+        event.kind,
+        event.value,
+        event.units.as_slice(),
+    )?;
     put_uses(out, event.uses.as_slice())
 }
 
-/// The frame of an event.
 #[tactic(auto, using(crate::proofs::Lengths::payload_is_short), unfolding(crate::specs::Spelling::event_frame))]
-pub fn encode_event(alloc: Global, event: &Event) -> Result<Vec<u8>, AllocError>
-    requires { length (event_frame (recorded event.now)) ≤ trace_limit }
-    ensures { IfOk result (λ v. v.items ≡ event_frame (recorded event.now)) }
+fn encode(alloc: Global, version: Version, event: &Event) -> Result<Vec<u8>, AllocError>
+    requires { length (event_frame version (recorded event.now)) ≤ trace_limit }
+    ensures { IfOk result (λ v. v.items ≡ event_frame version (recorded event.now)) }
 {
     let mut out = opened(alloc, b'E', MOST_EVENTS)?;
-    put_event(&mut out, event)?;
+    put_event(&mut out, version, event)?;
     close(&mut out);
     Ok(out)
+}
+
+/// The frame of an event.
+pub fn encode_event(alloc: Global, event: &Event) -> Result<Vec<u8>, AllocError>
+    requires { length (event_frame Version.Two (recorded event.now)) ≤ trace_limit }
+    ensures { IfOk result (λ v. v.items ≡ event_frame Version.Two (recorded event.now)) }
+{
+    encode(alloc, WRITTEN, event)
+}
+
+/// The frame of an event in version 1, which has no arm but 0 and 1.
+pub fn encode_event_v1(alloc: Global, event: &Event) -> Result<Vec<u8>, AllocError>
+    requires arm { FitsOne event.now.value }
+    requires short { length (event_frame Version.One (recorded event.now)) ≤ trace_limit }
+    ensures { IfOk result (λ v. v.items ≡ event_frame Version.One (recorded event.now)) }
+{
+    encode(alloc, Version::One, event)
 }
 
 #[tactic(auto, unfolding(crate::specs::Spelling::head_payload))]
@@ -114,15 +151,15 @@ fn put_head(out: &mut Vec<u8>, head: &Head) -> Result<(), AllocError>
 /// The bytes that name the format, and the frame of a head.
 #[tactic(auto, using(crate::proofs::Lengths::head_is_short), unfolding(crate::specs::Spelling::opening, crate::specs::Spelling::head_frame))]
 pub fn encode_head(alloc: Global, head: &Head) -> Result<Vec<u8>, AllocError>
-    requires { length (opening head.now) ≤ trace_limit }
-    ensures { IfOk result (λ v. v.items ≡ opening head.now) }
+    requires { length (opening Version.Two head.now) ≤ trace_limit }
+    ensures { IfOk result (λ v. v.items ≡ opening Version.Two head.now) }
 {
     let room = head.input.as_slice().len() + head.source.as_slice().len();
     let mut frame = opened(alloc, b'H', room)?;
     put_head(&mut frame, head)?;
     close(&mut frame);
     let mut out = Vec::with_capacity(alloc, room)?;
-    out.extend_from_slice(&MAGIC)?;
+    out.extend_from_slice(&magic_of(WRITTEN))?;
     out.extend_from_slice(&frame)?;
     Ok(out)
 }

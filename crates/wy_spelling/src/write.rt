@@ -3,10 +3,10 @@
 ghost use Rattle.std.specs.Prelude.{◌≡◌, ◌<◌, ◌^◌, ◌++◌, ◌∷◌, length, OnOk};
 ghost use Rattle.std.specs.Int.{w16, w64, to_be_bytes};
 ghost use Rattle.std.specs.List.{flat_map};
-ghost use Rattle.wy_spelling.specs.Spelling.{content_bytes, cover_bytes, number, slot_bytes, units_bytes, use_bytes, uses_bytes, value_bytes};
+ghost use Rattle.wy_spelling.specs.Spelling.{arm_number, arm_tag, content_bytes, cover_bytes, number, slot_bytes, units_bytes, use_bytes, uses_bytes, value_bytes};
 
 use std::alloc::AllocError;
-use wy_event::record::{Cover, Kind, Slot, Use};
+use wy_event::record::{Cover, Kind, Slot, Use, Version};
 use wy_value::Value;
 
 pub fn put_number(out: &mut Vec<u8>, n: u32) -> Result<(), AllocError>
@@ -69,9 +69,19 @@ fn put_long(out: &mut Vec<u8>, tag: u8, bits: u64) -> Result<(), AllocError>
     out.extend_from_slice(&bits.to_be_bytes())
 }
 
+fn put_arm(out: &mut Vec<u8>, version: Version, n: u32) -> Result<(), AllocError>
+    ensures { OnOk result (out.new.items
+        ≡ out.old.items ++ (arm_tag version ∷ arm_number version n)) }
+{
+    match version {
+        Version::One => out.extend_from_slice(&[1, u8::from(n == 1)]),
+        Version::Two => put_tagged(out, 12, n),
+    }
+}
+
 #[tactic(auto, unfolding(crate::specs::Spelling::value_bytes))]
-fn put_value(out: &mut Vec<u8>, value: Value) -> Result<(), AllocError>
-    ensures { OnOk result (out.new.items ≡ out.old.items ++ value_bytes value) }
+fn put_value(out: &mut Vec<u8>, version: Version, value: Value) -> Result<(), AllocError>
+    ensures { OnOk result (out.new.items ≡ out.old.items ++ value_bytes version value) }
 {
     match value {
         Value::None => Ok(out.push(0)?),
@@ -85,6 +95,7 @@ fn put_value(out: &mut Vec<u8>, value: Value) -> Result<(), AllocError>
         Value::Object(n) => put_tagged(out, 8, n),
         Value::Text(n) => put_tagged(out, 9, n),
         Value::Fixed(n) => put_tagged(out, 10, n),
+        Value::Arm(n) => put_arm(out, version, n),
     }
 }
 
@@ -109,16 +120,18 @@ fn put_units(out: &mut Vec<u8>, units: &[u16]) -> Result<(), AllocError>
 /// The value of an event, or the units of one that is a Text.
 pub fn put_content(
     out: &mut Vec<u8>,
+    version: Version,
     kind: Kind,
     value: Value,
     units: &[u16],
 ) -> Result<(), AllocError>
-    requires { length (content_bytes kind value units.now) < 2 ^ 32 }
-    ensures { OnOk result (out.new.items ≡ out.old.items ++ content_bytes kind value units.now) }
+    requires { length (content_bytes version kind value units.now) < 2 ^ 32 }
+    ensures { OnOk result (out.new.items
+        ≡ out.old.items ++ content_bytes version kind value units.now) }
 {
     match kind {
         Kind::Text => put_units(out, units),
-        _ => put_value(out, value),
+        _ => put_value(out, version, value),
     }
 }
 

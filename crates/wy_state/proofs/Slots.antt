@@ -366,6 +366,7 @@ module _ (p : Program) (m : Shape) (w : World nothing) where
   nothing_in (value.Long b) one two s = refl
   nothing_in value.Null one two s = refl
   nothing_in (Object b) one two s = refl
+  nothing_in (value.Arm b) one two s = refl
 
   pub nothing_goes : (v : Value) → ((n : ℕ) → v ≡ TextOf n → ⊥) → ((n : ℕ) → v ≡ FixedOf n → ⊥) → Onward p m (units_of w v) m (return [])
   unfolding return
@@ -393,6 +394,7 @@ module _ (p : Program) (m : Shape) where
   no_type (value.Int b) none one two s = refl
   no_type (value.Long b) none one two s = refl
   no_type value.Null none one two s = refl
+  no_type (value.Arm b) none one two s = refl
 
   pub other_type_goes : (v : Value) → ((n : ℕ) → v ≡ Object n → ⊥) → ((n : ℕ) → v ≡ TextOf n → ⊥) → ((n : ℕ) → v ≡ FixedOf n → ⊥) → Onward p m (type_of v) m (return OfNull)
   unfolding return

@@ -8,7 +8,7 @@ use Rattle.wy_kernel.specs.declared.program.Program.{Program}
 use Rattle.wy_kernel.specs.Parts.{program_of}
 use Rattle.wy_kernel.specs.Program.{fixed_text}
 use Rattle.wy_value.specs.declared.value.Value.{Value}
-use Rattle.wy_value.specs.declared.value.Value.TheVariants.{None, Object, Text, Fixed}
+use Rattle.wy_value.specs.declared.value.Value.TheVariants.{None, Object, Text, Fixed, Arm}
 use Rattle.wy_kernel.specs.View.{NONE, present}
 use Rattle.wy_value.specs.Numeral.{has_text, text_of}
 
@@ -21,6 +21,7 @@ prints_nothing None is = refl
 prints_nothing (Object n) is = refl
 prints_nothing (Text n) is = refl
 prints_nothing (Fixed n) is = refl
+prints_nothing (Arm n) is = refl
 prints_nothing _ is = absurd (true≢false is)
 
 pub is_there : (n : ℕ) → n < NONE → present n ≡ Some n

@@ -177,6 +177,6 @@ fn is_plain(value: Value) -> bool
 {
     !matches!(
         value,
-        Value::None | Value::Object(_) | Value::Text(_) | Value::Fixed(_)
+        Value::None | Value::Object(_) | Value::Text(_) | Value::Fixed(_) | Value::Arm(_)
     )
 }

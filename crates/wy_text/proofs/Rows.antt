@@ -22,7 +22,7 @@ use Rattle.wy_text.specs.EventLines.{event_line, line_at, deed_of, line_with, wh
 use Rattle.wy_text.specs.EndLines.{place_of, place_on, name_of}
 use Rattle.wy_text.specs.Names.{method_name, field_name, member_name, made_name, numbered}
 use Rattle.wy_meaning.specs.Library.{type_name, base_name, brackets_text}
-use Rattle.wy_text.specs.Values.{value_text, plain_text, own_text, units_of, entity_of, quoted, letter, shown, is_plain, escaped, hex_digit}
+use Rattle.wy_text.specs.Values.{value_text, truth_text, plain_text, own_text, units_of, entity_of, quoted, letter, shown, is_plain, escaped, hex_digit}
 use Rattle.wy_text.specs.Places.{slot_text, local_name, called, frame_body, begun}
 use Rattle.wy_text.specs.Sources.{role_word, source_line}
 use Rattle.wy_text.specs.FrameLines.{frame_line, running_at, running, local_line, local_text}
@@ -69,7 +69,7 @@ trace =
     ∷ event kind.Text 2 Absent slot.None value.None (97 ∷ 92 ∷ 255 ∷ [])
     ∷ event kind.Print 2 Absent slot.None (value.Text 10) []
     ∷ event kind.Print 2 Absent slot.None value.None []
-    ∷ event kind.Test 2 Absent slot.None (value.Bool true) []
+    ∷ event kind.Test 2 Absent slot.None (value.Arm 1) []
     ∷ event kind.Read 2 Absent slot.None (value.Int (negsuc 0)) []
     ∷ event kind.Return 2147483648 Absent slot.None value.Null []
     ∷ event kind.Return 2 Absent slot.None value.None []
@@ -104,11 +104,11 @@ all_lines : listing 0 false trace ≡
     ++ codes "#17 line 12 jump *\n"
     ++ codes "#18 line 12 throw Main#4\n"
     ++ codes "#19 line 12 catch m = Main#4 *\n"
-unfolding event_line line_at deed_of line_with where_at deed verb led equation made_text subject given star place_of place_on name_of present method_name field_name member_name made_name numbered type_of_code base_of type_name base_name primitive_name brackets_text full_name is_source class method field body fixed_text init_body value_text plain_text own_text units_of entity_of quoted letter shown is_plain escaped hex_digit digits slot_text local_name called frame_body begun classes
+unfolding event_line line_at deed_of line_with where_at deed verb led equation made_text subject given star place_of place_on name_of present method_name field_name member_name made_name numbered type_of_code base_of type_name base_name primitive_name brackets_text full_name is_source class method field body fixed_text init_body value_text truth_text plain_text own_text units_of entity_of quoted letter shown is_plain escaped hex_digit digits slot_text local_name called frame_body begun classes
 all_lines = refl
 
 control_source : source_line program lines trace (record { role = Control; event = 2 }) ≡ codes "control #2 line 1 call Main.main\n"
-unfolding source_line role_word event_line line_at deed_of line_with where_at deed verb led equation made_text subject given star place_of place_on name_of present method_name field_name member_name made_name numbered type_of_code base_of type_name base_name primitive_name brackets_text full_name is_source class method field body fixed_text init_body value_text plain_text own_text units_of entity_of quoted letter shown is_plain escaped hex_digit digits slot_text local_name called frame_body begun classes
+unfolding source_line role_word event_line line_at deed_of line_with where_at deed verb led equation made_text subject given star place_of place_on name_of present method_name field_name member_name made_name numbered type_of_code base_of type_name base_name primitive_name brackets_text full_name is_source class method field body fixed_text init_body value_text truth_text plain_text own_text units_of entity_of quoted letter shown is_plain escaped hex_digit digits slot_text local_name called frame_body begun classes
 control_source = refl
 
 -- a frame of main and that of an initializer, and what a local holds
@@ -117,5 +117,5 @@ frames_and_locals : frame_line program trace 2 ++ local_line program trace 2 0 (
     ++ codes " args.0 = java.lang.String[]#1\n"
     ++ codes " m.1 = 5\n"
     ++ codes "#0 init Main\n"
-unfolding frame_line running_at running local_line local_text equation name_of method_name member_name made_name numbered type_of_code base_of type_name base_name brackets_text full_name is_source class method body value_text plain_text own_text entity_of digits slot_text local_name called frame_body begun classes
+unfolding frame_line running_at running local_line local_text equation name_of method_name member_name made_name numbered type_of_code base_of type_name base_name brackets_text full_name is_source class method body value_text truth_text plain_text own_text entity_of digits slot_text local_name called frame_body begun classes
 frames_and_locals = refl

@@ -5,7 +5,7 @@ use Rattle.std.specs.Fmt.{signed_decimal}
 use Rattle.std.specs.List.{flat_map}
 use Rattle.wy_kernel.specs.Program.{Program, fixed_text}
 use Rattle.wy_value.specs.declared.value.Value.{Value}
-use Rattle.wy_value.specs.declared.value.Value.TheVariants.{Bool as Boolean, Byte, Short, Char, Int, Long, Null, Object, Text, Fixed}
+use Rattle.wy_value.specs.declared.value.Value.TheVariants.{Bool as Boolean, Byte, Short, Char, Int, Long, Null, Object, Text, Fixed, Arm}
 use Rattle.wy_event.specs.Record.{Recorded}
 use Rattle.wy_text.specs.Names.{made_name, numbered}
 
@@ -45,10 +45,15 @@ unfoldable pub entity_of : Option Recorded → Option ℕ
 entity_of Absent = Absent
 entity_of (Some e) = e.entity
 
--- a number, a boolean or null as its text, and nothing where there is no value
+unfoldable pub truth_text : Bool → List ℕ
+truth_text true = codes "true"
+truth_text false = codes "false"
+
+-- a number, a boolean or null as its text, what a test gave as the truth that gives it, and nothing
+-- where there is no value
 unfoldable pub plain_text : Value → List ℕ
-plain_text (Boolean true) = codes "true"
-plain_text (Boolean false) = codes "false"
+plain_text (Boolean b) = truth_text b
+plain_text (Arm n) = truth_text (not (n == 0))
 plain_text Null = codes "null"
 plain_text (Byte z) = signed_decimal z
 plain_text (Short z) = signed_decimal z

@@ -6,7 +6,7 @@ ghost use Rattle.wy_kernel.specs.View.{present};
 ghost use Rattle.wy_kernel.specs.Parts.{program_of};
 ghost use Rattle.wy_kernel.specs.Program.{fixed_text};
 ghost use Rattle.wy_text.specs.Names.{made_name, numbered};
-ghost use Rattle.wy_text.specs.Values.{own_text, plain_text, value_text};
+ghost use Rattle.wy_text.specs.Values.{own_text, plain_text, truth_text, value_text};
 ghost use Rattle.wy_view.specs.References.{ValueBelow};
 ghost use Rattle.wy_view.specs.View.{KeepsCounts, Keeps};
 
@@ -88,14 +88,24 @@ fn fixed_text(program: &Program, number: u32) -> &[u16]
     program.fixed_text(number)
 }
 
-/// Puts numbers, booleans and null.
+#[tactic(auto, unfolding(crate::specs::Values::truth_text))]
+fn put_truth(out: &mut Vec<u8>, truth: bool) -> Result<(), AllocError>
+    ensures { OnOk result (out.new.items ≡ out.old.items ++ truth_text truth) }
+{
+    match truth {
+        true => out.extend_from_slice("true".as_bytes()),
+        false => out.extend_from_slice("false".as_bytes()),
+    }
+}
+
+/// Puts numbers, booleans, null and what a test gave.
 #[tactic(auto, unfolding(crate::specs::Values::plain_text))]
 fn put_plain(out: &mut Vec<u8>, value: Value) -> Result<(), AllocError>
     ensures { OnOk result (out.new.items ≡ out.old.items ++ plain_text value) }
 {
     match value {
-        Value::Bool(true) => out.extend_from_slice("true".as_bytes()),
-        Value::Bool(false) => out.extend_from_slice("false".as_bytes()),
+        Value::Bool(truth) => put_truth(out, truth),
+        Value::Arm(arm) => put_truth(out, arm != 0),
         Value::Null => out.extend_from_slice("null".as_bytes()),
         Value::Byte(n) => put_signed(out, i64::from(n)),
         Value::Short(n) => put_signed(out, i64::from(n)),

@@ -96,9 +96,9 @@ certificate_lack held name p bytes t e n m k r reads gives rose tells = lack_due
 
 pub opened_answers : (held : Option Files) (name bytes : List ℕ) (typed : TypedProgram) (t : Trace) (before after : Counts) (r : Result Answer AllocError) → OpensBytes bytes (Open typed t)
     → IfOk r (AnswersBy (λ files. WithCertificate files name (DueUnder typed.program bytes)) held before after) → IfOk r (AnswersBy (λ files. WithCertificate files name (DueForBytes bytes)) held before after)
-opened_answers held name bytes typed t before after r (head, end, at, is, read) h =
+opened_answers held name bytes typed t before after r (head, end, v, at, is, read) h =
     answers_more (λ files. WithCertificate files name (DueUnder typed.program bytes)) (λ files. WithCertificate files name (DueForBytes bytes)) held before after r
-    (λ files told s x. with_more files name (DueUnder typed.program bytes) (DueForBytes bytes) s x (λ w d. due.program head end typed.program s x at is d)) h
+    (λ files told s x. with_more files name (DueUnder typed.program bytes) (DueForBytes bytes) s x (λ w d. due.program head end v typed.program s x at is d)) h
 
 pub refused_answers : (held : Option Files) (name bytes : List ℕ) (n : Counts) (answer : Answer) → OpensBytes bytes (Refused answer) → IsSettled (Refused answer)
     → AnswersBy (λ files. WithCertificate files name (DueForBytes bytes)) held n n answer

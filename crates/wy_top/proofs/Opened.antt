@@ -41,8 +41,8 @@ refused_head : (bytes : List ℕ) (e : TraceError) (answer : Answer) → head_of
 refused_head bytes e answer is h = (λ done. (let x = sym h.0 ∙ done in cc), λ w. rw (h.0) (due.no_head e answer.text.items is h.1))
 
 refused_rest : (bytes : List ℕ) (e : TraceError) (answer : Answer) → ByHead bytes (λ source. (p : Program) × IsProgramOf source p × IsReadAs p bytes (Err e)) → tellings.RefusesTrace e answer → OpensBytes bytes (Refused answer)
-refused_rest bytes e answer (head, end, at, (p, is, read)) h =
-    (λ done. (let x = sym h.0 ∙ done in cc), λ w. rw (h.0) (due.program head end p 5 answer.text.items at is (tellings.refused e answer.text.items read h.1)))
+refused_rest bytes e answer (head, end, v, at, (p, is, read)) h =
+    (λ done. (let x = sym h.0 ∙ done in cc), λ w. rw (h.0) (due.program head end v p 5 answer.text.items at is (tellings.refused e answer.text.items read h.1)))
 
 refused_trace : (bytes : List ℕ) (e : TraceError) (answer : Answer) → (head_of bytes ≡ Err e) ⊎ ByHead bytes (λ source. (p : Program) × IsProgramOf source p × IsReadAs p bytes (Err e)) → tellings.RefusesTrace e answer → OpensBytes bytes (Refused answer)
 refused_trace bytes e answer (inl is) h = refused_head bytes e answer is h
@@ -57,18 +57,18 @@ pub no_trace_of : (bytes : List ℕ) (e : TraceError) (answer : Answer) → IsNo
 no_trace_of bytes e answer none h = no_trace bytes e answer answer.text.items h.1 none h
 
 pub no_program_of : (bytes : List ℕ) (e : SourceError) (answer : Answer) → ByHead bytes (λ source. IsCauseOf source e) → RefusesTrace e answer → OpensBytes bytes (Refused answer)
-no_program_of bytes e answer (head, end, at, cause) (refused, says) =
+no_program_of bytes e answer (head, end, v, at, cause) (refused, says) =
     let (line, none, said) = says head.source cause in
-    (λ done. (let x = sym refused ∙ done in cc), λ w. rw (refused, said) (due.no_program head end line at none))
+    (λ done. (let x = sym refused ∙ done in cc), λ w. rw (refused, said) (due.no_program head end v line at none))
 
 -- ---- what is told of it
 
 pub is_decoded : (bytes : List ℕ) (typed : TypedProgram) (t : Trace) → AreBytes bytes → length bytes ≤ trace_limit → OpensBytes bytes (Open typed t) → IsDecoded typed.program bytes t
-is_decoded bytes typed t are short (head, end, at, is, read) = record { are_bytes = are; short = short; reads = read }
+is_decoded bytes typed t are short (head, end, v, at, is, read) = record { are_bytes = are; short = short; reads = read }
 
 pub opened_due : (bytes : List ℕ) (w : Wanted) (typed : TypedProgram) (t : Trace) (r : Result Answer AllocError) → OpensBytes bytes (Open typed t) → IfOk r (λ answer. tellings.DueUnder typed.program bytes w (code_of answer.status) answer.text.items)
     → IfOk r (λ answer. DueForBytes bytes w (code_of answer.status) answer.text.items)
-opened_due bytes w typed t (Ok answer) (head, end, at, is, read) h = due.program head end typed.program (code_of answer.status) answer.text.items at is h
+opened_due bytes w typed t (Ok answer) (head, end, v, at, is, read) h = due.program head end v typed.program (code_of answer.status) answer.text.items at is h
 opened_due bytes w typed t (Err x) opens h = tt
 
 -- ---- in its file
@@ -86,9 +86,9 @@ caused before after answer settled = record {
 opened_at : (held : Option Files) (name : List ℕ) (bytes : Vec ℕ Global) (typed : TypedProgram) (t : Trace) → GivesFile held name trace_limit (Ok bytes) → OpensBytes bytes.items (Open typed t) →
     (files : Files) → held ≡ Some files → IsOpened files name typed.program t
 opened_at None name bytes typed t gives o files told = absurd (cc)
-opened_at (Some shelf) name bytes typed t gives (head, end, at, is, read) files told =
+opened_at (Some shelf) name bytes typed t gives (head, end, v, at, is, read) files told =
     let same : shelf ≡ files = cc in
-    subst (λ (f : Files). IsOpened f name typed.program t) same (record { bytes = bytes.items; holds = gives; head = head; end = end; is_head = at; is_program = is; is_read = read })
+    subst (λ (f : Files). IsOpened f name typed.program t) same (record { bytes = bytes.items; holds = gives; head = head; end = end; version = v; is_head = at; is_program = is; is_read = read })
 
 refused_at : (held : Option Files) (name : List ℕ) (bytes : Vec ℕ Global) (answer : Answer) → GivesFile held name trace_limit (Ok bytes) → OpensBytes bytes.items (Refused answer) →
     (w : Wanted) (files : Files) → held ≡ Some files → DueForTrace files name w (code_of answer.status) answer.text.items

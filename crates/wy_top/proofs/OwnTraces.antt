@@ -12,6 +12,7 @@ use Rattle.wy_kernel.specs.declared.program.Program as memory
 use Rattle.wy_kernel.specs.Parts.{program_of}
 use Rattle.wy_event.specs.Record.{Recorded, recorded}
 use Rattle.wy_event.specs.declared.record.Head.{Head}
+use Rattle.wy_event.specs.declared.record.Version.{Version}
 use Rattle.wy_fitting.specs.Fits.{AllFit, told}
 use Rattle.wy_steps.specs.Sets.{nothing}
 use Rattle.wy_meaning.specs.Run as meaning
@@ -31,7 +32,8 @@ use Rattle.wy_frames.specs.declared.error.TraceError.{TraceError}
 use Rattle.wy_frames.specs.declared.error.TraceError.TheVariants.{NoMemory}
 use Rattle.wy_frames.specs.Traces.{ReadsAs}
 use Rattle.wy_spelling.specs.Spelling.{run_bytes}
-use Rattle.wy_reply.proofs.Carrying.{all_told}
+use Rattle.wy_reply.proofs.Carrying.{told_in}
+use Rattle.wy_reply.specs.ByRun.{CanTell}
 use Rattle.wy_reply.specs.Recordings.{IsTraceOf, trace_spelling}
 use Rattle.wy_top.specs.OwnTraces.{IsReadAsRun, IsRecorded, RecordedTracesAreNotRefused, RecordedTracesAreRead}
 use Rattle.wy_program.specs.Programs.{IsProgramOf}
@@ -75,8 +77,8 @@ at_head A head input steps i s a = subst (λ n. A head.input n) (sym s) (subst (
 back : (A : List ℕ → ℕ → Type 0) (head : Head) (input : List ℕ) (steps : ℕ) → head.input ≡ input → head.steps ≡ steps → A head.input head.steps → A input steps
 back A head input steps i s a = subst (λ (l : List ℕ). A l steps) i (subst (λ n. A head.input n) s a)
 
-module _ (source input : List ℕ) (steps : ℕ) (p : memory.Program) (bytes : List ℕ) (r : IsRecorded source input steps p bytes) where
-  abbrev is : IsTraceOf trace_spelling (program_of p) source input steps bytes
+module _ (v : Version) (source input : List ℕ) (steps : ℕ) (p : memory.Program) (bytes : List ℕ) (r : IsRecorded v source input steps p bytes) where
+  abbrev is : IsTraceOf (trace_spelling v) (program_of p) source input steps bytes
   is = r.is_trace
 
   abbrev runs : List Recorded
@@ -97,14 +99,15 @@ module _ (source input : List ℕ) (steps : ℕ) (p : memory.Program) (bytes : L
     end_fits = is.end_fits;
   }
 
-  spelled : bytes ≡ run_bytes is.head runs is.end
-  spelled = at_head (λ i n. bytes ≡ run_bytes is.head (events nothing (program_of p) i n) is.end) is.head input steps is.input_is is.steps_are is.spelled
+  spelled : bytes ≡ run_bytes v is.head runs is.end
+  spelled = at_head (λ i n. bytes ≡ run_bytes v is.head (events nothing (program_of p) i n) is.end) is.head input steps is.input_is is.steps_are is.spelled
 
   pub read_as_run : Laws → OfFittingPrograms OwnTracesAreRead → IsReadAsRun source input steps p bytes
   read_as_run laws reads =
       let a = asked laws source p r.source_within r.is_program in
-      let x = reads p a.fits a.keeps a.text is.head runs is.end bytes own r.within spelled in
-      let all : map told runs ≡ runs = map_fixed told runs (all_told (program_of p) is.head.input is.head.steps (laws.shaped (program_of p) is.head.input is.head.steps)) in
+      let x = reads p a.fits a.keeps a.text v is.head runs is.end bytes own r.within spelled in
+      let can : CanTell v runs = at_head (λ i n. CanTell v (events nothing (program_of p) i n)) is.head input steps is.input_is is.steps_are r.can_tell in
+      let all : map (told v) runs ≡ runs = map_fixed (told v) runs (told_in v (program_of p) is.head.input is.head.steps (laws.shaped (program_of p) is.head.input is.head.steps) can) in
       record {
         trace = x.trace;
         read = x.read;
@@ -118,10 +121,10 @@ module _ (source input : List ℕ) (steps : ℕ) (p : memory.Program) (bytes : L
   pub not_refused : Laws → OfFittingPrograms OwnTracesAreNotRefused → (e : TraceError) → ReadsAs (Err e) p bytes → e ≡ NoMemory
   not_refused laws reads e refused =
       let a = asked laws source p r.source_within r.is_program in
-      reads p a.fits a.keeps a.text is.head runs is.end bytes own r.within spelled e refused
+      reads p a.fits a.keeps a.text v is.head runs is.end bytes own r.within spelled e refused
 
 pub traces_read : Laws → OfFittingPrograms OwnTracesAreRead → RecordedTracesAreRead
-traces_read laws reads source input steps p bytes r = read_as_run source input steps p bytes r laws reads
+traces_read laws reads v source input steps p bytes r = read_as_run v source input steps p bytes r laws reads
 
 pub traces_not_refused : Laws → OfFittingPrograms OwnTracesAreNotRefused → RecordedTracesAreNotRefused
-traces_not_refused laws reads source input steps p bytes r = not_refused source input steps p bytes r laws reads
+traces_not_refused laws reads v source input steps p bytes r = not_refused v source input steps p bytes r laws reads

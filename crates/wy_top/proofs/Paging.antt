@@ -9,6 +9,7 @@ use Rattle.wy_kernel.specs.Limits.{trace_limit}
 use Rattle.wy_kernel.specs.declared.program.Program.{Program}
 use Rattle.wy_event.specs.declared.record.Head.{Head}
 use Rattle.wy_event.specs.declared.record.Tail.{Tail}
+use Rattle.wy_event.specs.declared.record.Version.{Version}
 use Rattle.wy_fitting.specs.Fits.{EndFits}
 use Rattle.wy_frames.specs.Heads.{head_of}
 use Rattle.wy_frames.specs.Traces.{ReadsAs}
@@ -36,6 +37,7 @@ use Rattle.wy_event.specs.declared.record.Trace.{Trace}
 use Rattle.wy_page.specs.declared.pages.Pages.{Pages}
 use Rattle.wy_page.specs.Paged.{records_of, records_told}
 use Rattle.wy_reply.specs.Opening.{IsDecoded}
+use Rattle.wy_reply.specs.Certificates.{seal_of}
 use Rattle.wy_reply.specs.Tellings as tellings
 use Rattle.wy_reply.specs.Tellings.{DueUnder, IsTraceLine, RefusesTrace, Wanted}
 use Rattle.wy_top.specs.declared.files.FileError.{FileError}
@@ -215,9 +217,9 @@ pages_of : TracesAreSpelled → (p : Program) (pages : Pages) (tail : Tail) (fil
 pages_of spelled p pages tail files name bytes o named holds =
     let file : files (string_bytes pages.name) ≡ Some bytes = ap files named ∙ holds.found in
     record {
-      records = ap (λ f. Some (records_of pages.starts pages.count (unwrap_or f []))) file ∙ ap Some o.records_are;
+      records = ap (λ f. Some (records_of pages.version pages.starts pages.count (unwrap_or f []))) file ∙ ap Some o.records_are;
       tail_is = o.tail_is;
-      seal = sym o.seal_is.1 ∙ (sealed_end spelled p bytes o.trace (decoded p pages tail bytes o holds.within)).1;
+      seal = sym o.seal_is.1 ∙ (sealed_end spelled p bytes o.trace (decoded p pages tail bytes o holds.within)).1 ∙ ap (λ v. seal_of v o.trace) (sym o.version_is);
     }
 
 -- the bytes of a file, the head that they are read to begin with, and the program of that
@@ -226,7 +228,8 @@ pub record IsHeaded (files : Files) (name : List ℕ) (p : Program) : Type 0 whe
   pub holds : Holds files name trace_limit bytes
   pub head : Head
   pub end : ℕ
-  pub is_head : head_of bytes ≡ Ok (head, end)
+  pub version : Version
+  pub is_head : head_of bytes ≡ Ok (head, end, version)
   pub is_program : IsProgramOf head.source p
 
 pub paged_by : TracesAreSpelled → (held : Option Files) (name : List ℕ) (p : Program) (pages : Pages) (tail : Tail) → Opens held name p (Ok (pages, tail)) → string_bytes pages.name ≡ name → EndFits tail
@@ -236,8 +239,9 @@ paged_by spelled held name p pages tail opens named fits headed files told =
     let o : IsOpened pages tail p h.bytes = open_at held name p (Ok (pages, tail)) opens files told h.bytes h.holds.found in
     record {
       trace = o.trace;
-      opened = record { bytes = h.bytes; holds = h.holds; head = h.head; end = h.end; is_head = h.is_head; is_program = h.is_program; is_read = o.read };
+      opened = record { bytes = h.bytes; holds = h.holds; head = h.head; end = h.end; version = h.version; is_head = h.is_head; is_program = h.is_program; is_read = o.read };
       are_bytes = o.are_bytes;
+      version_is = o.version_is;
       pages_are = pages_of spelled p pages tail files name h.bytes o named h.holds;
       end_fits = subst EndFits o.tail_is fits;
     }
@@ -248,7 +252,8 @@ pub paged_due : (held : Option Files) (name : List ℕ) (p : Program) (w : Wante
 paged_due held name p w pages tail paged files told s x is =
     let f = paged files told in
     let o = f.opened in
-    due.read o.bytes s x o.holds (due.program o.head o.end p s x o.is_head o.is_program (tellings.told f.trace s x o.is_read (is f.trace f.pages_are)))
+    due.read o.bytes s x o.holds (due.program o.head o.end o.version p s x o.is_head o.is_program
+    (tellings.told f.trace s x o.is_read (subst (λ (l : List ℕ). tellings.Tells p l f.trace w s x) (f.pages_are.seal ∙ ap (λ v. seal_of v f.trace) f.version_is) (is f.trace f.pages_are))))
 
 -- what is told is by each run whose trace it is
 pub paged_answered : Known → CutLaws → HeadsAreShort → TellingsAreByRuns → (held : Option Files) (name : List ℕ) (p : Program) (w : Wanted) (pages : Pages) (tail : Tail) (before after : ShelfCounts) (r : Result Answer AllocError)
@@ -263,7 +268,7 @@ paged_answered known laws short by_runs held name p w pages tail before after (O
     let tells = settled_due (DueInPages p pages tail w) held _ _ answer done (from.is 0) files told f.trace f.pages_are in
     let same : o.bytes ≡ bytes = some_is (sym o.holds.found ∙ found) in
     subst (λ (b : List ℕ). AnswersRun b w answer.text.items) same
-    (run_answered known laws o.head.source o.bytes w p answer.text.items o.head o.end (short o.bytes o.head o.end o.is_head) o.is_program o.is_head refl by_run.0 (by_run.1 w answer.text.items tells))
+    (run_answered known laws o.head.source o.bytes w p answer.text.items o.head o.end o.version (short o.bytes o.head o.end o.version o.is_head) o.is_program o.is_head refl by_run.0 (by_run.1 pages.seal w answer.text.items tells))
 
 -- ---- what is answered in place of all
 

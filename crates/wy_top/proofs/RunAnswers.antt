@@ -6,6 +6,7 @@ use Rattle.wy_kernel.specs.declared.program.Program as memory
 use Rattle.wy_kernel.specs.Program.{Program}
 use Rattle.wy_kernel.specs.Parts.{program_of}
 use Rattle.wy_event.specs.declared.record.Head.{Head}
+use Rattle.wy_event.specs.declared.record.Version.{Version}
 use Rattle.wy_event.specs.declared.record.Trace.{Trace}
 use Rattle.law_reading.specs.Spelled.{HeadsAreShort}
 use Rattle.wy_tree.specs.TokenLaws.{TokensInOrder}
@@ -21,7 +22,7 @@ use Rattle.wy_reply.specs.declared.status.Status.{Status}
 use Rattle.wy_reply.specs.declared.status.Status.TheVariants.{Done}
 use Rattle.wy_reply.specs.Carried.{AffectedAnswer, CarriedAnswer}
 use Rattle.wy_reply.specs.Blocked.{BlockedAnswer}
-use Rattle.wy_reply.specs.ByRun.{AnswersByRun, HasSource, TellsRun}
+use Rattle.wy_reply.specs.ByRun.{AnswersByRun, CanTell, HasSource, TellsRun}
 use Rattle.wy_reply.specs.Recordings.{IsTraceOf, trace_spelling}
 use Rattle.wy_reply.specs.Tellings.{Wanted}
 use Rattle.wy_reply.specs.Tellings as wanted
@@ -105,19 +106,20 @@ same_answer p q input steps (wanted.Check given) text same lines h = tt
 
 -- ---- bytes
 
-pub run_answered : Known → CutLaws → (source bytes : List ℕ) (w : Wanted) (p : memory.Program) (text : List ℕ) (head : Head) (end : ℕ) → length source ≤ source_limit → IsProgramOf source p → head_of bytes ≡ Ok (head, end) → head.source ≡ source →
+pub run_answered : Known → CutLaws → (source bytes : List ℕ) (w : Wanted) (p : memory.Program) (text : List ℕ) (head : Head) (end : ℕ) (u : Version) → length source ≤ source_limit → IsProgramOf source p → head_of bytes ≡ Ok (head, end, u) → head.source ≡ source →
     HasSource bytes → TellsRun p bytes w text → AnswersRun bytes w text
-run_answered known laws source bytes w p text head end short of at here has tells = λ text_of input steps q also is.
-    let there : text_of ≡ source = sym (has (program_of q) text_of input steps is head end at) ∙ here in
+run_answered known laws source bytes w p text head end u short of at here has tells = λ v text_of input steps q also can is.
+    let there : text_of ≡ source = sym (has v (program_of q) text_of input steps is head end u at) ∙ here in
     let one = one_program known source p q of (subst (λ (s : List ℕ). IsProgramOf s q) there also) in
-    let trace : IsTraceOf trace_spelling (program_of p) source input steps bytes =
-    subst (λ (z : Program). IsTraceOf trace_spelling z source input steps bytes) (sym one.0) (subst (λ (s : List ℕ). IsTraceOf trace_spelling (program_of q) s input steps bytes) there is) in
-    same_answer p q input steps w text one.0 one.1 (by_run laws source p input steps w text short of (tells source input steps trace))
+    let trace : IsTraceOf (trace_spelling v) (program_of p) source input steps bytes =
+    subst (λ (z : Program). IsTraceOf (trace_spelling v) z source input steps bytes) (sym one.0) (subst (λ (s : List ℕ). IsTraceOf (trace_spelling v) (program_of q) s input steps bytes) there is) in
+    let told : CanTell v (events nothing (program_of p) input steps) = subst (λ (z : Program). CanTell v (events nothing z input steps)) (sym one.0) can in
+    same_answer p q input steps w text one.0 one.1 (by_run laws source p input steps w text short of (tells v source input steps told trace))
 
 pub opened_answered : Known → CutLaws → HeadsAreShort → (bytes : List ℕ) (w : Wanted) (typed : TypedProgram) (t : Trace) (r : Result Answer AllocError) → OpensBytes bytes (Open typed t) →
     IfOk r (λ answer. answer.status ≡ Done → TellsRun typed.program bytes w answer.text.items) → IfOk r (λ answer. answer.status ≡ Done → HasSource bytes) → IfOk r (λ answer. answer.status ≡ Done → AnswersRun bytes w answer.text.items)
-opened_answered known laws short bytes w typed t (Ok answer) (head, end, at, is, read) tells has =
-    λ done. run_answered known laws head.source bytes w typed.program answer.text.items head end (short bytes head end at) is at refl (has done) (tells done)
+opened_answered known laws short bytes w typed t (Ok answer) (head, end, u, at, is, read) tells has =
+    λ done. run_answered known laws head.source bytes w typed.program answer.text.items head end u (short bytes head end u at) is at refl (has done) (tells done)
 opened_answered known laws short bytes w typed t (Err x) opens tells has = tt
 
 -- ---- files

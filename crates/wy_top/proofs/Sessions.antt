@@ -70,7 +70,7 @@ due_of : (words : List (List ℕ)) (name : List ℕ) (held : Option Files) (keys
     Talks (scene_of p t.events (covers_of t)) g.input status text → Due words held keys status text
 due_of words name held keys p t status text x g o talk =
     due.explored name g.files g.input status text x.asks g.told g.given
-    (due.read o.bytes status text o.holds (due.program o.head o.end p status text o.is_head o.is_program (wanted.told t status text o.is_read (wanted.explore g.input status text talk))))
+    (due.read o.bytes status text o.holds (due.program o.head o.end o.version p status text o.is_head o.is_program (wanted.told t status text o.is_read (wanted.explore g.input status text talk))))
 
 -- ---- an answer in place of a session
 

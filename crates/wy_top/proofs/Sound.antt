@@ -12,8 +12,9 @@ use Rattle.wy_event.specs.Record.{Recorded, recorded}
 use Rattle.wy_event.specs.declared.record.Cover.{Cover}
 use Rattle.wy_event.specs.declared.record.Head.{Head}
 use Rattle.wy_event.specs.declared.record.Trace.{Trace}
+use Rattle.wy_event.specs.declared.record.Version.{Version}
 use Rattle.wy_outside.specs.Shelf.{Files}
-use Rattle.wy_frames.specs.Heads.{head_of}
+use Rattle.wy_frames.specs.Heads.{head_of, version_of}
 use Rattle.wy_frames.specs.Traces.{IsReadAs}
 use Rattle.wy_machine.specs.declared.auditing.Verdict.{Verdict}
 use Rattle.wy_machine.specs.declared.auditing.Verdict.TheVariants as verdict
@@ -40,7 +41,7 @@ use Rattle.wy_explore.specs.Session.{Session}
 use Rattle.wy_words.specs.Words.{Asked, Command, Run, Record, Output, Questions, Why, Affects, Certify, Check, Scope, WhyNot, Audit, Explore, Gen, AskOneCommand}
 use Rattle.wy_gen.specs.Generated.{source as generated_source}
 use Rattle.wy_program.specs.Programs.{IsProgramOf}
-use Rattle.wy_reply.specs.Certificates.{CertifyIs, itself, verdict_status}
+use Rattle.wy_reply.specs.Certificates.{CertifyIs, itself, seal_of, verdict_status}
 use Rattle.wy_reply.specs.Report.{report, recorded_report}
 use Rattle.wy_reply.specs.Generated.{generated_report}
 use Rattle.wy_reply.specs.Tellings.{Bytes, DueUnder, Given, Tells, Wanted, answer_status, audit_status, covers_of, scope_status, whynot_status}
@@ -151,24 +152,24 @@ checked : (r : Result Answer CertError) → (verdict_status r ≡ 0) ⊎ (verdic
 checked (Ok answer) = inl refl
 checked (Err e) = inr refl
 
-told_well : Traces → (p q : memory.Program) (t : Trace) (w : Wanted) (status : ℕ) (text : List ℕ) → program_of p ≡ program_of q → p.lines.items ≡ q.lines.items → IsThere p t w → Tells q t w status text → TellsWell w status
-told_well known p q t _ _ _ parts lines there wanted.output = refl
-told_well known p q t _ _ _ parts lines there wanted.questions = refl
-told_well known p q t _ _ _ parts lines there (wanted.why question a is) = question_answered known why_text p q (map recorded t.events) question a parts there is
-told_well known p q t _ _ _ parts lines there (wanted.affects question a is) = question_answered known affects_text p q (map recorded t.events) question a parts there is
-told_well known p q t _ _ _ parts lines there (wanted.certify question a is) = certified known p q (map recorded t.events) _ question a parts there is
-told_well known p q t _ _ _ parts lines there (wanted.whynot word a is) =
+told_well : Traces → (p q : memory.Program) (seal : List ℕ) (t : Trace) (w : Wanted) (status : ℕ) (text : List ℕ) → program_of p ≡ program_of q → p.lines.items ≡ q.lines.items → IsThere p t w → Tells q seal t w status text → TellsWell w status
+told_well known p q seal t _ _ _ parts lines there wanted.output = refl
+told_well known p q seal t _ _ _ parts lines there wanted.questions = refl
+told_well known p q seal t _ _ _ parts lines there (wanted.why question a is) = question_answered known why_text p q (map recorded t.events) question a parts there is
+told_well known p q seal t _ _ _ parts lines there (wanted.affects question a is) = question_answered known affects_text p q (map recorded t.events) question a parts there is
+told_well known p q seal t _ _ _ parts lines there (wanted.certify question a is) = certified known p q (map recorded t.events) _ question a parts there is
+told_well known p q seal t _ _ _ parts lines there (wanted.whynot word a is) =
     unbegun p (map recorded t.events) (covers_of t) word a there
     (subst (λ (l : List ℕ). WhynotIs (program_of p) l (map recorded t.events) (covers_of t) word a) (sym lines)
     (subst (λ (z : Program). WhynotIs z q.lines.items (map recorded t.events) (covers_of t) word a) (sym parts) is))
-told_well known p q t _ _ _ parts lines there (wanted.scoped word call a is) =
+told_well known p q seal t _ _ _ parts lines there (wanted.scoped word call a is) =
     met_in_call p (map recorded t.events) word call a there
     (subst (λ (l : List ℕ). ScopeIs (program_of p) l (map recorded t.events) word call a) (sym lines)
     (subst (λ (z : Program). ScopeIs z q.lines.items (map recorded t.events) word call a) (sym parts) is))
-told_well known p q t _ _ _ parts lines there (wanted.explore input status text is) = talked (scene_of q t.events (covers_of t)) input status text there is
-told_well known p q t _ _ _ parts lines there (wanted.audit v is) = audited v
-told_well known p q t _ _ _ parts lines there (wanted.check given r is judged) = checked r
-told_well known p q t _ _ _ parts lines there (wanted.lacking status text) = absurd there
+told_well known p q seal t _ _ _ parts lines there (wanted.explore input status text is) = talked (scene_of q t.events (covers_of t)) input status text there is
+told_well known p q seal t _ _ _ parts lines there (wanted.audit v is) = audited v
+told_well known p q seal t _ _ _ parts lines there (wanted.check given r is judged) = checked r
+told_well known p q seal t _ _ _ parts lines there (wanted.lacking status text) = absurd there
 
 -- ---- its bytes
 
@@ -179,22 +180,22 @@ under_well known p q bytes t w _ _ parts lines read there (wanted.refused e k re
 under_well known p q bytes t w _ _ parts lines read there (wanted.told v status text reads tells) =
     let both : Ok t ≡ Ok v = known.reading q bytes (Ok t) (Ok v) tt tt (read_alike p q bytes (Ok t) (same_ranges p q parts lines) read) reads in
     let same : v ≡ t = cc in
-    told_well known p q t w status text parts lines there (subst (λ (z : Trace). Tells q z w status text) same tells)
+    told_well known p q (seal_of (version_of bytes) t) t w status text parts lines there (subst (λ (z : Trace). Tells q (seal_of (version_of bytes) z) z w status text) same tells)
 
-bytes_well : Known → Traces → (p : memory.Program) (bytes : List ℕ) (head : Head) (end : ℕ) (t : Trace) (w : Wanted) (status : ℕ) (text : List ℕ) → head_of bytes ≡ Ok (head, end) → IsProgramOf head.source p
+bytes_well : Known → Traces → (p : memory.Program) (bytes : List ℕ) (head : Head) (end : ℕ) (v : Version) (t : Trace) (w : Wanted) (status : ℕ) (text : List ℕ) → head_of bytes ≡ Ok (head, end, v) → IsProgramOf head.source p
     → IsReadAs p bytes (Ok t) → IsThere p t w → DueForBytes bytes w status text → TellsWell w status
-bytes_well known traces p bytes head end t w _ _ at of read there (due.no_head e k is line_is) = absurd (let x : no_head_at e ≡ Ok (head, end) = sym is ∙ at in cc)
-bytes_well known traces p bytes head end t w _ _ at of read there (due.no_program h m k is none) =
-    absurd (program_or_cause known head.source of.spans _ k of.read of.becomes (subst (λ (z : Head). IsNoProgram z.source k) (one_head bytes head h end m at is) none))
-bytes_well known traces p bytes head end t w _ _ at of read there (due.program h m q status text is also under) =
-    let one = one_program known head.source p q of (subst (λ (z : Head). IsProgramOf z.source q) (one_head bytes head h end m at is) also) in
+bytes_well known traces p bytes head end v t w _ _ at of read there (due.no_head e k is line_is) = absurd (let x : no_head_at e ≡ Ok (head, end, v) = sym is ∙ at in cc)
+bytes_well known traces p bytes head end v t w _ _ at of read there (due.no_program h m u k is none) =
+    absurd (program_or_cause known head.source of.spans _ k of.read of.becomes (subst (λ (z : Head). IsNoProgram z.source k) (one_head bytes head h end m v u at is) none))
+bytes_well known traces p bytes head end v t w _ _ at of read there (due.program h m u q status text is also under) =
+    let one = one_program known head.source p q of (subst (λ (z : Head). IsProgramOf z.source q) (one_head bytes head h end m v u at is) also) in
     under_well traces p q bytes t w status text one.0 one.1 read there under
 
 trace_well : Known → Traces → (files : Files) (name : List ℕ) (w : Wanted) (status : ℕ) (text : List ℕ) → TraceIsThere files name w → DueForTrace files name w status text → TellsWell w status
 trace_well known traces files name w _ _ x (due.no_trace status text lacks) = absurd (not_lacking files name trace_limit x.opened.bytes status text x.opened.holds lacks)
 trace_well known traces files name w _ _ x (due.read b status text holds is) =
     let same : b ≡ x.opened.bytes = one_file files name x.opened.bytes b x.opened.holds.found holds.found in
-    bytes_well known traces x.program x.opened.bytes x.opened.head x.opened.end x.trace w status text x.opened.is_head x.opened.is_program x.opened.is_read x.names
+    bytes_well known traces x.program x.opened.bytes x.opened.head x.opened.end x.opened.version x.trace w status text x.opened.is_head x.opened.is_program x.opened.is_read x.names
     (subst (λ (z : List ℕ). DueForBytes z w status text) same is)
 
 -- ---- a run

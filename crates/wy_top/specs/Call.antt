@@ -4,6 +4,7 @@ use Rattle.wy_kernel.specs.declared.program.Program.{Program}
 use Rattle.wy_kernel.specs.Parts.{program_of}
 use Rattle.wy_event.specs.declared.record.Head.{Head}
 use Rattle.wy_event.specs.declared.record.Trace.{Trace}
+use Rattle.wy_event.specs.declared.record.Version.{Version}
 use Rattle.wy_frames.specs.Heads.{head_of}
 use Rattle.wy_frames.specs.Traces.{IsReadAs}
 use Rattle.wy_outside.specs.Counts.{Rose}
@@ -14,6 +15,9 @@ use Rattle.wy_session.specs.Desk.{scene_of}
 use Rattle.wy_session.specs.Talk.{BeginsTalk, IsPrefixOf}
 use Rattle.wy_session.specs.Closings.{keys_fault_line}
 use Rattle.wy_words.specs.Words.{Asked, Asks, Command, Explore, Record, Why, Affects, WhyNot}
+use Rattle.wy_steps.specs.Sets.{nothing}
+use Rattle.wy_meaning.specs.Run.{events}
+use Rattle.wy_reply.specs.ByRun.{CanTell}
 use Rattle.wy_reply.specs.Carried.{AffectedAnswer, CarriedAnswer}
 use Rattle.wy_reply.specs.Lines.{shelf_fault_line}
 use Rattle.wy_reply.specs.Refused.{IsRefused}
@@ -39,7 +43,8 @@ pub record IsOpened (files : Files) (name : List ℕ) (p : Program) (t : Trace) 
   pub holds : Holds files name trace_limit bytes
   pub head : Head
   pub end : ℕ
-  pub is_head : head_of bytes ≡ Ok (head, end)
+  pub version : Version
+  pub is_head : head_of bytes ≡ Ok (head, end, version)
   pub is_program : IsProgramOf head.source p
   pub is_read : IsReadAs p bytes (Ok t)
 
@@ -129,9 +134,10 @@ IsRunAnswer p input steps (wanted.Affects question) text = AffectedAnswer (progr
 IsRunAnswer p input steps (wanted.WhyNot word) text = CutAnswer (program_of p) p.lines.items input steps word text
 IsRunAnswer p input steps _ text = Unit {0}
 
--- so the text does by each run that has these bytes as its trace
+-- so the text does by each run that has these bytes as its trace, in a version that tells its events
 abbrev pub AnswersRun : List ℕ → Wanted → List ℕ → Type 0
-AnswersRun bytes w text = (source input : List ℕ) (steps : ℕ) (p : Program) → IsProgramOf source p → IsTraceOf trace_spelling (program_of p) source input steps bytes → IsRunAnswer p input steps w text
+AnswersRun bytes w text = (v : Version) (source input : List ℕ) (steps : ℕ) (p : Program) → IsProgramOf source p → CanTell v (events nothing (program_of p) input steps)
+    → IsTraceOf (trace_spelling v) (program_of p) source input steps bytes → IsRunAnswer p input steps w text
 
 -- the same for the file of a name
 abbrev pub AnswersRunOf : Option Files → List ℕ → Wanted → List ℕ → Type 0

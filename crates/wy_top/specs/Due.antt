@@ -3,6 +3,7 @@ use Rattle.std.specs.Prelude.{◌≡◌, ℕ, List, map, Option, Some, None, Ok,
 use Rattle.wy_kernel.specs.Program.{Program}
 use Rattle.wy_kernel.specs.declared.program.Program as memory
 use Rattle.wy_event.specs.declared.record.Head.{Head}
+use Rattle.wy_event.specs.declared.record.Version.{Version}
 use Rattle.wy_outside.specs.Shelf.{Files}
 use Rattle.wy_tree.specs.Tokens.{SpannedToken, Tokens}
 use Rattle.wy_frames.specs.Heads.{head_of}
@@ -33,8 +34,8 @@ pub data DueForRun (files : Files) (a : Asked) (told : List ℕ → Program → 
 -- the same for the bytes of a trace: its head, its program and the rest are read in this order
 pub data DueForBytes (bytes : List ℕ) (w : Wanted) : ℕ → List ℕ → Type 0 where
   no_head : (e : TraceError) (line : List ℕ) → head_of bytes ≡ Err e → IsTraceLine e line → DueForBytes bytes w 5 line
-  no_program : (head : Head) (end : ℕ) (line : List ℕ) → head_of bytes ≡ Ok (head, end) → IsNoProgram head.source line → DueForBytes bytes w 5 (of_trace line)
-  program : (head : Head) (end : ℕ) (p : memory.Program) (status : ℕ) (text : List ℕ) → head_of bytes ≡ Ok (head, end) → IsProgramOf head.source p → DueUnder p bytes w status text → DueForBytes bytes w status text
+  no_program : (head : Head) (end : ℕ) (v : Version) (line : List ℕ) → head_of bytes ≡ Ok (head, end, v) → IsNoProgram head.source line → DueForBytes bytes w 5 (of_trace line)
+  program : (head : Head) (end : ℕ) (v : Version) (p : memory.Program) (status : ℕ) (text : List ℕ) → head_of bytes ≡ Ok (head, end, v) → IsProgramOf head.source p → DueUnder p bytes w status text → DueForBytes bytes w status text
 
 -- the same for the trace that a shelf holds
 pub data DueForTrace (files : Files) (name : List ℕ) (w : Wanted) : ℕ → List ℕ → Type 0 where
@@ -99,6 +100,6 @@ trace_of _ = None
 pub data AreSyntaxLines (words : List (List ℕ)) (held : Option Files) : List ℕ → List ℕ → Type 0 where
   of_source : (c : Command) (files : Files) (a : Asked) (source : List ℕ) (spans : List SpannedToken) (x y : List ℕ) → Asks words c → held ≡ Some files → run_of c ≡ Some a → Holds files a.source source_limit source →
       Tokens source spans → IsSyntaxLine spans x → IsSyntaxLine spans y → AreSyntaxLines words held x y
-  of_head : (c : Command) (files : Files) (name bytes : List ℕ) (head : Head) (end : ℕ) (spans : List SpannedToken) (x y : List ℕ) → Asks words c → held ≡ Some files → trace_of c ≡ Some name → Holds files name trace_limit bytes →
-      head_of bytes ≡ Ok (head, end) → Tokens head.source spans → IsSyntaxLine spans x → IsSyntaxLine spans y → AreSyntaxLines words held (of_trace x) (of_trace y)
+  of_head : (c : Command) (files : Files) (name bytes : List ℕ) (head : Head) (end : ℕ) (v : Version) (spans : List SpannedToken) (x y : List ℕ) → Asks words c → held ≡ Some files → trace_of c ≡ Some name → Holds files name trace_limit bytes →
+      head_of bytes ≡ Ok (head, end, v) → Tokens head.source spans → IsSyntaxLine spans x → IsSyntaxLine spans y → AreSyntaxLines words held (of_trace x) (of_trace y)
   of_generated : (n : ℕ) (spans : List SpannedToken) (x y : List ℕ) → Asks words (Gen n) → Tokens (source n) spans → IsSyntaxLine spans x → IsSyntaxLine spans y → AreSyntaxLines words held x y

@@ -8,6 +8,7 @@ use Rattle.wy_frames.specs.Heads.{head_of}
 use Rattle.wy_frames.specs.Traces.{IsReadAs}
 use Rattle.wy_kernel.specs.declared.program.Program.{Program}
 use Rattle.wy_event.specs.declared.record.Trace.{Trace}
+use Rattle.wy_event.specs.declared.record.Version.{Version}
 use Rattle.wy_outside.specs.Counts.{Rose}
 use Rattle.wy_outside.specs.Shelf.{Files}
 use Rattle.wy_view.specs.declared.view.ViewError.{ViewError}
@@ -35,7 +36,7 @@ use Rattle.wy_top.specs.Replies.{HasCause, ShelfCounts}
 
 -- the program of the source of the head of bytes, and the trace as which they are read under it; or why there is none, and nothing is done
 abbrev pub OpensBytes : List ℕ → Opening → Type 0
-OpensBytes bytes (Open typed t) = (head : Head) × (end : ℕ) × (head_of bytes ≡ Ok (head, end)) × IsProgramOf head.source typed.program × IsReadAs typed.program bytes (Ok t)
+OpensBytes bytes (Open typed t) = (head : Head) × (end : ℕ) × (v : Version) × (head_of bytes ≡ Ok (head, end, v)) × IsProgramOf head.source typed.program × IsReadAs typed.program bytes (Ok t)
 OpensBytes bytes (Refused answer) = (answer.status ≡ status.Done → ⊥) × ((w : Wanted) → DueForBytes bytes w (code_of answer.status) answer.text.items)
 
 -- what is open can be viewed, and a refusal speaks of no file

@@ -5,6 +5,7 @@ use Rattle.wy_kernel.specs.declared.program.Program.{Program}
 use Rattle.wy_kernel.specs.Parts.{program_of}
 use Rattle.wy_event.specs.Record.{recorded}
 use Rattle.wy_event.specs.declared.record.Trace.{Trace}
+use Rattle.wy_event.specs.declared.record.Version.{Version}
 use Rattle.wy_steps.specs.Sets.{nothing}
 use Rattle.wy_meaning.specs.Run.{events, tail}
 use Rattle.wy_meaning.specs.Kept.{kept_tail}
@@ -13,19 +14,22 @@ use Rattle.wy_frames.specs.declared.error.TraceError.{TraceError}
 use Rattle.wy_frames.specs.declared.error.TraceError.TheVariants.{NoMemory}
 use Rattle.wy_frames.specs.Traces.{IsReadAs, ReadsAs}
 use Rattle.law_in_range.specs.InRange.{IsByteOf}
+use Rattle.wy_reply.specs.ByRun.{CanTell}
 use Rattle.wy_reply.specs.Recordings.{IsTraceOf, trace_spelling}
 use Rattle.wy_kernel.specs.Limits.{input_limit, source_limit, trace_limit}
 use Rattle.wy_program.specs.Programs.{IsProgramOf}
 
--- the bytes are the trace of the run of a text's program with this input and so many steps, each within its limit
-pub record IsRecorded (source input : List ℕ) (steps : ℕ) (p : Program) (bytes : List ℕ) : Type 0 where
+-- the bytes are the trace of the run of a text's program with this input and so many steps, each within its limit, in a version that
+-- tells its events
+pub record IsRecorded (v : Version) (source input : List ℕ) (steps : ℕ) (p : Program) (bytes : List ℕ) : Type 0 where
   pub is_program : IsProgramOf source p
   pub source_within : length source ≤ source_limit
   pub input_within : length input ≤ input_limit
   pub input_bytes : AllByRecursion IsByteOf input
   pub some_steps : 1 ≤ steps
   pub steps_within : steps ≤ steps_limit
-  pub is_trace : IsTraceOf trace_spelling (program_of p) source input steps bytes
+  pub can_tell : CanTell v (events nothing (program_of p) input steps)
+  pub is_trace : IsTraceOf (trace_spelling v) (program_of p) source input steps bytes
   pub within : length bytes ≤ trace_limit
 
 -- the bytes are read as a trace: with the head, the events and the end of the run
@@ -39,8 +43,8 @@ pub record IsReadAsRun (source input : List ℕ) (steps : ℕ) (p : Program) (by
   pub end_is : kept_tail trace.tail ≡ tail nothing (program_of p) input steps
 
 abbrev pub RecordedTracesAreRead : Type 0
-RecordedTracesAreRead = (source input : List ℕ) (steps : ℕ) (p : Program) (bytes : List ℕ) → IsRecorded source input steps p bytes → IsReadAsRun source input steps p bytes
+RecordedTracesAreRead = (v : Version) (source input : List ℕ) (steps : ℕ) (p : Program) (bytes : List ℕ) → IsRecorded v source input steps p bytes → IsReadAsRun source input steps p bytes
 
 -- a reader that answers no trace says that memory ran out
 abbrev pub RecordedTracesAreNotRefused : Type 0
-RecordedTracesAreNotRefused = (source input : List ℕ) (steps : ℕ) (p : Program) (bytes : List ℕ) → IsRecorded source input steps p bytes → (e : TraceError) → ReadsAs (Err e) p bytes → e ≡ NoMemory
+RecordedTracesAreNotRefused = (v : Version) (source input : List ℕ) (steps : ℕ) (p : Program) (bytes : List ℕ) → IsRecorded v source input steps p bytes → (e : TraceError) → ReadsAs (Err e) p bytes → e ≡ NoMemory

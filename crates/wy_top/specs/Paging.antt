@@ -7,6 +7,7 @@ use Rattle.wy_event.specs.Record.{recorded}
 use Rattle.wy_event.specs.declared.record.Tail.{Tail}
 use Rattle.wy_event.specs.declared.record.Trace.{Trace}
 use Rattle.wy_fitting.specs.Fits.{EndFits}
+use Rattle.wy_frames.specs.Heads.{version_of}
 use Rattle.law_reading.specs.Spelled.{AreBytes}
 use Rattle.wy_outside.specs.Shelf.{Files, ReadsPart}
 use Rattle.wy_page.specs.declared.pages.Pages.{Pages}
@@ -52,11 +53,11 @@ GivesFront held name (Err error) = GivesFile held name trace_limit (Err error)
 pub record ArePagesOf (t : Trace) (pages : Pages) (tail : Tail) (files : Files) : Type 0 where
   pub records : records_told pages (Some files) ≡ Some (map recorded t.events)
   pub tail_is : tail ≡ t.tail
-  pub seal : pages.seal ≡ seal_of t
+  pub seal : pages.seal ≡ seal_of pages.version t
 
 -- what each trace tells that is the one which is kept
 abbrev pub DueInPages : Program → Pages → Tail → Wanted → Files → ℕ → List ℕ → Type 0
-DueInPages p pages tail w files status text = (t : Trace) → ArePagesOf t pages tail files → Tells p t w status text
+DueInPages p pages tail w files status text = (t : Trace) → ArePagesOf t pages tail files → Tells p pages.seal t w status text
 
 -- what was looked up was given, and the shelf did not fail; or a view refused
 abbrev pub LooksUp : {X : Type 0} → Type 0 → Result X ViewError → ShelfCounts → ShelfCounts → Type 0
@@ -75,6 +76,7 @@ pub record IsPaged (files : Files) (name : List ℕ) (p : Program) (pages : Page
   pub trace : Trace
   pub opened : IsOpened files name p trace
   pub are_bytes : AreBytes opened.bytes
+  pub version_is : pages.version ≡ version_of opened.bytes
   pub pages_are : ArePagesOf trace pages tail files
   pub end_fits : EndFits trace.tail
 

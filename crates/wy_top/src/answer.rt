@@ -17,6 +17,7 @@ ghost use Rattle.wy_reply.specs.Statuses.{code_of};
 ghost use Rattle.wy_words.specs.Views.{asked_of, request_of};
 
 use crate::checking::answer_to_check;
+use crate::migrating::answer_to_migrate;
 use crate::files::{Contents, FileError, read_both, read_trace};
 use crate::paged::answer_by_pages;
 use crate::source::{record_source, run_generated, run_source};
@@ -247,6 +248,7 @@ pub fn answer_to<S: Shelf, R: Recorder>(
             answer_from(alloc, shelf, trace, Wanted::Inquiry(inquiry))
         }
         Request::Audit { trace } => answer_from(alloc, shelf, trace, Wanted::Audit),
+        Request::Migrate { trace, name } => answer_to_migrate(alloc, shelf, trace, name, recorder),
         Request::Gen { number } => run_generated(alloc, number),
     }
 }

@@ -8,6 +8,7 @@ mod delivery;
 mod exploring;
 mod files;
 pub mod laws;
+mod migrating;
 mod opening;
 mod paged;
 mod recorders;

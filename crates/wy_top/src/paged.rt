@@ -43,7 +43,7 @@ fn look_up<S: Shelf>(
     requires fits { IsOfShelf pages (S.held shelf.old) }
     ensures due { (t : Trace) (files : Files) → S.held shelf.old ≡ Some files
         → ArePagesOf t pages tail.now files
-        → IfOk result (λ answer. Tells program.now t (inquiry_of inquiry.entry)
+        → IfOk result (λ answer. Tells program.now pages.seal t (inquiry_of inquiry.entry)
         (code_of answer.status) answer.text.items) }
     ensures settled { IfOk result (λ answer. is_of_files answer.status ≡ false) }
     ensures looks { LooksUp (records_told pages (S.held shelf.old) ≡ None) result

@@ -12,7 +12,7 @@ use crate::files::read_front;
 use crate::trace::answer_to_error;
 use law_reading::{heads_are_short, traces_are_spelled};
 use std::alloc::{AllocError, Global};
-use wy_event::record::{Head, Tail};
+use wy_event::record::{Head, Tail, Version};
 use wy_fitting::end_fits;
 use wy_frames::read_head;
 use wy_outside::shelf::Shelf;
@@ -55,17 +55,18 @@ fn are_bytes(bytes: &[u8])
     ensures { AreBytes bytes.now }
 {}
 
-/// The trace of a name that begins with these bytes, from which this head is read.
+/// The trace of a name that begins with these bytes, from which this head is read in this version.
 fn open_by_head<S: Shelf>(
     alloc: Global,
     shelf: &mut S,
     name: &str,
     front: &[u8],
     head: &Head,
+    version: Version,
 ) -> Result<Shelved, AllocError>
     requires front { BeginsFile (S.held shelf.old) name.now front.now }
     requires short { length front.now ≤ trace_limit }
-    requires head { (end : ℕ) × (head_of front.now ≡ Ok (head.now, end)) }
+    requires head { (end : ℕ) × (head_of front.now ≡ Ok (head.now, end, version)) }
     ensures opens { IfOk result (OpensPages (S.held shelf.old) name.now
         (at_shelf (S.faults shelf.old) (S.misses shelf.old) (S.fulls shelf.old))
         (at_shelf (S.faults shelf.new) (S.misses shelf.new) (S.fulls shelf.new))) }
@@ -79,7 +80,7 @@ fn open_by_head<S: Shelf>(
         Ok(typed) => typed,
         Err(error) => return Ok(Shelved::Refused(answer_to_error(alloc, error)?)),
     };
-    match Pages::open(alloc, shelf, name, head, &typed.program) {
+    match Pages::open(alloc, shelf, name, head, version, &typed.program) {
         Ok((pages, tail)) => {
             end_fits(&tail);
             Ok(Shelved::Open { typed, pages, tail })
@@ -108,7 +109,7 @@ pub(crate) fn open_pages<S: Shelf>(
     };
     let front = front.as_slice();
     match read_head(alloc, front) {
-        Ok((head, _)) => open_by_head(alloc, shelf, name, front, &head),
+        Ok((head, _, version)) => open_by_head(alloc, shelf, name, front, &head, version),
         Err(_) => Ok(Shelved::Headless),
     }
 }

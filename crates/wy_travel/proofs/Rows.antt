@@ -60,7 +60,7 @@ trace =
     ∷ event kind.Bind (Some 2) Absent (slot.Local 2 0) (value.Object 1)
     ∷ event kind.Set (Some 2) Absent (slot.Local 2 1) (int 2)
     ∷ event kind.Set (Some 2) Absent (slot.Local 2 2) (int 0)
-    ∷ event kind.Test (Some 2) Absent slot.None (value.Bool false)
+    ∷ event kind.Test (Some 2) Absent slot.None (value.Arm 0)
     ∷ event kind.Set (Some 2) Absent (slot.Local 2 2) (int 5)
     ∷ event kind.Print (Some 2) Absent slot.None (int 5)
     ∷ event kind.Return (Some 2) Absent slot.None value.None

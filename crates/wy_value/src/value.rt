@@ -1,4 +1,4 @@
-//! A value of the machine (JLS 4.2, 4.3): a number, a boolean, null or a reference.
+//! A value of the machine (JLS 4.2, 4.3): a number, a boolean, null or a reference; and what a test gave.
 
 /// A value. The reference of an object, a text made by the run or a constant text is its number.
 #[derive(Clone, Copy, Debug, PartialEq, Eq)]
@@ -15,6 +15,8 @@ pub enum Value {
     Object(u32),
     Text(u32),
     Fixed(u32),
+    /// What a test gave: 1 for true, 0 for false. No form has it, no slot holds it: it stands in the record of the test.
+    Arm(u32),
 }
 
 /// The divisor of `/` or `%` was zero (JLS 15.17.2, 15.17.3).

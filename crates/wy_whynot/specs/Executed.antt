@@ -37,10 +37,9 @@ abbrev pub is_catch : Kind → Bool
 is_catch event.Catch = true
 is_catch _ = false
 
--- a value as the number of an arm: 1 for true and 0 for false
+-- the value is that arm
 abbrev pub is_value : ℕ → Value → Bool
-is_value n (value.Bool true) = n == 1
-is_value n (value.Bool false) = n == 0
+is_value n (value.Arm m) = n == m
 is_value n _ = false
 
 abbrev pub gave : ℕ → Hit → Bool

@@ -40,13 +40,12 @@ fn is_catch(kind: Kind) -> bool
     matches!(kind, Kind::Catch)
 }
 
-/// Whether a value is that of an arm.
+/// Whether a value is that arm.
 pub(crate) fn is_value(arm: u32, value: Value) -> bool
     ensures { result ≡ is_value arm value }
 {
     match value {
-        Value::Bool(true) => arm == 1,
-        Value::Bool(false) => arm == 0,
+        Value::Arm(number) => arm == number,
         _ => false,
     }
 }

@@ -7,9 +7,9 @@ use Rattle.wy_words.specs.Awaited.{Awaited}
 use Rattle.wy_words.specs.Awaited as awaited
 use Rattle.wy_words.specs.declared.commands.Command as memory
 use Rattle.wy_words.specs.Views.{command_of}
-use Rattle.wy_words.specs.Words.{Part, Spells, Holds, Command, Run, Record, Output, Why, WhyNot, Affects, Certify, Check, Scope, Questions, Explore, Audit, Gen, event_number, number_up_to, asked, Asks, IsNoCommand, AskOneCommand}
+use Rattle.wy_words.specs.Words.{Part, Spells, Holds, Command, Run, Record, Output, Why, WhyNot, Affects, Certify, Check, Scope, Questions, Explore, Audit, Migrate, Gen, event_number, number_up_to, asked, Asks, IsNoCommand, AskOneCommand}
 use Rattle.wy_words.specs.Words as words
-use Rattle.wy_words.specs.Reading.{Asking, nothing, named, named_in, ended, command_named, over_trace, run, run_of, recording, is_bare, only_operand, two_operands, three_operands, scope, scope_of, output, why, whynot, affects, certify, check, questions, explore, audit, generated}
+use Rattle.wy_words.specs.Reading.{Asking, nothing, named, named_in, ended, command_named, over_trace, run, run_of, recording, migrating, is_bare, only_operand, two_operands, three_operands, scope, scope_of, output, why, whynot, affects, certify, check, questions, explore, audit, generated}
 use Rattle.wy_words.proofs.Spelled.{spelled, named_spelled}
 use Rattle.wy_words.proofs.Held.{naming, held, holds}
 
@@ -75,6 +75,10 @@ audit_named : (trace : List ℕ) → command_named (codes "audit") (naming (trac
 unfolding command_named over_trace audit only_operand is_bare
 audit_named trace = refl
 
+migrating_named : (trace name : List ℕ) → command_named (codes "migrate") (naming (trace ∷ []) None (Some name) None) ≡ Some (Migrate trace name)
+unfolding command_named migrating only_operand is_bare
+migrating_named trace name = refl
+
 gen_named : (word : List ℕ) (n : ℕ) → number_up_to 2000 word ≡ Some n → command_named (codes "gen") (naming (word ∷ []) None None None) ≡ Some (Gen n)
 unfolding command_named generated only_operand is_bare
 gen_named word n number = ap (option_map Gen) number
@@ -104,6 +108,8 @@ asked_read _ _ (words.explore {words = ws} {parts = ps} {trace = t} s h) =
     ap (option_and_then (command_named (codes "explore"))) (named_there ws ps (t ∷ []) None None None (omega arith) s h) ∙ explore_named t
 asked_read _ _ (words.audit {words = ws} {parts = ps} {trace = t} s h) =
     ap (option_and_then (command_named (codes "audit"))) (named_there ws ps (t ∷ []) None None None (omega arith) s h) ∙ audit_named t
+asked_read _ _ (words.migrating {words = ws} {parts = ps} {trace = t} {name = k} s h) =
+    ap (option_and_then (command_named (codes "migrate"))) (named_there ws ps (t ∷ []) None (Some k) None (omega arith) s h) ∙ migrating_named t k
 asked_read _ _ (words.generated {words = ws} {parts = ps} {word = w} {n = n} s h number) =
     ap (option_and_then (command_named (codes "gen"))) (named_there ws ps (w ∷ []) None None None (omega arith) s h) ∙ gen_named w n number
 
@@ -149,6 +155,16 @@ recording_meant behind xs w i None n c s is = absurd (none-some c is)
 recording_meant behind [] w i (Some t) n c s is = absurd (none-some c is)
 recording_meant behind (source ∷ []) w i (Some t) n c s is = subst (Asks (codes "record" ∷ behind)) (same_Some _ c is) (words.recording s.spells s.hold)
 recording_meant behind (source ∷ (second ∷ more)) w i (Some t) n c s is = absurd (none-some c is)
+
+migrating_meant : (behind xs : List (List ℕ)) (w : Awaited) (i t : Option (List ℕ)) (n : Option ℕ) (c : Command) → Stands behind xs i t n
+    → migrating t (record { awaited = w; operands = xs; input = i; trace = t; steps = n }) ≡ Some c → Asks (codes "migrate" ∷ behind) c
+unfolding migrating only_operand is_bare
+migrating_meant behind xs w i None n c s is = absurd (none-some c is)
+migrating_meant behind [] w i (Some t) n c s is = absurd (none-some c is)
+migrating_meant behind (trace ∷ []) w None (Some t) None c s is = subst (Asks (codes "migrate" ∷ behind)) (same_Some _ c is) (words.migrating s.spells s.hold)
+migrating_meant behind (trace ∷ []) w (Some i) (Some t) n c s is = absurd (none-some c is)
+migrating_meant behind (trace ∷ []) w None (Some t) (Some n) c s is = absurd (none-some c is)
+migrating_meant behind (trace ∷ (second ∷ more)) w i (Some t) n c s is = absurd (none-some c is)
 
 -- the one operand, and the two, stand without options
 alone : (behind xs : List (List ℕ)) (w : Awaited) (i t : Option (List ℕ)) (n : Option ℕ) (word : List ℕ) → Stands behind xs i t n
@@ -282,26 +298,27 @@ command_meant : (name : List ℕ) (behind : List (List ℕ)) (a : Asking) (c : C
     → command_named name a ≡ Some c → Asks (name ∷ behind) c
 unfolding command_named over_trace
 command_meant name behind a c s is =
-    go (bytes_eq name (codes "run")) (bytes_eq name (codes "record")) (bytes_eq name (codes "gen")) (bytes_eq name (codes "output")) (bytes_eq name (codes "why")) (bytes_eq name (codes "whynot")) (bytes_eq name (codes "affects")) (bytes_eq name (codes "certify")) (bytes_eq name (codes "check")) (bytes_eq name (codes "scope")) (bytes_eq name (codes "questions")) (bytes_eq name (codes "explore")) (bytes_eq name (codes "audit"))
-    refl refl refl refl refl refl refl refl refl refl refl refl refl is
+    go (bytes_eq name (codes "run")) (bytes_eq name (codes "record")) (bytes_eq name (codes "migrate")) (bytes_eq name (codes "gen")) (bytes_eq name (codes "output")) (bytes_eq name (codes "why")) (bytes_eq name (codes "whynot")) (bytes_eq name (codes "affects")) (bytes_eq name (codes "certify")) (bytes_eq name (codes "check")) (bytes_eq name (codes "scope")) (bytes_eq name (codes "questions")) (bytes_eq name (codes "explore")) (bytes_eq name (codes "audit"))
+    refl refl refl refl refl refl refl refl refl refl refl refl refl refl is
   where
-    go : (b0 b1 b2 b3 b4 b5 b6 b7 b8 b9 b10 b11 b12 : Bool) → bytes_eq name (codes "run") ≡ b0 → bytes_eq name (codes "record") ≡ b1 → bytes_eq name (codes "gen") ≡ b2 → bytes_eq name (codes "output") ≡ b3 → bytes_eq name (codes "why") ≡ b4 → bytes_eq name (codes "whynot") ≡ b5 → bytes_eq name (codes "affects") ≡ b6 → bytes_eq name (codes "certify") ≡ b7 → bytes_eq name (codes "check") ≡ b8 → bytes_eq name (codes "scope") ≡ b9 → bytes_eq name (codes "questions") ≡ b10 → bytes_eq name (codes "explore") ≡ b11 → bytes_eq name (codes "audit") ≡ b12
-        → (if b0 then run a else (if b1 then recording a.trace a else (if b2 then generated a else (if b3 then output a else (if b4 then why a else (if b5 then whynot a else (if b6 then affects a else (if b7 then certify a else (if b8 then check a else (if b9 then scope a else (if b10 then questions a else (if b11 then explore a else (if b12 then audit a else None))))))))))))) ≡ Some c
+    go : (b0 b1 b2 b3 b4 b5 b6 b7 b8 b9 b10 b11 b12 b13 : Bool) → bytes_eq name (codes "run") ≡ b0 → bytes_eq name (codes "record") ≡ b1 → bytes_eq name (codes "migrate") ≡ b2 → bytes_eq name (codes "gen") ≡ b3 → bytes_eq name (codes "output") ≡ b4 → bytes_eq name (codes "why") ≡ b5 → bytes_eq name (codes "whynot") ≡ b6 → bytes_eq name (codes "affects") ≡ b7 → bytes_eq name (codes "certify") ≡ b8 → bytes_eq name (codes "check") ≡ b9 → bytes_eq name (codes "scope") ≡ b10 → bytes_eq name (codes "questions") ≡ b11 → bytes_eq name (codes "explore") ≡ b12 → bytes_eq name (codes "audit") ≡ b13
+        → (if b0 then run a else (if b1 then recording a.trace a else (if b2 then migrating a.trace a else (if b3 then generated a else (if b4 then output a else (if b5 then why a else (if b6 then whynot a else (if b7 then affects a else (if b8 then certify a else (if b9 then check a else (if b10 then scope a else (if b11 then questions a else (if b12 then explore a else (if b13 then audit a else None)))))))))))))) ≡ Some c
         → Asks (name ∷ behind) c
-    go true b1 b2 b3 b4 b5 b6 b7 b8 b9 b10 b11 b12 e0 e1 e2 e3 e4 e5 e6 e7 e8 e9 e10 e11 e12 e = by_name name (codes "run") behind c e0 (run_meant behind a.operands a.awaited a.input a.trace a.steps c s e)
-    go false true b2 b3 b4 b5 b6 b7 b8 b9 b10 b11 b12 e0 e1 e2 e3 e4 e5 e6 e7 e8 e9 e10 e11 e12 e = by_name name (codes "record") behind c e1 (recording_meant behind a.operands a.awaited a.input a.trace a.steps c s e)
-    go false false true b3 b4 b5 b6 b7 b8 b9 b10 b11 b12 e0 e1 e2 e3 e4 e5 e6 e7 e8 e9 e10 e11 e12 e = by_name name (codes "gen") behind c e2 (gen_meant behind a c s e)
-    go false false false true b4 b5 b6 b7 b8 b9 b10 b11 b12 e0 e1 e2 e3 e4 e5 e6 e7 e8 e9 e10 e11 e12 e = by_name name (codes "output") behind c e3 (output_meant behind a c s e)
-    go false false false false true b5 b6 b7 b8 b9 b10 b11 b12 e0 e1 e2 e3 e4 e5 e6 e7 e8 e9 e10 e11 e12 e = by_name name (codes "why") behind c e4 (why_meant behind a c s e)
-    go false false false false false true b6 b7 b8 b9 b10 b11 b12 e0 e1 e2 e3 e4 e5 e6 e7 e8 e9 e10 e11 e12 e = by_name name (codes "whynot") behind c e5 (whynot_meant behind a c s e)
-    go false false false false false false true b7 b8 b9 b10 b11 b12 e0 e1 e2 e3 e4 e5 e6 e7 e8 e9 e10 e11 e12 e = by_name name (codes "affects") behind c e6 (affects_meant behind a c s e)
-    go false false false false false false false true b8 b9 b10 b11 b12 e0 e1 e2 e3 e4 e5 e6 e7 e8 e9 e10 e11 e12 e = by_name name (codes "certify") behind c e7 (certify_meant behind a c s e)
-    go false false false false false false false false true b9 b10 b11 b12 e0 e1 e2 e3 e4 e5 e6 e7 e8 e9 e10 e11 e12 e = by_name name (codes "check") behind c e8 (check_meant behind a c s e)
-    go false false false false false false false false false true b10 b11 b12 e0 e1 e2 e3 e4 e5 e6 e7 e8 e9 e10 e11 e12 e = by_name name (codes "scope") behind c e9 (scope_meant behind a c s e)
-    go false false false false false false false false false false true b11 b12 e0 e1 e2 e3 e4 e5 e6 e7 e8 e9 e10 e11 e12 e = by_name name (codes "questions") behind c e10 (questions_meant behind a c s e)
-    go false false false false false false false false false false false true b12 e0 e1 e2 e3 e4 e5 e6 e7 e8 e9 e10 e11 e12 e = by_name name (codes "explore") behind c e11 (explore_meant behind a c s e)
-    go false false false false false false false false false false false false true e0 e1 e2 e3 e4 e5 e6 e7 e8 e9 e10 e11 e12 e = by_name name (codes "audit") behind c e12 (audit_meant behind a c s e)
-    go false false false false false false false false false false false false false e0 e1 e2 e3 e4 e5 e6 e7 e8 e9 e10 e11 e12 e = absurd (none-some c e)
+    go true b1 b2 b3 b4 b5 b6 b7 b8 b9 b10 b11 b12 b13 e0 e1 e2 e3 e4 e5 e6 e7 e8 e9 e10 e11 e12 e13 e = by_name name (codes "run") behind c e0 (run_meant behind a.operands a.awaited a.input a.trace a.steps c s e)
+    go false true b2 b3 b4 b5 b6 b7 b8 b9 b10 b11 b12 b13 e0 e1 e2 e3 e4 e5 e6 e7 e8 e9 e10 e11 e12 e13 e = by_name name (codes "record") behind c e1 (recording_meant behind a.operands a.awaited a.input a.trace a.steps c s e)
+    go false false true b3 b4 b5 b6 b7 b8 b9 b10 b11 b12 b13 e0 e1 e2 e3 e4 e5 e6 e7 e8 e9 e10 e11 e12 e13 e = by_name name (codes "migrate") behind c e2 (migrating_meant behind a.operands a.awaited a.input a.trace a.steps c s e)
+    go false false false true b4 b5 b6 b7 b8 b9 b10 b11 b12 b13 e0 e1 e2 e3 e4 e5 e6 e7 e8 e9 e10 e11 e12 e13 e = by_name name (codes "gen") behind c e3 (gen_meant behind a c s e)
+    go false false false false true b5 b6 b7 b8 b9 b10 b11 b12 b13 e0 e1 e2 e3 e4 e5 e6 e7 e8 e9 e10 e11 e12 e13 e = by_name name (codes "output") behind c e4 (output_meant behind a c s e)
+    go false false false false false true b6 b7 b8 b9 b10 b11 b12 b13 e0 e1 e2 e3 e4 e5 e6 e7 e8 e9 e10 e11 e12 e13 e = by_name name (codes "why") behind c e5 (why_meant behind a c s e)
+    go false false false false false false true b7 b8 b9 b10 b11 b12 b13 e0 e1 e2 e3 e4 e5 e6 e7 e8 e9 e10 e11 e12 e13 e = by_name name (codes "whynot") behind c e6 (whynot_meant behind a c s e)
+    go false false false false false false false true b8 b9 b10 b11 b12 b13 e0 e1 e2 e3 e4 e5 e6 e7 e8 e9 e10 e11 e12 e13 e = by_name name (codes "affects") behind c e7 (affects_meant behind a c s e)
+    go false false false false false false false false true b9 b10 b11 b12 b13 e0 e1 e2 e3 e4 e5 e6 e7 e8 e9 e10 e11 e12 e13 e = by_name name (codes "certify") behind c e8 (certify_meant behind a c s e)
+    go false false false false false false false false false true b10 b11 b12 b13 e0 e1 e2 e3 e4 e5 e6 e7 e8 e9 e10 e11 e12 e13 e = by_name name (codes "check") behind c e9 (check_meant behind a c s e)
+    go false false false false false false false false false false true b11 b12 b13 e0 e1 e2 e3 e4 e5 e6 e7 e8 e9 e10 e11 e12 e13 e = by_name name (codes "scope") behind c e10 (scope_meant behind a c s e)
+    go false false false false false false false false false false false true b12 b13 e0 e1 e2 e3 e4 e5 e6 e7 e8 e9 e10 e11 e12 e13 e = by_name name (codes "questions") behind c e11 (questions_meant behind a c s e)
+    go false false false false false false false false false false false false true b13 e0 e1 e2 e3 e4 e5 e6 e7 e8 e9 e10 e11 e12 e13 e = by_name name (codes "explore") behind c e12 (explore_meant behind a c s e)
+    go false false false false false false false false false false false false false true e0 e1 e2 e3 e4 e5 e6 e7 e8 e9 e10 e11 e12 e13 e = by_name name (codes "audit") behind c e13 (audit_meant behind a c s e)
+    go false false false false false false false false false false false false false false e0 e1 e2 e3 e4 e5 e6 e7 e8 e9 e10 e11 e12 e13 e = absurd (none-some c e)
 
 pub read_asked : (words : List (List ℕ)) (c : Command) → read_as words ≡ Some c → Asks words c
 read_asked [] c is = absurd (none-some c is)

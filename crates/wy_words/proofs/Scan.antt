@@ -111,6 +111,7 @@ asked_passes _ _ (words.scope {words = ws} {parts = ps} s h number) = one_passes
 asked_passes _ _ (words.questions {words = ws} {parts = ps} s h) = one_passes false false (codes "questions") ws refl refl (parts_pass ws ps s)
 asked_passes _ _ (words.explore {words = ws} {parts = ps} s h) = one_passes false false (codes "explore") ws refl refl (parts_pass ws ps s)
 asked_passes _ _ (words.audit {words = ws} {parts = ps} s h) = one_passes false false (codes "audit") ws refl refl (parts_pass ws ps s)
+asked_passes _ _ (words.migrating {words = ws} {parts = ps} s h) = one_passes false false (codes "migrate") ws refl refl (parts_pass ws ps s)
 asked_passes _ _ (words.generated {words = ws} {parts = ps} s h n) = one_passes false false (codes "gen") ws refl refl (parts_pass ws ps s)
 
 pub unspelled_asks_nothing : (given : List (List ℕ)) → are_spelled false given ≡ false → IsNoCommand given

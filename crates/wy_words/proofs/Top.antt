@@ -72,6 +72,7 @@ asked_known _ _ _ (words.scope s h number) = refl
 asked_known _ _ _ (words.questions s h) = refl
 asked_known _ _ _ (words.explore s h) = refl
 asked_known _ _ _ (words.audit s h) = refl
+asked_known _ _ _ (words.migrating s h) = refl
 asked_known _ _ _ (words.generated s h n) = refl
 
 -- ---- the walk from the command's name on

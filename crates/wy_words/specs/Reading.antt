@@ -1,7 +1,7 @@
 -- What stands in the words that are read so far, as the calls of this crate find it. No definition of a command rests on it.
 use Rattle.std.specs.Prelude.{ℕ, length, true, not, ◌||◌, is_some, List, [], ◌∷◌, ◌++◌, Bool, ◌&&◌, nat_eq, nat_lt, bytes_eq, if◌then◌else◌, Option, Some, None, is_none, option_and_then, option_map, codes, drop}
 use Rattle.std.specs.List.{starts_with}
-use Rattle.wy_words.specs.Words.{event_number, is_plain, number_up_to, Part, Operand, Input, Trace, Steps, Asked, Command, Run, Record, Output, Why, WhyNot, Affects, Certify, Check, Scope, Questions, Explore, Audit, Gen, asked}
+use Rattle.wy_words.specs.Words.{event_number, is_plain, number_up_to, Part, Operand, Input, Trace, Steps, Asked, Command, Run, Record, Output, Why, WhyNot, Affects, Certify, Check, Scope, Questions, Explore, Audit, Migrate, Gen, asked}
 use Rattle.wy_words.specs.Awaited.{Awaited}
 use Rattle.wy_words.specs.Awaited as awaited
 
@@ -149,6 +149,11 @@ explore a = option_map Explore (only_operand a.operands a)
 unfoldable pub audit : Asking → Option Command
 audit a = option_map Audit (only_operand a.operands a)
 
+-- a trace, and what it is written to
+unfoldable pub migrating : Option (List ℕ) → Asking → Option Command
+migrating None a = None
+migrating (Some name) a = option_map (λ t. Migrate t name) (only_operand a.operands (record a { trace = None }))
+
 unfoldable pub generated : Asking → Option Command
 generated a = option_map Gen (option_and_then (number_up_to 2000) (only_operand a.operands a))
 
@@ -171,5 +176,6 @@ unfoldable pub command_named : List ℕ → Asking → Option Command
 command_named name a =
     if bytes_eq name (codes "run") then run a
     else (if bytes_eq name (codes "record") then recording a.trace a
+    else (if bytes_eq name (codes "migrate") then migrating a.trace a
     else (if bytes_eq name (codes "gen") then generated a
-    else over_trace name a))
+    else over_trace name a)))

@@ -41,7 +41,7 @@ abbrev pub sub : Text → Shape
 sub name = record (new_shape name) { rules = given }
 
 abbrev pub names : List Text
-names = codes "run" ∷ (codes "record" ∷ (codes "output" ∷ (codes "why" ∷ (codes "whynot" ∷ (codes "affects" ∷ (codes "certify" ∷ (codes "check" ∷ (codes "scope" ∷ (codes "questions" ∷ (codes "explore" ∷ (codes "audit" ∷ (codes "gen" ∷ []))))))))))))
+names = codes "run" ∷ (codes "record" ∷ (codes "output" ∷ (codes "why" ∷ (codes "whynot" ∷ (codes "affects" ∷ (codes "certify" ∷ (codes "check" ∷ (codes "scope" ∷ (codes "questions" ∷ (codes "explore" ∷ (codes "audit" ∷ (codes "migrate" ∷ (codes "gen" ∷ [])))))))))))))
 
 abbrev pub top : Shape
 top = record (new_shape (codes "whyline")) { no_binary_name = true; disable_help_flag = true; disable_help_subcommand = true }

@@ -11,7 +11,7 @@ use Rattle.wy_words.specs.declared.commands.Asked.{Asked}
 use Rattle.wy_words.specs.declared.commands.Command.{Command}
 use Rattle.wy_words.specs.declared.commands.Command.TheVariants.{Once, Explore}
 use Rattle.wy_words.specs.declared.commands.Request.{Request}
-use Rattle.wy_words.specs.declared.commands.Request.TheVariants.{Run, Record, Output, Why, WhyNot, Affects, Certify, Check, Scope, Questions, Audit, Gen}
+use Rattle.wy_words.specs.declared.commands.Request.TheVariants.{Run, Record, Output, Why, WhyNot, Affects, Certify, Check, Scope, Questions, Audit, Migrate, Gen}
 
 abbrev pub operands_of : Operands → List (List ℕ)
 operands_of Nothing = []
@@ -49,6 +49,7 @@ request_of (Check trace certificate) = words.Check trace.now certificate.now
 request_of (Scope trace statement call) = words.Scope trace.now statement.now call
 request_of (Questions trace) = words.Questions trace.now
 request_of (Audit trace) = words.Audit trace.now
+request_of (Migrate trace name) = words.Migrate trace.now name.now
 request_of (Gen number) = words.Gen number
 
 abbrev pub command_of : Command → words.Command

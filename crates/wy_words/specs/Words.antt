@@ -97,6 +97,7 @@ pub data Command : Type 0 where
   Questions : (trace : List ℕ) → Command
   Explore : (trace : List ℕ) → Command
   Audit : (trace : List ℕ) → Command
+  Migrate : (trace name : List ℕ) → Command
   Gen : (number : ℕ) → Command
 
 -- the steps that are run where none are asked
@@ -133,6 +134,8 @@ pub data Asks : List (List ℕ) → Command → Type 0 where
       → Holds parts (trace ∷ []) None None None → Asks (codes "explore" ∷ words) (Explore trace)
   audit : {words : List (List ℕ)} {parts : List Part} {trace : List ℕ} → Spells words parts
       → Holds parts (trace ∷ []) None None None → Asks (codes "audit" ∷ words) (Audit trace)
+  migrating : {words : List (List ℕ)} {parts : List Part} {trace name : List ℕ} → Spells words parts
+      → Holds parts (trace ∷ []) None (Some name) None → Asks (codes "migrate" ∷ words) (Migrate trace name)
   generated : {words : List (List ℕ)} {parts : List Part} {word : List ℕ} {n : ℕ} → Spells words parts
       → Holds parts (word ∷ []) None None None → IsMethods word n → Asks (codes "gen" ∷ words) (Gen n)
 

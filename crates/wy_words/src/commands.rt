@@ -3,6 +3,7 @@ ghost use Rattle.std.specs.Prelude.{◌≡◌, option_map};
 ghost use Rattle.wy_words.specs.Views.{asking_of, asked_of, command_of, pair_of, triple_of};
 ghost use Rattle.wy_words.specs.Reading.{audit as audit_asked, command_named as named_so};
 ghost use Rattle.wy_words.specs.Reading.{explore as explore_asked, generated as gen_asked};
+ghost use Rattle.wy_words.specs.Reading.{migrating as migrating_asked};
 ghost use Rattle.wy_words.specs.Reading.{is_bare as bare, only_operand as alone, output as output_asked};
 ghost use Rattle.wy_words.specs.Reading.{over_trace as over_trace_so};
 ghost use Rattle.wy_words.specs.Reading.{recording as recording_asked, run as run_asked, run_of};
@@ -70,6 +71,11 @@ pub enum Request<'a> {
     Audit {
         trace: &'a str,
     },
+    /// Of a trace of either version, what is recorded now.
+    Migrate {
+        trace: &'a str,
+        name: &'a str,
+    },
     Gen {
         number: u32,
     },
@@ -93,6 +99,9 @@ pub fn command_named<'a>(name: &str, asking: Asking<'a>) -> Option<Command<'a>>
     }
     if name == "record" {
         return recording(asking);
+    }
+    if name == "migrate" {
+        return migrating(asking);
     }
     if name == "gen" {
         return generated(asking);
@@ -161,6 +170,26 @@ fn recording(asking: Asking<'_>) -> Option<Command<'_>>
     };
     match to_run(asking) {
         Some(asked) => Some(Command::Once(Request::Record { asked, trace })),
+        None => None,
+    }
+}
+
+#[tactic(auto, unfolding(crate::specs::Reading::migrating))]
+fn migrating(asking: Asking<'_>) -> Option<Command<'_>>
+    ensures { option_map command_of result
+        ≡ migrating_asked (asking_of asking.entry).trace (asking_of asking.entry) }
+{
+    let Some(name) = asking.trace else {
+        return None;
+    };
+    let without = Asking {
+        operands: asking.operands,
+        input: asking.input,
+        trace: None,
+        steps: asking.steps,
+    };
+    match only_operand(without) {
+        Some(trace) => Some(Command::Once(Request::Migrate { trace, name })),
         None => None,
     }
 }

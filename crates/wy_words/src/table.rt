@@ -21,7 +21,7 @@ pub const TRACE: &str = "trace";
 
 pub const STEPS: &str = "steps";
 
-static NAMES: [&str; 13] = [
+static NAMES: [&str; 14] = [
     "run",
     "record",
     "output",
@@ -34,6 +34,7 @@ static NAMES: [&str; 13] = [
     "questions",
     "explore",
     "audit",
+    "migrate",
     "gen",
 ];
 

@@ -107,6 +107,7 @@ text_apart (val.Int z) is = refl
 text_apart (val.Long z) is = refl
 text_apart val.Null is = sym is
 text_apart (val.Object n) is = refl
+text_apart (val.Arm n) is = refl
 
 pub null_apart : (v : Value) → (v ≡ val.Null → ⊥) → is_null v ≡ false
 unfolding is_null
@@ -121,6 +122,7 @@ null_apart (val.Char n) other = refl
 null_apart (val.Int z) other = refl
 null_apart (val.Long z) other = refl
 null_apart (val.Object n) other = refl
+null_apart (val.Arm n) other = refl
 
 pub no_text : (v : Value) → ((n : ℕ) → v ≡ val.Text n → ⊥) → ((n : ℕ) → v ≡ val.Fixed n → ⊥) → is_text v ≡ false
 unfolding is_text
@@ -135,3 +137,4 @@ no_text (val.Char n) other fixed = refl
 no_text (val.Int z) other fixed = refl
 no_text (val.Long z) other fixed = refl
 no_text (val.Object n) other fixed = refl
+no_text (val.Arm n) other fixed = refl

@@ -18,7 +18,7 @@ use Rattle.wy_event.specs.declared.record.Use.TheVariants as uses
 use Rattle.wy_steps.specs.Sets.{nothing}
 use Rattle.wy_steps.specs.State.{State, Carried, Run, Outcome, Around as Within, go_on, ◌>>=◌, return, choose}
 use Rattle.wy_steps.specs.Steps.{Made, activating, active_again, chosen, joined, note, scoped, value_of}
-use Rattle.wy_meaning.specs.World.{World, is_true}
+use Rattle.wy_meaning.specs.World.{World, is_true, arm_of_truth}
 use Rattle.wy_meaning.specs.World as meaning
 use Rattle.wy_meaning.specs.Run.{world}
 use Rattle.wy_meaning.specs.Expression.{arm, conditional, eval, eval_part}
@@ -101,7 +101,7 @@ arm_is w e v false main other s = refl
 
 module _ (p : Program) (m : MachineState) (s : Shape) (x : Expression) (kind : CondForm) (test : Expression) (yes no : plain.Part) (site : ℕ) (seen : x ≡ plain.Cond kind test yes no site) (value : Value) (used : List Use) (l : value ≡ (top m.values).value) (u : used ≡ uses_of_last 1 m.values) where
   abbrev test_noted : Run nothing (Made nothing)
-  test_noted = activating Within (note (meaning.plain kinds.Test site value) (given value used))
+  test_noted = activating Within (note (meaning.plain kinds.Test site (val.Arm (arm_of_truth (is_true value)))) (given value used))
 
   -- the arm after its Test
   abbrev armed : plain.Part → Made nothing → Run nothing (Carried nothing)
@@ -132,7 +132,7 @@ module _ (p : Program) (m : MachineState) (s : Shape) (x : Expression) (kind : C
         (put_as p m (decided (world p m.depth) (top m.values) yes no site) (test_noted >>= armed part) (under m.values) (Ok tt) n (decided_is part is)
         (first_went p m s test_noted (armed part) (under m.values) (made_of event) (Ok tt) n a same next))
 
-    -- an empty arm has the value of the Test
+    -- an empty arm has the value of the condition
     pub arm_empty : (us : Values) → plain.absent ≡ (if is_true value then yes else no) → us ≡ with_event 1 value event m.values → Deciding (Ok tt) (record m { state = s; values = us })
     unfolding arm eval_part value_of go_on return
     arm_empty us is values =

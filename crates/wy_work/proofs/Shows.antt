@@ -70,6 +70,7 @@ module _ (w : World nothing) (site : ℕ) (c : Carried nothing) where
   itself_shown (val.Object n) other s = absurd (other n refl)
   itself_shown (val.Text n) other s = refl
   itself_shown (val.Fixed n) other s = refl
+  itself_shown (val.Arm n) other s = refl
 
 module _ (p : Program) (m : MachineState) (above site : ℕ) (us : Values) (copied : us ≡ with_copy above m.values) where
   -- an object: its `toString` is called

@@ -14,7 +14,7 @@ use Rattle.wy_event.specs.declared.record.Slot.TheVariants as slot
 use Rattle.wy_steps.specs.Sets.{nothing}
 use Rattle.wy_steps.specs.State.{Carried, Run, Around, go_on, ◌>>=◌, ◌>>◌, return, choose}
 use Rattle.wy_steps.specs.Steps.{constant, joined, value_of, note, note_new, note_write, activating}
-use Rattle.wy_meaning.specs.World.{World, plain, about, into, class_code, is_true, all_of}
+use Rattle.wy_meaning.specs.World.{World, plain, about, into, class_code, is_true, arm_of_truth, all_of}
 use Rattle.wy_meaning.specs.Place.{Spot, fetch, store}
 use Rattle.wy_meaning.specs.Text.{concatenated, shown}
 use Rattle.wy_meaning.specs.Call.{construct}
@@ -80,7 +80,7 @@ module _ (w : World nothing) where
   -- the test of `?:`, `&&` and `||` is there, and then the arm
   abbrev pub decided : Carried nothing → plain.Part → plain.Part → ℕ → Given
   decided v if_true if_false site = do
-    e ← activating Around (note (plain kind.Test site v.value) v)
+    e ← activating Around (note (plain kind.Test site (val.Arm (arm_of_truth (is_true v.value)))) v)
     choose (is_true v.value) (arm e v.value (eval_part w if_true)) (arm e v.value (eval_part w if_false))
 
   -- the elements of an array from an index on

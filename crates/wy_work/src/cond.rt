@@ -33,7 +33,7 @@ impl<'a, R: Register> Machine<'a, R> {
         Ok(())
     }
 
-    /// Records the Test and begins the arm that it chooses; an empty one has the value of the Test.
+    /// Records the Test and begins the arm that it chooses; an empty one has the value of the condition.
     pub fn decide(&mut self, expr: &'a Expr) -> Result<(), Halt>
         ensures goes { (p : kernel.Program)
             → Does p (λ w. expr_step w (expression expr.now) step.Decide)

@@ -36,12 +36,14 @@ pub fn is_text(value: Value) -> bool
     }
 }
 
-/// The text that a primitive value or null is converted to.
+/// The text that a primitive value or null is converted to, and none of another value.
 pub fn plain_text(alloc: Global, value: Value) -> Result<Vec<u16>, AllocError>
     ensures { IfOk result (λ units. units.items ≡ text_of value) }
 {
     match value {
-        Value::None | Value::Object(_) | Value::Text(_) | Value::Fixed(_) => Err(AllocError),
+        Value::None | Value::Object(_) | Value::Text(_) | Value::Fixed(_) | Value::Arm(_) => {
+            Ok(Vec::new(alloc))
+        }
         _ => digits(alloc, value),
     }
 }

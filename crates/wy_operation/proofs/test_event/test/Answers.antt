@@ -1,13 +1,12 @@
 use Rattle.std.proofs.lemmas.Result.{err_from_is_err_and}
-use Rattle.wy_operation.proofs.Endings.{test_goes, test_halts}
-use Rattle.wy_operation.proofs.Runs.{note_as, note_as_done}
+use Rattle.wy_operation.proofs.Endings.{tested_goes, tested_halts}
 use Rattle.wy_operation.proofs.test_event.test.Goals as goal
 
-pub returns-in_err-event-clause-step : goal.returns-in_err-event-clause-step
-returns-in_err-event-clause-step g c p =
+pub returns-in_err-armed-clause-step : goal.returns-in_err-armed-clause-step
+returns-in_err-armed-clause-step g c p =
     let e = err_from_is_err_and c.from_residual.result c.from_residual.ensures.1 in
-    rw (e.1, e.2) (test_halts _ _ _ _ p _ _ c.in_err-event.field-0.0 (note_as p c.in_err-event.field-0.0 _ _ _ _ _ _ c.plain.ensures.draft c.plain.ensures.value (c.in_err-event.ensures.step p)))
+    rw (e.1, e.2) (tested_halts _ _ _ _ p _ _ _ _ c.in_err-armed.field-0.0 c.is_true-holds.ensures c.arm_of_truth.ensures (c.in_err-armed.ensures.step p _))
 
 pub returns-clause-step : goal.returns-clause-step
 returns-clause-step g c p =
-    test_goes _ _ _ _ p _ _ _ _ _ c.is_true.ensures (note_as_done p _ _ _ _ _ _ _ c.plain.ensures.draft c.plain.ensures.value (c.in_ok-event.ensures.step p)) (c.in_ok-activate_through.ensures.step p)
+    tested_goes _ _ _ _ p _ _ _ _ c.is_true-holds.ensures c.arm_of_truth.ensures (c.in_ok-armed.ensures.step p _)

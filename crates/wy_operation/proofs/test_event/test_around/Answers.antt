@@ -6,8 +6,8 @@ use Rattle.wy_operation.proofs.test_event.test_around.Goals as goal
 pub returns-in_err-event-clause-step : goal.returns-in_err-event-clause-step
 returns-in_err-event-clause-step g c p =
     let e = err_from_is_err_and c.from_residual.result c.from_residual.ensures.1 in
-    rw (e.1, e.2) (around_halts _ 0 _ _ p _ _ c.in_err-event.field-0.0 (note_as p c.in_err-event.field-0.0 _ _ _ _ _ _ c.plain.ensures.draft c.plain.ensures.value (c.in_err-event.ensures.step p)))
+    rw (e.1, e.2, ← c.is_true.ensures, ← c.arm_of_truth.ensures) (around_halts _ 0 _ _ _ p _ _ c.in_err-event.field-0.0 (note_as p c.in_err-event.field-0.0 _ _ _ _ _ _ c.plain.ensures.draft c.plain.ensures.value (c.in_err-event.ensures.step p)))
 
 pub returns-clause-step : goal.returns-clause-step
 returns-clause-step g c p =
-    around_goes _ 0 _ _ p _ _ _ _ (note_as_done p _ _ _ _ _ _ _ c.plain.ensures.draft c.plain.ensures.value (c.in_ok-event.ensures.step p)) (c.in_ok-activate.ensures.step p)
+    rw (← c.is_true.ensures, ← c.arm_of_truth.ensures) (around_goes _ 0 _ _ _ p _ _ _ _ (note_as_done p _ _ _ _ _ _ _ c.plain.ensures.draft c.plain.ensures.value (c.in_ok-event.ensures.step p)) (c.in_ok-activate.ensures.step p))

@@ -8,10 +8,10 @@ use Rattle.wy_page.proofs.Frames.{blank_below, next_behind, next_none}
 use Rattle.wy_page.proofs.block.next_event.Goals as goal
 
 pub returns-in-Some-clause-read : goal.returns-in-Some-clause-read
-returns-in-Some-clause-read c = next_behind c.args.n c.args.bytes.now c.in-Some.event c.in-Some.size (subst (BeginsWithEvent c.args.n c.args.bytes.now) c.in-Some.is c.in_ok-event.ensures)
+returns-in-Some-clause-read c = next_behind c.args.version c.args.n c.args.bytes.now c.in-Some.event c.in-Some.size (subst (BeginsWithEvent c.args.version c.args.n c.args.bytes.now) c.in-Some.is c.in_ok-event.ensures)
 
 pub returns-in-None-clause-refers : goal.returns-in-None-clause-refers
 returns-in-None-clause-refers c = subst (λ (x : Event). RefersBelow c.args.n (recorded x)) (sym c.blank_event.ensures) (blank_below c.args.n)
 
 pub returns-in-None-clause-read : goal.returns-in-None-clause-read
-returns-in-None-clause-read c = next_none c.args.n c.args.bytes.now c.blank_event.result c.args.bytes.now (subst (BeginsWithEvent c.args.n c.args.bytes.now) c.in-None.is c.in_ok-event.ensures)
+returns-in-None-clause-read c = next_none c.args.version c.args.n c.args.bytes.now c.blank_event.result c.args.bytes.now (subst (BeginsWithEvent c.args.version c.args.n c.args.bytes.now) c.in-None.is c.in_ok-event.ensures)

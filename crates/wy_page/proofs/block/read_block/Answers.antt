@@ -14,5 +14,5 @@ loop-n-preserved c =
     record {
       place = omega (arith, v.place, ap length items, length-append events (x ∷ []));
       refer = subst (λ (l : List Event). ReferFrom c.args.first l) (sym items) (one_refers c.args.first c.loop-n.n events x v.place c.in_ok-event.ensures.refers v.refer);
-      read = subst (λ (l : List Event). ReadSoFar c.args.first c.args.bytes.now l c.in_ok-event.behind.now) (sym items) (one_read c.args.first c.loop-n.n c.args.bytes.now events c.loop-n.rest.now x c.in_ok-event.behind.now v.place c.in_ok-event.ensures.read v.read);
+      read = subst (λ (l : List Event). ReadSoFar c.args.version c.args.first c.args.bytes.now l c.in_ok-event.behind.now) (sym items) (one_read c.args.version c.args.first c.loop-n.n c.args.bytes.now events c.loop-n.rest.now x c.in_ok-event.behind.now v.place c.in_ok-event.ensures.read v.read);
     }

@@ -8,5 +8,5 @@ abbrev pub invariant-loop-n : goal.invariant-loop-n
 invariant-loop-n l = record {
   place : l.n ≡ l.first + length l.events.items;
   refer : ReferFrom l.first l.events.items;
-  read : ReadSoFar l.first l.bytes l.events.items l.rest;
+  read : ReadSoFar l.version l.first l.bytes l.events.items l.rest;
 }

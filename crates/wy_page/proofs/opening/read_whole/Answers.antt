@@ -14,11 +14,12 @@ returns-in-Err-take-clause-refused g c =
     let name = c.args.name.now in
     let head = c.args.head.now in
     let at = c.pieces.reading.at in
-    let from = length (opening head) in
-    let place : at ≡ from + length v.fed = v.reads.at ∙ length-append (opening head) v.fed in
+    let version = c.args.version in
+    let from = length (opening version head) in
+    let place : at ≡ from + length v.fed = v.reads.at ∙ length-append (opening version head) v.fed in
     let read = subst (λ (h : Option Files). ReadsPart h name at c.min-wanted.result (Ok c.in-Ok.piece)) v.held c.in-Ok.ensures.content in
     let next = next_on held name from at c.min-wanted.result v.fed c.in-Ok.piece v.next place read in
-    trace_refused held name c.args.program.now head (v.fed ++ c.as_slice.result.now) c.in-Err-take.error (subst (λ (l : List ℕ). AreNext held name from (v.fed ++ l)) (sym c.as_slice.ensures.value) next) (c.in-Err-take.ensures.read c.args.program.now head v.fed v.standing v.reads)
+    trace_refused held name version c.args.program.now head (v.fed ++ c.as_slice.result.now) c.in-Err-take.error (subst (λ (l : List ℕ). AreNext held name from (v.fed ++ l)) (sym c.as_slice.ensures.value) next) (c.in-Err-take.ensures.read version c.args.program.now head v.fed v.standing v.reads)
 
 pub returns-then-len-clause-read : goal.returns-then-len-clause-read
 returns-then-len-clause-read g c =
@@ -27,13 +28,14 @@ returns-then-len-clause-read g c =
     let name = c.args.name.now in
     let head = c.args.head.now in
     let at = c.pieces.reading.at in
-    let from = length (opening head) in
-    let place : at ≡ from + length v.fed = v.reads.at ∙ length-append (opening head) v.fed in
+    let version = c.args.version in
+    let from = length (opening version head) in
+    let place : at ≡ from + length v.fed = v.reads.at ∙ length-append (opening version head) v.fed in
     let read = subst (λ (h : Option Files). ReadsPart h name at c.min-wanted.result (Ok c.in-Ok.piece)) v.held c.in-Ok.ensures.content in
     let wanted : c.min-wanted.result ≡ min 1048576 (trace_limit - at) = omega (arith, c.min-wanted.ensures) in
     let less : length c.in-Ok.piece.items < 1048576 = omega (arith, c.if-len.true, c.len.ensures, c.in-Ok.piece.ok.0) in
-    let others = others_are held name head at c.min-wanted.result 1048576 v.fed c.in-Ok.piece c.requires.file v.next place v.short wanted less read in
-    let on = c.in_default.ensures.read c.args.program.now head v.fed v.standing v.reads in
+    let others = others_are held name version head at c.min-wanted.result 1048576 v.fed c.in-Ok.piece c.requires.file v.next place v.short wanted less read in
+    let on = c.in_default.ensures.read version c.args.program.now head v.fed v.standing v.reads in
     (v.fed ++ c.as_slice.result.now, on.0, on.1, subst (λ (l : List ℕ). AreOthers held name from (v.fed ++ l)) (sym c.as_slice.ensures.value) others)
 
 pub pieces-preserved : goal.pieces-preserved
@@ -43,11 +45,12 @@ pieces-preserved g c =
     let name = c.args.name.now in
     let head = c.args.head.now in
     let at = c.pieces.reading.at in
-    let from = length (opening head) in
-    let place : at ≡ from + length v.fed = v.reads.at ∙ length-append (opening head) v.fed in
+    let version = c.args.version in
+    let from = length (opening version head) in
+    let place : at ≡ from + length v.fed = v.reads.at ∙ length-append (opening version head) v.fed in
     let read = subst (λ (h : Option Files). ReadsPart h name at c.min-wanted.result (Ok c.in-Ok.piece)) v.held c.in-Ok.ensures.content in
     let next = next_on held name from at c.min-wanted.result v.fed c.in-Ok.piece v.next place read in
-    let on = c.in_default.ensures.read c.args.program.now head v.fed v.standing v.reads in
+    let on = c.in_default.ensures.read version c.args.program.now head v.fed v.standing v.reads in
     record {
       fed = v.fed ++ c.as_slice.result.now;
       standing = on.0;

@@ -10,8 +10,8 @@ abbrev pub invariant-pieces : goal.invariant-pieces
 invariant-pieces g l = record {
   fed : List ℕ;
   standing : Progress;
-  reads : Reads l.reading l.program l.head fed standing;
-  next : AreNext (g.S.Shelf.held l.initial.shelf) l.name (length (opening l.head)) fed;
+  reads : Reads l.reading l.fn.version l.program l.head fed standing;
+  next : AreNext (g.S.Shelf.held l.initial.shelf) l.name (length (opening l.fn.version l.head)) fed;
   short : l.reading.at ≤ trace_limit;
   held : g.S.Shelf.held l.shelf ≡ g.S.Shelf.held l.initial.shelf;
   faults : g.S.Shelf.faults l.shelf ≡ g.S.Shelf.faults l.initial.shelf;

@@ -4,7 +4,7 @@ use Rattle.wy_reply.proofs.Tellings.{told_answer}
 use Rattle.wy_reply.proofs.viewed.answer_to_affects.Goals as goal
 
 pub returns-clause-due : goal.returns-clause-due
-returns-clause-due g c = λ t is.
+returns-clause-due g c = λ seal t is.
     let p = c.args.opened.now.program.now in
     let question = c.args.question.now in
-    told_answer affects_text p t question (Affects question) (λ a known. affects question a known) c.affects_text-told.result _ (c.affects_text-told.ensures.told _ is.records) c.answer_to_question.ensures.says
+    told_answer affects_text p seal t question (Affects question) (λ a known. affects question a known) c.affects_text-told.result _ (c.affects_text-told.ensures.told _ is.records) c.answer_to_question.ensures.says

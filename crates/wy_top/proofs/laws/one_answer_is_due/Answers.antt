@@ -81,7 +81,7 @@ run_same words held c f a s t x y asks told is (e, inr (source, holds, inr (span
 lines_same : (words : List (List ℕ)) (held : Option Files) (c : Command) (f : Files) (name content : List ℕ) (x y : List ℕ) → Asks words c → held ≡ Some f → trace_of c ≡ Some name → Holds f name trace_limit content →
     SameOfTrace content x y → (x ≡ y) ⊎ AreSyntaxLines words held x y
 lines_same words held c f name content _ _ asks told is holds (one_text x) = inl refl
-lines_same words held c f name content _ _ asks told is holds (syntax_lines head end spans x y at ts first second) = inr (of_head c f name content head end spans x y asks told is holds at ts first second)
+lines_same words held c f name content _ _ asks told is holds (syntax_lines head end v spans x y at ts first second) = inr (of_head c f name content head end v spans x y asks told is holds at ts first second)
 
 trace_same : (words : List (List ℕ)) (held : Option Files) (c : Command) (f : Files) (name : List ℕ) (s t : ℕ) (x y : List ℕ) → Asks words c → held ≡ Some f → trace_of c ≡ Some name →
     (s ≡ t) × ((x ≡ y) ⊎ ((content : List ℕ) × Holds f name trace_limit content × SameOfTrace content x y)) → Same words held s t x y

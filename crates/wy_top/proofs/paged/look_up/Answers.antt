@@ -10,7 +10,7 @@ returns-clause-due g c = λ t files told are.
     let held = g.S.Shelf.held c.args.shelf.now in
     let shown : records_told c.over-view.result.pages (g.S.Shelf.held c.over-view.result.shelf.now) ≡ records_told c.args.pages held = rw (c.over-view.ensures.shelf, c.over-view.ensures.pages) refl in
     let is = view_of t c.args.pages c.args.tail.now files held _ told shown are in
-    rw (c.unwrap.ensures) at (c.answer_to_view-view.ensures.due t is are.tail_is (c.seal.ensures ∙ are.seal))
+    rw (c.unwrap.ensures, c.seal.ensures) at (c.answer_to_view-view.ensures.due t is are.tail_is)
 
 pub returns-clause-looks : goal.returns-clause-looks
 returns-clause-looks g c =

@@ -6,11 +6,12 @@ use Rattle.wy_frames.proofs.scanner.Scanner.behind.Goals as goal
 
 pub returns : goal.returns
 returns c = record {
+  version = refl;
   program = refl;
   steps = refl;
   knows = tt;
   sound = refl;
   holds = c.start.ensures;
   leaves = rw c.new.ensures.items nothing;
-  waits = rw c.new.ensures.items (nothing_waits (ranges_of c.args.program.now) c.args.head.now.steps c.args.head.now);
+  waits = rw c.new.ensures.items (nothing_waits (ranges_of c.args.version c.args.program.now) c.args.head.now.steps c.args.version c.args.head.now);
 }

@@ -3,6 +3,7 @@ use Rattle.std.proofs.Common.{List, map, Ok, Err, ℕ, ◌∙◌}
 use Rattle.sha2.specs.Hashers.{Holds256}
 use Rattle.wy_event.specs.Record.{recorded}
 use Rattle.wy_record.specs.Recorders.{Mirrors}
+use Rattle.wy_event.specs.declared.record.Version.TheVariants.{Two}
 use Rattle.wy_spelling.specs.Spelling.{event_frame}
 use Rattle.wy_framing.proofs.Fronts.{same_has_front}
 use Rattle.wy_framing.proofs.Traces.{counts_as, failed_keeps, faults_as, fed_alike, low_kept, low_recording, recording_keeps, still_held, taken_alike}
@@ -14,7 +15,7 @@ returns-in_default-clause-sound g c = λ keeps.
 
 pub returns-in_default-clause-mirrors : goal.returns-in_default-clause-mirrors
 returns-in_default-clause-mirrors g c = λ keeps.
-    same_has_front (event_frame (recorded c.args.event.now)) (map (λ b. (goal.TraceSink-dyn g (b.vtable, b.value)).bytes b.value) c.args.self.now.mirrors.items)
+    same_has_front (event_frame Two (recorded c.args.event.now)) (map (λ b. (goal.TraceSink-dyn g (b.vtable, b.value)).bytes b.value) c.args.self.now.mirrors.items)
 
 pub returns-in-Err-clause-sound : goal.returns-in-Err-clause-sound
 returns-in-Err-clause-sound g c = λ keeps.
@@ -36,7 +37,7 @@ pub returns-in-Err-clause-mirrors : goal.returns-in-Err-clause-mirrors
 returns-in-Err-clause-mirrors g c = λ keeps.
     let olds : Mirrors = map (λ b. (goal.TraceSink-dyn g (b.vtable, b.value)).bytes b.value) c.args.self.now.mirrors.items in
     let news : Mirrors = map (λ b. (goal.TraceSink-dyn g (b.vtable, b.value)).bytes b.value) c.serve_all.new.sinks.items in
-    taken_alike (Err c.in-Err.error) c.as_slice.result.now (event_frame (recorded c.args.event.now)) olds news (c.as_slice.ensures.value ∙ c.in-Ok.ensures) (c.in-Err.ensures.mirrors (λ opens. absurd (cc)))
+    taken_alike (Err c.in-Err.error) c.as_slice.result.now (event_frame Two (recorded c.args.event.now)) olds news (c.as_slice.ensures.value ∙ c.in-Ok.ensures) (c.in-Err.ensures.mirrors (λ opens. absurd (cc)))
 
 pub returns-clause-sound : goal.returns-clause-sound
 returns-clause-sound g c = λ keeps.
@@ -63,4 +64,4 @@ pub returns-clause-mirrors : goal.returns-clause-mirrors
 returns-clause-mirrors g c = λ keeps.
     let olds : Mirrors = map (λ b. (goal.TraceSink-dyn g (b.vtable, b.value)).bytes b.value) c.args.self.now.mirrors.items in
     let news : Mirrors = map (λ b. (goal.TraceSink-dyn g (b.vtable, b.value)).bytes b.value) c.serve_all.new.sinks.items in
-    taken_alike (Ok tt) c.as_slice.result.now (event_frame (recorded c.args.event.now)) olds news (c.as_slice.ensures.value ∙ c.in-Ok.ensures) (c.in_default-serve_all.ensures.mirrors (λ opens. absurd (cc)))
+    taken_alike (Ok tt) c.as_slice.result.now (event_frame Two (recorded c.args.event.now)) olds news (c.as_slice.ensures.value ∙ c.in-Ok.ensures) (c.in_default-serve_all.ensures.mirrors (λ opens. absurd (cc)))

@@ -2,6 +2,7 @@
 use Rattle.std.proofs.Common.{List, map, Ok, Err, ℕ, ◌∙◌}
 use Rattle.sha2.specs.Hashers.{Holds256}
 use Rattle.wy_record.specs.Recorders.{Mirrors}
+use Rattle.wy_event.specs.declared.record.Version.TheVariants.{Two}
 use Rattle.wy_spelling.specs.Spelling.{opening}
 use Rattle.wy_framing.proofs.Traces.{counts_as, failed_keeps, faults_as, fed_alike, first_held, low_kept, low_ready, opened_has_front, opened_takes, recording_keeps, taken_alike}
 use Rattle.wy_framing.proofs.recorder.FrameRecorderRecorder.start.Goals as goal
@@ -12,7 +13,7 @@ returns-in_default-clause-sound g c = λ keeps.
 
 pub returns-in_default-clause-mirrors : goal.returns-in_default-clause-mirrors
 returns-in_default-clause-mirrors g c = λ keeps.
-    opened_has_front (opening c.args.head.now) _ (keeps.empty c.requires.ready)
+    opened_has_front (opening Two c.args.head.now) _ (keeps.empty c.requires.ready)
 
 pub returns-in-Err-clause-sound : goal.returns-in-Err-clause-sound
 returns-in-Err-clause-sound g c = λ keeps.
@@ -34,8 +35,8 @@ pub returns-in-Err-clause-mirrors : goal.returns-in-Err-clause-mirrors
 returns-in-Err-clause-mirrors g c = λ keeps.
     let olds : Mirrors = map (λ b. (goal.TraceSink-dyn g (b.vtable, b.value)).bytes b.value) c.args.self.now.mirrors.items in
     let news : Mirrors = map (λ b. (goal.TraceSink-dyn g (b.vtable, b.value)).bytes b.value) c.serve_all.new.sinks.items in
-    opened_takes (Err c.in-Err.error) (opening c.args.head.now) olds news (keeps.empty c.requires.ready)
-    (taken_alike (Err c.in-Err.error) c.as_slice.result.now (opening c.args.head.now) olds news (c.as_slice.ensures.value ∙ c.in-Ok.ensures) (c.in-Err.ensures.mirrors (λ _. keeps.empty c.requires.ready)))
+    opened_takes (Err c.in-Err.error) (opening Two c.args.head.now) olds news (keeps.empty c.requires.ready)
+    (taken_alike (Err c.in-Err.error) c.as_slice.result.now (opening Two c.args.head.now) olds news (c.as_slice.ensures.value ∙ c.in-Ok.ensures) (c.in-Err.ensures.mirrors (λ _. keeps.empty c.requires.ready)))
 
 pub returns-clause-sound : goal.returns-clause-sound
 returns-clause-sound g c = λ keeps.
@@ -62,5 +63,5 @@ pub returns-clause-mirrors : goal.returns-clause-mirrors
 returns-clause-mirrors g c = λ keeps.
     let olds : Mirrors = map (λ b. (goal.TraceSink-dyn g (b.vtable, b.value)).bytes b.value) c.args.self.now.mirrors.items in
     let news : Mirrors = map (λ b. (goal.TraceSink-dyn g (b.vtable, b.value)).bytes b.value) c.serve_all.new.sinks.items in
-    opened_takes (Ok tt) (opening c.args.head.now) olds news (keeps.empty c.requires.ready)
-    (taken_alike (Ok tt) c.as_slice.result.now (opening c.args.head.now) olds news (c.as_slice.ensures.value ∙ c.in-Ok.ensures) (c.in_default-serve_all.ensures.mirrors (λ _. keeps.empty c.requires.ready)))
+    opened_takes (Ok tt) (opening Two c.args.head.now) olds news (keeps.empty c.requires.ready)
+    (taken_alike (Ok tt) c.as_slice.result.now (opening Two c.args.head.now) olds news (c.as_slice.ensures.value ∙ c.in-Ok.ensures) (c.in_default-serve_all.ensures.mirrors (λ _. keeps.empty c.requires.ready)))

@@ -5,4 +5,4 @@ use Rattle.wy_page.proofs.Taken.{begun}
 use Rattle.wy_page.proofs.opening.Reading.begin.Goals as goal
 
 pub returns : goal.returns
-returns c = begun _ c.args.program.now c.args.head.now c.place_behind-at.result c.place_behind-at.ensures c.behind.ensures (c.begin.ensures.marked (opening c.args.head.now ++ [])) c.begin.ensures.from c.new.ensures.items refl
+returns c = begun _ c.args.version c.args.program.now c.args.head.now c.place_behind-at.result c.place_behind-at.ensures refl c.behind.ensures (c.begin.ensures.marked (opening c.args.version c.args.head.now ++ [])) c.begin.ensures.from c.new.ensures.items refl

@@ -21,7 +21,7 @@ returns-clause-changed c =
     let found = c.digest-found.result in
     let there : slice_get digests c.args.block ≡ Some kept = slice_get-get_or digests c.args.block kept c.requires ∙ ap Some (sym c.index.ensures) in
     record {
-      file = record { name = refl; starts = refl; digests = refl; seal = refl; count = refl };
+      file = record { name = refl; version = refl; starts = refl; digests = refl; seal = refl; count = refl };
       held = refl;
       loads = refl;
       reads = refl;

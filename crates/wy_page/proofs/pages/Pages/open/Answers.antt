@@ -6,35 +6,35 @@ use Rattle.wy_page.proofs.Whole.{Laws, fits_opened}
 use Rattle.wy_page.proofs.pages.Pages.open.Goals as goal
 
 pub returns-in-Err-read_whole-clause-trace : goal.returns-in-Err-read_whole-clause-trace
-returns-in-Err-read_whole-clause-trace g c = unread (g.S.Shelf.held c.args.shelf.now) c.args.name.now c.args.program.now c.args.head.now c.requires.file c.in-Err-read_whole.error c.in-Err-read_whole.ensures.refused
+returns-in-Err-read_whole-clause-trace g c = unread (g.S.Shelf.held c.args.shelf.now) c.args.name.now c.args.version c.args.program.now c.args.head.now c.requires.file c.in-Err-read_whole.error c.in-Err-read_whole.ensures.refused
 
 pub finish-requires : goal.finish-requires
 finish-requires g c =
     let x = c.in-Ok-read_whole.ensures.read in
-    record { reading = record { program = c.args.program.now; head = c.args.head.now; fed = x.0; standing = x.1; reads = x.2 } }
+    record { reading = record { version = c.args.version; program = c.args.program.now; head = c.args.head.now; fed = x.0; standing = x.1; reads = x.2 } }
 
 pub returns-in-Ok-finish-clause-trace : goal.returns-in-Ok-finish-clause-trace
 returns-in-Ok-finish-clause-trace g c =
     let x = c.in-Ok-read_whole.ensures.read in
     let laws : Laws = record { placed = c.read_events_are_placed.ensures; told = c.read_events_are_told.ensures; refer = c.decoded_events_refer_below.ensures; sealed = c.read_traces_end_sealed.ensures } in
-    let w = c.in-Ok-finish.ensures.read c.args.program.now c.args.head.now x.0 x.1 x.2 in
-    opened (g.S.Shelf.held c.args.shelf.now) c.args.name.now c.args.program.now c.args.head.now c.requires.file laws c.in-Ok-read_whole.reading x.0 x.1 x.2 c.in-Ok-finish.opened.0 c.in-Ok-finish.opened.1 w c.is_of_bytes.ensures x.3
+    let w = c.in-Ok-finish.ensures.read c.args.version c.args.program.now c.args.head.now x.0 x.1 x.2 in
+    opened (g.S.Shelf.held c.args.shelf.now) c.args.name.now c.args.version c.args.program.now c.args.head.now c.requires.file laws c.in-Ok-read_whole.reading x.0 x.1 x.2 c.in-Ok-finish.opened.0 c.in-Ok-finish.opened.1 w c.is_of_bytes.ensures x.3
 
 pub returns-in-Ok-finish-clause-fits : goal.returns-in-Ok-finish-clause-fits
 returns-in-Ok-finish-clause-fits g c =
     let x = c.in-Ok-read_whole.ensures.read in
     let laws : Laws = record { placed = c.read_events_are_placed.ensures; told = c.read_events_are_told.ensures; refer = c.decoded_events_refer_below.ensures; sealed = c.read_traces_end_sealed.ensures } in
-    let w = c.in-Ok-finish.ensures.read c.args.program.now c.args.head.now x.0 x.1 x.2 in
+    let w = c.in-Ok-finish.ensures.read c.args.version c.args.program.now c.args.head.now x.0 x.1 x.2 in
     let fresh = c.in-Ok-finish.ensures.fresh in
-    fits_opened laws c.in-Ok-read_whole.reading c.args.program.now c.args.head.now x.0 x.1 x.2 c.in-Ok-finish.opened.0 c.in-Ok-finish.opened.1 w c.is_of_bytes.ensures fresh.nothing_held c.args.name.now (ap string_bytes fresh.name_is ∙ c.in-Ok.ensures.ok) (g.S.Shelf.held c.args.shelf.now) c.requires.file x.3
+    fits_opened laws c.in-Ok-read_whole.reading c.args.version c.args.program.now c.args.head.now x.0 x.1 x.2 c.in-Ok-finish.opened.0 c.in-Ok-finish.opened.1 w c.is_of_bytes.ensures fresh.nothing_held c.args.name.now (ap string_bytes fresh.name_is ∙ c.in-Ok.ensures.ok) (g.S.Shelf.held c.args.shelf.now) c.requires.file x.3
 
 pub returns-in-Ok-finish-clause-end : goal.returns-in-Ok-finish-clause-end
 returns-in-Ok-finish-clause-end g c =
     let x = c.in-Ok-read_whole.ensures.read in
-    let w = c.in-Ok-finish.ensures.read c.args.program.now c.args.head.now x.0 x.1 x.2 in
-    end_stands c.read_ends_stand.ensures c.in-Ok-read_whole.reading c.args.program.now c.args.head.now x.0 x.1 x.2 c.in-Ok-finish.opened.0 c.in-Ok-finish.opened.1 w
+    let w = c.in-Ok-finish.ensures.read c.args.version c.args.program.now c.args.head.now x.0 x.1 x.2 in
+    end_stands c.read_ends_stand.ensures c.in-Ok-read_whole.reading c.args.version c.args.program.now c.args.head.now x.0 x.1 x.2 c.in-Ok-finish.opened.0 c.in-Ok-finish.opened.1 w
 
 pub returns-in-Err-finish-clause-trace : goal.returns-in-Err-finish-clause-trace
 returns-in-Err-finish-clause-trace g c =
     let x = c.in-Ok-read_whole.ensures.read in
-    unsealed (g.S.Shelf.held c.args.shelf.now) c.args.name.now c.args.program.now c.args.head.now c.requires.file c.in-Ok-read_whole.reading x.0 x.1 c.in-Err-finish.error x.2 x.3 (c.in-Err-finish.ensures.read c.args.program.now c.args.head.now x.0 x.1 x.2)
+    unsealed (g.S.Shelf.held c.args.shelf.now) c.args.name.now c.args.version c.args.program.now c.args.head.now c.requires.file c.in-Ok-read_whole.reading x.0 x.1 c.in-Err-finish.error x.2 x.3 (c.in-Err-finish.ensures.read c.args.version c.args.program.now c.args.head.now x.0 x.1 x.2)

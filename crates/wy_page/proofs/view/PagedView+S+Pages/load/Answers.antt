@@ -18,7 +18,7 @@ pub invariant_of-self : goal.invariant_of-self
 invariant_of-self g c =
     let old = c.args.self.now in
     let file = c.events_of.ensures.file in
-    record { fits = subst (λ (h : Option Files). ∥ IsOfShelf c.events_of.new.self h ∥₁) (sym c.read.ensures.held) (fits_same old.pages c.events_of.new.self (g.S.Shelf.held old.shelf.now) (record { name = file.name; starts = file.starts; digests = file.digests; seal = file.seal; count = file.count }) c.events_of.ensures.held old.fits) }
+    record { fits = subst (λ (h : Option Files). ∥ IsOfShelf c.events_of.new.self h ∥₁) (sym c.read.ensures.held) (fits_same old.pages c.events_of.new.self (g.S.Shelf.held old.shelf.now) (record { name = file.name; version = file.version; starts = file.starts; digests = file.digests; seal = file.seal; count = file.count }) c.events_of.ensures.held old.fits) }
 
 pub invariant_of-self-in-Err-1 : goal.invariant_of-self-in-Err-1
 invariant_of-self-in-Err-1 g c =
@@ -29,7 +29,7 @@ pub returns-in-Ok-clause-told : goal.returns-in-Ok-clause-told
 returns-in-Ok-clause-told g c =
     let p = c.args.self.now.pages in
     told_if p (g.S.Shelf.held c.args.self.now.shelf.now) c.args.block c.in-Ok.bytes c.args.self.now.fits c.requires c.in-Ok.ensures.content c.events_of.result
-    (subst (λ (l : List ℕ). IfOk c.events_of.result (λ events. ReadAs (block_length * c.args.block) (size_of_block p.count c.args.block) l events.items)) c.as_slice.ensures.value c.events_of.ensures.read)
+    (subst (λ (l : List ℕ). IfOk c.events_of.result (λ events. ReadAs p.version (block_length * c.args.block) (size_of_block p.count c.args.block) l events.items)) c.as_slice.ensures.value c.events_of.ensures.read)
 
 pub returns-in-Ok-clause-counts : goal.returns-in-Ok-clause-counts
 returns-in-Ok-clause-counts g c =

@@ -1,0 +1,7 @@
+mod Fields
+mod Events
+mod Ends
+mod Heads
+mod Frames
+mod Whole
+mod Versions
