@@ -27,16 +27,22 @@ _whyline() {
   local at=$((${#words[@]} - 1))
   local begun=${words[at]} command=${words[1]} replies=''
   if [ "$at" -eq 1 ]; then
-    replies=$(compgen -W 'run record output questions why affects certify check whynot scope explore audit gen' -- "$begun")
+    replies=$(compgen -W 'run record output questions why affects certify check whynot scope explore audit migrate gen' -- "$begun")
   else
     case $command:${words[at - 1]} in
       run:-i | record:-i) replies=$(compgen -f -- "$begun") ;;
-      record:-o) replies=$(_whyline_files trace "$begun") ;;
+      record:-o | migrate:-o) replies=$(_whyline_files trace "$begun") ;;
       run:--steps | record:--steps | gen:*) ;;
       run:* | record:*)
         case $begun in
           -*) replies=$(compgen -W "-i --steps $([ "$command" = record ] && echo -o)" -- "$begun") ;;
           *) replies=$(_whyline_files java "$begun") ;;
+        esac
+        ;;
+      migrate:*)
+        case $begun in
+          -*) replies=$(compgen -W '-o' -- "$begun") ;;
+          *) replies=$(_whyline_files trace "$begun") ;;
         esac
         ;;
       *)

@@ -22,12 +22,15 @@ offer() { # FUNCTION LINE WANTED: the words that are offered at the end of the l
 
 "$program" record examples/discount.java -o "$scratch/discount.trace" >/dev/null 2>&1
 "$program" record examples/overridden.java -o "$scratch/overridden.trace" >/dev/null 2>&1
-offer _whyline 'whyline ' 'affects audit certify check explore gen output questions record run scope why whynot'
+offer _whyline 'whyline ' 'affects audit certify check explore gen migrate output questions record run scope why whynot'
 offer _whyline 'whyline re' 'record'
 offer _whyline './whyline wh' 'why whynot'
 offer _whyline 'whyline run examples/co' 'examples/collatz.java examples/coupon.java'
 offer _whyline 'whyline record -' '--steps -i -o'
 offer _whyline 'whyline run -' '--steps -i'
+offer _whyline 'whyline migrate -' '-o'
+offer _whyline "whyline migrate $scratch/dis" "$scratch/discount.trace"
+offer _whyline "whyline migrate $scratch/discount.trace -o $scratch/over" "$scratch/overridden.trace"
 offer _whyline 'whyline run examples/first.java --steps ' ''
 offer _whyline 'whyline run examples/first.java -i README.m' 'README.md'
 offer _whyline "whyline output $scratch/dis" "$scratch/discount.trace"

@@ -7,12 +7,13 @@ use std::test::Fail;
 
 /// A command, and how often it calls the shelf: for each file that it reads whole once, and for a trace that stays there five times.
 /// These ask whether it is too long, and for the first bytes, its front, what stands behind it, and its block of events.
-static COMMANDS: [(&str, u32); 10] = [
+static COMMANDS: [(&str, u32); 11] = [
     ("run Main.java -i in", 2),
     ("run Main.java", 1),
     ("record Main.java -i in -o new", 2),
     ("output old", 5),
     ("audit old", 1),
+    ("migrate old -o new", 1),
     ("why old p0", 5),
     ("affects old e0", 5),
     ("certify old p0", 5),
@@ -26,14 +27,14 @@ fn same(left: &Left, whole: &Left) -> bool {
         && left.first.as_slice() == whole.first.as_slice()
 }
 
-/// A read failed, and nothing was recorded.
+/// A read failed, and no recorder was started.
 fn unread(left: &Left) -> bool {
     left.status == 7
         && left.written.as_slice() == b"fault: shelf\n".as_slice()
         && left.first.is_empty()
 }
 
-/// The write failed, behind the recording.
+/// The write failed, behind the trace.
 fn unwritten(left: &Left, whole: &Left) -> bool {
     left.status == 7
         && whole.written.starts_with(left.written.as_slice())

@@ -90,7 +90,7 @@ fn each_version_has_its_own_frame_of_a_test(rt: HostRuntime) -> Result<(), Fail>
 
 /// Whether a trace of either version has room for it.
 #[tactic(auto, using(wy_framing::proofs::Room::event_has_room))]
-fn is_short(event: &Event) -> bool
+pub fn is_short(event: &Event) -> bool
     ensures { OnTrue result ((version : Version)
         → length (event_frame version (recorded event.now)) ≤ trace_limit) }
 {
@@ -98,7 +98,7 @@ fn is_short(event: &Event) -> bool
 }
 
 /// Whether version 1 can spell it.
-fn has_truth(event: &Event) -> bool
+pub fn has_truth(event: &Event) -> bool
     ensures { OnTrue result (FitsOne event.now.value) }
 {
     matches!(event.value, Value::Arm(n) if n < 2)

@@ -24,6 +24,8 @@ mod memory;
 #[cfg(test)]
 mod mirrors;
 #[cfg(test)]
+mod older;
+#[cfg(test)]
 mod paged;
 #[cfg(test)]
 mod programs;

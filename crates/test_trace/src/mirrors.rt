@@ -1,4 +1,4 @@
-//! A recording over two mirrors, of which a call fails: it is named, and each mirror holds a prefix of the trace.
+//! A recording and a migration over two mirrors, of which a call fails: it is named, and each mirror holds a prefix of the trace.
 
 use crate::call::{Fails, Left, NOTHING, call};
 use crate::programs::{PROGRAMS, Program};
@@ -7,11 +7,23 @@ use std::test::Fail;
 
 const RECORD: &str = "record Main.java -i in -o new";
 
+const MIGRATE: &str = "migrate old -o new";
+
 /// The calls of a mirror beside those of events: it is opened, takes the head and the tail, and is closed.
 const OTHERS: u32 = 4;
 
 fn recorded(alloc: Global, program: Program, fails: Fails) -> Result<Left, AllocError> {
     call(alloc, RECORD, program, b"", fails)
+}
+
+/// The trace of the program, written anew.
+fn migrated(
+    alloc: Global,
+    program: Program,
+    trace: &[u8],
+    fails: Fails,
+) -> Result<Left, AllocError> {
+    call(alloc, MIGRATE, program, trace, fails)
 }
 
 /// The call failed, and its mirrors hold prefixes of a trace.
@@ -59,6 +71,40 @@ fn each_call_of_each_mirror_fails_in_turn(rt: HostRuntime) -> Result<(), Fail> {
                     assert!(rt; failed(left, whole.first.as_slice()), "call {at}");
                 } else {
                     assert!(rt; finished(left, &whole), "no call {at}");
+                }
+            }
+        }
+    }
+    Ok(())
+}
+
+#[test]
+fn each_call_of_each_mirror_of_a_migration_fails_in_turn(rt: HostRuntime) -> Result<(), Fail> {
+    let alloc = rt.alloc();
+    for &program in &PROGRAMS {
+        let trace = recorded(alloc, program, NOTHING)?.first;
+        let whole = migrated(alloc, program, trace.as_slice(), NOTHING)?;
+        assert!(rt; finished(&whole, &whole), "both hold the trace");
+        assert!(rt;
+            whole.first.as_slice() == trace.as_slice(),
+            "the same trace"
+        );
+        let calls = program.events.saturating_add(OTHERS);
+        for at in 1..calls.saturating_add(2) {
+            let first = Fails {
+                first: at,
+                ..NOTHING
+            };
+            let second = Fails {
+                second: at,
+                ..NOTHING
+            };
+            for fails in [first, second] {
+                let left = migrated(alloc, program, trace.as_slice(), fails)?;
+                if at <= calls {
+                    assert!(rt; failed(&left, trace.as_slice()), "call {at}");
+                } else {
+                    assert!(rt; finished(&left, &whole), "no call {at}");
                 }
             }
         }

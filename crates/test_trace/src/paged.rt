@@ -30,7 +30,7 @@ fn byte_at(bytes: &[u8], at: usize) -> u8 {
 }
 
 /// Where the frame begins before which there are so many.
-fn frame_at(bytes: &[u8], before: u32) -> usize {
+pub fn frame_at(bytes: &[u8], before: u32) -> usize {
     let mut at = 8_usize;
     for _ in 0..before {
         let length = u32::from_be_bytes([
@@ -199,14 +199,14 @@ fn a_block_is_read_again_once_64_others_were(rt: HostRuntime) -> Result<(), Fail
     let alloc = rt.alloc();
     let (trace, other) = two_traces(alloc, LONG)?;
     assert!(rt; trace.len() < 1_000_000_000);
-    let (head, _) = read_head(alloc, trace.as_slice())?;
+    let (head, _, version) = read_head(alloc, trace.as_slice())?;
     let Some(head) = short_head(head) else {
         return Err(Fail::new("the head is long"));
     };
     assert!(rt; head.source.as_slice().len() < 1000);
     let typed = program_of_source(alloc, head.source.as_slice())?;
     let mut shelf = shelf_of(alloc, trace.as_slice(), other.as_slice(), NEVER)?;
-    let (pages, _) = Pages::open(alloc, &mut shelf, "t", &head, &typed.program)?;
+    let (pages, _) = Pages::open(alloc, &mut shelf, "t", &head, version, &typed.program)?;
     let mut view = PagedView::over(&mut shelf, pages);
     look_beside::<PagedView<'_, SwapShelf, Pages>, Brand, HostRuntime>(
         &rt,

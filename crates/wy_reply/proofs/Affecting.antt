@@ -19,7 +19,7 @@ use Rattle.wy_affects.proofs.Giving.{no_record}
 use Rattle.wy_telling.specs.Affects.{AffectsIs, affects_text, later_lines}
 use Rattle.wy_telling.specs.Answers.{Refused, NotRead, NoSuch, answered, not_there, not_read}
 use Rattle.wy_reply.specs.Carried.{AffectedAnswer, all_to, data_to}
-use Rattle.wy_reply.specs.Tellings.{Wanted, Affects, Tells, affects, certify, check, lacking, scoped, why, whynot, questions, explore, audit, output}
+use Rattle.wy_reply.specs.Tellings.{Wanted, Affects, Tells, affects, certify, check, lacking, scoped, why, whynot, questions, explore, audit, migrated, output}
 use Rattle.wy_reply.proofs.Carrying.{Runs, event_below, history_length, ok_is, owners_are}
 
 -- ---- a run
@@ -89,6 +89,7 @@ tells_affects p seal t _ _ _ (certify question answer is) asks same zero_is = ab
 tells_affects p seal t _ _ _ (scoped said call answer is) asks same zero_is = absurd (cc)
 tells_affects p seal t _ _ _ (check bytes r is judged) asks same zero_is = absurd (cc)
 tells_affects p seal t _ _ _ (lacking status text) asks same zero_is = absurd (cc)
+tells_affects p seal t _ _ _ migrated asks same zero_is = absurd (cc)
 
 pub told_affected : (p : memory.Program) (seal : List ℕ) (t : Trace) (w : Wanted) (s : ℕ) (x : List ℕ) (input : List ℕ) (steps : ℕ) → Runs (program_of p) input steps → map recorded t.events ≡ events nothing (program_of p) input steps →
     Tells p seal t w s x → s ≡ 0 → (asks : List ℕ) → w ≡ Affects asks → AffectedAnswer (program_of p) p.lines.items input steps asks x

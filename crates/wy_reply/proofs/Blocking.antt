@@ -13,7 +13,7 @@ use Rattle.wy_meaning.specs.Run.{events}
 use Rattle.wy_meaning.specs.Kept.{covered_of, kept_tail}
 use Rattle.wy_telling.specs.Whynot.{WhynotIs, Denied, NotRead, NoSuch, Ran, answered, ran, not_there, not_read}
 use Rattle.wy_reply.specs.Blocked.{BlockedAnswer}
-use Rattle.wy_reply.specs.Tellings.{Wanted, WhyNot, Tells, covers_of, affects, certify, check, lacking, scoped, why, whynot, questions, explore, audit, output}
+use Rattle.wy_reply.specs.Tellings.{Wanted, WhyNot, Tells, covers_of, affects, certify, check, lacking, scoped, why, whynot, questions, explore, audit, migrated, output}
 
 abbrev ok_text : List ℕ → Result (List ℕ) Denied
 ok_text x = Ok x
@@ -51,6 +51,7 @@ tells_whynot p seal t _ _ _ (certify question answer is) word same zero_is = abs
 tells_whynot p seal t _ _ _ (scoped said call answer is) word same zero_is = absurd (cc)
 tells_whynot p seal t _ _ _ (check bytes r is judged) word same zero_is = absurd (cc)
 tells_whynot p seal t _ _ _ (lacking status text) word same zero_is = absurd (cc)
+tells_whynot p seal t _ _ _ migrated word same zero_is = absurd (cc)
 
 pub told_blocked : (p : memory.Program) (seal : List ℕ) (t : Trace) (s : ℕ) (x : List ℕ) (input : List ℕ) (steps : ℕ) → map recorded t.events ≡ events nothing (program_of p) input steps → AreCovers (program_of p) input steps (covers_of t) →
     (word : List ℕ) → Tells p seal t (WhyNot word) s x → s ≡ 0 → BlockedAnswer (program_of p) p.lines.items input steps word x

@@ -25,7 +25,7 @@ use Rattle.wy_reply.specs.declared.answer.Answer.{Answer}
 use Rattle.wy_reply.specs.declared.status.Status.TheVariants.{Done}
 use Rattle.wy_reply.specs.Statuses.{code_of}
 use Rattle.wy_reply.specs.Recordings.{IsTraceOf, trace_spelling}
-use Rattle.wy_reply.specs.Tellings.{Wanted, Output, Explore, Questions, Why, Affects, Certify, Check, WhyNot, Scope, Audit, Tells, covers_of}
+use Rattle.wy_reply.specs.Tellings.{Wanted, Output, Explore, Questions, Why, Affects, Certify, Check, WhyNot, Scope, Audit, Migrate, Tells, covers_of}
 use Rattle.wy_reply.specs.ByRun.{AnswersByRun, CanTell, HasSource, TellingsAreByRuns, TellsRun}
 use Rattle.wy_reply.proofs.Affecting.{told_affected}
 use Rattle.wy_reply.proofs.Carrying.{Runs, told_carried, told_in}
@@ -73,6 +73,7 @@ told_by_run laws p seal t s x input steps read covers Audit tells done = tt
 told_by_run laws p seal t s x input steps read covers (Certify asks) tells done = tt
 told_by_run laws p seal t s x input steps read covers (Scope word call) tells done = tt
 told_by_run laws p seal t s x input steps read covers (Check given) tells done = tt
+told_by_run laws p seal t s x input steps read covers Migrate tells done = tt
 
 tells_run : Laws → (p : memory.Program) (bytes seal : List ℕ) (w : Wanted) (t : Trace) (s : ℕ) (text : List ℕ) → AreBytes bytes → length bytes ≤ trace_limit → EndFits t.tail → IsReadAs p bytes (Ok t) → Tells p seal t w s text → s ≡ 0 → TellsRun p bytes w text
 tells_run laws p bytes seal w t s text are short fit reads tells done = λ v source input steps can is.

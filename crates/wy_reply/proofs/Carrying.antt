@@ -33,7 +33,7 @@ use Rattle.wy_ask.proofs.Stores.{print_below}
 use Rattle.wy_telling.specs.Answers.{Refused, NotRead, NoSuch, answered, not_there, not_read, marked_lines}
 use Rattle.wy_telling.specs.Why.{WhyIs, why_text}
 use Rattle.wy_reply.specs.ByRun.{CanTell}
-use Rattle.wy_reply.specs.Tellings.{Wanted, Why, Tells, affects, certify, check, lacking, scoped, why, whynot, questions, explore, audit, output}
+use Rattle.wy_reply.specs.Tellings.{Wanted, Why, Tells, affects, certify, check, lacking, scoped, why, whynot, questions, explore, audit, migrated, output}
 use Rattle.wy_reply.specs.Carried.{CarriedAnswer, Means, SameSets, static, field, element, local}
 
 -- ---- bytes tell all of a run's records
@@ -284,6 +284,7 @@ tells_why p seal t _ _ _ (certify question answer is) asks same zero_is = absurd
 tells_why p seal t _ _ _ (scoped said call answer is) asks same zero_is = absurd (cc)
 tells_why p seal t _ _ _ (check bytes r is judged) asks same zero_is = absurd (cc)
 tells_why p seal t _ _ _ (lacking status text) asks same zero_is = absurd (cc)
+tells_why p seal t _ _ _ migrated asks same zero_is = absurd (cc)
 
 pub told_carried : (p : memory.Program) (seal : List ℕ) (t : Trace) (w : Wanted) (s : ℕ) (x : List ℕ) (input : List ℕ) (steps : ℕ) → Runs (program_of p) input steps → map recorded t.events ≡ events nothing (program_of p) input steps →
     Tells p seal t w s x → s ≡ 0 → (asks : List ℕ) → w ≡ Why asks → CarriedAnswer (program_of p) p.lines.items input steps asks x

@@ -10,3 +10,4 @@ pub mod Answering
 pub mod Opening
 pub mod Certifying
 pub mod Seals
+pub mod Anew

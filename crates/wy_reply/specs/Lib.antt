@@ -7,6 +7,7 @@ pub mod Report
 pub mod Certificates
 pub mod Tellings
 pub mod Recordings
+pub mod Migrations
 pub mod Carried
 pub mod Blocked
 pub mod ByRun

@@ -113,3 +113,9 @@ good_line events by_data =
 
 abbrev pub recorded_line : ℕ → List ℕ
 recorded_line events = line_of (codes "-- recorded " ++ (decimal events ++ codes " events"))
+
+-- ---- traces that are written anew
+
+-- of how many events one is
+abbrev pub migrated_line : ℕ → List ℕ
+migrated_line events = line_of (codes "migrate: " ++ (decimal events ++ codes " events"))

@@ -1,5 +1,5 @@
 -- What is due for the bytes of a trace, under the program of its head.
-use Rattle.std.specs.Prelude.{◌≡◌, ℕ, List, map, Some, Result, Ok, Err, Vec}
+use Rattle.std.specs.Prelude.{◌≡◌, ℕ, List, length, map, Some, Result, Ok, Err, Vec}
 use Rattle.std.specs.declared.alloc.Global.{Global}
 use Rattle.wy_kernel.specs.declared.program.Program.{Program}
 use Rattle.wy_kernel.specs.Parts.{program_of}
@@ -39,7 +39,7 @@ use Rattle.wy_why.specs.declared.answer.Answer as found
 use Rattle.wy_session.specs.Desk.{scene_of}
 use Rattle.wy_session.specs.Talk.{Talks}
 use Rattle.wy_reply.specs.Certificates.{CertifyIs, seal_of, verdict_line, verdict_status}
-use Rattle.wy_reply.specs.Lines.{cut_line, damaged_line, bad_seal_line, not_read_line, no_such_line, passed_line, ran_line, equal_line, differs_line, tail_differs_line}
+use Rattle.wy_reply.specs.Lines.{cut_line, damaged_line, bad_seal_line, not_read_line, no_such_line, passed_line, ran_line, equal_line, differs_line, tail_differs_line, migrated_line}
 use Rattle.wy_reply.specs.declared.answer.Answer.{Answer}
 use Rattle.wy_reply.specs.declared.status.Status.TheVariants as status
 use Rattle.wy_reply.specs.declared.telling.Inquiry.{Inquiry}
@@ -67,8 +67,8 @@ pub data Given : Type 0 where
   Lacking : (status : ℕ) (text : List ℕ) → Given
 
 -- what a trace is to tell: what its run wrote, what can be asked, what a question's event comes from, the certificate of that, what
--- comes from it, why a statement never began, why the guards around one were not passed in a call, whether it is the trace of that run, whether a certificate is good for it, or what a
--- session over it answers
+-- comes from it, why a statement never began, why the guards around one were not passed in a call, whether it is the trace of that run, whether a certificate is good for it, of how many
+-- events it is, where it is written anew, or what a session over it answers
 pub data Wanted : Type 0 where
   Output : Wanted
   Explore : (input : List ℕ) → Wanted
@@ -80,6 +80,7 @@ pub data Wanted : Type 0 where
   Scope : (word : List ℕ) (call : ℕ) → Wanted
   Audit : Wanted
   Check : Given → Wanted
+  Migrate : Wanted
 
 -- the status and the text of the answer to a question
 abbrev pub answer_status : Result (List ℕ) Refused → ℕ
@@ -150,6 +151,7 @@ pub data Tells (p : Program) (seal : List ℕ) (t : Trace) : Wanted → ℕ → 
       → Judges (owners (program_of p)) (Some (map recorded t.events)) seal bytes r
       → Tells p seal t (Check (Bytes bytes)) (verdict_status r) (verdict_line r)
   lacking : (status : ℕ) (text : List ℕ) → Tells p seal t (Check (Lacking status text)) status text
+  migrated : Tells p seal t Migrate 0 (migrated_line (length (map recorded t.events)))
 
 -- the status and the text that are due for bytes: what is wrong with them first, or what the trace tells that they are read as
 pub data DueUnder (p : Program) (bytes : List ℕ) (w : Wanted) : ℕ → List ℕ → Type 0 where

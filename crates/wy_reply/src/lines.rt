@@ -1,7 +1,7 @@
 //! The lines of refusals.
 ghost use Rattle.std.specs.Prelude.{◌≡◌, ◌++◌, IfOk};
 ghost use Rattle.std.specs.Fmt.{decimal};
-ghost use Rattle.wy_reply.specs.Lines.{line_of, damage_name, damaged_as, good_line, passed_line, ran_line, recorded_line};
+ghost use Rattle.wy_reply.specs.Lines.{line_of, damage_name, damaged_as, good_line, migrated_line, passed_line, ran_line, recorded_line};
 ghost use Rattle.wy_reply.specs.Refusals.{refusal_status, refusal_text};
 
 use crate::source::source_refusal_line;
@@ -196,6 +196,14 @@ pub fn recorded_line(alloc: Global, events: u32) -> Result<Vec<u8>, AllocError>
     ensures { IfOk result (λ line. line.items ≡ recorded_line events) }
 {
     let line = format!(in alloc; "-- recorded {events} events\n")?;
+    Ok(line.into_bytes())
+}
+
+/// The line that is written of a trace of so many events that was written anew.
+pub fn migrated_line(alloc: Global, events: usize) -> Result<Vec<u8>, AllocError>
+    ensures { IfOk result (λ line. line.items ≡ migrated_line events) }
+{
+    let line = format!(in alloc; "migrate: {events} events\n")?;
     Ok(line.into_bytes())
 }
 

@@ -6,7 +6,7 @@ use Rattle.wy_kernel.specs.Program.{Program}
 use Rattle.wy_outside.specs.Counts.{Rose}
 use Rattle.wy_outside.specs.Shelf.{Files}
 use Rattle.wy_record.specs.Recorders.{Mirrors}
-use Rattle.wy_words.specs.Words.{Asked, Asks, Command, Gen, Record, IsNoCommand, AskOneCommand}
+use Rattle.wy_words.specs.Words.{Asked, Asks, Command, Gen, IsNoCommand, AskOneCommand}
 use Rattle.wy_reply.specs.declared.answer.Answer.{Answer}
 use Rattle.wy_reply.specs.declared.status.Status.{Status}
 use Rattle.wy_reply.specs.declared.status.Status.TheVariants.{Usage, Fault, Done}
@@ -21,7 +21,7 @@ use Rattle.wy_top.specs.declared.files.Contents.{Contents}
 use Rattle.wy_top.specs.declared.files.FileError.{FileError}
 use Rattle.wy_top.specs.declared.files.FileError.TheVariants as error
 use Rattle.wy_top.specs.Answers.{Counts, counts, IsAnswer, IsFault, Knows}
-use Rattle.wy_top.specs.Call.{Traced, Traces}
+use Rattle.wy_top.specs.Call.{Traced, TracedBy, Traces}
 use Rattle.wy_top.specs.Due.{Due, DueFor, DueForRun, DueForBytes, DueForTrace, DueTo}
 use Rattle.wy_top.specs.Due as due
 use Rattle.wy_kernel.specs.Limits.{trace_limit}
@@ -188,24 +188,21 @@ pub fault_named : (held : Option Files) (c : Command) (before after : Counts) (r
 fault_named held c before after (Ok answer) is = faulted (λ files. DueTo files c) held before after answer is
 fault_named held c before after (Err e) is = tt
 
-same_asked : (a b : Asked) (t u : List ℕ) → Record a t ≡ Record b u → a ≡ b
-same_asked a b t u e = cc
+traces_of : AskOneCommand → (s : Spelling) (words : List (List ℕ)) (held : Option Files) (c : Command) (old new : Mirrors) → Asks words c →
+    ((files : Files) → held ≡ Some files → TracedBy s files c old new) → Traces s words held old new
+traces_of one s words held c old new asks traced = λ d files also told. subst (λ (z : Command). TracedBy s files z old new) (one words c d asks also) (traced files told)
 
-traces_of : AskOneCommand → (s : Spelling) (words : List (List ℕ)) (held : Option Files) (a : Asked) (trace : List ℕ) (old new : Mirrors) → Asks words (Record a trace) →
-    ((files : Files) → held ≡ Some files → Traced s files a old new) → Traces s words held old new
-traces_of one s words held a trace old new asks traced = λ b name files also told.
-    subst (λ (z : Asked). Traced s files z old new) (same_asked a b trace name (one words (Record a trace) (Record b name) asks also)) (traced files told)
+pub traces_due : AskOneCommand → (s : Spelling) (words : List (List ℕ)) (held : Option Files) (c : Command) (old new : Mirrors) (r : Result Answer AllocError) → Asks words c →
+    IfOk r (λ answer. answer.status ≡ Done → (files : Files) → held ≡ Some files → TracedBy s files c old new) → IfOk r (λ answer. answer.status ≡ Done → Traces s words held old new)
+traces_due one s words held c old new (Ok answer) asks traced = λ done. traces_of one s words held c old new asks (traced done)
+traces_due one s words held c old new (Err e) asks traced = tt
 
-pub traces_due : AskOneCommand → (s : Spelling) (words : List (List ℕ)) (held : Option Files) (a : Asked) (trace : List ℕ) (old new : Mirrors) (r : Result Answer AllocError) → Asks words (Record a trace) →
-    IfOk r (λ answer. answer.status ≡ Done → (files : Files) → held ≡ Some files → Traced s files a old new) → IfOk r (λ answer. answer.status ≡ Done → Traces s words held old new)
-traces_due one s words held a trace old new (Ok answer) asks traced = λ done. traces_of one s words held a trace old new asks (traced done)
-traces_due one s words held a trace old new (Err e) asks traced = tt
-
+-- a command that uses no recorder
 pub traces_other : AskOneCommand → (s : Spelling) (words : List (List ℕ)) (held : Option Files) (c : Command) (old new : Mirrors) (r : Result Answer AllocError) → Asks words c →
-    ((a : Asked) (trace : List ℕ) → c ≡ Record a trace → ⊥) → IfOk r (λ answer. answer.status ≡ Done → Traces s words held old new)
-traces_other one s words held c old new (Ok answer) asks other = λ done a trace files also told. absurd (other a trace (one words c (Record a trace) asks also))
+    ((files : Files) → TracedBy s files c old new) → IfOk r (λ answer. answer.status ≡ Done → Traces s words held old new)
+traces_other one s words held c old new (Ok answer) asks other = λ done. traces_of one s words held c old new asks (λ files told. other files)
 traces_other one s words held c old new (Err e) asks other = tt
 
 pub traces_none : (s : Spelling) (words : List (List ℕ)) (held : Option Files) (old new : Mirrors) (r : Result Answer AllocError) → IsNoCommand words → IfOk r (λ answer. answer.status ≡ Done → Traces s words held old new)
-traces_none s words held old new (Ok answer) none = λ done a trace files also told. absurd (none (Record a trace) also)
+traces_none s words held old new (Ok answer) none = λ done c files also told. absurd (none c also)
 traces_none s words held old new (Err e) none = tt

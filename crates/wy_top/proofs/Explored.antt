@@ -6,7 +6,7 @@ use Rattle.wy_outside.specs.Shelf.{Files}
 use Rattle.wy_outside.specs.Sink.{appended}
 use Rattle.wy_view.specs.declared.view.ViewError.{ViewError}
 use Rattle.wy_view.specs.declared.view.ViewError.TheVariants as view
-use Rattle.wy_words.specs.Words.{Command as Request, Explore, IsNoCommand, Record, Why, Affects, WhyNot}
+use Rattle.wy_words.specs.Words.{Command as Request, Explore, IsNoCommand, Why, Affects, WhyNot}
 use Rattle.wy_session.specs.Scene.{Scene}
 use Rattle.wy_session.specs.Closings.{TakesManyFor, TookMany, keys_fault_line}
 use Rattle.wy_session.specs.declared.ending.Ending.{Ending}
@@ -22,8 +22,8 @@ use Rattle.wy_record.specs.Recorders.{Mirrors}
 use Rattle.wy_record.specs.declared.recorder.Phase.{Phase}
 use Rattle.wy_reply.specs.Recordings.{Spelling}
 use Rattle.wy_top.specs.Answers.{AsksToExplore}
-use Rattle.wy_top.specs.Left.{FinishesProgram, Leaves}
-use Rattle.wy_top.specs.Call.{AnswersEach, Carries, Cuts, IsOfTrace, Traces, WritesAll, WritesCarried, WritesCut, WasRefused, WritesFaultLine, WritesLast, WritesRefusal, of_keys, of_shelf}
+use Rattle.wy_top.specs.Left.{Finishes, FinishesProgram, Leaves, LeftBy}
+use Rattle.wy_top.specs.Call.{AnswersEach, Carries, Cuts, IsOfTrace, TracedBy, Traces, WritesAll, WritesCarried, WritesCut, WasRefused, WritesFaultLine, WritesLast, WritesRefusal, of_keys, of_shelf}
 use Rattle.wy_top.specs.Call as call
 use Rattle.wy_top.specs.Deliveries.{Delivers}
 use Rattle.wy_top.specs.Openings.{ClosedOver, CountsBy, EndsBy, Explores, Keys, Output, TellsRefusal, memory, refused}
@@ -330,10 +330,10 @@ explored_absent name held sb sa kb ka b a _ (memory stayed kept) is = absurd cc
 -- ---- what words that ask for a session don't ask
 
 pub explored_traces : (s : Spelling) (words : List (List ℕ)) (name : List ℕ) (held : Option Files) (old new : Mirrors) → Session words name → Traces s words held old new
-explored_traces s words name held old new x = λ a trace files also told. absurd (let e = x.one words (Record a trace) (Explore name) also x.asks in cc)
+explored_traces s words name held old new x = λ c files also told. subst (λ (z : Request). TracedBy s files z old new) (x.one words (Explore name) c x.asks also) tt
 
 pub explored_leaves : (s : Spelling) (words : List (List ℕ)) (name : List ℕ) (held : Option Files) (at : Phase) (old new : Mirrors) → Session words name → Leaves s words held at old new
-explored_leaves s words name held at old new x = λ a trace files also told. absurd (let e = x.one words (Record a trace) (Explore name) also x.asks in cc)
+explored_leaves s words name held at old new x = λ c files also told. subst (λ (z : Request). LeftBy s files z at old new) (x.one words (Explore name) c x.asks also) tt
 
 pub is_command : (words : List (List ℕ)) (name : List ℕ) → Session words name → ¬ IsNoCommand words
 is_command words name x none = none (Explore name) x.asks
@@ -342,4 +342,4 @@ pub is_session : (words : List (List ℕ)) (name : List ℕ) → Session words n
 is_session words name x = (name, x.asks)
 
 pub explored_finishes : (words : List (List ℕ)) (name : List ℕ) (held : Option Files) (at : Phase) → Session words name → FinishesProgram words held at
-explored_finishes words name held at x = λ a trace also. absurd (let e = x.one words (Record a trace) (Explore name) also x.asks in cc)
+explored_finishes words name held at x = λ c also. subst (λ (z : Request). Finishes z held at) (x.one words (Explore name) c x.asks also) tt

@@ -9,7 +9,7 @@ use Rattle.wy_outside.specs.Shelf.{Files}
 use Rattle.wy_record.specs.declared.recorder.Phase.{Phase}
 use Rattle.wy_record.specs.declared.recorder.Phase.TheVariants as phase
 use Rattle.wy_record.specs.Recorders.{Mirrors}
-use Rattle.wy_words.specs.Words.{AskOneCommand, Asked, Asks, Command, IsNoCommand, Record}
+use Rattle.wy_words.specs.Words.{AskOneCommand, Asked, Asks, Command, Run, Record, Output, Why, WhyNot, Affects, Certify, Check, Scope, Questions, Explore, Audit, Migrate, Gen, IsNoCommand}
 use Rattle.wy_reply.specs.declared.answer.Answer.{Answer}
 use Rattle.wy_reply.specs.declared.status.Status.TheVariants as status
 use Rattle.wy_reply.specs.Lines.{absent_line, too_long_line}
@@ -24,7 +24,7 @@ use Rattle.wy_top.specs.declared.files.FileError.{FileError}
 use Rattle.wy_top.specs.declared.files.FileError.TheVariants as error
 use Rattle.wy_top.specs.Causes.{ProgramsAreNotRefused}
 use Rattle.wy_top.specs.Held.{Holds, IsInput}
-use Rattle.wy_top.specs.Left.{FinishesProgram, FinishesRun, IsSettled, Leaves, LeavesSome, LeavesSource, LeftFor, StartsNone}
+use Rattle.wy_top.specs.Left.{Finishes, FinishesProgram, FinishesRun, IsSettled, Leaves, LeavesAny, LeavesSome, LeavesSource, LeftAnew, LeftBy, LeftFor, StartsNone}
 use Rattle.wy_top.specs.Reads.{GivesBoth, LacksEither, Tells}
 use Rattle.wy_top.specs.Replies.{RefusesSource}
 use Rattle.wy_top.proofs.AnswerLemmas.{Faulted}
@@ -39,11 +39,33 @@ module _ (s : Spelling) (at : Phase) (ms : Mirrors) (ready : at ≡ phase.Ready)
   pub run_untouched : (files : Files) (a : Asked) → LeftFor s files a at ms ms
   run_untouched files a = subst (λ (z : Phase). LeftFor s files a z ms ms) (sym ready) refl
 
+  pub anew_untouched : (files : Files) (name : List ℕ) → LeftAnew s files name at ms ms
+  anew_untouched files name = subst (λ (z : Phase). LeftAnew s files name z ms ms) (sym ready) refl
+
+  by_untouched : (files : Files) (c : Command) → LeftBy s files c at ms ms
+  by_untouched files (Record a trace) = run_untouched files a
+  by_untouched files (Migrate trace name) = anew_untouched files trace
+  by_untouched files (Run a) = tt
+  by_untouched files (Output trace) = tt
+  by_untouched files (Why trace question) = tt
+  by_untouched files (WhyNot trace statement) = tt
+  by_untouched files (Affects trace question) = tt
+  by_untouched files (Certify trace question) = tt
+  by_untouched files (Check trace certificate) = tt
+  by_untouched files (Scope trace statement call) = tt
+  by_untouched files (Questions trace) = tt
+  by_untouched files (Explore trace) = tt
+  by_untouched files (Audit trace) = tt
+  by_untouched files (Gen n) = tt
+
   pub untouched : (words : List (List ℕ)) (held : Option Files) → Leaves s words held at ms ms
-  untouched words held = λ a trace files asks told. run_untouched files a
+  untouched words held = λ c files asks told. by_untouched files c
 
   pub some_untouched : LeavesSome s at ms ms
   some_untouched = ([], [], 0, source_untouched [] [] 0)
+
+  pub any_untouched : (words : List (List ℕ)) → LeavesAny s words at ms ms
+  any_untouched words = inl some_untouched
 
 pub unstarted_untouched : {X : Type 0} (x : X) (r : Result Answer AllocError) → IfOk r (λ answer. StartsNone (code_of answer.status) → x ≡ x)
 unstarted_untouched x (Ok answer) = λ none. refl
@@ -72,10 +94,10 @@ source_settled s p head at old new n m (Ok answer) (inr (done, text, held, same)
 source_settled s p head at old new n m (Err e) is finished = tt
 
 -- no status of a recording that was begun says that it was not
-not_done : StartsNone 0 → ⊥
+pub not_done : StartsNone 0 → ⊥
 not_done none = omega (arith, none)
 
-not_fault : StartsNone 7 → ⊥
+pub not_fault : StartsNone 7 → ⊥
 not_fault none = omega (arith, none)
 
 pub source_started : (X : Type 0) (s : Spelling) (p : memory.Program) (head : Head) (old new : Mirrors) (n m : ℕ) (r : Result Answer AllocError) → IfOk r (λ answer. RecordsAs s p head old new n m answer) →
@@ -145,33 +167,27 @@ run_left s (Some shelf) a contents at old new gives left files told =
 
 -- ---- the words
 
-same_asked : (a b : Asked) (t u : List ℕ) → Record a t ≡ Record b u → a ≡ b
-same_asked a b t u e = cc
-
-pub leaves : AskOneCommand → (s : Spelling) (words : List (List ℕ)) (held : Option Files) (a : Asked) (trace : List ℕ) (at : Phase) (old new : Mirrors) → Asks words (Record a trace) →
-    ((files : Files) → held ≡ Some files → LeftFor s files a at old new) → Leaves s words held at old new
-leaves one s words held a trace at old new asks left = λ b name files also told.
-    subst (λ (z : Asked). LeftFor s files z at old new) (same_asked a b trace name (one words (Record a trace) (Record b name) asks also)) (left files told)
-
--- words that ask for something else ask to record no run
-pub leaves_other : AskOneCommand → (s : Spelling) (words : List (List ℕ)) (held : Option Files) (c : Command) (at : Phase) (old new : Mirrors) → Asks words c →
-    ((a : Asked) (trace : List ℕ) → c ≡ Record a trace → ⊥) → Leaves s words held at old new
-leaves_other one s words held c at old new asks other = λ a trace files also told. absurd (other a trace (one words c (Record a trace) asks also))
+pub leaves : AskOneCommand → (s : Spelling) (words : List (List ℕ)) (held : Option Files) (c : Command) (at : Phase) (old new : Mirrors) → Asks words c →
+    ((files : Files) → held ≡ Some files → LeftBy s files c at old new) → Leaves s words held at old new
+leaves one s words held c at old new asks left = λ d files also told. subst (λ (z : Command). LeftBy s files z at old new) (one words c d asks also) (left files told)
 
 pub leaves_none : (s : Spelling) (words : List (List ℕ)) (held : Option Files) (at : Phase) (old new : Mirrors) → IsNoCommand words → Leaves s words held at old new
-leaves_none s words held at old new none = λ a trace files also told. absurd (none (Record a trace) also)
+leaves_none s words held at old new none = λ c files also told. absurd (none c also)
 
-pub finishes : AskOneCommand → (words : List (List ℕ)) (held : Option Files) (a : Asked) (trace : List ℕ) (at : Phase) (n m k l : ℕ) (r : Result Answer AllocError) → Asks words (Record a trace) →
-    IfOk r (λ answer. ¬ Rose n m → ¬ Rose k l → FinishesRun a held at) → IfOk r (λ answer. ¬ Rose n m → ¬ Rose k l → FinishesProgram words held at)
-finishes one words held a trace at n m k l (Ok answer) asks is = λ shelf recorder b name also.
-    subst (λ (z : Asked). FinishesRun z held at) (same_asked a b trace name (one words (Record a trace) (Record b name) asks also)) (is shelf recorder)
-finishes one words held a trace at n m k l (Err e) asks is = tt
+finishes_of : AskOneCommand → (words : List (List ℕ)) (held : Option Files) (c : Command) (at : Phase) → Asks words c → Finishes c held at → FinishesProgram words held at
+finishes_of one words held c at asks is = λ d also. subst (λ (z : Command). Finishes z held at) (one words c d asks also) is
 
-pub finishes_other : AskOneCommand → (words : List (List ℕ)) (held : Option Files) (c : Command) (at : Phase) (n m k l : ℕ) (r : Result Answer AllocError) → Asks words c → ((a : Asked) (trace : List ℕ) → c ≡ Record a trace → ⊥) →
+pub finishes : AskOneCommand → (words : List (List ℕ)) (held : Option Files) (c : Command) (at : Phase) (n m k l : ℕ) (r : Result Answer AllocError) → Asks words c →
+    IfOk r (λ answer. ¬ Rose n m → ¬ Rose k l → Finishes c held at) → IfOk r (λ answer. ¬ Rose n m → ¬ Rose k l → FinishesProgram words held at)
+finishes one words held c at n m k l (Ok answer) asks is = λ shelf recorder. finishes_of one words held c at asks (is shelf recorder)
+finishes one words held c at n m k l (Err e) asks is = tt
+
+-- a command that uses no recorder
+pub finishes_other : AskOneCommand → (words : List (List ℕ)) (held : Option Files) (c : Command) (at : Phase) (n m k l : ℕ) (r : Result Answer AllocError) → Asks words c → Finishes c held at →
     IfOk r (λ answer. ¬ Rose n m → ¬ Rose k l → FinishesProgram words held at)
-finishes_other one words held c at n m k l (Ok answer) asks other = λ shelf recorder a trace also. absurd (other a trace (one words c (Record a trace) asks also))
+finishes_other one words held c at n m k l (Ok answer) asks other = λ shelf recorder. finishes_of one words held c at asks other
 finishes_other one words held c at n m k l (Err e) asks other = tt
 
 pub finishes_none : (words : List (List ℕ)) (held : Option Files) (at : Phase) (n m k l : ℕ) (r : Result Answer AllocError) → IsNoCommand words → IfOk r (λ answer. ¬ Rose n m → ¬ Rose k l → FinishesProgram words held at)
-finishes_none words held at n m k l (Ok answer) none = λ shelf recorder a trace also. absurd (none (Record a trace) also)
+finishes_none words held at n m k l (Ok answer) none = λ shelf recorder c also. absurd (none c also)
 finishes_none words held at n m k l (Err e) none = tt

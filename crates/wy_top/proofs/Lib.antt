@@ -15,6 +15,8 @@ pub mod LeftLemmas
 mod OwnTraces
 mod Certified
 mod Sound
+mod AnewTellings
+mod Migrated
 pub mod Paging
 pub mod Fronts
 pub mod Scenes

@@ -45,7 +45,7 @@ use Rattle.wy_session.specs.Desk.{scene_of}
 use Rattle.wy_session.specs.Laws.{OneTalk}
 use Rattle.wy_session.specs.Scene.{Scene}
 use Rattle.wy_session.specs.Talk.{Talks}
-use Rattle.wy_reply.specs.Tellings.{IsTraceLine, Wanted, Tells, DueUnder, covers_of, cut, damaged, bad_seal, output, questions, why, affects, certify, check, lacking, whynot, scoped, audit, explore, refused, told, answer_status, answer_text, whynot_status, whynot_answer, scope_status, scope_answer, audit_status, audit_line}
+use Rattle.wy_reply.specs.Tellings.{IsTraceLine, Wanted, Tells, DueUnder, covers_of, cut, damaged, bad_seal, output, questions, why, affects, certify, check, lacking, whynot, scoped, audit, explore, migrated, refused, told, answer_status, answer_text, whynot_status, whynot_answer, scope_status, scope_answer, audit_status, audit_line}
 use Rattle.wy_top.specs.Causes.{IsNoProgram, IsSyntaxLine}
 use Rattle.wy_top.specs.Due.{DueForBytes, no_head, no_program, program}
 use Rattle.wy_program.specs.Programs.{IsProgramOf}
@@ -212,6 +212,7 @@ one_telling known p q seal t _ _ _ _ _ parts lines (check bytes r is first) (che
     same_said r s (known.verdicts (owners (program_of p)) (map recorded t.events) seal bytes r s is also first
     (subst (λ (z : Program). Judges (owners z) (Some (map recorded t.events)) seal bytes s) (sym parts) second))
 one_telling known p q seal t _ _ _ _ _ parts lines (lacking s x) (lacking u y) = (refl, refl)
+one_telling known p q seal t _ _ _ _ _ parts lines migrated migrated = (refl, refl)
 
 one_under : Traces → (p q : memory.Program) (bytes : List ℕ) (w : Wanted) (s u : ℕ) (x y : List ℕ) → program_of p ≡ program_of q → p.lines.items ≡ q.lines.items → DueUnder p bytes w s x → DueUnder q bytes w u y → Same s u x y
 one_under known p q bytes w _ _ _ _ parts lines (refused e k reads line) (refused f l also other) =

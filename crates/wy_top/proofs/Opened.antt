@@ -1,5 +1,5 @@
 -- What the opening of a trace comes to.
-use Rattle.std.proofs.Common.{◌≡◌, ◌⊎◌, ◌∙◌, sym, ap, subst, refl, inl, inr, ℕ, ◌≤◌, true, false, List, length, Option, Some, None, Result, Ok, Err, IfOk, Vec, Global}
+use Rattle.std.proofs.Common.{◌≡◌, ◌⊎◌, ◌∙◌, sym, ap, subst, refl, inl, inr, ℕ, ◌≤◌, true, false, List, [], length, Option, Some, None, Result, Ok, Err, IfOk, Vec, Global}
 use Rattle.std.specs.Prelude.{MatchBool}
 use Rattle.std.specs.declared.alloc.AllocError.{AllocError}
 use Rattle.wy_kernel.specs.declared.program.Program.{Program}
@@ -26,7 +26,7 @@ use Rattle.wy_top.specs.Call.{IsOpened}
 use Rattle.wy_top.specs.Due.{DueForBytes, DueForTrace}
 use Rattle.wy_top.specs.Due as due
 use Rattle.wy_kernel.specs.Limits.{trace_limit}
-use Rattle.wy_top.specs.Openings.{AnswersAny, IsSettled, OpensBytes, OpensFile}
+use Rattle.wy_top.specs.Openings.{AnswersAny, IsSettled, OpensBytes, OpensFile, OpensSome}
 use Rattle.wy_program.specs.Openings.{ByHead, IsNoTrace}
 use Rattle.wy_program.specs.Programs.{IsProgramOf}
 use Rattle.wy_program.specs.Sources.{IsCauseOf}
@@ -142,3 +142,24 @@ pub lacking_file : (held : Option Files) (name : List ℕ) (e : FileError) (befo
     MatchBool (is_fault e) (Rose before.faults after.faults) (after.faults ≡ before.faults) → MatchBool (is_absent e) (Rose before.misses after.misses) (after.misses ≡ before.misses) →
     MatchBool (is_too_long e) (Rose before.fulls after.fulls) (after.fulls ≡ before.fulls) → Tells e answer → OpensFile held name before after (Refused answer)
 lacking_file held name e before after answer gives fault absent long tells = (lack_caused e before after answer absent long tells, any_lack held name e before after answer gives fault tells)
+
+-- ---- whatever the shelf tells
+
+-- a shelf of one file
+abbrev only : List ℕ → Files
+only bytes = λ name. Some bytes
+
+some_of : (bytes : List ℕ) (o : Opening) → length bytes ≤ trace_limit → OpensBytes bytes o → OpensSome o
+some_of bytes (Open typed t) short (head, end, v, at, is, read) =
+    (only bytes, [], record { bytes = bytes; holds = record { found = refl; within = short }; head = head; end = end; version = v; is_head = at; is_program = is; is_read = read })
+some_of bytes (Refused answer) short opens = opens.0
+
+pub opened_some : (bytes : Vec ℕ Global) (given : List ℕ) (r : Result Opening AllocError) → length bytes.items ≤ trace_limit → given ≡ bytes.items → IfOk r (OpensBytes given) → IfOk r OpensSome
+opened_some bytes given (Ok o) short first is = some_of bytes.items o short (rw (first) at is)
+opened_some bytes given (Err e) short first is = tt
+
+pub lacking_some : (e : FileError) (answer : Answer) → Tells e answer → OpensSome (Refused answer)
+lacking_some (error.Absent lacking) answer tells done = let x = sym tells.0 ∙ done in cc
+lacking_some (error.TooLong lacking) answer tells done = let x = sym tells.0 ∙ done in cc
+lacking_some error.Fault answer tells done = let x = sym tells.0 ∙ done in cc
+lacking_some error.NoMemory answer tells done = tells

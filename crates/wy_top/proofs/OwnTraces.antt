@@ -1,4 +1,4 @@
--- The trace of a run of the program of a text is read, and not refused.
+-- The trace of a run of the program of a text tells its events, is read, and is not refused.
 use Rattle.std.proofs.Common.{◌≡◌, ◌∙◌, sym, ap, subst, refl, ℕ, ◌≤◌, List, length, map, Err, arith}
 use Rattle.std.specs.List.{AllByRecursion}
 use Rattle.std.proofs.lemmas.List.{length-map}
@@ -13,12 +13,11 @@ use Rattle.wy_kernel.specs.Parts.{program_of}
 use Rattle.wy_event.specs.Record.{Recorded, recorded}
 use Rattle.wy_event.specs.declared.record.Head.{Head}
 use Rattle.wy_event.specs.declared.record.Version.{Version}
-use Rattle.wy_fitting.specs.Fits.{AllFit, told}
+use Rattle.wy_fitting.specs.Fits.{AllFit, AllTold, told}
 use Rattle.wy_steps.specs.Sets.{nothing}
 use Rattle.wy_meaning.specs.Run as meaning
 use Rattle.wy_meaning.specs.Run.{events}
 use Rattle.wy_meaning.specs.Kept.{kept_tail}
-use Rattle.law_shaped.specs.Shaped.{RecordsAreShaped}
 use Rattle.wy_typing.specs.Programs.{IsProgram}
 use Rattle.law_typed_states.specs.Typed.{KeepsLibrary}
 use Rattle.law_own_traces.specs.KeptLibrary.{ProgramsKeepLibrary}
@@ -27,26 +26,23 @@ use Rattle.wy_program.specs.Laws.{TextsArePrograms}
 use Rattle.wy_program.proofs.Programs.{few_parts}
 use Rattle.law_in_range.specs.InRange.{FitsText, IsByteOf}
 use Rattle.law_own_traces.specs.Laws.{TreesFitTheirTexts}
-use Rattle.law_own_traces.specs.Own.{IsOwn, OfFittingPrograms, OwnTracesAreNotRefused, OwnTracesAreRead, text_of}
+use Rattle.law_own_traces.specs.Own.{IsOwn, OfFittingPrograms, OwnBytesTellEvents, OwnEventsAreTold, OwnTracesAreNotRefused, OwnTracesAreRead, text_of}
 use Rattle.wy_frames.specs.declared.error.TraceError.{TraceError}
 use Rattle.wy_frames.specs.declared.error.TraceError.TheVariants.{NoMemory}
 use Rattle.wy_frames.specs.Traces.{ReadsAs}
 use Rattle.wy_spelling.specs.Spelling.{run_bytes}
-use Rattle.wy_reply.proofs.Carrying.{told_in}
-use Rattle.wy_reply.specs.ByRun.{CanTell}
 use Rattle.wy_reply.specs.Recordings.{IsTraceOf, trace_spelling}
-use Rattle.wy_top.specs.OwnTraces.{IsReadAsRun, IsRecorded, RecordedTracesAreNotRefused, RecordedTracesAreRead}
+use Rattle.wy_top.specs.OwnTraces.{IsReadAsRun, IsRecorded, RecordedTracesAreNotRefused, RecordedTracesAreRead, RecordedTracesTellEvents}
 use Rattle.wy_program.specs.Programs.{IsProgramOf}
 use Rattle.wy_program.proofs.Sources.{few_tokens}
 
--- what is known of texts, of their programs and of own traces
+-- what is known of texts and of their programs
 pub record Laws : Type 0 where
   pub ordered : TokensInOrder
   pub programs : TextsArePrograms
   pub few : TreesDeclareFew
   pub library : ProgramsKeepLibrary
   pub texts : TreesFitTheirTexts
-  pub shaped : (p : Program) (input : List ℕ) (steps : ℕ) → RecordsAreShaped nothing p input steps
 
 -- ---- the program of a text
 
@@ -102,12 +98,11 @@ module _ (v : Version) (source input : List ℕ) (steps : ℕ) (p : memory.Progr
   spelled : bytes ≡ run_bytes v is.head runs is.end
   spelled = at_head (λ i n. bytes ≡ run_bytes v is.head (events nothing (program_of p) i n) is.end) is.head input steps is.input_is is.steps_are is.spelled
 
-  pub read_as_run : Laws → OfFittingPrograms OwnTracesAreRead → IsReadAsRun source input steps p bytes
-  read_as_run laws reads =
+  pub read_as_run : Laws → OfFittingPrograms OwnEventsAreTold → OfFittingPrograms OwnTracesAreRead → IsReadAsRun source input steps p bytes
+  read_as_run laws tells reads =
       let a = asked laws source p r.source_within r.is_program in
       let x = reads p a.fits a.keeps a.text v is.head runs is.end bytes own r.within spelled in
-      let can : CanTell v runs = at_head (λ i n. CanTell v (events nothing (program_of p) i n)) is.head input steps is.input_is is.steps_are r.can_tell in
-      let all : map (told v) runs ≡ runs = map_fixed (told v) runs (told_in v (program_of p) is.head.input is.head.steps (laws.shaped (program_of p) is.head.input is.head.steps) can) in
+      let all : map (told v) runs ≡ runs = map_fixed (told v) runs (tells p a.fits a.keeps a.text v is.head.input is.head.steps own.bytes) in
       record {
         trace = x.trace;
         read = x.read;
@@ -123,8 +118,16 @@ module _ (v : Version) (source input : List ℕ) (steps : ℕ) (p : memory.Progr
       let a = asked laws source p r.source_within r.is_program in
       reads p a.fits a.keeps a.text v is.head runs is.end bytes own r.within spelled e refused
 
-pub traces_read : Laws → OfFittingPrograms OwnTracesAreRead → RecordedTracesAreRead
-traces_read laws reads v source input steps p bytes r = read_as_run v source input steps p bytes r laws reads
+pub traces_read : Laws → OfFittingPrograms OwnEventsAreTold → OfFittingPrograms OwnTracesAreRead → RecordedTracesAreRead
+traces_read laws tells reads v source input steps p bytes r = read_as_run v source input steps p bytes r laws tells reads
 
 pub traces_not_refused : Laws → OfFittingPrograms OwnTracesAreNotRefused → RecordedTracesAreNotRefused
 traces_not_refused laws reads v source input steps p bytes r = not_refused v source input steps p bytes r laws reads
+
+-- what its bytes tell
+pub traces_tell : Laws → OfFittingPrograms OwnBytesTellEvents → RecordedTracesTellEvents
+traces_tell laws tells v source input steps p bytes short of are is =
+    let a = asked laws source p short of in
+    let spelled : bytes ≡ run_bytes v is.head (events nothing (program_of p) is.head.input is.head.steps) is.end =
+    at_head (λ i n. bytes ≡ run_bytes v is.head (events nothing (program_of p) i n) is.end) is.head input steps is.input_is is.steps_are is.spelled in
+    back (λ i n. AllTold v (events nothing (program_of p) i n)) is.head input steps is.input_is is.steps_are (tells p a.fits a.keeps a.text v is.head is.end bytes are spelled)

@@ -268,7 +268,7 @@ paged_answered known laws short by_runs held name p w pages tail before after (O
     let tells = settled_due (DueInPages p pages tail w) held _ _ answer done (from.is 0) files told f.trace f.pages_are in
     let same : o.bytes ≡ bytes = some_is (sym o.holds.found ∙ found) in
     subst (λ (b : List ℕ). AnswersRun b w answer.text.items) same
-    (run_answered known laws o.head.source o.bytes w p answer.text.items o.head o.end o.version (short o.bytes o.head o.end o.version o.is_head) o.is_program o.is_head refl by_run.0 (by_run.1 pages.seal w answer.text.items tells))
+    (run_answered known laws o.head.source o.bytes w p answer.text.items o.head o.end o.version (short o.bytes o.head o.end o.version o.is_head) f.are_bytes o.is_program o.is_head refl by_run.0 (by_run.1 pages.seal w answer.text.items tells))
 
 -- ---- what is answered in place of all
 
@@ -298,7 +298,7 @@ untraced_any held name p e before after answer opens same headed (is, line) =
     settled_any held name before after answer (ap is_of_files is) (λ done. let x = sym is ∙ done in cc) same (λ w files told.
     let h = headed files told in
     let refused = refused_bytes p h.bytes w e answer.text.items line (open_at held name p (Err (page.Trace e)) opens files told h.bytes h.holds.found) in
-    rw (is) (due.read h.bytes 5 answer.text.items h.holds (due.program h.head h.end p 5 answer.text.items h.is_head h.is_program refused)))
+    rw (is) (due.read h.bytes 5 answer.text.items h.holds (due.program h.head h.end h.version p 5 answer.text.items h.is_head h.is_program refused)))
 
 -- a view that could not be had
 unopened : (held : Option Files) (name : List ℕ) (p : Program) (e : ViewError) (before after : ShelfCounts) → Opens held name p (Err (page.View e)) → OpenCounts {X = Pages × Tail} (Err (page.View e)) before.faults after.faults before.misses after.misses

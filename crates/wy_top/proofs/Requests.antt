@@ -2,7 +2,7 @@
 use Rattle.std.proofs.Common.{◌≡◌, refl, ℕ, ◌≤◌, List, Option, Some, None, IfSome, arith}
 use Rattle.std.specs.Prelude.{option_map}
 use Rattle.wy_words.specs.Views.{command_of, request_of}
-use Rattle.wy_words.specs.Words.{Asks, Command, Gen, IsNoCommand, Record, generated, number_up_to}
+use Rattle.wy_words.specs.Words.{Asks, Command, Gen, IsNoCommand, generated, number_up_to}
 use Rattle.wy_words.specs.declared.commands.Command as memory
 use Rattle.wy_words.specs.declared.commands.Command.TheVariants.{Once}
 use Rattle.wy_words.specs.declared.commands.Request.{Request}
@@ -39,5 +39,5 @@ none_asked words None asked none = refl
 none_asked words (Some request) asked none = absurd (none (request_of request) asked)
 
 pub no_recording : (words : List (List ℕ)) (request : Option Command) → IsAsked words request → RecordsNothing words → IsNoRecording request
-no_recording words None asked nothing a trace is = absurd cc
-no_recording words (Some c) asked nothing a trace is = let same : c ≡ Record a trace = cc in nothing a trace (rw (same) at asked)
+no_recording words None asked nothing c is = absurd cc
+no_recording words (Some d) asked nothing c is = let same : d ≡ c = cc in nothing c (rw (same) at asked)

@@ -7,8 +7,11 @@ use Rattle.wy_kernel.specs.Program.{Program}
 use Rattle.wy_kernel.specs.Parts.{program_of}
 use Rattle.wy_event.specs.declared.record.Head.{Head}
 use Rattle.wy_event.specs.declared.record.Version.{Version}
+use Rattle.wy_event.specs.declared.record.Version.TheVariants as version
+use Rattle.wy_event.specs.Record.{Recorded}
 use Rattle.wy_event.specs.declared.record.Trace.{Trace}
-use Rattle.law_reading.specs.Spelled.{HeadsAreShort}
+use Rattle.law_reading.specs.Spelled.{AreBytes, HeadsAreShort}
+use Rattle.wy_fitting.specs.Fits.{AllTold}
 use Rattle.wy_tree.specs.TokenLaws.{TokensInOrder}
 use Rattle.wy_steps.specs.Sets.{nothing}
 use Rattle.wy_meaning.specs.Run.{events}
@@ -32,6 +35,7 @@ use Rattle.wy_top.specs.declared.files.FileError.TheVariants as error
 use Rattle.wy_top.specs.Call.{AnswersEach, AnswersRun, AnswersRunOf, Carries, IsRunAnswer, WritesAll}
 use Rattle.wy_top.specs.Cuts.{CutAnswer}
 use Rattle.wy_top.specs.Deliveries.{Delivers}
+use Rattle.wy_top.specs.OwnTraces.{RecordedTracesTellEvents}
 use Rattle.wy_kernel.specs.Limits.{source_limit, trace_limit}
 use Rattle.wy_program.specs.Programs.{IsProgramOf}
 use Rattle.wy_program.specs.declared.typed.TypedProgram.{TypedProgram}
@@ -43,12 +47,13 @@ use Rattle.wy_program.proofs.Sources.{few_tokens}
 
 -- ---- a least cut
 
--- what is known of texts, and of the links of their programs
+-- what is known of texts, of the links of their programs, and of the traces of these
 pub record CutLaws : Type 0 where
   pub ordered : TokensInOrder
   pub cut : ItemsAreACut
   pub needed : OfTexts (EachItemIsNeeded nothing)
   pub calls : OfTexts (CallsStandOnLinks nothing)
+  pub told : RecordedTracesTellEvents
 
 least : CutLaws → (source : List ℕ) (p : memory.Program) (lines input : List ℕ) (steps : ℕ) (word text : List ℕ) → length source ≤ source_limit → IsProgramOf source p →
     BlockedAnswer (program_of p) lines input steps word text → CutAnswer (program_of p) lines input steps word text
@@ -75,6 +80,7 @@ by_run laws source p input steps wanted.Audit text short of h = tt
 by_run laws source p input steps (wanted.Certify question) text short of h = tt
 by_run laws source p input steps (wanted.Scope word call) text short of h = tt
 by_run laws source p input steps (wanted.Check given) text short of h = tt
+by_run laws source p input steps wanted.Migrate text short of h = tt
 
 -- the answer says the same of two programs in memory that are one program
 same_why : (p q : memory.Program) (input : List ℕ) (steps : ℕ) (question text : List ℕ) → program_of p ≡ program_of q → p.lines.items ≡ q.lines.items →
@@ -103,24 +109,30 @@ same_answer p q input steps wanted.Audit text same lines h = tt
 same_answer p q input steps (wanted.Certify question) text same lines h = tt
 same_answer p q input steps (wanted.Scope word call) text same lines h = tt
 same_answer p q input steps (wanted.Check given) text same lines h = tt
+same_answer p q input steps wanted.Migrate text same lines h = tt
 
 -- ---- bytes
 
-pub run_answered : Known → CutLaws → (source bytes : List ℕ) (w : Wanted) (p : memory.Program) (text : List ℕ) (head : Head) (end : ℕ) (u : Version) → length source ≤ source_limit → IsProgramOf source p → head_of bytes ≡ Ok (head, end, u) → head.source ≡ source →
+-- a version that tells all of these events can tell them
+can_tell : (v : Version) (rs : List Recorded) → AllTold v rs → CanTell v rs
+can_tell version.One rs h = h
+can_tell version.Two rs h = tt
+
+pub run_answered : Known → CutLaws → (source bytes : List ℕ) (w : Wanted) (p : memory.Program) (text : List ℕ) (head : Head) (end : ℕ) (u : Version) → length source ≤ source_limit → AreBytes bytes → IsProgramOf source p → head_of bytes ≡ Ok (head, end, u) → head.source ≡ source →
     HasSource bytes → TellsRun p bytes w text → AnswersRun bytes w text
-run_answered known laws source bytes w p text head end u short of at here has tells = λ v text_of input steps q also can is.
+run_answered known laws source bytes w p text head end u short are of at here has tells = λ v text_of input steps q also is.
     let there : text_of ≡ source = sym (has v (program_of q) text_of input steps is head end u at) ∙ here in
     let one = one_program known source p q of (subst (λ (s : List ℕ). IsProgramOf s q) there also) in
     let trace : IsTraceOf (trace_spelling v) (program_of p) source input steps bytes =
     subst (λ (z : Program). IsTraceOf (trace_spelling v) z source input steps bytes) (sym one.0) (subst (λ (s : List ℕ). IsTraceOf (trace_spelling v) (program_of q) s input steps bytes) there is) in
-    let told : CanTell v (events nothing (program_of p) input steps) = subst (λ (z : Program). CanTell v (events nothing z input steps)) (sym one.0) can in
+    let told : CanTell v (events nothing (program_of p) input steps) = can_tell v (events nothing (program_of p) input steps) (laws.told v source input steps p bytes short of are trace) in
     same_answer p q input steps w text one.0 one.1 (by_run laws source p input steps w text short of (tells v source input steps told trace))
 
-pub opened_answered : Known → CutLaws → HeadsAreShort → (bytes : List ℕ) (w : Wanted) (typed : TypedProgram) (t : Trace) (r : Result Answer AllocError) → OpensBytes bytes (Open typed t) →
+pub opened_answered : Known → CutLaws → HeadsAreShort → (bytes : List ℕ) (w : Wanted) (typed : TypedProgram) (t : Trace) (r : Result Answer AllocError) → AreBytes bytes → OpensBytes bytes (Open typed t) →
     IfOk r (λ answer. answer.status ≡ Done → TellsRun typed.program bytes w answer.text.items) → IfOk r (λ answer. answer.status ≡ Done → HasSource bytes) → IfOk r (λ answer. answer.status ≡ Done → AnswersRun bytes w answer.text.items)
-opened_answered known laws short bytes w typed t (Ok answer) (head, end, u, at, is, read) tells has =
-    λ done. run_answered known laws head.source bytes w typed.program answer.text.items head end u (short bytes head end u at) is at refl (has done) (tells done)
-opened_answered known laws short bytes w typed t (Err x) opens tells has = tt
+opened_answered known laws short bytes w typed t (Ok answer) are (head, end, u, at, is, read) tells has =
+    λ done. run_answered known laws head.source bytes w typed.program answer.text.items head end u (short bytes head end u at) are is at refl (has done) (tells done)
+opened_answered known laws short bytes w typed t (Err x) are opens tells has = tt
 
 -- ---- files
 

@@ -38,7 +38,7 @@ use Rattle.wy_session.specs.Desk.{scene_of}
 use Rattle.wy_session.specs.Scene.{Scene}
 use Rattle.wy_session.specs.Talk.{Ends, Reaches, Talks, FirstLine, ended, last, line, long_input, long_line, over, quit, start, talks}
 use Rattle.wy_explore.specs.Session.{Session}
-use Rattle.wy_words.specs.Words.{Asked, Command, Run, Record, Output, Questions, Why, Affects, Certify, Check, Scope, WhyNot, Audit, Explore, Gen, AskOneCommand}
+use Rattle.wy_words.specs.Words.{Asked, Command, Run, Record, Output, Questions, Why, Affects, Certify, Check, Scope, WhyNot, Audit, Explore, Migrate, Gen, AskOneCommand}
 use Rattle.wy_gen.specs.Generated.{source as generated_source}
 use Rattle.wy_program.specs.Programs.{IsProgramOf}
 use Rattle.wy_reply.specs.Certificates.{CertifyIs, itself, seal_of, verdict_status}
@@ -170,6 +170,7 @@ told_well known p q seal t _ _ _ parts lines there (wanted.explore input status 
 told_well known p q seal t _ _ _ parts lines there (wanted.audit v is) = audited v
 told_well known p q seal t _ _ _ parts lines there (wanted.check given r is judged) = checked r
 told_well known p q seal t _ _ _ parts lines there (wanted.lacking status text) = absurd there
+told_well known p q seal t _ _ _ parts lines there wanted.migrated = refl
 
 -- ---- its bytes
 
@@ -191,7 +192,7 @@ bytes_well known traces p bytes head end v t w _ _ at of read there (due.program
     let one = one_program known head.source p q of (subst (λ (z : Head). IsProgramOf z.source q) (one_head bytes head h end m v u at is) also) in
     under_well traces p q bytes t w status text one.0 one.1 read there under
 
-trace_well : Known → Traces → (files : Files) (name : List ℕ) (w : Wanted) (status : ℕ) (text : List ℕ) → TraceIsThere files name w → DueForTrace files name w status text → TellsWell w status
+pub trace_well : Known → Traces → (files : Files) (name : List ℕ) (w : Wanted) (status : ℕ) (text : List ℕ) → TraceIsThere files name w → DueForTrace files name w status text → TellsWell w status
 trace_well known traces files name w _ _ x (due.no_trace status text lacks) = absurd (not_lacking files name trace_limit x.opened.bytes status text x.opened.holds lacks)
 trace_well known traces files name w _ _ x (due.read b status text holds is) =
     let same : b ≡ x.opened.bytes = one_file files name x.opened.bytes b x.opened.holds.found holds.found in
@@ -234,6 +235,7 @@ command_well known traces files keys (Certify trace question) status text x d = 
 command_well known traces files keys (WhyNot trace word) status text x d = trace_well known traces files trace (wanted.WhyNot word) status text x d
 command_well known traces files keys (Scope trace word call) status text x d = trace_well known traces files trace (wanted.Scope word call) status text x d
 command_well known traces files keys (Audit trace) status text x d = trace_well known traces files trace wanted.Audit status text x d
+command_well known traces files keys (Migrate trace name) status text x d = trace_well known traces files trace wanted.Migrate status text x d
 command_well known traces files keys (Check trace name) status text x d = check_well known traces files trace name x.0 status text x.1 x.2 d
 command_well known traces files keys (Explore trace) status text x d = absurd d
 command_well known traces files keys (Gen n) status text x d = absurd d

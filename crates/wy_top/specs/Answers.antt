@@ -2,7 +2,7 @@
 use Rattle.std.specs.Prelude.{◌≡◌, ◌≤◌, ℕ, List, ◌⊎◌, Option, Some, None}
 use Rattle.wy_outside.specs.Counts.{Rose}
 use Rattle.wy_outside.specs.Shelf.{Files}
-use Rattle.wy_words.specs.Words.{Asks, Command, Explore, Gen, IsNoCommand}
+use Rattle.wy_words.specs.Words.{Asks, Command, Explore, Gen, IsNoCommand, Migrate}
 use Rattle.wy_reply.specs.declared.answer.Answer.{Answer}
 use Rattle.wy_reply.specs.declared.status.Status.TheVariants.{Fault}
 use Rattle.wy_reply.specs.Statuses.{code_of}
@@ -12,6 +12,10 @@ use Rattle.wy_top.specs.Due.{Due}
 -- the words ask to explore a trace
 abbrev pub AsksToExplore : List (List ℕ) → Type 0
 AsksToExplore words = (trace : List ℕ) × Asks words (Explore trace)
+
+-- the words ask to migrate a trace
+abbrev pub AsksToMigrate : List (List ℕ) → Type 0
+AsksToMigrate words = (trace : List ℕ) × (name : List ℕ) × Asks words (Migrate trace name)
 
 -- what the words ask, and nothing where they are no command
 abbrev pub IsAsked : List (List ℕ) → Option Command → Type 0

@@ -14,15 +14,13 @@ use Rattle.wy_record.specs.Recorders.{Mirrors}
 use Rattle.wy_session.specs.Desk.{scene_of}
 use Rattle.wy_session.specs.Talk.{BeginsTalk, IsPrefixOf}
 use Rattle.wy_session.specs.Closings.{keys_fault_line}
-use Rattle.wy_words.specs.Words.{Asked, Asks, Command, Explore, Record, Why, Affects, WhyNot}
-use Rattle.wy_steps.specs.Sets.{nothing}
-use Rattle.wy_meaning.specs.Run.{events}
-use Rattle.wy_reply.specs.ByRun.{CanTell}
+use Rattle.wy_words.specs.Words.{Asked, Asks, Command, Explore, Migrate, Record, Why, Affects, WhyNot}
 use Rattle.wy_reply.specs.Carried.{AffectedAnswer, CarriedAnswer}
 use Rattle.wy_reply.specs.Lines.{shelf_fault_line}
 use Rattle.wy_reply.specs.Refused.{IsRefused}
 use Rattle.wy_reply.specs.Statuses.{code_of}
 use Rattle.wy_reply.specs.declared.status.Status.{Status}
+use Rattle.wy_reply.specs.Migrations.{HoldAnew}
 use Rattle.wy_reply.specs.Recordings.{HoldTrace, IsTraceOf, Spelling, trace_spelling}
 use Rattle.wy_reply.specs.Tellings.{Wanted, covers_of}
 use Rattle.wy_reply.specs.Tellings as wanted
@@ -112,17 +110,36 @@ pub record Traced (s : Spelling) (files : Files) (a : Asked) (old new : Mirrors)
   pub is_program : IsProgramOf source program
   pub held : HoldTrace s (program_of program) source input a.steps old new
 
--- each run that the words ask to record is traced
+-- the trace of a name is written anew: each mirror that tells its bytes holds the trace that the file is read as
+pub record Rewritten (s : Spelling) (files : Files) (name : List ℕ) (old new : Mirrors) : Type 0 where
+  pub program : Program
+  pub trace : Trace
+  pub opened : IsOpened files name program trace
+  pub held : HoldAnew s trace old new
+
+-- the run that a command records is traced, and the trace that it migrates is written anew
+abbrev pub TracedBy : Spelling → Files → Command → Mirrors → Mirrors → Type 0
+TracedBy s files (Record a trace) old new = Traced s files a old new
+TracedBy s files (Migrate trace name) old new = Rewritten s files trace old new
+TracedBy s files _ old new = Unit {0}
+
+-- so for what the words ask
 abbrev pub Traces : Spelling → List (List ℕ) → Option Files → Mirrors → Mirrors → Type 0
-Traces s words held old new = (a : Asked) (trace : List ℕ) (files : Files) → Asks words (Record a trace) → held ≡ Some files → Traced s files a old new
+Traces s words held old new = (c : Command) (files : Files) → Asks words c → held ≡ Some files → TracedBy s files c old new
 
--- the words ask to record no run
+-- a command uses the recorder: it records a run, or it migrates a trace
+abbrev pub Records : Command → Type 0
+Records (Record a trace) = Unit {0}
+Records (Migrate trace name) = Unit {0}
+Records _ = ⊥
+
+-- the words ask for no such command
 abbrev pub RecordsNothing : List (List ℕ) → Type 0
-RecordsNothing words = (a : Asked) (trace : List ℕ) → ¬ Asks words (Record a trace)
+RecordsNothing words = (c : Command) → Asks words c → ¬ Records c
 
--- what is asked is to record no run
+-- what is asked is no such command
 abbrev pub IsNoRecording : Option Command → Type 0
-IsNoRecording asked = (a : Asked) (trace : List ℕ) → asked ≢ Some (Record a trace)
+IsNoRecording asked = (c : Command) → asked ≡ Some c → ¬ Records c
 
 -- ---- what a run did
 
@@ -134,9 +151,9 @@ IsRunAnswer p input steps (wanted.Affects question) text = AffectedAnswer (progr
 IsRunAnswer p input steps (wanted.WhyNot word) text = CutAnswer (program_of p) p.lines.items input steps word text
 IsRunAnswer p input steps _ text = Unit {0}
 
--- so the text does by each run that has these bytes as its trace, in a version that tells its events
+-- so the text does by each run that has these bytes as its trace, in either version
 abbrev pub AnswersRun : List ℕ → Wanted → List ℕ → Type 0
-AnswersRun bytes w text = (v : Version) (source input : List ℕ) (steps : ℕ) (p : Program) → IsProgramOf source p → CanTell v (events nothing (program_of p) input steps)
+AnswersRun bytes w text = (v : Version) (source input : List ℕ) (steps : ℕ) (p : Program) → IsProgramOf source p
     → IsTraceOf (trace_spelling v) (program_of p) source input steps bytes → IsRunAnswer p input steps w text
 
 -- the same for the file of a name

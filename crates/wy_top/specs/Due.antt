@@ -8,7 +8,7 @@ use Rattle.wy_outside.specs.Shelf.{Files}
 use Rattle.wy_tree.specs.Tokens.{SpannedToken, Tokens}
 use Rattle.wy_frames.specs.Heads.{head_of}
 use Rattle.wy_frames.specs.declared.error.TraceError.{TraceError}
-use Rattle.wy_words.specs.Words.{Asked, Asks, Command, Run, Record, Output, Questions, Why, Affects, Certify, Check, Scope, WhyNot, Audit, Explore, Gen, IsNoCommand}
+use Rattle.wy_words.specs.Words.{Asked, Asks, Command, Run, Record, Output, Questions, Why, Affects, Certify, Check, Scope, WhyNot, Audit, Explore, Migrate, Gen, IsNoCommand}
 use Rattle.wy_reply.specs.Lines.{usage_line, of_trace}
 use Rattle.wy_gen.specs.Generated.{source}
 use Rattle.wy_reply.specs.Report.{report, recorded_report}
@@ -64,6 +64,7 @@ DueTo files (WhyNot trace statement) status text =
 DueTo files (Scope trace statement call) status text =
     DueForTrace files trace (wanted.Scope statement call) status text
 DueTo files (Audit trace) status text = DueForTrace files trace wanted.Audit status text
+DueTo files (Migrate trace name) status text = DueForTrace files trace wanted.Migrate status text
 DueTo files (Explore trace) status text = ⊥
 DueTo files (Gen n) status text = ⊥
 
@@ -93,6 +94,7 @@ trace_of (Questions trace) = Some trace
 trace_of (WhyNot trace statement) = Some trace
 trace_of (Scope trace statement call) = Some trace
 trace_of (Audit trace) = Some trace
+trace_of (Migrate trace name) = Some trace
 trace_of (Explore trace) = Some trace
 trace_of _ = None
 

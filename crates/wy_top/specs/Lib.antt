@@ -14,3 +14,4 @@ pub mod Left
 pub mod Paging
 pub mod OwnTraces
 pub mod Sound
+pub mod Rewritten

@@ -57,6 +57,11 @@ OpensFile held name before after (Open typed t) = IsViewable t × (after.faults 
     × ((files : Files) → held ≡ Some files → IsOpened files name typed.program t)
 OpensFile held name before after (Refused answer) = HasCause before after answer × AnswersAny held name before after answer
 
+-- what is open is the trace of some file, and a refusal did not do what the command says
+abbrev pub OpensSome : Opening → Type 0
+OpensSome (Open typed t) = (files : Files) × (name : List ℕ) × IsOpened files name typed.program t
+OpensSome (Refused answer) = answer.status ≡ status.Done → ⊥
+
 -- ---- a view that refuses
 
 -- an answer says why a view of the trace of this name refused; want of memory has none

@@ -1,4 +1,4 @@
--- The trace of a run of the program of a text is read, and not refused.
+-- The trace of a run of the program of a text tells its events, is read, and is not refused.
 use Rattle.std.specs.Prelude.{◌≡◌, ◌≤◌, ℕ, List, length, map, Ok, Err}
 use Rattle.std.specs.List.{AllByRecursion}
 use Rattle.wy_kernel.specs.declared.program.Program.{Program}
@@ -14,13 +14,13 @@ use Rattle.wy_frames.specs.declared.error.TraceError.{TraceError}
 use Rattle.wy_frames.specs.declared.error.TraceError.TheVariants.{NoMemory}
 use Rattle.wy_frames.specs.Traces.{IsReadAs, ReadsAs}
 use Rattle.law_in_range.specs.InRange.{IsByteOf}
-use Rattle.wy_reply.specs.ByRun.{CanTell}
+use Rattle.law_reading.specs.Spelled.{AreBytes}
+use Rattle.wy_fitting.specs.Fits.{AllTold}
 use Rattle.wy_reply.specs.Recordings.{IsTraceOf, trace_spelling}
 use Rattle.wy_kernel.specs.Limits.{input_limit, source_limit, trace_limit}
 use Rattle.wy_program.specs.Programs.{IsProgramOf}
 
--- the bytes are the trace of the run of a text's program with this input and so many steps, each within its limit, in a version that
--- tells its events
+-- the bytes are the trace of the run of a text's program with this input and so many steps, each within its limit
 pub record IsRecorded (v : Version) (source input : List ℕ) (steps : ℕ) (p : Program) (bytes : List ℕ) : Type 0 where
   pub is_program : IsProgramOf source p
   pub source_within : length source ≤ source_limit
@@ -28,9 +28,13 @@ pub record IsRecorded (v : Version) (source input : List ℕ) (steps : ℕ) (p :
   pub input_bytes : AllByRecursion IsByteOf input
   pub some_steps : 1 ≤ steps
   pub steps_within : steps ≤ steps_limit
-  pub can_tell : CanTell v (events nothing (program_of p) input steps)
   pub is_trace : IsTraceOf (trace_spelling v) (program_of p) source input steps bytes
   pub within : length bytes ≤ trace_limit
+
+-- the bytes of the trace of a run tell all its events, in either version
+abbrev pub RecordedTracesTellEvents : Type 0
+RecordedTracesTellEvents = (v : Version) (source input : List ℕ) (steps : ℕ) (p : Program) (bytes : List ℕ) → length source ≤ source_limit → IsProgramOf source p → AreBytes bytes → IsTraceOf (trace_spelling v) (program_of p) source input steps bytes
+    → AllTold v (events nothing (program_of p) input steps)
 
 -- the bytes are read as a trace: with the head, the events and the end of the run
 pub record IsReadAsRun (source input : List ℕ) (steps : ℕ) (p : Program) (bytes : List ℕ) : Type 0 where

@@ -14,7 +14,7 @@ use Rattle.wy_scope.specs.Items.{IsMissed}
 use Rattle.wy_scope.specs.Laws.{is_call_at}
 use Rattle.wy_telling.specs.Whynot.{NamesStatement}
 use Rattle.wy_session.specs.Talk.{FirstLine, most_in_all, most_in_line}
-use Rattle.wy_words.specs.Words.{Asked, Asks, Command, Run, Record, Output, Questions, Why, Affects, Certify, Check, Scope, WhyNot, Audit, Explore, Gen}
+use Rattle.wy_words.specs.Words.{Asked, Asks, Command, Run, Record, Output, Questions, Why, Affects, Certify, Check, Scope, WhyNot, Audit, Explore, Migrate, Gen}
 use Rattle.wy_gen.specs.Generated.{source as generated_source}
 use Rattle.wy_program.specs.Programs.{IsProgramOf}
 use Rattle.wy_reply.specs.Tellings.{Bytes, Lacking, Wanted, covers_of}
@@ -93,6 +93,7 @@ IsSound files keys (Certify trace question) = TraceIsThere files trace (wanted.C
 IsSound files keys (WhyNot trace word) = TraceIsThere files trace (wanted.WhyNot word)
 IsSound files keys (Scope trace word call) = TraceIsThere files trace (wanted.Scope word call)
 IsSound files keys (Audit trace) = TraceIsThere files trace wanted.Audit
+IsSound files keys (Migrate trace name) = TraceIsThere files trace wanted.Migrate
 IsSound files keys (Check trace name) =
     (certificate : List ℕ) × Holds files name certificate_limit certificate × TraceIsThere files trace (wanted.Check (Bytes certificate))
 IsSound files keys (Explore trace) = (input : List ℕ) × (keys ≡ Some input) × TraceIsThere files trace (wanted.Explore input)

@@ -10,15 +10,15 @@ ghost use Rattle.wy_top.specs.Call.{AnswersRunOf, Carries, Cuts, IsNoRecording, 
 ghost use Rattle.wy_top.specs.Reads.{Tells};
 ghost use Rattle.wy_top.specs.Replies.{AnswersBy, HasCause, at_shelf};
 ghost use Rattle.wy_top.specs.Due.{DueForRun, DueForTrace};
-ghost use Rattle.wy_top.specs.Left.{FinishesProgram, FinishesRun, IsSettled, Leaves, LeavesSome, LeftFor, StartsNone};
+ghost use Rattle.wy_top.specs.Left.{FinishesProgram, FinishesRun, IsSettled, Leaves, LeavesAny, LeavesSome, LeftFor, StartsNone};
 ghost use Rattle.wy_reply.specs.Recordings.{spelling};
 ghost use Rattle.wy_reply.specs.Report.{report, recorded_report};
 ghost use Rattle.wy_reply.specs.Statuses.{code_of};
 ghost use Rattle.wy_words.specs.Views.{asked_of, request_of};
 
 use crate::checking::answer_to_check;
-use crate::migrating::answer_to_migrate;
 use crate::files::{Contents, FileError, read_both, read_trace};
+use crate::migrating::answer_to_migrate;
 use crate::paged::answer_by_pages;
 use crate::source::{record_source, run_generated, run_source};
 use crate::trace::answer_to_bytes;
@@ -155,7 +155,7 @@ pub(crate) fn answer_by_reading<S: Shelf>(
 }
 
 /// What is answered to a request, and to words that are no command where there is none. The shelf is read at most twice, and not at all
-/// where there is no request; the recorder is used where the request is to record.
+/// where there is no request; the recorder is used where the request is to record or to migrate.
 pub fn answer_to<S: Shelf, R: Recorder>(
     alloc: Global,
     request: Option<Request<'_>>,
@@ -196,7 +196,8 @@ pub fn answer_to<S: Shelf, R: Recorder>(
     ensures left { (words : List (List ℕ)) → IsAsked words (option_map request_of request.entry)
         → Leaves (spelling R.opening R.frame R.closing) words (S.held shelf.old)
         (R.phase recorder.new) (R.mirrors recorder.old) (R.mirrors recorder.new) }
-    ensures left_some { LeavesSome (spelling R.opening R.frame R.closing)
+    ensures left_some { (words : List (List ℕ)) → IsAsked words (option_map request_of request.entry)
+        → LeavesAny (spelling R.opening R.frame R.closing) words
         (R.phase recorder.new) (R.mirrors recorder.old) (R.mirrors recorder.new) }
     ensures settled { IfOk result (λ answer.
         ¬ Rose (R.faults recorder.old) (R.faults recorder.new) → IsSettled (R.phase recorder.new)) }

@@ -8,20 +8,21 @@ ghost use Rattle.law_reached.specs.Laws.{CallsStandOnLinks, EachItemIsNeeded, Ex
 ghost use Rattle.wy_steps.specs.Sets.{nothing};
 ghost use Rattle.wy_top.specs.Causes.{ProgramsAreNotRefused};
 ghost use Rattle.wy_top.specs.Due.{Due, AreSyntaxLines};
-ghost use Rattle.wy_top.specs.OwnTraces.{RecordedTracesAreNotRefused, RecordedTracesAreRead};
+ghost use Rattle.wy_top.specs.OwnTraces.{RecordedTracesAreNotRefused, RecordedTracesAreRead, RecordedTracesTellEvents};
 ghost use Rattle.wy_top.specs.Sound.{SoundCallsSucceed};
 ghost use Rattle.wy_top.specs.Texts.{OfTexts};
 ghost use Rattle.law_typed_states.specs.Laws.{StatesAreTyped};
 
 use law_frames::frames_are_the_bodies_that_were_active;
 use law_held::held_is_what_the_store_last_had;
-use law_own_traces::{own_traces_are_read, programs_keep_the_library, trees_fit_their_texts};
+use law_own_traces::{
+    own_events_are_told, own_traces_are_read, programs_keep_the_library, trees_fit_their_texts,
+};
 use law_program_parts::trees_declare_few;
 use law_reached::{
     calls_stand_on_links, each_item_is_needed, executed_points_are_reached, programs_stand_apart,
 };
 use law_reading::bytes_are_read_in_one_way;
-use law_shaped::references_point_below;
 use law_sites::no_two_choices_share_a_site;
 use law_structure::{each_number_is_one_statement, tests_stand_apart};
 use law_typed_states::states_are_typed;
@@ -129,6 +130,18 @@ pub fn recorded_traces_are_read()
     trees_declare_few();
     programs_keep_the_library();
     trees_fit_their_texts();
-    references_point_below();
+    own_events_are_told();
     own_traces_are_read();
+}
+
+/// The bytes of the trace of a run of the program of each text tell all events of the run, in either version.
+pub fn recorded_traces_tell_events()
+    ensures { RecordedTracesTellEvents }
+{
+    tokens_stand_in_order();
+    texts_are_programs();
+    trees_declare_few();
+    programs_keep_the_library();
+    trees_fit_their_texts();
+    own_events_are_told();
 }

@@ -12,6 +12,7 @@ mod migrating;
 mod opening;
 mod paged;
 mod recorders;
+pub mod rewritten;
 mod shelved;
 mod source;
 pub mod top;

@@ -1,7 +1,7 @@
 //! A trace that is opened: its program and what it records, or what is answered in their place.
 ghost use Rattle.std.specs.Prelude.{◌≡◌, ◌≤◌, IfOk, length};
 ghost use Rattle.wy_kernel.specs.Limits.{trace_limit};
-ghost use Rattle.wy_top.specs.Openings.{IsSettled, OpensBytes, OpensFile};
+ghost use Rattle.wy_top.specs.Openings.{IsSettled, OpensBytes, OpensFile, OpensSome};
 ghost use Rattle.wy_top.specs.Replies.{at_shelf};
 
 use crate::answer::answer_to_lack;
@@ -40,6 +40,7 @@ pub fn open_trace<S: Shelf>(alloc: Global, shelf: &mut S, name: &str) -> Result<
     ensures opens { IfOk result (OpensFile (S.held shelf.old) name.now
         (at_shelf (S.faults shelf.old) (S.misses shelf.old) (S.fulls shelf.old))
         (at_shelf (S.faults shelf.new) (S.misses shelf.new) (S.fulls shelf.new))) }
+    ensures some { IfOk result OpensSome }
     ensures files_stay { S.held shelf.new ≡ S.held shelf.old }
 {
     match read_trace(alloc, shelf, name) {

@@ -12,7 +12,7 @@ ghost use Rattle.wy_top.specs.Paging.{AnswersFrom, ArePagesOf, DueInPages, Looks
 ghost use Rattle.wy_top.specs.Replies.{at_shelf};
 
 use crate::answer::answer_by_reading;
-use crate::laws::runs_of_texts;
+use crate::laws::{recorded_traces_tell_events, runs_of_texts};
 use crate::shelved::{Shelved, answer_to_refusal, open_pages};
 use law_reading::heads_are_short;
 use std::alloc::{AllocError, Global};
@@ -108,6 +108,7 @@ pub(crate) fn answer_by_pages<S: Shelf>(
     tokens_stand_in_order();
     items_are_a_cut();
     runs_of_texts();
+    recorded_traces_tell_events();
     heads_are_short();
     tellings_are_by_runs();
     match open_pages(alloc, shelf, name)? {

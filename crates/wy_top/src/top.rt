@@ -7,7 +7,7 @@ ghost use Rattle.wy_words.specs.Words.{IsNoCommand};
 ghost use Rattle.wy_top.specs.Answers.{AsksToExplore, Knows};
 ghost use Rattle.wy_session.specs.Closings.{TookMany};
 ghost use Rattle.wy_top.specs.Call.{IsOfTrace, RecordsNothing, Traces, WritesCarried, WritesCut, WasRefused, WritesDue, WritesFaultLine, WritesLast, WritesPrefix, WritesRefusal, failures};
-ghost use Rattle.wy_top.specs.Left.{FinishesProgram, IsSettled, Leaves, LeavesSome, StartsNone};
+ghost use Rattle.wy_top.specs.Left.{FinishesProgram, IsSettled, Leaves, LeavesAny, StartsNone};
 ghost use Rattle.wy_top.specs.Recorders.{AreReady};
 ghost use Rattle.wy_reply.specs.Recordings.{spelling};
 
@@ -26,8 +26,8 @@ use wy_words::{Command, command};
 
 /// Runs the command of the words, without the program's own name, over the files of `shelf`, writes
 /// its text to `out` and returns its status. `keys` is read by `explore` alone, whose lines are answered
-/// as they come, and `recorders.write` has the trace of a run that is recorded; where it failed, or
-/// memory ran out, it has a prefix of it.
+/// as they come, and `recorders.write` has the trace of a run that is recorded, or of a file that is
+/// migrated; where it failed, or memory ran out, it has a prefix of it.
 ///
 /// | Status | Comes |
 /// |---|---|
@@ -90,8 +90,8 @@ pub fn whyline<S: Shelf, K: Source, O: Sink, W: Recorder + Drop>(
     ensures leaves { Leaves (spelling W.opening W.frame W.closing)
         (map string_bytes words.now) (S.held shelf.old) (W.phase recorders.new.write)
         (W.mirrors recorders.old.write) (W.mirrors recorders.new.write) }
-    ensures leaves_some { LeavesSome (spelling W.opening W.frame W.closing)
-        (W.phase recorders.new.write)
+    ensures leaves_some { LeavesAny (spelling W.opening W.frame W.closing)
+        (map string_bytes words.now) (W.phase recorders.new.write)
         (W.mirrors recorders.old.write) (W.mirrors recorders.new.write) }
     ensures starts_none { StartsNone result → recorders.new.write ≡ recorders.old.write }
     ensures records_nothing { RecordsNothing (map string_bytes words.now)

@@ -8,7 +8,7 @@ ghost use Rattle.wy_top.specs.Due.{DueForBytes};
 ghost use Rattle.wy_kernel.specs.Limits.{trace_limit};
 ghost use Rattle.wy_top.specs.Replies.{RefusesTrace};
 
-use crate::laws::runs_of_texts;
+use crate::laws::{recorded_traces_tell_events, runs_of_texts};
 use crate::opening::{Opening, open_bytes};
 use law_reading::heads_are_short;
 use std::alloc::{AllocError, Global};
@@ -52,6 +52,7 @@ pub fn answer_to_bytes(
     tokens_stand_in_order();
     items_are_a_cut();
     runs_of_texts();
+    recorded_traces_tell_events();
     heads_are_short();
     match open_bytes(alloc, bytes)? {
         Opening::Open { typed, trace } => {

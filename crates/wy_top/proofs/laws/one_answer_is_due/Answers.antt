@@ -1,7 +1,7 @@
 use Rattle.std.proofs.Common.{◌≡◌, ◌∙◌, sym, ap, subst, refl, inl, inr, ◌⊎◌, ℕ, List, Option, Some, None}
 use Rattle.wy_kernel.specs.Program.{Program}
 use Rattle.wy_outside.specs.Shelf.{Files}
-use Rattle.wy_words.specs.Words.{Asked, Asks, Command, Run, Record, Output, Questions, Why, Affects, Certify, Check, Scope, WhyNot, Audit, Explore, Gen, AskOneCommand}
+use Rattle.wy_words.specs.Words.{Asked, Asks, Command, Run, Record, Output, Questions, Why, Affects, Certify, Check, Scope, WhyNot, Audit, Explore, Migrate, Gen, AskOneCommand}
 use Rattle.wy_gen.specs.Generated.{source}
 use Rattle.wy_reply.specs.Generated.{generated_report}
 use Rattle.wy_reply.specs.Report.{report, recorded_report}
@@ -113,6 +113,8 @@ one_command known traces words held (Scope trace statement call) f s t x y asks 
     trace_same words held (Scope trace statement call) f trace s t x y asks told refl (one_trace known traces f trace (wanted.Scope statement call) s t x y first second)
 one_command known traces words held (Audit trace) f s t x y asks told first second =
     trace_same words held (Audit trace) f trace s t x y asks told refl (one_trace known traces f trace wanted.Audit s t x y first second)
+one_command known traces words held (Migrate trace name) f s t x y asks told first second =
+    trace_same words held (Migrate trace name) f trace s t x y asks told refl (one_trace known traces f trace wanted.Migrate s t x y first second)
 one_command known traces words held (Explore trace) f s t x y asks told first second = absurd first
 one_command known traces words held (Gen n) f s t x y asks told first second = absurd first
 

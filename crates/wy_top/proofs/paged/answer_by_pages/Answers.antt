@@ -31,7 +31,7 @@ returns-in-Open-clause-by_run g c =
       utf8 = c.a_refused_text_has_no_tokens.ensures.utf8;
       trees = c.a_token_list_has_one_tree.ensures;
       programs = c.a_text_has_one_program.ensures;
-    }) (record { ordered = c.tokens_stand_in_order.ensures; cut = c.items_are_a_cut.ensures; needed = c.runs_of_texts.ensures.needed; calls = c.runs_of_texts.ensures.calls })
+    }) (record { ordered = c.tokens_stand_in_order.ensures; cut = c.items_are_a_cut.ensures; needed = c.runs_of_texts.ensures.needed; calls = c.runs_of_texts.ensures.calls; told = c.recorded_traces_tell_events.ensures })
     c.heads_are_short.ensures c.tellings_are_by_runs.ensures held c.args.name.now typed.program w pages tail _ _ c.answer_in.result opens.2 moved
 
 pub returns-in-Refused-clause-answers : goal.returns-in-Refused-clause-answers

@@ -4,7 +4,7 @@ use Rattle.wy_words.specs.Views.{request_of}
 use Rattle.wy_top.specs.Answers.{IsAsked}
 use Rattle.wy_top.proofs.RunAnswers.{written_so}
 use Rattle.wy_top.proofs.Delivered.{absent_at, written_alone, written_due, written_last, prefix, answered_done, answered_starts_none, answered_usage, done_at, fault_at, fault_cause, fault_line, shelf_fault, recorder_fault, too_long_at}
-use Rattle.wy_top.proofs.LeftLemmas.{some_untouched}
+use Rattle.wy_top.proofs.LeftLemmas.{any_untouched, untouched}
 use Rattle.wy_top.proofs.Explored.{explored_alone, explored_absent, explored_fault_line, explored_shelf_fault, explored_out_fault, explored_carried, explored_cut, explored_fault, explored_finishes, explored_keys_fault, explored_last, explored_leaves, explored_too_long, explored_traces, is_command, is_session}
 use Rattle.wy_top.proofs.Sessions.{explored_due, explored_prefix, nothing_prefix, session_of}
 use Rattle.wy_top.proofs.Requests.{asked_nothing, asked_once, few_asked, no_recording, none_asked, nothing_asked}
@@ -132,11 +132,20 @@ returns-in-Some-Explore-clause-reads_nothing g c = λ none. absurd (is_command _
 pub returns-in-Some-Explore-clause-keys_stay : goal.returns-in-Some-Explore-clause-keys_stay
 returns-in-Some-Explore-clause-keys_stay g c = λ other. absurd (other (is_session _ _ (session_of c.words_ask_one_command.ensures _ c.in-Ok.command c.in-Some-Explore.trace c.in-Ok.ensures.asked (c.in-Some-Explore.is ∙ ap Some (rw (c.in-Some-Explore.is) at c.in-Some-Explore.field-0-is)))))
 
+pub returns-in-Err-clause-leaves : goal.returns-in-Err-clause-leaves
+returns-in-Err-clause-leaves g c = untouched _ _ _ c.requires.ready.0 _ _
+
 pub returns-in-Err-clause-leaves_some : goal.returns-in-Err-clause-leaves_some
-returns-in-Err-clause-leaves_some g c = some_untouched _ _ _ c.requires.ready.0
+returns-in-Err-clause-leaves_some g c = any_untouched _ _ _ c.requires.ready.0 _
 
 pub returns-in-Some-Explore-clause-leaves_some : goal.returns-in-Some-Explore-clause-leaves_some
-returns-in-Some-Explore-clause-leaves_some g c = some_untouched _ _ _ c.requires.ready.0
+returns-in-Some-Explore-clause-leaves_some g c = any_untouched _ _ _ c.requires.ready.0 _
+
+pub returns-in-Ok-answer_to-clause-leaves_some : goal.returns-in-Ok-answer_to-clause-leaves_some
+returns-in-Ok-answer_to-clause-leaves_some g c = c.answer_to.ensures.left_some _ (asked g c)
+
+pub returns-in-Err-answer_to-clause-leaves_some : goal.returns-in-Err-answer_to-clause-leaves_some
+returns-in-Err-answer_to-clause-leaves_some g c = c.answer_to.ensures.left_some _ (asked_in_vain g c)
 
 pub returns-in-Some-Explore-clause-finishes_program : goal.returns-in-Some-Explore-clause-finishes_program
 returns-in-Some-Explore-clause-finishes_program g c = λ out shelf recorder. explored_finishes _ _ _ _ (session_of c.words_ask_one_command.ensures _ c.in-Ok.command c.in-Some-Explore.trace c.in-Ok.ensures.asked (c.in-Some-Explore.is ∙ ap Some (rw (c.in-Some-Explore.is) at c.in-Some-Explore.field-0-is)))

@@ -23,8 +23,8 @@ returns-in-Open-clause-by_run c =
       utf8 = c.a_refused_text_has_no_tokens.ensures.utf8;
       trees = c.a_token_list_has_one_tree.ensures;
       programs = c.a_text_has_one_program.ensures;
-    }) (record { ordered = c.tokens_stand_in_order.ensures; cut = c.items_are_a_cut.ensures; needed = c.runs_of_texts.ensures.needed; calls = c.runs_of_texts.ensures.calls }) c.heads_are_short.ensures
-    c.args.bytes.now _ c.in-Open.typed c.in-Open.trace c.answer_to_trace.result opens c.answer_to_trace.ensures.by_run c.answer_to_trace.ensures.source
+    }) (record { ordered = c.tokens_stand_in_order.ensures; cut = c.items_are_a_cut.ensures; needed = c.runs_of_texts.ensures.needed; calls = c.runs_of_texts.ensures.calls; told = c.recorded_traces_tell_events.ensures }) c.heads_are_short.ensures
+    c.args.bytes.now _ c.in-Open.typed c.in-Open.trace c.answer_to_trace.result (λ i. omega (arith, c.type_inv.bytes i)) opens c.answer_to_trace.ensures.by_run c.answer_to_trace.ensures.source
 
 pub returns-in-Refused-clause-due : goal.returns-in-Refused-clause-due
 returns-in-Refused-clause-due c = (rw (c.in-Refused.is) at c.in_ok-typed.ensures.opens).1 _
