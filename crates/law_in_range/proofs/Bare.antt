@@ -1,10 +1,9 @@
 -- What parts of a run that evaluate nothing do to what is in range, as rules that a goal determines.
-use Rattle.std.proofs.Common.{◌≡◌, ◌<◌, ◌≤◌, arith, ℕ, zero, suc, Bool, true, false, List, [], ◌∷◌, ◌++◌, length, Option, Some, refl, sym, ap, ◌∙◌, subst}
+use Rattle.std.proofs.Common.{◌≡◌, ◌<◌, ◌≤◌, arith, ℕ, zero, suc, Bool, true, false, List, [], ◌∷◌, ◌++◌, length, Option, Some, refl, sym, ap, ◌∙◌, subst, append-nil}
 use Rattle.std.specs.Prelude.{None as Absent}
 use Rattle.std.specs.Prelude.{◌+◌, nat_lt, nat_le, if◌then◌else◌}
 use Rattle.std.specs.List.{AllByRecursion}
 use Rattle.std.proofs.lemmas.Bool.{leb-true}
-use Rattle.std.proofs.lemmas.List.{length-append}
 use Rattle.wy_kernel.specs.declared.operator.Primitive.{Primitive}
 use Rattle.wy_kernel.specs.declared.operator.Primitive.TheVariants as prim
 use Rattle.wy_kernel.specs.declared.types.Base.TheVariants.{Primitive as Basic, Class as Named}
@@ -20,10 +19,10 @@ use Rattle.wy_event.specs.declared.record.Slot.{Slot}
 use Rattle.wy_event.specs.declared.record.Slot.TheVariants as slot
 use Rattle.wy_event.specs.Record.{Recorded, same_slot}
 use Rattle.wy_event.specs.Sources.{creates}
-use Rattle.wy_steps.specs.State.{Held, Store, Noted, Reach, Stop, EventLimit, UseLimit, OutputLimit, Reason, Outcome, Done, Left, Stopped, Run, go_on, ◌>>=◌, ◌>>◌, return, leave, stop, choose}
+use Rattle.wy_steps.specs.State.{Held, Store, Noted, Reach, Stop, EventLimit, UseLimit, UnitLimit, OutputLimit, Reason, Outcome, Done, Left, Stopped, Run, go_on, ◌>>=◌, ◌>>◌, return, leave, stop, choose}
 use Rattle.wy_kernel.specs.Limits.{event_limit, use_limit, element_limit, unit_limit, output_limit}
 use Rattle.wy_steps.specs.Steps.{Draft, Made, made, pay, tick, steps_left, frame, event_at, is_begun, held_of, no_value, read, declare, code_of, event_in, next_event, with_event, held_by, slot_with, with_stored, default_primitive, default_value, default_in, owner_in, if_empty, with_created, room_for, noting, note, writing, note_write, creating, note_new, with_active, entered, go_in, activating, with_elements, take_elements, with_units, take_units, room_for_output, write_out, take_byte, next_byte}
-use Rattle.wy_meaning.specs.World.{World, plain, units_of}
+use Rattle.wy_meaning.specs.World.{World, plain, spelling, units_of}
 use Rattle.wy_meaning.specs.Text.{spelled_as, line_end, print}
 use Rattle.wy_meaning.specs.Run.{end}
 use Rattle.law_induction.specs.Law.{nothing, both, Entails, FrameKind, Region, In}
@@ -31,8 +30,8 @@ use Rattle.law_induction.proofs.Rules.{before, same}
 use Rattle.law_typed_states.proofs.Moments.{Later, later_one, newest_there, MadeAs}
 use Rattle.law_typed_states.proofs.Law.{current, event, Standing, standing_up}
 use Rattle.law_typed_states.proofs.Rules.{Ground, A, p, Known}
-use Rattle.law_in_range.specs.InRange.{Text, Events, IsSite, FixedInRange, IsPrinted, InRange, IsByteOf, IsNoPrint, units_seen, written_as, written_by}
-use Rattle.law_in_range.proofs.Facts.{S, C, Moment, always, Fine, fine, spotted, fair, Drafted, drafted, AllInRange, StoreInRange, written_before, written_one, Inv}
+use Rattle.law_in_range.specs.InRange.{Text, Events, IsSite, FixedInRange, IsPrinted, InRange, IsByteOf, IsQuiet, units_seen, written_as, written_by, made_as}
+use Rattle.law_in_range.proofs.Facts.{S, C, Moment, always, Fine, fine, spotted, fair, Drafted, drafted, AllInRange, StoreInRange, written_before, written_one, Taken, Inv}
 
 module _ (G : Ground) (W : Text) (J : ℕ → Type 0) where
   abbrev Ok : S G W → Type 0
@@ -117,19 +116,19 @@ module _ (G : Ground) (W : Text) (J : ℕ → Type 0) where
 
   -- ---- steps
 
-  -- a state with the same events, slots and input, in the same body
-  quietly : {X : Type 0} (s t : S G W) (Q : X → Known G) (o : Outcome (A G) X) → end o ≡ t → t.noted ≡ s.noted → t.frame ≡ s.frame → t.output ≡ s.output → StoreInRange G W t.store → AllByRecursion IsByteOf t.input → Ok s → Given Q o → Comes s Q o
-  quietly s t Q o e n f out st inp i g = record {
+  -- a state with the same events and output, in the same body
+  quietly : {X : Type 0} (s t : S G W) (Q : X → Known G) (o : Outcome (A G) X) → end o ≡ t → t.noted ≡ s.noted → t.frame ≡ s.frame → t.output ≡ s.output → StoreInRange G W t.store → AllByRecursion IsByteOf t.input → Taken G W 0 s.noted t.units → Ok s → Given Q o → Comes s Q o
+  quietly s t Q o e n f out st inp taken i g = record {
     later = subst (λ (u : S G W). Later s.noted u.noted) (sym e) (subst (λ (u : Moment G W). Later s.noted u) (sym n) (λ k r h. h));
     frame = ap (λ (u : S G W). u.frame) e ∙ f;
-    inv = subst (λ (u : S G W). Inv G W u) (sym e) (record { noted = subst (λ (u : Moment G W). AllInRange G W u) (sym n) i.noted; store = st; input = inp; output = ap length out ∙ i.output ∙ ap (λ (u : Moment G W). written_before G W u) (sym n) });
+    inv = subst (λ (u : S G W). Inv G W u) (sym e) (record { noted = subst (λ (u : Moment G W). AllInRange G W u) (sym n) i.noted; store = st; input = inp; output = out ∙ i.output ∙ ap (λ (u : Moment G W). written_before G W u) (sym n); texts = subst (λ (u : Moment G W). Taken G W 0 u t.units) (sym n) taken });
     given = g;
   }
 
   paid : (n : ℕ) (s : S G W) → Ok s → Comes s (λ (t : Unit {0}). nothing) (pay n s)
   unfolding pay end
   paid zero s i = here s _ _ refl i tt
-  paid (suc n) s i = quietly s (record s { left = n }) _ _ refl refl refl refl i.store i.input i tt
+  paid (suc n) s i = quietly s (record s { left = n }) _ _ refl refl refl refl i.store i.input i.texts i tt
 
   pub ticks : {r : Region} {P : Known G} → Bare r P tick (λ t. nothing)
   unfolding tick
@@ -168,7 +167,7 @@ module _ (G : Ground) (W : Text) (J : ℕ → Type 0) where
 
   pub declares : {r : Region} {P : Known G} (x : Slot) → Bare r P (declare x) (λ t. nothing)
   unfolding declare end
-  declares x = record { by = λ s st k i. quietly s _ _ _ refl refl refl refl (λ y h e. emptied (same_slot y x) (s.store y) h (i.store y) e) i.input i tt }
+  declares x = record { by = λ s st k i. quietly s _ _ _ refl refl refl refl (λ y h e. emptied (same_slot y x) (s.store y) h (i.store y) e) i.input i.texts i tt }
 
   limited : {X : Type 0} (s : S G W) (Q : X → Known G) (b : Bool) (m k : Run (A G) X) → (b ≡ true → Comes s Q (m s)) → Comes s Q (k s) → Comes s Q (choose b m k s)
   unfolding choose
@@ -180,11 +179,7 @@ module _ (G : Ground) (W : Text) (J : ℕ → Type 0) where
 
   pub takes_elements : {r : Region} {P : Known G} (n : ℕ) → Bare r P (take_elements n) (λ t. always G W (n ≤ element_limit))
   unfolding take_elements with_elements stop end
-  takes_elements n = record { by = λ s st k i. limited s _ (nat_le (s.elements + n) element_limit) (with_elements n) _ (λ e. quietly s _ _ _ refl refl refl refl i.store i.input i (few s.elements n element_limit e)) (here s _ _ refl i tt) }
-
-  pub takes_units : {r : Region} {P : Known G} (n : ℕ) → Bare r P (take_units n) (λ t. nothing)
-  unfolding take_units with_units stop end
-  takes_units n = record { by = λ s st k i. limited s _ (nat_le (s.units + n) unit_limit) (with_units n) _ (λ e. quietly s _ _ _ refl refl refl refl i.store i.input i tt) (here s _ _ refl i tt) }
+  takes_elements n = record { by = λ s st k i. limited s _ (nat_le (s.elements + n) element_limit) (with_elements n) _ (λ e. quietly s _ _ _ refl refl refl refl i.store i.input i.texts i (few s.elements n element_limit e)) (here s _ _ refl i tt) }
 
   abbrev pub IsByteIn : Option ℕ → Type 0
   IsByteIn Absent = Unit {0}
@@ -193,7 +188,7 @@ module _ (G : Ground) (W : Text) (J : ℕ → Type 0) where
   byte_taken : (bytes : List ℕ) (s : S G W) → AllByRecursion (IsByteOf) bytes → Ok s → Comes s (λ o. always G W (IsByteIn o)) (take_byte bytes s)
   unfolding take_byte end
   byte_taken [] s h i = here s _ _ refl i tt
-  byte_taken (b ∷ rest) s h i = quietly s (record s { input = rest }) _ _ refl refl refl refl i.store h.1 i h.0
+  byte_taken (b ∷ rest) s h i = quietly s (record s { input = rest }) _ _ refl refl refl refl i.store h.1 i.texts i h.0
 
   pub takes_byte : {r : Region} {P : Known G} → Bare r P next_byte (λ o. always G W (IsByteIn o))
   unfolding next_byte
@@ -207,6 +202,7 @@ module _ (G : Ground) (W : Text) (J : ℕ → Type 0) where
     pub frame : t.frame ≡ s.frame
     pub input : t.input ≡ s.input
     pub output : t.output ≡ s.output
+    pub units : t.units ≡ s.units
     pub number : e.number ≡ length s.noted
     pub store : StoreInRange G W s.store → FixedInRange (p G) d.value → StoreInRange G W t.store
 
@@ -226,7 +222,7 @@ module _ (G : Ground) (W : Text) (J : ℕ → Type 0) where
 
   pub note_adds : (d : Draft) (c : C G W) (s : S G W) → Adds d c s (note d c s)
   unfolding note noting with_event made
-  note_adds d c s = room_adds d c s (noting d c) (record { noted = refl; frame = refl; input = refl; output = refl; number = refl; store = λ h f. h })
+  note_adds d c s = room_adds d c s (noting d c) (record { noted = refl; frame = refl; input = refl; output = refl; units = refl; number = refl; store = λ h f. h })
 
   stored : (x : Slot) (new : Held (A G)) (old : Store (A G)) → StoreInRange G W old → FixedInRange (p G) new.value → StoreInRange G W (slot_with x new old)
   unfolding slot_with
@@ -238,7 +234,7 @@ module _ (G : Ground) (W : Text) (J : ℕ → Type 0) where
 
   pub write_adds : (d : Draft) (c : C G W) (s : S G W) → Adds d c s (note_write d c s)
   unfolding note_write writing with_event with_stored held_by made
-  write_adds d c s = room_adds d c s (writing d c) (record { noted = refl; frame = refl; input = refl; output = refl; number = refl; store = λ h f. stored d.slot _ s.store h f })
+  write_adds d c s = room_adds d c s (writing d c) (record { noted = refl; frame = refl; input = refl; output = refl; units = refl; number = refl; store = λ h f. stored d.slot _ s.store h f })
 
   default_of : (q : Primitive) → FixedInRange (p G) (default_primitive q)
   unfolding default_primitive
@@ -273,11 +269,11 @@ module _ (G : Ground) (W : Text) (J : ℕ → Type 0) where
 
   pub new_adds : (d : Draft) (c : C G W) (s : S G W) → Adds d c s (note_new (p G) d c s)
   unfolding note_new creating with_event with_created made
-  new_adds d c s = room_adds d c s (creating (p G) d c) (record { noted = refl; frame = refl; input = refl; output = refl; number = refl; store = λ h f y g e. made_fixed (next_event d c s) y (creates (owner_in (p G)) (length s.noted) y (next_event d c s).event) (s.store y) g (h y) e })
+  new_adds d c s = room_adds d c s (creating (p G) d c) (record { noted = refl; frame = refl; input = refl; output = refl; units = refl; number = refl; store = λ h f y g e. made_fixed (next_event d c s) y (creates (owner_in (p G)) (length s.noted) y (next_event d c s).event) (s.store y) g (h y) e })
 
   go_in_adds : (reach : Reach) (d : Draft) (c : C G W) (s : S G W) (o : Outcome (A G) (Made (A G))) → Adds d c s o → Adds d c s (go_in reach o)
   unfolding go_in entered with_active
-  go_in_adds reach d c s (Done e t) h = record { noted = h.noted; frame = h.frame; input = h.input; output = h.output; number = h.number; store = h.store }
+  go_in_adds reach d c s (Done e t) h = record { noted = h.noted; frame = h.frame; input = h.input; output = h.output; units = h.units; number = h.number; store = h.store }
   go_in_adds reach d c s (Left why t) h = h
   go_in_adds reach d c s (Stopped why t) h = h
 
@@ -289,40 +285,65 @@ module _ (G : Ground) (W : Text) (J : ℕ → Type 0) where
   unfolding next_event
   event_in_range d c s h f = record { site = h.site; entity = h.entity; slot = h.slot; value = h.value; fixed = h.fixed; uses = f.1 }
 
+  text_in_range : (site : ℕ) (units : List ℕ) (c : C G W) (s : S G W) → IsSite W.tokens site → Fine G W s.noted c → InRange W.tokens (p G) (event_in s.noted) (next_event (spelling site units) c s).event
+  unfolding next_event spelling
+  text_in_range site units c s h f = record { site = h; entity = tt; slot = tt; value = tt; fixed = tt; uses = f.1 }
+
   made_here : (d : Draft) (c : C G W) (s : S G W) (e : Made (A G)) → e.number ≡ length s.noted → MadeAs (next_event d c s ∷ s.noted) d e
   unfolding next_event
   made_here d c s e q = record { event = (next_event d c s).event; there = subst (λ k. event_in (next_event d c s ∷ s.noted) k ≡ Some (next_event d c s).event) (sym q) (newest_there (next_event d c s) s.noted); kind = refl; entity = refl }
 
-  quiet_kind : (k : Kind) (at : Events) (site : ℕ) (v : Value) → IsNoPrint k → written_as (p G) W.ends_line at k site v ≡ 0
+  -- what an event of the draft leaves in range: it writes nothing, and its text is among those that the units are taken for
+  record Leaves (d : Draft) (c : C G W) (s : S G W) : Type 0 where
+    pub event : InRange W.tokens (p G) (event_in s.noted) (next_event d c s).event
+    pub fixed : FixedInRange (p G) d.value
+    pub written : written_by (p G) W.ends_line (event_in s.noted) (next_event d c s).event ≡ []
+    pub taken : Taken G W (made_as d.kind d.units) s.noted s.units
+
+  quiet_kind : (k : Kind) (at : Events) (site : ℕ) (v : Value) → IsQuiet k → written_as (p G) W.ends_line at k site v ≡ []
   quiet_kind kind.Print at site v h = absurd h
   quiet_kind _ at site v h = refl
 
-  nothing_written : (d : Draft) (c : C G W) (s : S G W) → IsNoPrint d.kind → written_by (p G) W.ends_line (event_in s.noted) (next_event d c s).event ≡ 0
+  quiet_made : (k : Kind) (units : List ℕ) → IsQuiet k → made_as k units ≡ 0
+  quiet_made kind.Text units h = absurd h
+  quiet_made _ units h = refl
+
+  quiet_leaves : (d : Draft) (c : C G W) (s : S G W) → Drafted G W s.noted d → Fine G W s.noted c → Ok s → Leaves d c s
   unfolding next_event
-  nothing_written d c s h = quiet_kind d.kind (event_in s.noted) d.site d.value h
+  quiet_leaves d c s h f i = record {
+    event = event_in_range d c s h f;
+    fixed = h.fixed;
+    written = quiet_kind d.kind (event_in s.noted) d.site d.value h.quiet;
+    taken = subst (λ n. Taken G W n s.noted s.units) (sym (quiet_made d.kind d.units h.quiet)) i.texts;
+  }
 
-  still_written : (d : Draft) (c : C G W) (s : S G W) → IsNoPrint d.kind → length s.output ≡ written_before G W s.noted → length s.output ≡ written_before G W (next_event d c s ∷ s.noted)
-  still_written d c s h e = let z = nothing_written d c s h in let o = written_one G W (next_event d c s) s.noted in omega (arith, z, e, o)
+  still_written : (d : Draft) (c : C G W) (s : S G W) → Leaves d c s → s.output ≡ written_before G W s.noted → s.output ≡ written_before G W (next_event d c s ∷ s.noted)
+  still_written d c s h e = e ∙ sym (append-nil (written_before G W s.noted)) ∙ ap (λ (l : List ℕ). written_before G W s.noted ++ l) (sym h.written) ∙ sym (written_one G W (next_event d c s) s.noted)
 
-  added : (d : Draft) (c : C G W) (s : S G W) (o : Outcome (A G) (Made (A G))) → Drafted G W s.noted d → Fine G W s.noted c → Ok s → Adds d c s o → Comes s (event (A G) (p G) d) o
+  taken_on : (d : Draft) (c : C G W) (s : S G W) → Taken G W (made_as d.kind d.units) s.noted s.units → Taken G W 0 (next_event d c s ∷ s.noted) s.units
+  unfolding next_event
+  taken_on d c s h = let m = h.made in record { made = omega (arith, m); few = h.few }
+
+  added : (d : Draft) (c : C G W) (s : S G W) (o : Outcome (A G) (Made (A G))) → Leaves d c s → Ok s → Adds d c s o → Comes s (event (A G) (p G) d) o
   unfolding end event
-  added d c s (Done e t) h f i a = record {
+  added d c s (Done e t) h i a = record {
     later = subst (λ (n : Moment G W). Later s.noted n) (sym a.noted) (later_one (next_event d c s) s.noted);
     frame = a.frame;
     inv = record {
-      noted = subst (λ (n : Moment G W). AllInRange G W n) (sym a.noted) (event_in_range d c s h f, i.noted);
+      noted = subst (λ (n : Moment G W). AllInRange G W n) (sym a.noted) (h.event, i.noted);
       store = a.store i.store h.fixed;
       input = subst (λ (l : List ℕ). AllByRecursion (IsByteOf) l) (sym a.input) i.input;
-      output = ap length a.output ∙ still_written d c s h.quiet i.output ∙ ap (λ (n : Moment G W). written_before G W n) (sym a.noted);
+      output = a.output ∙ still_written d c s h i.output ∙ ap (λ (n : Moment G W). written_before G W n) (sym a.noted);
+      texts = subst (λ (n : Moment G W). Taken G W 0 n t.units) (sym a.noted) (subst (λ n. Taken G W 0 (next_event d c s ∷ s.noted) n) (sym a.units) (taken_on d c s h.taken));
     };
     given = subst (λ (n : Moment G W). MadeAs n d e) (sym a.noted) (made_here d c s e a.number);
   }
-  added d c s (Left why t) h f i a = absurd a
-  added d c s (Stopped why t) h f i a = here s _ _ a i tt
+  added d c s (Left why t) h i a = absurd a
+  added d c s (Stopped why t) h i a = here s _ _ a i tt
 
   pub records : {r : Region} {P : Known G} {m : Run (A G) (Made (A G))} (d : Draft) (c : C G W) → ((s : S G W) → Adds d c s (m s)) → Entails P (drafted G W d) → Entails P (fine G W c) → Bare r P m (event (A G) (p G) d)
   unfolding drafted fine
-  records {m = m} d c a e f = record { by = λ s st k i. added d c s (m s) (e.by _ k) (f.by _ k) i (a s) }
+  records {m = m} d c a e f = record { by = λ s st k i. added d c s (m s) (quiet_leaves d c s (e.by _ k) (f.by _ k) i) i (a s) }
 
   pub notes : {r : Region} {P : Known G} (d : Draft) (c : C G W) → Entails P (drafted G W d) → Entails P (fine G W c) → Bare r P (note d c) (event (A G) (p G) d)
   notes d c e f = records d c (note_adds d c) e f
@@ -335,6 +356,48 @@ module _ (G : Ground) (W : Text) (J : ℕ → Type 0) where
 
   pub enters : {r : Region} {P : Known G} (m : Run (A G) (Made (A G))) (reach : Reach) (d : Draft) (c : C G W) → ((s : S G W) → Adds d c s (m s)) → Entails P (drafted G W d) → Entails P (fine G W c) → Bare r P (activating reach m) (event (A G) (p G) d)
   enters m reach d c a e f = records d c (λ s. activating_adds reach d c s m (a s)) e f
+
+  -- ---- texts
+
+  abbrev with_room : ℕ → S G W → S G W
+  with_room n s = record s { units = s.units + n }
+
+  room_taken : (n : ℕ) (s : S G W) → s.units + n ≤ unit_limit → Ok s → Taken G W n s.noted (s.units + n)
+  room_taken n s le i = let m = i.texts.made in record { made = omega (arith, m); few = le }
+
+  room_kept : (n : ℕ) (s : S G W) → s.units + n ≤ unit_limit → Ok s → Ok (with_room n s)
+  room_kept n s le i = let m = i.texts.made in record { noted = i.noted; store = i.store; input = i.input; output = i.output; texts = record { made = omega (arith, m); few = le } }
+
+  text_leaves : (site : ℕ) (units : List ℕ) (c : C G W) (s : S G W) → IsSite W.tokens site → Fine G W s.noted c → s.units + length units ≤ unit_limit → Ok s → Leaves (spelling site units) c (with_room (length units) s)
+  unfolding next_event spelling
+  text_leaves site units c s h f le i = record { event = text_in_range site units c (with_room (length units) s) h f; fixed = tt; written = refl; taken = room_taken (length units) s le i }
+
+  noted_in_room : (site : ℕ) (units : List ℕ) (c : C G W) (s : S G W) (b : Bool) → nat_le (s.units + length units) unit_limit ≡ b → IsSite W.tokens site → Fine G W s.noted c → Ok s
+      → Comes s (event (A G) (p G) (spelling site units)) (go_on (choose b (with_units (length units)) (stop UnitLimit) s) (λ t. note (spelling site units) c))
+  unfolding go_on choose with_units stop end
+  noted_in_room site units c s true e h f i =
+      let le : s.units + length units ≤ unit_limit = leb-true (s.units + length units) unit_limit e in
+      let t = with_room (length units) s in
+      onward s t _ (note (spelling site units) c t) (λ k r there. there) refl (added (spelling site units) c t (note (spelling site units) c t) (text_leaves site units c s h f le i) (room_kept (length units) s le i) (note_adds (spelling site units) c t))
+  noted_in_room site units c s false e h f i = here s _ _ refl i tt
+
+  -- the units of a text are taken, and then its event is recorded
+  notes_text : {r : Region} {P : Known G} (site : ℕ) (units : List ℕ) (c : C G W) → IsSite W.tokens site → Entails P (fine G W c) → Bare r P (take_units (length units) >> note (spelling site units) c) (event (A G) (p G) (spelling site units))
+  unfolding ◌>>◌ ◌>>=◌ take_units fine
+  notes_text site units c h f = record { by = λ s st k i. noted_in_room site units c s (nat_le (s.units + length units) unit_limit) refl h (f.by _ k) i }
+
+  regrouped : {X Y : Type 0} (o : Outcome (A G) Unit) (m : Run (A G) X) (f : X → Run (A G) Y) → go_on (go_on o (λ t. m)) f ≡ go_on o (λ t. m >>= f)
+  unfolding go_on ◌>>=◌
+  regrouped (Done t s) m f = refl
+  regrouped (Left why s) m f = refl
+  regrouped (Stopped why s) m f = refl
+
+  pub spells_text : {r : Region} {Y : Type 0} {P : Known G} {R : Y → Known G} {f : Made (A G) → Run (A G) Y} (site : ℕ) (units : List ℕ) (c : C G W) → IsSite W.tokens site → Entails P (fine G W c)
+      → ((x : Made (A G)) → Bare r (both P (event (A G) (p G) (spelling site units) x)) (f x) R) → Bare r P (take_units (length units) >> (note (spelling site units) c >>= f)) R
+  unfolding ◌>>◌ ◌>>=◌
+  spells_text {Y = Y} {R = R} {f = f} site units c h e l = record {
+    by = λ s st k i. subst (λ (o : Outcome (A G) Y). Comes s R o) (regrouped (take_units (length units) s) (note (spelling site units) c) f) ((bind (notes_text site units c h e) l).by s st k i);
+  }
 
   -- ---- prints
 
@@ -365,9 +428,9 @@ module _ (G : Ground) (W : Text) (J : ℕ → Type 0) where
   unfolding print ◌>>◌ ◌>>=◌ room_for_output
   prints_to site bytes c s = room_prints (plain kind.Print site c.value) c bytes s (nat_le (length s.output + length bytes) output_limit)
 
-  -- so many bytes are those of the value and of the end of the line
+  -- the bytes are those of the value and of the end of the line
   abbrev pub BytesAre : List ℕ → ℕ → Value → S G W → Type 0
-  BytesAre bytes site v s = length bytes ≡ written_as (p G) W.ends_line (event_in s.noted) kind.Print site v
+  BytesAre bytes site v s = bytes ≡ written_as (p G) W.ends_line (event_in s.noted) kind.Print site v
 
   print_in_range : (site : ℕ) (c : C G W) (s : S G W) → IsSite W.tokens site → IsPrinted c.value → Fine G W s.noted c → InRange W.tokens (p G) (event_in s.noted) (next_event (plain kind.Print site c.value) c s).event
   unfolding next_event plain
@@ -377,12 +440,13 @@ module _ (G : Ground) (W : Text) (J : ℕ → Type 0) where
   unfolding next_event plain
   print_written site c s = refl
 
-  printed_count : (site : ℕ) (bytes : List ℕ) (c : C G W) (s : S G W) → BytesAre bytes site c.value s → length s.output ≡ written_before G W s.noted → length (s.output ++ bytes) ≡ written_before G W (next_event (plain kind.Print site c.value) c s ∷ s.noted)
-  printed_count site bytes c s b o =
-      let e = length-append s.output bytes in
-      let z = print_written site c s in
-      let n = written_one G W (next_event (plain kind.Print site c.value) c s) s.noted in
-      omega (arith, e, o, z, b, n)
+  printed_bytes : (site : ℕ) (bytes : List ℕ) (c : C G W) (s : S G W) → BytesAre bytes site c.value s → s.output ≡ written_before G W s.noted → s.output ++ bytes ≡ written_before G W (next_event (plain kind.Print site c.value) c s ∷ s.noted)
+  printed_bytes site bytes c s b o =
+      ap (λ (l : List ℕ). l ++ bytes) o ∙ ap (λ (l : List ℕ). written_before G W s.noted ++ l) (b ∙ sym (print_written site c s)) ∙ sym (written_one G W (next_event (plain kind.Print site c.value) c s) s.noted)
+
+  print_taken : (site : ℕ) (c : C G W) (s : S G W) → Taken G W 0 s.noted s.units → Taken G W 0 (next_event (plain kind.Print site c.value) c s ∷ s.noted) s.units
+  unfolding next_event plain
+  print_taken site c s h = let m = h.made in record { made = omega (arith, m); few = h.few }
 
   printed_inv : (site : ℕ) (bytes : List ℕ) (c : C G W) (s : S G W) → IsSite W.tokens site → IsPrinted c.value → Fine G W s.noted c → BytesAre bytes site c.value s → Ok s → Inv G W (after_print (plain kind.Print site c.value) c bytes s)
   unfolding with_event
@@ -390,7 +454,8 @@ module _ (G : Ground) (W : Text) (J : ℕ → Type 0) where
     noted = (print_in_range site c s h v f, i.noted);
     store = i.store;
     input = i.input;
-    output = printed_count site bytes c s b i.output;
+    output = printed_bytes site bytes c s b i.output;
+    texts = print_taken site c s i.texts;
   }
 
   printed_later : (d : Draft) (c : C G W) (bytes : List ℕ) (s : S G W) → Later s.noted (after_print d c bytes s).noted
@@ -433,21 +498,13 @@ module _ (G : Ground) (W : Text) (J : ℕ → Type 0) where
   spelled_now w s (val.Object x) e = refl
   spelled_now w s (val.Arm n) e = refl
 
-  line_length : (b : Bool) → length (line_end b) ≡ (if b then 1 else 0)
-  unfolding line_end
-  line_length true = refl
-  line_length false = refl
-
-  pub line_bytes : (units : List ℕ) (b : Bool) → length (utf8_of units ++ line_end b) ≡ length (utf8_of units) + (if b then 1 else 0)
-  line_bytes units b = length-append (utf8_of units) (line_end b) ∙ ap (λ n. length (utf8_of units) + n) (line_length b)
-
   pub spells_and_prints : {r : Region} {P : Known G} (w : World (A G)) (site : ℕ) (b : Bool) (c : C G W) → w.program ≡ p G → IsSite W.tokens site → W.ends_line site ≡ b → Entails P (fine G W c) → Entails P (always G W (IsPrinted c.value)) → Bare r P (spelled_as w c.value >>= (λ units. print site (utf8_of units ++ line_end b) c)) (λ t. nothing)
   unfolding ◌>>=◌ fine go_on
   spells_and_prints w site b c q h e f v = record {
     by = λ s st k i.
         let units = units_seen (p G) (event_in s.noted) c.value in
         let bytes = utf8_of units ++ line_end b in
-        let many : BytesAre bytes site c.value s = line_bytes units b ∙ ap (λ x. length (utf8_of units) + (if x then 1 else 0)) (sym e) in
+        let written : BytesAre bytes site c.value s = ap (λ x. utf8_of units ++ line_end x) (sym e) in
         subst (λ (o : Outcome (A G) (List ℕ)). Comes s (λ (t : Unit {0}). nothing) (go_on o (λ us. print site (utf8_of us ++ line_end b) c))) (sym (spelled_now w s c.value q))
-        (print_comes site bytes c s (print site bytes c s) h (v.by _ k) (f.by _ k) many i (prints_to site bytes c s));
+        (print_comes site bytes c s (print site bytes c s) h (v.by _ k) (f.by _ k) written i (prints_to site bytes c s));
   }

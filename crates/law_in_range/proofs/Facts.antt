@@ -1,5 +1,5 @@
 -- What is known of the ranges of values, slots and uses, at each moment of a run from then on.
-use Rattle.std.proofs.Common.{◌≡◌, ◌+◌, ◌⊎◌, inl, inr, ℕ, List, [], ◌∷◌, ◌++◌, length, Option, Some, refl, subst}
+use Rattle.std.proofs.Common.{◌≡◌, ◌+◌, ◌≤◌, ◌⊎◌, inl, inr, ℕ, List, [], ◌∷◌, ◌++◌, length, Option, Some, refl, subst}
 use Rattle.std.specs.List.{AllByRecursion}
 use Rattle.wy_kernel.specs.Program.{Program}
 use Rattle.wy_value.specs.declared.value.Value.{Value}
@@ -11,12 +11,13 @@ use Rattle.wy_event.specs.declared.record.Slot.TheVariants as slot
 use Rattle.wy_event.specs.declared.record.Use.{Use}
 use Rattle.wy_event.specs.declared.record.Use.TheVariants as use_of
 use Rattle.wy_event.specs.Record.{Recorded}
+use Rattle.wy_kernel.specs.Limits.{unit_limit}
 use Rattle.wy_steps.specs.State.{Carried, Held, Store, Noted, State, Reason, Jumped, Returned, Threw}
 use Rattle.wy_steps.specs.Steps.{Draft, event_in, constant, with_value, joined, value_of, chosen, Made}
 use Rattle.law_induction.specs.Law.{both, Entails}
 use Rattle.law_typed_states.proofs.Moments.{Later, later_one, one_of_longer}
 use Rattle.law_typed_states.proofs.Rules.{Ground, A, p, Known}
-use Rattle.law_in_range.specs.InRange.{Text, Events, IsObject, IsArray, SlotInRange, IsThrown, ValueInRange, FixedInRange, IsPlace, UseInRange, UsesInRange, IsSite, EntityInRange, InRange, IsByteOf, IsNoPrint, written_by}
+use Rattle.law_in_range.specs.InRange.{Text, Events, IsObject, IsArray, SlotInRange, IsThrown, ValueInRange, FixedInRange, IsPlace, UseInRange, UsesInRange, IsSite, EntityInRange, InRange, IsByteOf, IsQuiet, written_by, made_by}
 
 -- ---- with more events
 
@@ -138,7 +139,7 @@ module _ (G : Ground) (W : Text) where
     pub slot : SlotInRange (p G) (event_in n) d.slot
     pub value : ValueInRange (event_in n) d.kind d.entity d.value
     pub fixed : FixedInRange (p G) d.value
-    pub quiet : IsNoPrint d.kind
+    pub quiet : IsQuiet d.kind
 
   pub drafted_up : (m n : Moment) (d : Draft) → Later m n → Drafted m d → Drafted n d
   drafted_up m n d le h = record {
@@ -164,24 +165,35 @@ module _ (G : Ground) (W : Text) where
   abbrev pub StoreInRange : Store (A G) → Type 0
   StoreInRange store = (x : Slot) (h : Held (A G)) → store x ≡ Some h → FixedInRange (p G) h.value
 
-  -- the bytes that the events wrote, the newest first
-  pub written_before : Moment → ℕ
-  written_before [] = 0
-  written_before (x ∷ rest) = written_by (p G) W.ends_line (event_in rest) x.event + written_before rest
+  -- the bytes that the events wrote, of which the newest is first
+  pub written_before : Moment → List ℕ
+  written_before [] = []
+  written_before (x ∷ rest) = written_before rest ++ written_by (p G) W.ends_line (event_in rest) x.event
 
-  pub written_one : (x : Noted (A G)) (rest : Moment) → written_before (x ∷ rest) ≡ written_by (p G) W.ends_line (event_in rest) x.event + written_before rest
+  pub written_one : (x : Noted (A G)) (rest : Moment) → written_before (x ∷ rest) ≡ written_before rest ++ written_by (p G) W.ends_line (event_in rest) x.event
   unfolding written_before
   written_one x rest = refl
 
-  pub nothing_before_is : written_before [] ≡ 0
+  pub nothing_before_is : written_before [] ≡ []
   unfolding written_before
   nothing_before_is = refl
+
+  -- how many units the texts have that the events made
+  abbrev pub made_before : Moment → ℕ
+  made_before [] = 0
+  made_before (x ∷ rest) = made_by x.event + made_before rest
+
+  -- the events, and the units that the run has taken, make texts of so many units at most, and the next one of so many more
+  pub record Taken (more : ℕ) (n : Moment) (units : ℕ) : Type 0 where
+    pub made : made_before n + more ≤ units
+    pub few : units ≤ unit_limit
 
   pub record Inv (s : S) : Type 0 where
     pub noted : AllInRange s.noted
     pub store : StoreInRange s.store
     pub input : AllByRecursion IsByteOf s.input
-    pub output : length s.output ≡ written_before s.noted
+    pub output : s.output ≡ written_before s.noted
+    pub texts : Taken 0 s.noted s.units
 
   pub found_in_range : (n : Moment) → AllInRange n → (k : ℕ) (e : Recorded) → event_in n k ≡ Some e → InRange W.tokens (p G) (event_in n) e
   unfolding event_in

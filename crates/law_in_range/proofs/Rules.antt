@@ -16,7 +16,7 @@ use Rattle.law_typed_states.proofs.Moments.{Later}
 use Rattle.law_typed_states.proofs.Law.{law, runs, reason, Standing, standing_up}
 use Rattle.law_typed_states.proofs.Rules.{Ground, A, p, Known, Kept, typed, Does, ticks as ticks_typed}
 use Rattle.law_in_range.specs.InRange.{Text, IsByteOf}
-use Rattle.law_in_range.proofs.Facts.{S, Moment, fair, AllInRange, StoreInRange, written_before, Inv}
+use Rattle.law_in_range.proofs.Facts.{S, Moment, fair, AllInRange, StoreInRange, written_before, Taken, Inv}
 use Rattle.law_in_range.proofs.Bare as bare
 use Rattle.law_in_range.proofs.Bare.{Bare, Comes, Given, onward}
 
@@ -169,13 +169,15 @@ module _ (G : Ground) (W : Text) (J : ℕ → Type 0) where
     pub store : u.store ≡ t.store
     pub input : u.input ≡ t.input
     pub output : u.output ≡ t.output
+    pub units : u.units ≡ t.units
 
   alike_inv : (t u : S G W) → Alike t u → Inv G W t → Inv G W u
   alike_inv t u h i = record {
     noted = subst (λ (x : Moment G W). AllInRange G W x) (sym h.noted) i.noted;
     store = subst (λ (x : Store (A G)). StoreInRange G W x) (sym h.store) i.store;
     input = subst (λ (x : List ℕ). AllByRecursion (IsByteOf) x) (sym h.input) i.input;
-    output = ap length h.output ∙ i.output ∙ ap (λ (x : Moment G W). written_before G W x) (sym h.noted);
+    output = h.output ∙ i.output ∙ ap (λ (x : Moment G W). written_before G W x) (sym h.noted);
+    texts = subst (λ (x : Moment G W). Taken G W 0 x u.units) (sym h.noted) (subst (λ n. Taken G W 0 t.noted n) (sym h.units) i.texts);
   }
 
   like_done : {X : Type 0} (s t u : S G W) (Q : X → Known G) (x : X) → Alike t u → u.frame ≡ s.frame → Comes G W J s Q (Done x t) → Comes G W J s Q (Done x u)
@@ -202,14 +204,14 @@ module _ (G : Ground) (W : Text) (J : ℕ → Type 0) where
   unfolding end
   stopped_frame s t Q why c = c.frame
 
-  alike : (t u : S G W) → u.noted ≡ t.noted → u.store ≡ t.store → u.input ≡ t.input → u.output ≡ t.output → Alike t u
-  alike t u n st inp out = record { noted = n; store = st; input = inp; output = out }
+  alike : (t u : S G W) → u.noted ≡ t.noted → u.store ≡ t.store → u.input ≡ t.input → u.output ≡ t.output → u.units ≡ t.units → Alike t u
+  alike t u n st inp out units = record { noted = n; store = st; input = inp; output = out; units = units }
 
   again : {X : Type 0} {Q : X → Known G} (s : S G W) (entries : List (Active (A G))) (out : Outcome (A G) X) → Comes G W J s Q out → Comes G W J s Q (active_again entries out)
   unfolding active_again
-  again {Q = Q} s entries (Done x t) c = like_done s t _ Q x (alike t (record t { active = entries }) refl refl refl refl) (done_frame s t Q x c) c
-  again {Q = Q} s entries (Left why t) c = like_left s t _ Q why (alike t (record t { active = entries }) refl refl refl refl) (left_frame s t Q why c) c
-  again {Q = Q} s entries (Stopped why t) c = like_stopped s t _ Q why (alike t (record t { active = entries }) refl refl refl refl) (stopped_frame s t Q why c) c
+  again {Q = Q} s entries (Done x t) c = like_done s t _ Q x (alike t (record t { active = entries }) refl refl refl refl refl) (done_frame s t Q x c) c
+  again {Q = Q} s entries (Left why t) c = like_left s t _ Q why (alike t (record t { active = entries }) refl refl refl refl refl) (left_frame s t Q why c) c
+  again {Q = Q} s entries (Stopped why t) c = like_stopped s t _ Q why (alike t (record t { active = entries }) refl refl refl refl refl) (stopped_frame s t Q why c) c
 
   pub scopes : {r : Region} {X : Type 0} {P : Known G} {Q : X → Known G} {m : Run (A G) X} → Full r P m Q → Full r P (scoped m) Q
   unfolding scoped
@@ -217,9 +219,9 @@ module _ (G : Ground) (W : Text) (J : ℕ → Type 0) where
 
   reached_end : {X : Type 0} {Q : X → Known G} (s : S G W) (f : Option ℕ) (n : ℕ) (out : Outcome (A G) X) → Comes G W J s Q out → Comes G W J s Q (end_reaches f n out)
   unfolding end_reaches without
-  reached_end {Q = Q} s f n (Done x t) c = like_done s t _ Q x (alike t _ refl refl refl refl) (done_frame s t Q x c) c
-  reached_end {Q = Q} s f n (Left why t) c = like_left s t _ Q why (alike t _ refl refl refl refl) (left_frame s t Q why c) c
-  reached_end {Q = Q} s f n (Stopped why t) c = like_stopped s t _ Q why (alike t _ refl refl refl refl) (stopped_frame s t Q why c) c
+  reached_end {Q = Q} s f n (Done x t) c = like_done s t _ Q x (alike t _ refl refl refl refl refl) (done_frame s t Q x c) c
+  reached_end {Q = Q} s f n (Left why t) c = like_left s t _ Q why (alike t _ refl refl refl refl refl) (left_frame s t Q why c) c
+  reached_end {Q = Q} s f n (Stopped why t) c = like_stopped s t _ Q why (alike t _ refl refl refl refl refl) (stopped_frame s t Q why c) c
 
   pub reaches : {r : Region} {X : Type 0} {P : Known G} {Q : X → Known G} {m : Run (A G) X} (n : ℕ) → Full r P m Q → Full r P (reaching n m) Q
   unfolding reaching
@@ -227,9 +229,9 @@ module _ (G : Ground) (W : Text) (J : ℕ → Type 0) where
 
   framed : {X : Type 0} {Q : X → Known G} (s : S G W) (n : Option ℕ) (out : Outcome (A G) X) → Comes G W J (record s { frame = n }) Q out → Comes G W J s Q (frame_again s.frame out)
   unfolding frame_again end
-  framed s n (Done x t) c = record { later = c.later; frame = refl; inv = alike_inv t (record t { frame = s.frame }) (alike t _ refl refl refl refl) c.inv; given = c.given }
-  framed s n (Left why t) c = record { later = c.later; frame = refl; inv = alike_inv t (record t { frame = s.frame }) (alike t _ refl refl refl refl) c.inv; given = c.given }
-  framed s n (Stopped why t) c = record { later = c.later; frame = refl; inv = alike_inv t (record t { frame = s.frame }) (alike t _ refl refl refl refl) c.inv; given = tt }
+  framed s n (Done x t) c = record { later = c.later; frame = refl; inv = alike_inv t (record t { frame = s.frame }) (alike t _ refl refl refl refl refl) c.inv; given = c.given }
+  framed s n (Left why t) c = record { later = c.later; frame = refl; inv = alike_inv t (record t { frame = s.frame }) (alike t _ refl refl refl refl refl) c.inv; given = c.given }
+  framed s n (Stopped why t) c = record { later = c.later; frame = refl; inv = alike_inv t (record t { frame = s.frame }) (alike t _ refl refl refl refl refl) c.inv; given = tt }
 
   typed_in : (i : FrameKind) (n : ℕ) (P : Known G) (s : S G W) → Entails P (runs (A G) (p G) i n) → P.holds s.noted → Runs s.noted n i
   unfolding runs
@@ -240,7 +242,7 @@ module _ (G : Ground) (W : Text) (J : ℕ → Type 0) where
   runs_in {i = i} {P = P} {m = m} n e h = record {
     by = λ s at.
         let u : S G W = record s { frame = Some n } in
-        framed s (Some n) (m u) (h.by u (record { typed = at.typed; stands = (n, refl, typed_in i n P s e at.known); known = at.known; inv = alike_inv s u (alike s u refl refl refl refl) at.inv }));
+        framed s (Some n) (m u) (h.by u (record { typed = at.typed; stands = (n, refl, typed_in i n P s e at.known); known = at.known; inv = alike_inv s u (alike s u refl refl refl refl refl) at.inv }));
   }
 
   -- ---- loops
@@ -269,11 +271,11 @@ OrTo J n t = J t ⊎ (t ≡ n)
 module _ (G : Ground) (W : Text) (J : ℕ → Type 0) where
   ended_comes : (s t : S G W) (n : ℕ) → Later s.noted t.noted → t.frame ≡ s.frame → Inv G W t → Comes G W J s (λ (u : Unit {0}). nothing) (end_normally n t)
   unfolding end_normally end covering
-  ended_comes s t n le f i = record { later = le; frame = f; inv = alike_inv G W J t _ (alike G W J t _ refl refl refl refl) i; given = tt }
+  ended_comes s t n le f i = record { later = le; frame = f; inv = alike_inv G W J t _ (alike G W J t _ refl refl refl refl refl) i; given = tt }
 
   left_comes : (s t : S G W) (n : ℕ) (why : Reason (A G)) → Later s.noted t.noted → t.frame ≡ s.frame → Inv G W t → (fair G W J why).holds t.noted → Comes G W J s (λ (u : Unit {0}). nothing) (be_left n why t)
   unfolding be_left end covering
-  left_comes s t n why le f i g = record { later = le; frame = f; inv = alike_inv G W J t _ (alike G W J t _ refl refl refl refl) i; given = g }
+  left_comes s t n why le f i g = record { later = le; frame = f; inv = alike_inv G W J t _ (alike G W J t _ refl refl refl refl refl) i; given = g }
 
   chosen_comes : (s t : S G W) (Q : Unit {0} → Known G) (m k : Run (A G) Unit) (b : Bool) → (b ≡ true → Comes G W J s Q (m t)) → (b ≡ false → Comes G W J s Q (k t)) → Comes G W J s Q (choose b m k t)
   unfolding choose
@@ -292,7 +294,7 @@ module _ (G : Ground) (W : Text) (J : ℕ → Type 0) where
   unfolding cover_end end covering
   covered_comes s n (Done u t) c = ended_comes s t n c.later c.frame c.inv
   covered_comes s n (Left why t) c = chosen_comes s t _ (end_normally n) (be_left n why) (arrives n why) (λ q. ended_comes s t n c.later c.frame c.inv) (λ q. left_comes s t n why c.later c.frame c.inv (passing n why t.noted q c.given))
-  covered_comes s n (Stopped why t) c = record { later = c.later; frame = c.frame; inv = alike_inv G W J t _ (alike G W J t _ refl refl refl refl) c.inv; given = tt }
+  covered_comes s n (Stopped why t) c = record { later = c.later; frame = c.frame; inv = alike_inv G W J t _ (alike G W J t _ refl refl refl refl refl) c.inv; given = tt }
 
   started : (s : S G W) (n : ℕ) → S G W
   started s n = covering n (begun (length s.noted)) s
@@ -303,7 +305,7 @@ module _ (G : Ground) (W : Text) (J : ℕ → Type 0) where
 
   start_at : {r : Region} {P : Known G} (s : S G W) (n : ℕ) → At G W J r P s → At G W (OrTo J n) r P (started s n)
   unfolding started covering
-  start_at {r = r} s n at = record { typed = at.typed; stands = standing_up (A G) (p G) r s _ (λ k e h. h) refl at.stands; known = at.known; inv = alike_inv G W J s _ (alike G W J s _ refl refl refl refl) at.inv }
+  start_at {r = r} s n at = record { typed = at.typed; stands = standing_up (A G) (p G) r s _ (λ k e h. h) refl at.stands; known = at.known; inv = alike_inv G W J s _ (alike G W J s _ refl refl refl refl refl) at.inv }
 
   pub covers : {r : Region} {P : Known G} {Q : Unit {0} → Known G} {m : Run (A G) Unit} (n : ℕ) → Full G W (OrTo J n) r P m Q → Full G W J r P (covered n m) (λ u. nothing)
   unfolding covered started

@@ -21,6 +21,7 @@ use Rattle.wy_steps.specs.State.{Carried, Covered, Noted, Stop, StepLimit, Event
 use Rattle.wy_kernel.specs.Limits.{depth_limit}
 use Rattle.wy_steps.specs.Steps.{Made, value_of, event_in}
 use Rattle.wy_meaning.specs.World.{World, units_in}
+use Rattle.wy_meaning.specs.Text.{line_end}
 use Rattle.wy_meaning.specs.Call.{bound, initialization}
 use Rattle.wy_meaning.specs.Run.{call_body, init_block, world, strings, main_run, start, outcome, end, stop_number, stop_of, last_of_stop, last_of_reason, last_of, covers, tail_of, history, events, output, tail}
 use Rattle.wy_typing.specs.Programs.{IsProgram}
@@ -38,8 +39,8 @@ use Rattle.law_typed_states.proofs.Places.{Methods, of_type, world_of, may_initi
 use Rattle.law_typed_states.proofs.Arrays.{makes_array, made_is, array_made}
 use Rattle.law_typed_states.proofs.Bodies.{body_called, initialized, part_there, seam as slice_get_seam}
 use Rattle.law_typed_states.proofs.Runs.{main_calls, start_typed}
-use Rattle.law_in_range.specs.InRange.{Text, Events, IsSite, FitsText, InRange, IsByteOf, units_seen, written_as, written_by, written, LastFits, RecordsAreInRange, OutputIsWritten, EndIsInRange, RunsAreInRange}
-use Rattle.law_in_range.proofs.Facts.{Moment, AllInRange, Inv, fine, fair, constant_fine, value_of_fine, in_range_up, written_before, written_one, nothing_before_is}
+use Rattle.law_in_range.specs.InRange.{Text, Events, IsSite, FitsText, InRange, IsByteOf, units_seen, written_as, written_by, written, made_by, made_in, LastFits, RecordsAreInRange, OutputIsWritten, TextsAreShort, EndIsInRange, RunsAreInRange}
+use Rattle.law_in_range.proofs.Facts.{Moment, AllInRange, Inv, fine, fair, constant_fine, value_of_fine, in_range_up, written_before, written_one, nothing_before_is, made_before}
 use Rattle.law_in_range.proofs.Values.{method_class}
 use Rattle.law_in_range.proofs.Bare as bare
 use Rattle.law_in_range.proofs.Bare.{Given}
@@ -143,7 +144,7 @@ module _ (G : Ground) (W : Text) (text : FitsText W (p G)) where
 
   start_inv : (input : List ℕ) (budget : ℕ) → AllByRecursion IsByteOf input → Inv G W (start {A = A G} input budget)
   unfolding start
-  start_inv input budget bytes = record { noted = tt; store = λ x h e. absurd (cc e); input = bytes; output = sym (nothing_before_is G W) }
+  start_inv input budget bytes = record { noted = tt; store = λ x h e. absurd (cc e); input = bytes; output = sym (nothing_before_is G W); texts = record { made = omega arith; few = omega arith } }
 
   abbrev pub Nowhere : ℕ → Type 0
   Nowhere target = ⊥
@@ -241,7 +242,7 @@ slice_get_before [] ys n z e = absurd (cc e)
 slice_get_before (x ∷ xs) ys zero z e = e
 slice_get_before (x ∷ xs) ys (suc n) z e = slice_get_before xs ys n z e
 
-none_written : (p : Program) (ends_line : ℕ → Bool) → written p ends_line [] [] ≡ 0
+none_written : (p : Program) (ends_line : ℕ → Bool) → written p ends_line [] [] ≡ []
 unfolding written
 none_written p ends_line = refl
 
@@ -287,13 +288,13 @@ snoc_other [] y (suc k) n = refl
 snoc_other (x ∷ xs) y zero n = refl
 snoc_other (x ∷ xs) y (suc k) n = snoc_other xs y k (λ e. n (ap suc e))
 
-written_snoc : (p : Program) (ends_line : ℕ → Bool) (front xs : List Recorded) (y : Recorded) → written p ends_line front (xs ++ y ∷ []) ≡ written p ends_line front xs + written_by p ends_line (slice_get (front ++ xs)) y
+written_snoc : (p : Program) (ends_line : ℕ → Bool) (front xs : List Recorded) (y : Recorded) → written p ends_line front (xs ++ y ∷ []) ≡ written p ends_line front xs ++ written_by p ends_line (slice_get (front ++ xs)) y
 unfolding written
-written_snoc p ends_line front [] y = let e : written_by p ends_line (slice_get front) y ≡ written_by p ends_line (slice_get (front ++ [])) y = ap (λ (l : List Recorded). written_by p ends_line (slice_get l) y) (sym (append-nil front)) in omega (arith, e)
+written_snoc p ends_line front [] y = append-nil (written_by p ends_line (slice_get front) y) ∙ ap (λ (l : List Recorded). written_by p ends_line (slice_get l) y) (sym (append-nil front))
 written_snoc p ends_line front (x ∷ xs) y =
-    let h = written_snoc p ends_line (front ++ x ∷ []) xs y in
-    let e : written_by p ends_line (slice_get ((front ++ x ∷ []) ++ xs)) y ≡ written_by p ends_line (slice_get (front ++ x ∷ xs)) y = ap (λ (l : List Recorded). written_by p ends_line (slice_get l) y) (append_assoc front (x ∷ []) xs) in
-    omega (arith, h, e)
+    let first = written_by p ends_line (slice_get front) x in
+    ap (λ (l : List ℕ). first ++ l) (written_snoc p ends_line (front ++ x ∷ []) xs y ∙ ap (λ (l : List Recorded). written p ends_line (front ++ x ∷ []) xs ++ written_by p ends_line (slice_get l) y) (append_assoc front (x ∷ []) xs))
+    ∙ sym (append_assoc first (written p ends_line (front ++ x ∷ []) xs) (written_by p ends_line (slice_get (front ++ x ∷ xs)) y))
 
 module _ (G : Ground) (W : Text) where
   order_is : (noted : Moment G W) (k : ℕ) → slice_get (in_order (A G) noted) k ≡ event_in noted k
@@ -320,23 +321,39 @@ module _ (G : Ground) (W : Text) where
   seen_same at bt h (val.Arm n) = refl
 
   as_same : (at bt : Events) → ((k : ℕ) → at k ≡ bt k) → (k : Kind) (site : ℕ) (v : Value) → written_as (p G) W.ends_line at k site v ≡ written_as (p G) W.ends_line bt k site v
-  as_same at bt h kind.Print site v = ap (λ (l : List ℕ). length (utf8_of l) + (if W.ends_line site then 1 else 0)) (seen_same at bt h v)
+  as_same at bt h kind.Print site v = ap (λ (l : List ℕ). utf8_of l ++ line_end (W.ends_line site)) (seen_same at bt h v)
   as_same at bt h _ site v = refl
 
   written_in_order : (noted : Moment G W) → written_before G W noted ≡ written (p G) W.ends_line [] (in_order (A G) noted)
   unfolding in_order
   written_in_order [] = nothing_before_is G W ∙ sym (none_written (p G) W.ends_line)
   written_in_order (x ∷ rest) =
-      let one = written_one G W x rest in
-      let h = written_in_order rest in
-      let e = as_same (slice_get (in_order (A G) rest)) (event_in rest) (order_is rest) x.event.kind x.event.site x.event.value in
-      let s = written_snoc (p G) W.ends_line [] (in_order (A G) rest) x.event in
-      let o : written (p G) W.ends_line [] (in_order (A G) (x ∷ rest)) ≡ written (p G) W.ends_line [] (in_order (A G) rest ++ x.event ∷ []) = ap (λ (l : List Recorded). written (p G) W.ends_line [] l) (in_order-cons (A G) x rest) in
-      omega (arith, one, h, e, s, o)
+      written_one G W x rest ∙ ap (λ (l : List ℕ). l ++ written_by (p G) W.ends_line (event_in rest) x.event) (written_in_order rest)
+      ∙ ap (λ (l : List ℕ). written (p G) W.ends_line [] (in_order (A G) rest) ++ l) (sym (as_same (slice_get (in_order (A G) rest)) (event_in rest) (order_is rest) x.event.kind x.event.site x.event.value))
+      ∙ sym (ap (λ (l : List Recorded). written (p G) W.ends_line [] l) (in_order-cons (A G) x rest) ∙ written_snoc (p G) W.ends_line [] (in_order (A G) rest) x.event)
+
+  made_snoc : (es : List Recorded) (e : Recorded) → made_in (es ++ e ∷ []) ≡ made_by e + made_in es
+  made_snoc [] e = refl
+  made_snoc (x ∷ es) e = let h = made_snoc es e in omega (arith, h)
+
+  made_in_order : (noted : Moment G W) → made_in (in_order (A G) noted) ≡ made_before G W noted
+  unfolding in_order
+  made_in_order [] = refl
+  made_in_order (x ∷ rest) = ap made_in (in_order-cons (A G) x rest) ∙ made_snoc (in_order (A G) rest) x.event ∙ ap (λ n. made_by x.event + n) (made_in_order rest)
 
   pub output_written : (text : FitsText W (p G)) (input : List ℕ) (budget : ℕ) → AllByRecursion IsByteOf input → OutputIsWritten (A G) W.ends_line (p G) input budget
   unfolding output events history in_order
   output_written text input budget bytes = (run_kept G W text input budget bytes).inv.output ∙ written_in_order _
+
+  pub texts_short : (text : FitsText W (p G)) (input : List ℕ) (budget : ℕ) → AllByRecursion IsByteOf input → TextsAreShort (A G) (p G) input budget
+  unfolding events history in_order
+  texts_short text input budget bytes =
+      let noted = (end (outcome {A = A G} (p G) input budget)).noted in
+      let made = made_in_order noted in
+      let taken = (run_kept G W text input budget bytes).inv.texts in
+      let few = taken.made in
+      let limit = taken.few in
+      omega (arith, made, few, limit)
 
   pub records_in_range : (text : FitsText W (p G)) (input : List ℕ) (budget : ℕ) → AllByRecursion IsByteOf input → RecordsAreInRange (A G) W.tokens (p G) input budget
   unfolding events history in_order
@@ -345,4 +362,4 @@ module _ (G : Ground) (W : Text) where
 pub runs_in_range : (A : Sets) (text : Text) (p : Program) → IsProgram p → KeepsLibrary p → FitsText text p → RunsAreInRange A text p
 runs_in_range A text p fits library h =
     let G : Ground = record { sets = A; program = p; fits = fits; library = library } in
-    record { records = records_in_range G text h; output = output_written G text h; end = end_in_range G text h }
+    record { records = records_in_range G text h; output = output_written G text h; texts = texts_short G text h; end = end_in_range G text h }

@@ -29,7 +29,7 @@ use Rattle.law_typed_states.proofs.Rules.{Ground, A, p, Known}
 use Rattle.law_typed_states.proofs.Places.{Methods, world_of}
 use Rattle.law_in_range.specs.InRange.{Text, IsTypeOfObjects, arrays_from, IsArray, IsByte, FixedInRange}
 use Rattle.law_in_range.proofs.Facts.{S, C, Moment, always, fine, all_fine, spotted, fair, drafted, array_up, constant_fine, with_value_fine, joined_fine, value_of_fine}
-use Rattle.law_in_range.proofs.Bare.{IsByteIn, Bare, bind, next, after, weaker, gives_less, gives, leaves, stops, frames, declares, takes_elements, takes_units, takes_byte, BytesAre, line_bytes, prints, notes, writes, creates_new}
+use Rattle.law_in_range.proofs.Bare.{IsByteIn, Bare, bind, next, after, weaker, gives_less, gives, leaves, stops, frames, declares, takes_elements, takes_byte, BytesAre, spells_text, prints, notes, writes, creates_new}
 use Rattle.law_in_range.proofs.Forms.{Site, null_fails, number_fails, place_fails, finds_type, finds_units, finds_object, measures_some, set_draft}
 
 module _ (G : Ground) (W : Text) (J : ℕ → Type 0) (M : Methods G) where
@@ -48,8 +48,8 @@ module _ (G : Ground) (W : Text) (J : ℕ → Type 0) (M : Methods G) where
   -- ---- texts
 
   pub makes_text : {r : Region} {P : Known G} (site : ℕ) (units : List ℕ) (c : C G W) → Right site → Entails P (F c) → B r P (make_text site units c) F
-  unfolding make_text spelling drafted
-  makes_text site units c s e = after G W J (takes_units G W J _) (bind G W J (notes G W J (spelling site units) c (record { by = λ n q. record { site = s; entity = tt; slot = tt; value = tt; fixed = tt; quiet = tt } }) (before _ _ e)) (λ x. gives G W J _ (value_of_fine G W x _ tt)))
+  unfolding make_text
+  makes_text site units c s e = spells_text G W J site units c s e (λ x. gives G W J _ (value_of_fine G W x _ tt))
 
   pub spells : {r : Region} {P : Known G} (v : Value) → B r P (spelled_as w v) (λ us. nothing)
   unfolding spelled_as
@@ -58,7 +58,7 @@ module _ (G : Ground) (W : Text) (J : ℕ → Type 0) (M : Methods G) where
   spells _ = gives G W J _ trivially
 
   no_bytes : (ends_line : Bool) (site : ℕ) (s : S G W) → W.ends_line site ≡ ends_line → BytesAre G W J (line_end ends_line) site val.None s
-  no_bytes b site s e = sym (ap (λ (l : List ℕ). length (l ++ line_end b)) utf8_of-nil) ∙ line_bytes G W J [] b ∙ ap (λ x. length (utf8_of []) + (if x then 1 else 0)) (sym e)
+  no_bytes b site s e = sym (ap (λ (l : List ℕ). l ++ line_end b) utf8_of-nil) ∙ ap (λ x. utf8_of [] ++ line_end x) (sym e)
 
   pub prints_nothing : {r : Region} {P : Known G} (ends_line : Bool) (site : ℕ) → Right site → W.ends_line site ≡ ends_line → B r P (print_nothing ends_line site) (λ t. nothing)
   unfolding print_nothing constant

@@ -23,9 +23,10 @@ use Rattle.wy_event.specs.declared.record.Use.{Use}
 use Rattle.wy_event.specs.declared.record.Use.TheVariants as use_of
 use Rattle.wy_event.specs.Record.{Recorded}
 use Rattle.wy_steps.specs.Sets.{Sets}
-use Rattle.wy_kernel.specs.Limits.{element_limit, index_limit}
+use Rattle.wy_kernel.specs.Limits.{element_limit, index_limit, unit_limit}
 use Rattle.wy_steps.specs.Steps.{code_of}
 use Rattle.wy_meaning.specs.World.{units_in}
+use Rattle.wy_meaning.specs.Text.{line_end}
 use Rattle.wy_meaning.specs.Run.{Tail, events, output, tail}
 use Rattle.wy_typing.specs.Expressions.{IsMethod, IsField}
 use Rattle.law_induction.specs.Law.{FrameKind}
@@ -207,21 +208,40 @@ units_seen p at (val.Fixed n) = fixed_text p n
 units_seen p at v = text_of v
 
 -- the bytes that an event writes: those of a printed value, and the end of a line
-abbrev pub written_as : Program → (ends_line : ℕ → Bool) → Events → Kind → ℕ → Value → ℕ
-written_as p ends_line at kind.Print site v = length (utf8_of (units_seen p at v)) + (if ends_line site then 1 else 0)
-written_as p ends_line at _ site v = 0
+abbrev pub written_as : Program → (ends_line : ℕ → Bool) → Events → Kind → ℕ → Value → List ℕ
+written_as p ends_line at kind.Print site v = utf8_of (units_seen p at v) ++ line_end (ends_line site)
+written_as p ends_line at _ site v = []
 
-abbrev pub written_by : Program → (ends_line : ℕ → Bool) → Events → Recorded → ℕ
+abbrev pub written_by : Program → (ends_line : ℕ → Bool) → Events → Recorded → List ℕ
 written_by p ends_line at e = written_as p ends_line at e.kind e.site e.value
 
-abbrev pub IsNoPrint : Kind → Type 0
-IsNoPrint kind.Print = ⊥
-IsNoPrint _ = Unit {0}
+-- the bytes that the records write in their order, behind those before them
+unfoldable pub written : Program → (ends_line : ℕ → Bool) → List Recorded → List Recorded → List ℕ
+written p ends_line before [] = []
+written p ends_line before (e ∷ rest) = written_by p ends_line (slice_get before) e ++ written p ends_line (before ++ e ∷ []) rest
 
--- the bytes that the records write, behind those before them
-unfoldable pub written : Program → (ends_line : ℕ → Bool) → List Recorded → List Recorded → ℕ
-written p ends_line before [] = 0
-written p ends_line before (e ∷ rest) = written_by p ends_line (slice_get before) e + written p ends_line (before ++ e ∷ []) rest
+-- ---- texts
+
+-- how many units the text has that an event makes
+abbrev pub made_as : Kind → List ℕ → ℕ
+made_as kind.Text units = length units
+made_as _ units = 0
+
+abbrev pub made_by : Recorded → ℕ
+made_by e = made_as e.kind e.units
+
+-- how many the texts have that the records make
+abbrev pub made_in : List Recorded → ℕ
+made_in [] = 0
+made_in (e ∷ rest) = made_by e + made_in rest
+
+-- an event that prints nothing and makes no text
+abbrev pub IsQuiet : Kind → Type 0
+IsQuiet kind.Print = ⊥
+IsQuiet kind.Text = ⊥
+IsQuiet _ = Unit {0}
+
+-- ---- ends of lines
 
 -- a `println` stands at a print that ends a line, and at no other
 abbrev pub PrintLined : (ends_line : ℕ → Bool) → Act → Type 0
@@ -307,7 +327,11 @@ RecordsAreInRange A tokens p input budget =
 
 -- the output is what the records write
 abbrev pub OutputIsWritten : Sets → (ends_line : ℕ → Bool) → Program → List ℕ → ℕ → Type 0
-OutputIsWritten A ends_line p input budget = length (output A p input budget) ≡ written p ends_line [] (events A p input budget)
+OutputIsWritten A ends_line p input budget = output A p input budget ≡ written p ends_line [] (events A p input budget)
+
+-- the texts that the run makes have no more units than their limit
+abbrev pub TextsAreShort : Sets → Program → List ℕ → ℕ → Type 0
+TextsAreShort A p input budget = made_in (events A p input budget) ≤ unit_limit
 
 -- a run that ended by a throw, here or in an initializer, has the Throw
 abbrev pub LastFits : ℕ → Option ℕ → Type 0
@@ -328,4 +352,5 @@ EndIsInRange A p input budget = EndInRange p budget (tail A p input budget)
 pub record RunsAreInRange (A : Sets) (text : Text) (p : Program) : Type 0 where
   pub records : (input : List ℕ) (budget : ℕ) → AllByRecursion IsByteOf input → RecordsAreInRange A text.tokens p input budget
   pub output : (input : List ℕ) (budget : ℕ) → AllByRecursion IsByteOf input → OutputIsWritten A text.ends_line p input budget
+  pub texts : (input : List ℕ) (budget : ℕ) → AllByRecursion IsByteOf input → TextsAreShort A p input budget
   pub end : (input : List ℕ) (budget : ℕ) → AllByRecursion IsByteOf input → EndIsInRange A p input budget

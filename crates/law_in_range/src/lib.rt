@@ -1,5 +1,5 @@
-//! Each record of a run is in the range of its program, and so are its output and its end. The function does nothing: its contract
-//! is the law.
+//! Each record of a run is in the range of its program, and so are its output, its texts and its end. The function does nothing: its
+//! contract is the law.
 #![tactic(auto)]
 
 ghost use Rattle.wy_kernel.specs.Program.{Program};
@@ -14,8 +14,8 @@ ghost use Rattle.law_in_range.specs.InRange.{FitsText, RunsAreInRange, Text};
 /// byte or -1, a New of an array its length, what is thrown and caught is an object of a class, and what is printed is neither an object
 /// nor a byte or a short. A text of the program is one that it has.
 ///
-/// The output is as long as what the prints write: the bytes of each value, and one for the end of the line of each `println`. A run that
-/// ended by a throw has the Throw, and no other run has one.
+/// The output is what the prints write, in their order: the bytes of each value, and the end of the line of each `println`. The texts that
+/// the run makes have at most 16,777,216 units in all. A run that ended by a throw has the Throw, and no other run has one.
 ///
 /// To fit its text is to have the sites of its bodies at its tokens, no class below String and no jump out of a body, and to end lines
 /// exactly where the text has `println`.

@@ -20,3 +20,5 @@ pub mod ClassCalls
 pub mod Ending
 pub mod TextWhole
 mod Rows
+mod FewStatements
+mod Short

@@ -1,8 +1,8 @@
 -- Each record that is in range keeps the rules of a reader, and so does what the records write.
-use Rattle.std.proofs.Common.{◌≡◌, ◌≤◌, ◌+◌, ◌^◌, ◌++◌, arith, ℕ, zero, suc, Bool, List, [], ◌∷◌, length, Some, refl, sym, ap, ◌∙◌, subst, append_assoc}
+use Rattle.std.proofs.Common.{◌≡◌, ◌≤◌, ◌+◌, ◌^◌, ◌++◌, arith, ℕ, zero, suc, Bool, true, false, List, [], ◌∷◌, length, Some, refl, sym, ap, ◌∙◌, subst, append_assoc}
 use Rattle.std.specs.Prelude.{map, take, slice_get, slice_index, slice_index_or, if◌then◌else◌}
 use Rattle.std.proofs.lemmas.Option.{slice_get_within}
-use Rattle.std.proofs.lemmas.List.{map-append}
+use Rattle.std.proofs.lemmas.List.{length-append, map-append}
 use Rattle.std.proofs.Math.Seq.{take-append_seam}
 use Rattle.wy_kernel.specs.declared.program.Program as memory
 use Rattle.wy_kernel.specs.Parts.{program_of}
@@ -16,6 +16,7 @@ use Rattle.wy_event.specs.declared.record.Kind.{Kind}
 use Rattle.wy_event.specs.declared.record.Kind.TheVariants as kind
 use Rattle.wy_event.specs.Record.{Recorded}
 use Rattle.wy_meaning.specs.World.{units_in}
+use Rattle.wy_meaning.specs.Text.{line_end}
 use Rattle.wy_payload.specs.declared.known.Known.{Known}
 use Rattle.wy_payload.specs.declared.known.Role.TheVariants as role
 use Rattle.wy_payload.specs.Ranges.{ranges_of, known_as}
@@ -93,13 +94,22 @@ module _ (V : Version) (P : memory.Program) (few : 16 + length (program_of P).cl
   unfolding ranges_of
   line_known site = refl
 
-  output_as : (k : Kind) (n site : ℕ) (v : Value) → ValueFits rs n v → output_of (ranges_of V P) (known_before rs n) k site v ≡ written_as (program_of P) ends_line (slice_get (take n rs)) k site v
+  line_long : (b : Bool) → length (line_end b) ≡ (if b then 1 else 0)
+  unfolding line_end
+  line_long true = refl
+  line_long false = refl
+
+  output_as : (k : Kind) (n site : ℕ) (v : Value) → ValueFits rs n v → output_of (ranges_of V P) (known_before rs n) k site v ≡ length (written_as (program_of P) ends_line (slice_get (take n rs)) k site v)
   unfolding output_of
-  output_as kind.Print n site v h = let a = value_known n v h in let b = line_known site in omega (arith, a, b)
+  output_as kind.Print n site v h =
+      let a = value_known n v h in
+      let b = line_known site in
+      let c = line_long (ends_line site) in
+      let d = length-append (utf8_of (units_seen (program_of P) (slice_get (take n rs)) v)) (line_end (ends_line site)) in omega (arith, a, b, c, d)
   output_as _ n site v h = refl
 
   -- of the records from one on
-  written_from : (front xs : List Recorded) → rs ≡ front ++ xs → printed (ranges_of V P) (map known_in front) xs ≡ written (program_of P) ends_line front xs
+  written_from : (front xs : List Recorded) → rs ≡ front ++ xs → printed (ranges_of V P) (map known_in front) xs ≡ length (written (program_of P) ends_line front xs)
   unfolding printed written
   written_from front [] e = refl
   written_from front (x ∷ xs) e =
@@ -110,11 +120,12 @@ module _ (V : Version) (P : memory.Program) (few : 16 + length (program_of P).cl
       let same_seen : written_by (program_of P) ends_line (slice_get (take (length front) rs)) x ≡ written_by (program_of P) ends_line (slice_get front) x = ap (λ (l : List Recorded). written_by (program_of P) ends_line (slice_get l) x) taken in
       let known_more : printed (ranges_of V P) (map known_in front ++ known_in x ∷ []) xs ≡ printed (ranges_of V P) (map known_in (front ++ x ∷ [])) xs = ap (λ (l : List Known). printed (ranges_of V P) l xs) (sym (map-append known_in front (x ∷ []))) in
       let rest = written_from (front ++ x ∷ []) xs (e ∙ sym (append_assoc front (x ∷ []) xs)) in
-      omega (arith, one, same_known, same_seen, known_more, rest)
+      let both = length-append (written_by (program_of P) ends_line (slice_get front) x) (written (program_of P) ends_line (front ++ x ∷ []) xs) in
+      let seen = ap length same_seen in omega (arith, one, same_known, seen, known_more, rest, both)
     where
       seam : (xs : List Recorded) (y : Recorded) (ys : List Recorded) → slice_get (xs ++ y ∷ ys) (length xs) ≡ Some y
       seam [] y ys = refl
       seam (x ∷ xs) y ys = seam xs y ys
 
-  pub all_written : printed (ranges_of V P) [] rs ≡ written (program_of P) ends_line [] rs
+  pub all_written : printed (ranges_of V P) [] rs ≡ length (written (program_of P) ends_line [] rs)
   all_written = written_from [] rs refl

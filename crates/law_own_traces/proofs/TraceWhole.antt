@@ -57,7 +57,7 @@ module _ (V : Version) (P : memory.Program) (library : KeepsLibrary (program_of 
       let stops : end.stop ≡ ending.stop = ap (λ (t : Tail). t.stop) own.end_is in
       let lasts : present end.last ≡ ending.last = ap (λ (t : Tail). t.last) own.end_is in
       let steps : end.steps ≡ ending.steps = ap (λ (t : Tail). t.steps) own.end_is in
-      let written : length (output nothing (program_of P) head.input head.steps) ≡ printed (ranges_of V P) [] rs = ranged.output head.input head.steps own.bytes ∙ sym (all_written V P library.few rs shaped in_range) in
+      let written : length (output nothing (program_of P) head.input head.steps) ≡ printed (ranges_of V P) [] rs = ap length (ranged.output head.input head.steps own.bytes) ∙ sym (all_written V P library.few rs shaped in_range) in
       record {
         head_stands = own.head_stands;
         fit = own.fit;

@@ -1,3 +1,4 @@
+pub mod Statements
 pub mod Own
 pub mod Laws
 pub mod KeptLibrary

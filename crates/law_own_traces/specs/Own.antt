@@ -24,6 +24,7 @@ use Rattle.wy_spelling.specs.Spelling.{run_bytes}
 use Rattle.law_reading.specs.Spelled.{AreBytes}
 use Rattle.law_reading.specs.WithinRules.{IsRead}
 use Rattle.law_in_range.specs.InRange.{Text, FitsText, IsByteOf}
+use Rattle.law_own_traces.specs.Statements.{statement_limit}
 
 -- how many tokens its text has, and where a `println` stands in it
 abbrev pub text_of : Program → Text
@@ -41,6 +42,11 @@ pub record IsOwn (p : Program) (head : Head) (rs : List Recorded) (end : Tail) :
 -- so it keeps every rule of a reader of either version
 abbrev pub OwnTracesKeepRules : Program → Type 0
 OwnTracesKeepRules p = (v : Version) (head : Head) (rs : List Recorded) (end : Tail) → IsOwn p head rs end → IsReadable v p head rs end
+
+-- where it has no more statements than a text can have, the bytes of each run of the program in either version are within the limit of a trace
+abbrev pub OwnTracesAreShort : Program → Type 0
+OwnTracesAreShort p = p.statements ≤ statement_limit
+    → (v : Version) (head : Head) (rs : List Recorded) (end : Tail) → IsOwn p head rs end → length (run_bytes v head rs end) ≤ trace_limit
 
 -- what holds of the bytes of each run of the program in either version, where they are within the limit of a trace
 abbrev pub OfOwnBytes : (Version → Program → Head → List Recorded → Tail → List ℕ → Type 0) → Program → Type 0

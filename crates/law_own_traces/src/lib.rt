@@ -7,5 +7,7 @@ mod texts;
 mod traces;
 
 pub use library::programs_keep_the_library;
-pub use texts::trees_fit_their_texts;
-pub use traces::{own_events_are_told, own_traces_are_read, own_traces_keep_rules};
+pub use texts::{trees_fit_their_texts, trees_have_few_statements};
+pub use traces::{
+    own_events_are_told, own_traces_are_read, own_traces_are_short, own_traces_keep_rules,
+};

@@ -1,6 +1,7 @@
-//! The program of a text fits the text. The function does nothing: its contract is the law.
+//! The program of a text fits the text, and has few statements. The functions do nothing: their contracts are the laws.
 
 ghost use Rattle.law_own_traces.specs.Laws.{TreesFitTheirTexts};
+ghost use Rattle.law_own_traces.specs.Statements.{TreesHaveFewStatements};
 
 use law_sites::sites_are_tokens;
 
@@ -11,3 +12,9 @@ pub fn trees_fit_their_texts()
 {
     sites_are_tokens();
 }
+
+/// The program of a well-formed tree of at most 1,048,576 tokens has at most 8,388,682 statements: eight a token, beside the 74 of the
+/// library.
+pub fn trees_have_few_statements()
+    ensures { TreesHaveFewStatements }
+{}

@@ -3,7 +3,7 @@
 
 ghost use Rattle.wy_kernel.specs.Parts.{program_of};
 ghost use Rattle.wy_kernel.specs.declared.program.Program.{Program};
-ghost use Rattle.law_own_traces.specs.Own.{OfFittingPrograms, OwnBytesTellEvents, OwnEventsAreTold, OwnTracesAreNotRefused, OwnTracesAreRead, OwnTracesKeepRules};
+ghost use Rattle.law_own_traces.specs.Own.{OfFittingPrograms, OwnBytesTellEvents, OwnEventsAreTold, OwnTracesAreNotRefused, OwnTracesAreRead, OwnTracesAreShort, OwnTracesKeepRules};
 
 use law_in_range::runs_are_in_range;
 use law_reading::{traces_within_rules_are_not_refused, traces_within_rules_are_read};
@@ -23,6 +23,15 @@ pub fn own_traces_keep_rules()
 pub fn own_events_are_told()
     ensures events { OfFittingPrograms OwnEventsAreTold }
     ensures bytes { OfFittingPrograms OwnBytesTellEvents }
+{
+    references_point_below();
+    runs_are_in_range();
+}
+
+/// The bytes of such a run, where its program has no more statements than a text can have, are at most 1,073,741,824: 44 an event, 14 a
+/// use, two a unit of its texts, 16 a statement, its input and its source, and 97, each of them within its own limit.
+pub fn own_traces_are_short()
+    ensures { OfFittingPrograms OwnTracesAreShort }
 {
     references_point_below();
     runs_are_in_range();
