@@ -8,15 +8,17 @@ ghost use Rattle.law_reached.specs.Laws.{CallsStandOnLinks, EachItemIsNeeded, Ex
 ghost use Rattle.wy_steps.specs.Sets.{nothing};
 ghost use Rattle.wy_top.specs.Causes.{ProgramsAreNotRefused};
 ghost use Rattle.wy_top.specs.Due.{Due, AreSyntaxLines};
-ghost use Rattle.wy_top.specs.OwnTraces.{RecordedTracesAreNotRefused, RecordedTracesAreRead, RecordedTracesTellEvents};
+ghost use Rattle.wy_top.specs.OwnTraces.{RecordedOutputsAreReports, RecordedTracesAreNotRefused, RecordedTracesAreRead, RecordedTracesAreShort, RecordedTracesTellEvents};
 ghost use Rattle.wy_top.specs.Sound.{SoundCallsSucceed};
 ghost use Rattle.wy_top.specs.Texts.{OfTexts};
 ghost use Rattle.law_typed_states.specs.Laws.{StatesAreTyped};
 
 use law_frames::frames_are_the_bodies_that_were_active;
 use law_held::held_is_what_the_store_last_had;
+use law_output::output_is_what_the_run_wrote;
 use law_own_traces::{
-    own_events_are_told, own_traces_are_read, programs_keep_the_library, trees_fit_their_texts,
+    own_events_are_told, own_traces_are_read, own_traces_are_short, programs_keep_the_library,
+    trees_fit_their_texts, trees_have_few_statements,
 };
 use law_program_parts::trees_declare_few;
 use law_reached::{
@@ -119,9 +121,11 @@ pub fn runs_of_texts()
     held_is_what_the_store_last_had();
 }
 
-/// The trace of a run of the program of each text, where source, input, steps and the trace are within their limits, is read as a trace
-/// with the head, the events and the end of the run; no reader refuses it but for want of memory.
+/// The trace of a run of the program of each text, where source, input and steps are within their limits, is within that of a trace, so
+/// no command says of it that it is too long. It is read as a trace with the head, the events and the end of the run; no reader refuses
+/// it but for want of memory.
 pub fn recorded_traces_are_read()
+    ensures short { RecordedTracesAreShort }
     ensures read { RecordedTracesAreRead }
     ensures not_refused { RecordedTracesAreNotRefused }
 {
@@ -130,8 +134,27 @@ pub fn recorded_traces_are_read()
     trees_declare_few();
     programs_keep_the_library();
     trees_fit_their_texts();
+    trees_have_few_statements();
     own_events_are_told();
+    own_traces_are_short();
     own_traces_are_read();
+}
+
+/// What `output` tells of such a trace is what `run` writes: the output of the run in whole lines, and how it ended.
+pub fn recorded_outputs_are_reports()
+    ensures { RecordedOutputsAreReports }
+{
+    tokens_stand_in_order();
+    texts_are_programs();
+    trees_declare_few();
+    programs_keep_the_library();
+    trees_fit_their_texts();
+    trees_have_few_statements();
+    own_events_are_told();
+    own_traces_are_short();
+    own_traces_are_read();
+    bytes_are_read_in_one_way();
+    output_is_what_the_run_wrote();
 }
 
 /// The bytes of the trace of a run of the program of each text tell all events of the run, in either version.
@@ -143,5 +166,6 @@ pub fn recorded_traces_tell_events()
     trees_declare_few();
     programs_keep_the_library();
     trees_fit_their_texts();
+    trees_have_few_statements();
     own_events_are_told();
 }
