@@ -1,5 +1,5 @@
 -- The lines of an input, what is written to them over a trace, and how that ends.
-use Rattle.std.specs.Prelude.{◌≡◌, ◌≢◌, ◌<◌, ◌≤◌, ◌-◌, ℕ, List, [], ◌∷◌, ◌++◌, length, codes, Some}
+use Rattle.std.specs.Prelude.{◌≡◌, ◌⊎◌, ◌≢◌, ◌<◌, ◌≤◌, ◌-◌, ℕ, List, [], ◌∷◌, ◌++◌, length, codes, Some}
 use Rattle.std.specs.Prelude.{None as Absent}
 use Rattle.std.specs.List.{Contains}
 use Rattle.std.specs.Io.BufRead.{strip_last}
@@ -62,6 +62,25 @@ pub data Ends (x : Scene) (input : List ℕ) (s : Session) : List ℕ → ℕ �
 pub data Talks (x : Scene) (input : List ℕ) : ℕ → List ℕ → Type 0 where
   talks : (s : Session) (rest said last : List ℕ) (status : ℕ) → Reaches x input s rest said
       → Ends x input s rest status last → Talks x input status (said ++ last)
+
+-- what is left of an input is behind the line that ends a session there, which was read whole
+pub record IsBehindEnd (x : Scene) (input left : List ℕ) : Type 0 where
+  pub session : Session
+  pub ended : Session
+  pub rest : List ℕ
+  pub bytes : List ℕ
+  pub line : List ℕ
+  pub behind : List ℕ
+  pub said : List ℕ
+  pub more : List ℕ
+  pub reaches : Reaches x input session rest said
+  pub fits : Fits input rest bytes line behind
+  pub quits : Said x session line ended Absent
+  pub left_is : behind ≡ more ++ left
+
+-- an input of which so much is left was read to its end, or at least to the end of that line
+abbrev pub IsReadOut : Scene → List ℕ → List ℕ → Type 0
+IsReadOut x input left = (left ≡ []) ⊎ IsBehindEnd x input left
 
 abbrev pub IsPrefixOf : List ℕ → List ℕ → Type 0
 IsPrefixOf part text = (rest : List ℕ) × (text ≡ part ++ rest)
