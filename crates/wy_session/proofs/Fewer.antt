@@ -19,7 +19,7 @@ pub closed_over : (over for : Scenes) (told : Option (List ℕ)) (f : Failures) 
 closed_over over for told f old new e fewer c = record { said = c.said; line = c.line; closes = closes_over over for told f e c.said c.line fewer c.closes; written = c.written }
 
 pub reads_out_over : (over for : Scenes) (told left : Option (List ℕ)) (e : Ending) → ((x : Scene) → for x → over x) → ReadsOut over told left e → ReadsOut for told left e
-reads_out_over over for told left Done fewer r = λ x input rest at. r x input rest (fewer x at)
+reads_out_over over for told left Done fewer r = λ x input at. r x input (fewer x at)
 reads_out_over over for told left LongLine fewer r = tt
 reads_out_over over for told left LongInput fewer r = tt
 reads_out_over over for told left KeysFailed fewer r = tt

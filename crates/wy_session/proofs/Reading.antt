@@ -9,7 +9,7 @@ use Rattle.wy_outside.specs.Sink.{appended}
 use Rattle.wy_session.specs.Scene.{Scene}
 use Rattle.wy_session.specs.Line.{Reads, ReadsOn}
 use Rattle.wy_session.specs.Situation.{Situation}
-use Rattle.wy_session.specs.Talk.{BeginsTalk, Ends, FirstLine, IsReadOut, Reaches, Talks, long_line_text, most_in_line}
+use Rattle.wy_session.specs.Talk.{BeginsTalk, Ends, FirstLine, IsReadOut, QuitsBefore, Reaches, Talks, long_line_text, most_in_line}
 use Rattle.wy_session.specs.Talk as talk
 use Rattle.wy_session.specs.Closings.{EndsWith, Leads, OutFor, Stops, StopsAt}
 use Rattle.wy_session.specs.declared.line.OpenLine.{OpenLine}
@@ -67,20 +67,7 @@ nothing_before (b ∷ behind) left e = absurd (cc)
 
 read_further : (x : Scene) (input behind left : List ℕ) → IsReadOut x input (behind ++ left) → IsReadOut x input left
 read_further x input behind left (inl none) = inl (nothing_before behind left none)
-read_further x input behind left (inr q) = inr (record {
-  session = q.session;
-  ended = q.ended;
-  rest = q.rest;
-  bytes = q.bytes;
-  line = q.line;
-  behind = q.behind;
-  said = q.said;
-  more = q.more ++ behind;
-  reaches = q.reaches;
-  fits = q.fits;
-  quits = q.quits;
-  left_is = q.left_is ∙ sym (append_assoc q.more behind left);
-})
+read_further x input behind left (inr (more, quits)) = inr (more ++ behind, subst (QuitsBefore x input) (sym (append_assoc more behind left)) quits)
 
 stops_further : (x : Scene) (input behind left : List ℕ) (e : Ending) (text : List ℕ) → StopsAt x input (behind ++ left) e text → StopsAt x input left e text
 stops_further x input behind left Done text is = (is.0, read_further x input behind left is.1)

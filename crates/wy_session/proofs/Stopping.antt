@@ -14,6 +14,7 @@ use Rattle.wy_session.specs.Closings.{Answered, EndsWith, IsBroken, IsPrefixOfRe
 use Rattle.wy_session.specs.declared.line.OpenLine.{OpenLine}
 use Rattle.wy_session.specs.declared.ending.Ending.{Ending}
 use Rattle.wy_session.specs.declared.ending.Ending.TheVariants.{Done, LongLine, LongInput, KeysFailed, OutFailed, View, NoMemory}
+use Rattle.wy_session.proofs.Saying.{says_quit}
 
 -- ---- a limit
 
@@ -134,7 +135,7 @@ pub answered_stops : (x : Scene) (s : Session) (input rest bytes line behind ear
     Answered x s line stands (Err e) part → StopsAt x input behind e (earlier ++ part)
 answered_stops x s input rest bytes line behind earlier part stands Done reaches fits (t, is, none) = (
   subst (λ (l : List ℕ). Talks x input 0 (earlier ++ l)) (sym none) (talk.talks s rest earlier [] 0 reaches (talk.quit t rest bytes line behind fits is)),
-  inr (record { session = s; ended = t; rest = rest; bytes = bytes; line = line; behind = behind; said = earlier; more = []; reaches = reaches; fits = fits; quits = is; left_is = refl }),
+  inr ([], record { session = s; rest = rest; bytes = bytes; line = line; said = earlier; reaches = reaches; fits = fits; quits = says_quit x s line t is }),
 )
 answered_stops x s input rest bytes line behind earlier part stands LongLine reaches fits is = absurd is
 answered_stops x s input rest bytes line behind earlier part stands LongInput reaches fits is = absurd is

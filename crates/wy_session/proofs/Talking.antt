@@ -10,7 +10,7 @@ use Rattle.wy_outside.specs.Source.{EndsExactly}
 use Rattle.wy_session.specs.Scene.{Scene}
 use Rattle.wy_session.specs.Line.{Finishes, Reads, ReadsOn}
 use Rattle.wy_session.specs.Situation.{Scenes, Situation}
-use Rattle.wy_session.specs.Talk.{BeginsTalk, IsReadOut, Reaches}
+use Rattle.wy_session.specs.Talk.{BeginsTalk, Reaches}
 use Rattle.wy_session.specs.Talk as talk
 use Rattle.wy_session.specs.Closings.{BreaksOff, Closed, Closes, EndsWith, Failures, IsBroken, KeysStayed, Leads, OutFor, ReadsOut, Stops, StopsAt, WritesPart, failures, keys_fault_line}
 use Rattle.wy_session.specs.Views.{ending_of}
@@ -95,12 +95,9 @@ closes_by over told left f OutFailed said keys out stops = (inl (refl, keys), ou
 closes_by over told left f (View e) said keys out stops = (refl, keys, out, λ x input at so. (stops x input at so).stops)
 closes_by over told left f NoMemory said keys out stops = (inl (refl, keys), out, λ x input at so. (stops x input at so).stops)
 
-same_rest : (rest other : List ℕ) (left : Option (List ℕ)) → left ≡ Some rest → left ≡ Some other → rest ≡ other
-same_rest rest other left is also = let e = sym is ∙ also in cc
-
 -- and so much of the input was read
 reads_out_by : (over : Scenes) (told left : Option (List ℕ)) (e : Ending) (said : List ℕ) → Stopped over told left e said → ReadsOut over told left e
-reads_out_by over told left Done said stops = λ x input rest at so is. let s = stops x input at so in subst (IsReadOut x input) (same_rest s.rest rest left s.is is) s.stops.1
+reads_out_by over told left Done said stops = λ x input at so. let s = stops x input at so in (s.rest, s.is, s.stops.1)
 reads_out_by over told left LongLine said stops = tt
 reads_out_by over told left LongInput said stops = tt
 reads_out_by over told left KeysFailed said stops = tt

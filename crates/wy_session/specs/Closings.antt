@@ -80,10 +80,11 @@ pub record Closed (over : Scenes) (told : Option (List ℕ)) (f : Failures)
   pub closes : Closes over told f ending said line
   pub written : after ≡ appended before (said ++ line)
 
--- where all was said, an input that is told was read to its end, or at least to the end of the line that ended the session
+-- a session that ended with all said has read an input that is told to its end, or at least to the end
+-- of its quit, and what is left of it is told
 abbrev pub ReadsOut : Scenes → Option (List ℕ) → Option (List ℕ) → Ending → Type 0
-ReadsOut over told left Done =
-    (x : Scene) (input rest : List ℕ) → over x → told ≡ Some input → left ≡ Some rest → IsReadOut x input rest
+ReadsOut over told left Done = (x : Scene) (input : List ℕ) → over x → told ≡ Some input
+    → (rest : List ℕ) × (left ≡ Some rest) × IsReadOut x input rest
 ReadsOut over told left _ = Unit {0}
 
 -- more was taken than a line may have, or so much that it is not counted any more

@@ -4,7 +4,7 @@ use Rattle.std.specs.Prelude.{None as Absent}
 use Rattle.std.specs.List.{Contains}
 use Rattle.std.specs.Io.BufRead.{strip_last}
 use Rattle.wy_text.specs.EndLines.{line_of}
-use Rattle.wy_explore.specs.Session.{Session, begun}
+use Rattle.wy_explore.specs.Session.{Quit, Says, Session, begun}
 use Rattle.wy_session.specs.Scene.{Said, Scene}
 
 -- ---- lines
@@ -63,24 +63,21 @@ pub data Talks (x : Scene) (input : List ℕ) : ℕ → List ℕ → Type 0 wher
   talks : (s : Session) (rest said last : List ℕ) (status : ℕ) → Reaches x input s rest said
       → Ends x input s rest status last → Talks x input status (said ++ last)
 
--- what is left of an input is behind the line that ends a session there, which was read whole
-pub record IsBehindEnd (x : Scene) (input left : List ℕ) : Type 0 where
+-- the first lines of an input lead a session to a quit, and this is behind the end of that line
+pub record QuitsBefore (x : Scene) (input behind : List ℕ) : Type 0 where
   pub session : Session
-  pub ended : Session
   pub rest : List ℕ
   pub bytes : List ℕ
   pub line : List ℕ
-  pub behind : List ℕ
   pub said : List ℕ
-  pub more : List ℕ
   pub reaches : Reaches x input session rest said
   pub fits : Fits input rest bytes line behind
-  pub quits : Said x session line ended Absent
-  pub left_is : behind ≡ more ++ left
+  pub quits : Says line Quit
 
--- an input of which so much is left was read to its end, or at least to the end of that line
+-- an input of which so much is left was read to its end, or at least to the end of its quit
 abbrev pub IsReadOut : Scene → List ℕ → List ℕ → Type 0
-IsReadOut x input left = (left ≡ []) ⊎ IsBehindEnd x input left
+IsReadOut x input left =
+    (left ≡ []) ⊎ ((more : List ℕ) × QuitsBefore x input (more ++ left))
 
 abbrev pub IsPrefixOf : List ℕ → List ℕ → Type 0
 IsPrefixOf part text = (rest : List ℕ) × (text ≡ part ++ rest)
