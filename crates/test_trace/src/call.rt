@@ -27,11 +27,12 @@ pub const NOTHING: Fails = Fails {
     second: 0,
 };
 
-/// What a call left: its status, what it wrote, and what the two mirrors hold.
+/// What a call left: its status, what it wrote, how many bytes of the keys it did not read, and what the two mirrors hold.
 #[derive(Drop)]
 pub struct Left {
     pub status: u8,
     pub written: Vec<u8>,
+    pub unread: usize,
     pub first: Vec<u8>,
     pub second: Vec<u8>,
 }
@@ -128,6 +129,7 @@ pub fn call_over<S: Shelf>(
     Ok(Left {
         status,
         written: Vec::from_slice(alloc, out.bytes())?,
+        unread: keys.rest().len(),
         first: recorders.write.mirror(0)?.unwrap_or(Vec::new(alloc)),
         second: recorders.write.mirror(1)?.unwrap_or(Vec::new(alloc)),
     })

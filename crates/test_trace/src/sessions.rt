@@ -1,5 +1,5 @@
 //! A session over a trace that can't be read any more, or is another, from some call of the shelf on: what is written ends with
-//! the line of the refusal, and where no block is read behind that call nothing is seen of it.
+//! the line of the refusal, and where no block is read behind that call nothing is seen of it. And how far a session reads.
 
 use crate::call::{Fails, Left, NOTHING, call, call_over, call_with, files};
 use crate::programs::{PROGRAMS, Program};
@@ -92,6 +92,41 @@ fn a_shelf_that_fails_ends_a_session(rt: HostRuntime) -> Result<(), Fail> {
             }
         }
         assert!(rt; failed > 4, "each read");
+    }
+    Ok(())
+}
+
+/// What comes before more lines than are read at a time, and whether the session reads all of them.
+static FRONTS: [(&[u8], bool); 4] = [
+    (b"", true),
+    (b"quit now\n", true),
+    (b"quit\n", false),
+    (b"up\nquit\n", false),
+];
+
+#[test]
+fn keys_are_read_to_their_end_or_to_quit(rt: HostRuntime) -> Result<(), Fail> {
+    let alloc = rt.alloc();
+    let program = PROGRAMS[0];
+    let trace = trace_of(alloc, program)?;
+    let trace = trace.as_slice();
+    for &(front, to_end) in &FRONTS {
+        let mut keys = Vec::from_slice(alloc, front)?;
+        for _ in 0..4000 {
+            keys.extend_from_slice(b"up\n")?;
+        }
+        let left = call_with(
+            alloc,
+            "explore old",
+            program,
+            trace,
+            keys.as_slice(),
+            NOTHING,
+        )?;
+        assert!(rt;
+            left.status == 0 && (left.unread == 0) == to_end,
+            "{front:?}"
+        );
     }
     Ok(())
 }

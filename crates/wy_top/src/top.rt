@@ -25,9 +25,9 @@ use wy_words::laws::words_ask_one_command;
 use wy_words::{Command, command};
 
 /// Runs the command of the words, without the program's own name, over the files of `shelf`, writes
-/// its text to `out` and returns its status. `keys` is read by `explore` alone, whose lines are answered
-/// as they come, and `recorders.write` has the trace of a run that is recorded, or of a file that is
-/// migrated; where it failed, or memory ran out, it has a prefix of it.
+/// its text to `out` and returns its status. `keys` is read by `explore` alone, to `quit` or to its end,
+/// whose lines are answered as they come, and `recorders.write` has the trace of a run that is recorded,
+/// or of a file that is migrated; where it failed, or memory ran out, it has a prefix of it.
 ///
 /// | Status | Comes |
 /// |---|---|
