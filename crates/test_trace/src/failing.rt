@@ -64,7 +64,7 @@ const LINES: &[u8] = b"ask p0\nlist\nup\ngo 3\nsources\nframes\nshow x\nundo\n";
 /// The line behind the one that ends the session isn't read.
 const QUIT: &[u8] = b"ask p0\nquit\nlist\n";
 
-/// A command, the lines of the keys, its status over the first program and the second, and its calls.
+/// A command, the lines of the keys, its status over the first program, which has no statement 6.2, and over the second, and its calls.
 type Row = (&'static str, &'static [u8], [u8; 2], Calls);
 
 static COMMANDS: [Row; 16] = [
@@ -302,7 +302,7 @@ fn trace_and_certificate(
 }
 
 #[test]
-fn each_call_of_each_object_fails_in_turn(rt: HostRuntime) -> Result<(), Fail> {
+fn what_stands_is_told_at_each_call_of_each_object(rt: HostRuntime) -> Result<(), Fail> {
     let alloc = rt.alloc();
     for at in 0..2_usize {
         let program = PROGRAMS[at];
