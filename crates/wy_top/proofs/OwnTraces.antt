@@ -1,5 +1,5 @@
 -- The trace of a run of the program of a text is short enough, tells its events, is read, and is not refused; and what is told of it.
-use Rattle.std.proofs.Common.{◌≡◌, ◌∙◌, sym, ap, subst, refl, ℕ, ◌≤◌, List, length, map, Ok, Err, arith}
+use Rattle.std.proofs.Common.{◌≡◌, ◌∙◌, sym, ap, subst, refl, ℕ, ◌≤◌, List, length, map, Result, Ok, Err, arith}
 use Rattle.std.specs.List.{AllByRecursion}
 use Rattle.std.proofs.lemmas.List.{length-map}
 use Rattle.std.proofs.lemmas.List.Folds.{map_fixed}
@@ -80,6 +80,10 @@ asked laws source p short of =
 
 -- ---- its traces
 
+-- how bytes are read that are a trace
+abbrev read_as : Trace → Result Trace TraceError
+read_as t = Ok t
+
 -- what holds of the input and the steps of a run holds of those of its head
 at_head : (A : List ℕ → ℕ → Type 0) (head : Head) (input : List ℕ) (steps : ℕ) → head.input ≡ input → head.steps ≡ steps → A input steps → A head.input head.steps
 at_head A head input steps i s a = subst (λ n. A head.input n) (sym s) (subst (λ (l : List ℕ). A l steps) (sym i) a)
@@ -146,7 +150,8 @@ module _ (v : Version) (source input : List ℕ) (steps : ℕ) (p : memory.Progr
   output_told laws short tells reads once outputs t is_read =
       let a = asked laws source p r.source_within r.is_program in
       let x = read_back laws short reads in
-      let same : t ≡ x.trace = let e : Ok {E = TraceError} t ≡ Ok x.trace = once p bytes (Ok t) (Ok x.trace) tt tt is_read x.read in cc e in
+      let one : read_as t ≡ read_as x.trace = once p bytes (Ok t) (Ok x.trace) tt tt is_read x.read in
+      let same : t ≡ x.trace = cc in
       let records : map recorded t.events ≡ runs = ap (λ (y : Trace). map recorded y.events) same ∙ x.events_are ∙ all_told laws tells in
       let ends : t.tail ≡ is.end = ap (λ (y : Trace). y.tail) same ∙ x.tail_is in
       ap (λ (l : List Recorded). output_text (program_of p) p.lines.items l t.tail) records
