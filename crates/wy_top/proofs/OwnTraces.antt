@@ -54,6 +54,9 @@ pub record Laws : Type 0 where
   pub texts : TreesFitTheirTexts
   pub statements : TreesHaveFewStatements
 
+one_read : (t u : Trace) (r : Result Trace TraceError) → r ≡ Ok t → r ≡ Ok u → t ≡ u
+one_read t u r is also = let e = sym is ∙ also in cc
+
 -- ---- the program of a text
 
 record Asked (p : memory.Program) : Type 0 where
@@ -79,10 +82,6 @@ asked laws source p short of =
     }
 
 -- ---- its traces
-
--- how bytes are read that are a trace
-abbrev read_as : Trace → Result Trace TraceError
-read_as t = Ok t
 
 -- what holds of the input and the steps of a run holds of those of its head
 at_head : (A : List ℕ → ℕ → Type 0) (head : Head) (input : List ℕ) (steps : ℕ) → head.input ≡ input → head.steps ≡ steps → A input steps → A head.input head.steps
@@ -150,8 +149,7 @@ module _ (v : Version) (source input : List ℕ) (steps : ℕ) (p : memory.Progr
   output_told laws short tells reads once outputs t is_read =
       let a = asked laws source p r.source_within r.is_program in
       let x = read_back laws short reads in
-      let one : read_as t ≡ read_as x.trace = once p bytes (Ok t) (Ok x.trace) tt tt is_read x.read in
-      let same : t ≡ x.trace = cc in
+      let same : t ≡ x.trace = one_read t x.trace (Ok t) refl (once p bytes (Ok t) (Ok x.trace) tt tt is_read x.read) in
       let records : map recorded t.events ≡ runs = ap (λ (y : Trace). map recorded y.events) same ∙ x.events_are ∙ all_told laws tells in
       let ends : t.tail ≡ is.end = ap (λ (y : Trace). y.tail) same ∙ x.tail_is in
       ap (λ (l : List Recorded). output_text (program_of p) p.lines.items l t.tail) records
