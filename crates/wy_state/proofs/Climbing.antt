@@ -1,18 +1,18 @@
 -- What each step of a search for a class above another keeps.
-use Rattle.std.proofs.Common.{◌≡◌, ◌≢◌, ◌⊎◌, ◌+◌, ◌<◌, ◌≤◌, ◌∙◌, ◌++◌, ◌∷◌, [], inl, inr, ⊎_elim, ℕ, zero, suc, Bool, true, false, List, length, map, get_or, set, replicate, Option, Some, Result, Ok, Err, refl, sym, ap, subst, arith, get_or-set_same, get_or-set_other, length-set, length-append, ◌-◌}
+use Rattle.std.proofs.Common.{◌≡◌, ◌≢◌, ◌⊎◌, ◌+◌, ◌<◌, ◌≤◌, ◌∙◌, ◌++◌, ◌∷◌, [], inl, inr, ⊎_elim, ℕ, zero, suc, Bool, true, false, List, length, get_or, set, replicate, Option, Some, Result, Ok, Err, refl, sym, ap, subst, arith, get_or-set_same, get_or-set_other, length-set, length-append, ◌-◌}
 use Rattle.std.specs.Prelude.{None as Absent, ◌||◌, ◌==◌, OnOk}
 use Rattle.std.specs.Option.{option_to_list}
 use Rattle.std.specs.List.{Contains}
 use Rattle.std.proofs.lemmas.Bool.{cases_eq, cases_lt}
 use Rattle.std.proofs.lemmas.Bool.Decides.{eqb_tells}
-use Rattle.std.proofs.lemmas.List.{get_or_past, length-map, length-replicate}
+use Rattle.std.proofs.lemmas.List.{get_or_past, length-replicate}
 use Rattle.std.proofs.lemmas.List.Elements.{Contains-append_cases, Contains-append_left, Contains-append_right, Contains-push, Contains-push_cases}
 use Rattle.wy_kernel.specs.declared.types.Class.{Class as Row}
 use Rattle.wy_kernel.specs.View.{class_of, present}
 use Rattle.wy_calls.proofs.Chain.{nobody, somebody}
 use Rattle.wy_kernel.specs.Program.{Class, Program, class, class_below, is_above, is_one_of, is_subclass}
 use Rattle.wy_state.specs.declared.above.Climb.{Climb}
-use Rattle.wy_state.specs.Above.{HasVisited, IsMarked, left_of, right_above, unmarked}
+use Rattle.wy_state.specs.Above.{HasVisited, IsMarked, right_above, unmarked}
 use Rattle.wy_state.proofs.Lying.{rises, round}
 
 nothing_in : {X A : Type 0} (x : X) → Contains [] x → A

@@ -1,5 +1,4 @@
-use Rattle.std.proofs.Common.{◌≡◌, ◌<◌, false, slice_index_or, length, refl, arith, rules}
-use Rattle.std.specs.Prelude.{◌||◌, ◌==◌}
+use Rattle.std.proofs.Common.{◌≡◌, ◌<◌, false, slice_index_or, length, refl, arith}
 use Rattle.std.proofs.lemmas.Grind.{common_steps}
 use Rattle.wy_state.specs.Above.{IsMarked}
 use Rattle.wy_state.proofs.Climbing.{visited_again, visited_anew}

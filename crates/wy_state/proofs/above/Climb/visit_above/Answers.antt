@@ -1,7 +1,6 @@
-use Rattle.std.proofs.Common.{◌≡◌, ◌∙◌, ◌++◌, ◌∷◌, [], List, ℕ, ap, subst}
+use Rattle.std.proofs.Common.{◌∙◌, ◌++◌, ◌∷◌, [], List, ℕ, ap, subst}
 use Rattle.std.specs.Prelude.{OnOk}
-use Rattle.wy_kernel.specs.View.{class_of}
-use Rattle.wy_state.specs.Above.{HasVisited, right_above}
+use Rattle.wy_state.specs.Above.{HasVisited}
 use Rattle.wy_state.proofs.Climbing.{above_alone, above_both, on_ok, visited_more}
 use Rattle.wy_state.proofs.above.Climb.visit_above.Goals as goal
 
