@@ -6,7 +6,8 @@ mod Bodies
 mod Statics
 mod Slots
 pub mod Records
-mod Rounds
+mod Lying
+mod Climbing
 mod Names
 mod Makers
 mod Texts

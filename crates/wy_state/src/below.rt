@@ -1,19 +1,17 @@
 //! Which classes and types lie below which at run time (JLS 4.10).
 
-ghost use Rattle.std.specs.Prelude.{◌≡◌, ◌≢◌, IfOk, map};
+ghost use Rattle.std.specs.Prelude.{◌≡◌, IfOk};
 ghost use Rattle.wy_kernel.specs.Parts.{program_of};
-ghost use Rattle.wy_kernel.specs.Program.{base_below, is_above, is_below, is_object, is_one_of, is_subclass};
-ghost use Rattle.wy_kernel.specs.View.{present};
-ghost use Rattle.wy_state.specs.Below.{goes_up, reaches};
+ghost use Rattle.wy_kernel.specs.Program.{base_below, is_below, is_object, is_subclass};
 
+use crate::above::stands_above;
 use std::alloc::{AllocError, Global};
 use wy_kernel::builtin::OBJECT;
 use wy_kernel::code::primitive_code;
 use wy_kernel::program::Program;
-use wy_kernel::types::{Base, Class, NONE, Ty};
+use wy_kernel::types::{Base, Ty};
 
-/// Whether a class is another, or lies below it. Round by round, those are found that lie below by a chain of one more step, and
-/// a round that finds nothing new ends the search.
+/// Whether a class is another, or lies below it.
 pub fn is_subclass(
     alloc: Global,
     program: &Program,
@@ -25,72 +23,7 @@ pub fn is_subclass(
     if above == OBJECT {
         return Ok(true);
     }
-    let mut row = Vec::new(alloc);
-    let mut longest = program.classes.len();
-    while longest > 0 {
-        let next = next_row(alloc, program.classes.as_slice(), row.as_slice(), above)?;
-        if next.as_slice() == row.as_slice() {
-            return Ok(reaches(row.as_slice(), class, above));
-        }
-        row = next;
-        longest -= 1;
-    }
-    Ok(reaches(row.as_slice(), class, above))
-}
-
-/// The classes from which a chain goes up by a step more than those of a row.
-fn next_row(
-    alloc: Global,
-    classes: &[Class],
-    row: &[bool],
-    above: u32,
-) -> Result<Vec<bool>, AllocError>
-    ensures { IfOk result (λ next. next.items ≡ map (goes_up (reaches above row.now)) classes.now) }
-{
-    let mut next = Vec::new(alloc);
-    let mut left = classes;
-    while let Some((class, after)) = left.split_first() {
-        next.push(goes_up(row, class, above))?;
-        left = after;
-    }
-    Ok(next)
-}
-
-#[tactic(auto, unfolding(crate::specs::Below::reaches))]
-fn reaches(row: &[bool], class: u32, above: u32) -> bool
-    ensures { result ≡ reaches above row.now class }
-{
-    class == above || (class as usize) < row.len() && row[class as usize]
-}
-
-#[tactic(auto, unfolding(crate::specs::Below::goes_up))]
-fn goes_up(row: &[bool], class: &Class, above: u32) -> bool
-    ensures { result ≡ goes_up (reaches above row.now) class.now }
-{
-    is_above(row, class.above, above) || is_one_of(row, class.interfaces.as_slice(), above)
-}
-
-fn is_above(row: &[bool], superclass: u32, above: u32) -> bool
-    ensures { result ≡ is_above (reaches above row.now) (present superclass) }
-{
-    if superclass == NONE {
-        return false;
-    }
-    reaches(row, superclass, above)
-}
-
-#[tactic(auto, unfolding(wy_kernel::specs::Program::is_one_of))]
-fn is_one_of(row: &[bool], classes: &[u32], above: u32) -> bool
-    ensures { result ≡ is_one_of (reaches above row.now) classes.now }
-{
-    let mut left = classes;
-    while let Some((class, after)) = left.split_first() {
-        if reaches(row, *class, above) {
-            return true;
-        }
-        left = after;
-    }
-    false
+    stands_above(alloc, program, class, above)
 }
 
 /// Whether a run-time type lies below a type: an array below Object, and one of references below one of what its elements are below.

@@ -2,6 +2,7 @@
 //! Nothing here reads a form. Each method is tied to its step by what holds of every state of the definition that agrees.
 #![tactic(auto)]
 
+mod above;
 pub mod below;
 mod body;
 mod cover;

@@ -2,7 +2,7 @@ use Rattle.std.proofs.Common.{◌≡◌, ◌∙◌, IfOk, sym, ap, arith, subst}
 use Rattle.wy_kernel.specs.Parts.{program_of}
 use Rattle.wy_kernel.specs.Program.{base_below, is_below}
 use Rattle.wy_kernel.specs.declared.types.Ty.TheVariants.{Of}
-use Rattle.wy_state.proofs.Rounds.{as_many_brackets, fewer_brackets, more_brackets}
+use Rattle.wy_state.proofs.Lying.{as_many_brackets, fewer_brackets, more_brackets}
 use Rattle.wy_state.proofs.below.is_below.Goals as goal
 
 pub returns-then-m-n : goal.returns-then-m-n
