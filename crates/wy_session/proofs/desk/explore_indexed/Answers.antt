@@ -8,4 +8,4 @@ returns-in-Err-clause-closed g c = nothing_closed _ _ _ _ _ c.in-Err.error c.fro
 
 pub returns-clause-closed : goal.returns-clause-closed
 returns-clause-closed g c =
-    closed_over _ _ _ _ _ _ c.explore_opened.result.1 (λ x is. scene_kept c.args.program.now c.args.coverage.now _ _ x c.build.ensures.keeps is) c.explore_opened.ensures.closed
+    closed_over _ _ _ _ _ _ c.explore_opened.result.1 (λ x is. scene_kept c.args.program.now c.args.coverage.now _ _ x c.of.ensures.keeps is) c.explore_opened.ensures.closed
