@@ -206,7 +206,15 @@ fn a_block_is_read_again_once_64_others_were(rt: HostRuntime) -> Result<(), Fail
     assert!(rt; head.source.as_slice().len() < 1000);
     let typed = program_of_source(alloc, head.source.as_slice())?;
     let mut shelf = shelf_of(alloc, trace.as_slice(), other.as_slice(), NEVER)?;
-    let (pages, _) = Pages::open(alloc, &mut shelf, "t", &head, version, &typed.program)?;
+    let (pages, _) = Pages::open(
+        alloc,
+        &mut shelf,
+        "t",
+        &head,
+        version,
+        &typed.program,
+        &mut None,
+    )?;
     let mut view = PagedView::over(&mut shelf, pages);
     look_beside::<PagedView<'_, SwapShelf, Pages>, Brand, HostRuntime>(
         &rt,
