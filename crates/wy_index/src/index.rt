@@ -131,7 +131,11 @@ impl Index {
     }
 
     /// The index of the events that were noted, which takes no further look at them.
-    pub fn of_findings(alloc: Global, found: Findings, program: &Program) -> Result<Index, AllocError>
+    pub fn of_findings(
+        alloc: Global,
+        found: Findings,
+        program: &Program,
+    ) -> Result<Index, AllocError>
         requires { IsOfFew found }
         ensures index { (rs : List Recorded) → HasFound found rs → length rs < 2 ^ 32
             → IfOk result (λ index. IsIndexOf index rs) }

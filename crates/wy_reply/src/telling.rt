@@ -147,7 +147,14 @@ fn answer_from_memory(
     };
     let mut answer = None;
     answer_to_view(
-        alloc, program, &tail, view, None, seal, inquiry, &mut answer,
+        alloc,
+        program,
+        &tail,
+        view,
+        None,
+        seal,
+        inquiry,
+        &mut answer,
     );
     match answer.unwrap() {
         Ok(answer) => Ok(answer),

@@ -79,9 +79,7 @@ fn explore_pages<S: Shelf, K: Source, O: Sink>(
 {
     let view = PagedView::over(shelf, pages);
     let mut ending = None;
-    let view = explore(
-        alloc, program, covers, view, found, keys, out, &mut ending,
-    );
+    let view = explore(alloc, program, covers, view, found, keys, out, &mut ending);
     view.close();
     ending.unwrap()
 }
@@ -111,9 +109,7 @@ fn explore_whole<K: Source, O: Sink>(
         events: events.into_vec(),
     };
     let mut ending = None;
-    explore(
-        alloc, program, covers, view, None, keys, out, &mut ending,
-    );
+    explore(alloc, program, covers, view, None, keys, out, &mut ending);
     ending.unwrap()
 }
 
@@ -167,7 +163,14 @@ pub fn explore_trace<S: Shelf, K: Source, O: Sink>(
         Ok(Shelved::Open { typed, pages, tail }) => {
             let covers = tail.coverage.statements.as_slice();
             let ending = explore_pages(
-                alloc, shelf, &typed.program, pages, found, covers, keys, out,
+                alloc,
+                shelf,
+                &typed.program,
+                pages,
+                found,
+                covers,
+                keys,
+                out,
             );
             end(alloc, name, ending, out)
         }

@@ -69,7 +69,14 @@ fn look_up<S: Shelf>(
     let view = PagedView::over(shelf, pages);
     let mut answer = None;
     let view = answer_to_view(
-        alloc, program, tail, view, found, &seal, inquiry, &mut answer,
+        alloc,
+        program,
+        tail,
+        view,
+        found,
+        &seal,
+        inquiry,
+        &mut answer,
     );
     view.close();
     answer.unwrap()
@@ -132,7 +139,14 @@ pub(crate) fn answer_by_pages<S: Shelf>(
     let mut found = findings_for(alloc, inquiry);
     match open_pages(alloc, shelf, name, &mut found)? {
         Shelved::Open { typed, pages, tail } => answer_in(
-            alloc, shelf, name, &typed.program, pages, found, &tail, inquiry,
+            alloc,
+            shelf,
+            name,
+            &typed.program,
+            pages,
+            found,
+            &tail,
+            inquiry,
         ),
         Shelved::Refused(answer) => Ok(answer),
         Shelved::Headless => answer_by_reading(alloc, shelf, name, Wanted::Inquiry(inquiry)),
