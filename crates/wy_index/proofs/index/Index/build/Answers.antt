@@ -1,9 +1,8 @@
 -- The records that were looked at are the index's.
-use Rattle.std.proofs.Common.{◌≡◌, ◌++◌, ◌∷◌, [], length, sym, ap, ◌∙◌, subst, refl, get_or, Some, length-append, arith}
-use Rattle.std.specs.Prelude.{IfSome, slice_get, IsPermutation}
-use Rattle.wy_kernel.specs.Parts.{program_of}
+use Rattle.std.proofs.Common.{◌≡◌, ◌++◌, ◌∷◌, [], length, sym, ◌∙◌, subst, Some, length-append, arith}
+use Rattle.std.specs.Prelude.{IfSome, slice_get}
 use Rattle.wy_view.proofs.Views.{keeps_on, more_reads, one_read}
-use Rattle.wy_index.proofs.Building.{few_postings, told_more, all_told, owner_kept}
+use Rattle.wy_index.proofs.Building.{told_more, all_told}
 use Rattle.wy_index.proofs.index.Index.build.Goals as goal
 
 pub loop-n-preserved : goal.loop-n-preserved
