@@ -13,7 +13,7 @@ use Rattle.wy_event.specs.declared.record.Tail.{Tail}
 use Rattle.wy_event.specs.Record.{Recorded, recorded}
 use Rattle.wy_spelling.specs.Spelling.{opening}
 use Rattle.wy_frames.specs.declared.stage.ReadEvent.{ReadEvent}
-use Rattle.wy_frames.specs.Progress.{Progress, event_in}
+use Rattle.wy_frames.specs.Progress.{Progress, event_in, start}
 use Rattle.wy_index.specs.declared.build.Findings.{Findings}
 use Rattle.wy_index.specs.Findings.{HasFound}
 use Rattle.law_reading.specs.Referring.{ReferBelow}
@@ -27,6 +27,11 @@ use Rattle.wy_page.specs.Paged.{records_of, records_told}
 use Rattle.wy_page.specs.Reads.{AreOthers, IsWhole, Reads}
 use Rattle.wy_page.specs.Noted.{HasNoted, HaveFound, Noted}
 use Rattle.wy_page.proofs.Whole.{Laws, records_are, whole_count}
+
+-- nothing was noted behind the head alone
+pub none_noted : (found : Option Findings) (v : Version) (head : Head) → HaveFound found [] → Noted found (start v head)
+unfolding start
+none_noted found v head nothing = nothing
 
 abbrev pub records_in : Progress → List Recorded
 records_in t = map recorded (map event_in t.placed)

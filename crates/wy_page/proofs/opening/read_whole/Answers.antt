@@ -1,10 +1,12 @@
 -- Each piece is the next of the file, and the last reaches to its end.
-use Rattle.std.proofs.Common.{◌≡◌, ◌+◌, ◌-◌, ◌<◌, min, ℕ, List, ◌++◌, length, length-append, Ok, Option, sym, ap, ◌∙◌, subst, arith}
+use Rattle.std.proofs.Common.{◌≡◌, ◌+◌, ◌-◌, ◌<◌, min, ℕ, List, [], ◌++◌, length, length-append, Ok, Option, refl, sym, ap, ◌∙◌, subst, arith}
 use Rattle.wy_kernel.specs.Limits.{trace_limit}
 use Rattle.wy_spelling.specs.Spelling.{opening}
+use Rattle.wy_frames.specs.Progress.{start}
 use Rattle.wy_outside.specs.Shelf.{Files, ReadsPart}
 use Rattle.wy_page.specs.Reads.{AreNext, AreOthers}
-use Rattle.wy_page.proofs.Shelved.{next_on, others_are, trace_refused}
+use Rattle.wy_page.proofs.Shelved.{next_on, none_next, others_are, trace_refused}
+use Rattle.wy_page.proofs.Numbering.{none_noted}
 use Rattle.wy_page.proofs.opening.read_whole.Goals as goal
 
 pub returns-in-Err-take-clause-refused : goal.returns-in-Err-take-clause-refused
@@ -37,6 +39,24 @@ returns-then-len-clause-read g c =
     let others = others_are held name version head at c.min-wanted.result 1048576 v.fed c.in-Ok.piece c.requires.file v.next place v.short wanted less read in
     let on = c.in_default.ensures.read version c.args.program.now head v.fed v.standing v.reads v.noted in
     (v.fed ++ c.as_slice.result.now, on.0, on.1, on.2, subst (λ (l : List ℕ). AreOthers held name from (v.fed ++ l)) (sym c.as_slice.ensures.value) others)
+
+pub pieces-init : goal.pieces-init
+pieces-init g c =
+    let head = c.args.head.now in
+    let version = c.args.version in
+    let begun = c.begin-reading.ensures in
+    record {
+      fed = [];
+      standing = start version head;
+      reads = begun;
+      noted = none_noted c.args.found.now version head c.requires.nothing;
+      next = none_next (g.S.Shelf.held c.args.shelf.now) c.args.name.now (length (opening version head));
+      short = omega (arith, begun.at, length-append (opening version head) [], c.requires.short);
+      held = refl;
+      faults = refl;
+      misses = refl;
+      fulls = refl;
+    }
 
 pub pieces-preserved : goal.pieces-preserved
 pieces-preserved g c =
