@@ -1,5 +1,5 @@
 -- What was found in the records is the index's.
-use Rattle.std.proofs.Common.{◌≡◌, length, ap, ◌∙◌, subst, refl, get_or, arith}
+use Rattle.std.proofs.Common.{length, ap, ◌∙◌, subst, refl, get_or, arith}
 use Rattle.std.specs.Prelude.{IsPermutation}
 use Rattle.wy_kernel.specs.Parts.{program_of}
 use Rattle.wy_index.proofs.Building.{few_postings, owner_kept}
