@@ -10,7 +10,7 @@ mod call;
 #[cfg(test)]
 mod checked;
 #[cfg(test)]
-mod files;
+mod failing;
 #[cfg(test)]
 mod first;
 #[cfg(test)]

@@ -11,7 +11,7 @@ use std::process::Abort;
 use std::sync::ledger::{Blank, Ledger};
 use std::test::Fail;
 use wy_frames::read_head;
-use wy_outside::memory::SwapShelf;
+use wy_outside::memory::{MemoryShelf, SwapShelf};
 use wy_outside::shelf::Shelf;
 use wy_page::{PagedView, Pages};
 use wy_program::program_of_source;
@@ -21,6 +21,9 @@ use wy_view::{EventView, Steps};
 const PIECE: usize = 1_048_576;
 
 const NEVER: u32 = 4_294_967_295;
+
+/// A session that looks at an event of the last block, and at one of the first.
+const LINES: &[u8] = b"go 200001\ngo 4\n";
 
 fn byte_at(bytes: &[u8], at: usize) -> u8 {
     match bytes.get(at) {
@@ -44,15 +47,21 @@ pub fn frame_at(bytes: &[u8], before: u32) -> usize {
     at
 }
 
+/// A trace with another byte behind the start of event 4. Where that sets a local to an int, it is another int.
+pub fn another(alloc: Global, trace: &[u8]) -> Result<Vec<u8>, AllocError> {
+    let mut other = Vec::from_slice(alloc, trace)?;
+    let event = frame_at(trace, 5);
+    if let Some(last) = other.get_mut(event.saturating_add(35)) {
+        *last = last.wrapping_add(1);
+    }
+    Ok(other)
+}
+
 /// The trace of a program whose event 4 sets a local to an int, and the same with another int there.
 fn two_traces(alloc: Global, program: Program) -> Result<(Vec<u8>, Vec<u8>), AllocError> {
     let left = call(alloc, "record Main.java -o new", program, b"", NOTHING)?;
     let trace = left.first;
-    let mut other = Vec::from_slice(alloc, trace.as_slice())?;
-    let event = frame_at(trace.as_slice(), 5);
-    if let Some(last) = other.get_mut(event.saturating_add(35)) {
-        *last = last.wrapping_add(1);
-    }
+    let other = another(alloc, trace.as_slice())?;
     Ok((trace, other))
 }
 
@@ -79,7 +88,21 @@ fn told(
     swap: u32,
 ) -> Result<Left, AllocError> {
     let mut shelf = shelf_of(alloc, traces.0.as_slice(), traces.1.as_slice(), swap)?;
-    call_over(alloc, line, &mut shelf, b"", NOTHING)
+    call_over(alloc, line, &mut shelf, LINES, NOTHING)
+}
+
+/// What it leaves over a trace, where a call of the shelf fails.
+fn failed(alloc: Global, line: &str, trace: &[u8], fails: u32) -> Result<Left, AllocError> {
+    let file = (
+        String::from_str(alloc, "t")?,
+        Vec::from_slice(alloc, trace)?,
+    );
+    let mut shelf = MemoryShelf::new(vec![in alloc; file]?, Vec::from_slice(alloc, &[fails])?);
+    call_over(alloc, line, &mut shelf, LINES, NOTHING)
+}
+
+fn is_answer(left: &Left, answer: (u8, &str)) -> bool {
+    left.status == answer.0 && left.written.as_slice() == answer.1.as_bytes()
 }
 
 const WHY_PRINT: &str = "#2 line 2 call Main.main
@@ -117,19 +140,35 @@ fn a_block_that_changed_since_the_trace_was_opened_is_named(rt: HostRuntime) -> 
     Ok(())
 }
 
-/// A command over a trace of 196 blocks, how many calls behind the opening the trace is another, and the answer. The index was gathered
-/// at the opening, so block 0 alone is read, for event 4; what the run wrote is told by each block once.
-static LATER: [(&str, u32, u8, &str); 5] = [
-    ("why t e4", 1, 5, "trace: Changed block 0\n"),
+const CHANGED: (u8, &str) = (5, "trace: Changed block 0\n");
+
+const FAULT: (u8, &str) = (7, "fault: shelf\n");
+
+const WHY_SET: &str = "#2 line 1 call M.main\n#4 line 2 set i = 0 *\n";
+
+const SESSION: &str = "#200001 line 2 test true\n#4 line 2 set i = 0\n";
+
+/// A command over a trace of 196 blocks, a call of the shelf behind the opening, and what is answered where the trace is another from
+/// that call on, and where that call fails. The index was gathered at the opening, so `why` reads block 0 alone, for event 4, and a
+/// session block 195 before it; what the run wrote is told by each block once. What a session said before stands.
+static LATER: [(&str, u32, (u8, &str), (u8, &str)); 7] = [
+    ("why t e4", 1, CHANGED, FAULT),
+    ("why t e4", 2, (0, WHY_SET), (0, WHY_SET)),
+    ("output t", 1, CHANGED, FAULT),
+    ("output t", 2, (0, "100000\n-- finished\n"), FAULT),
     (
-        "why t e4",
-        2,
-        0,
-        "#2 line 1 call M.main\n#4 line 2 set i = 0 *\n",
+        "output t",
+        197,
+        (0, "100000\n-- finished\n"),
+        (0, "100000\n-- finished\n"),
     ),
-    ("output t", 1, 5, "trace: Changed block 0\n"),
-    ("output t", 2, 0, "100000\n-- finished\n"),
-    ("output t", 196, 0, "100000\n-- finished\n"),
+    (
+        "explore t",
+        2,
+        (5, "#200001 line 2 test true\ntrace: Changed block 0\n"),
+        (7, "#200001 line 2 test true\nfault: shelf\n"),
+    ),
+    ("explore t", 3, (0, SESSION), (0, SESSION)),
 ];
 
 #[test]
@@ -142,14 +181,12 @@ fn a_long_trace_is_read_by_blocks(rt: HostRuntime) -> Result<(), Fail> {
         .len()
         .saturating_sub(frame_at(traces.0.as_slice(), 1));
     let opening = (behind / PIECE) as u32;
-    for &(line, calls, status, text) in &LATER {
-        let swap = opening.saturating_add(4).saturating_add(calls);
-        let left = told(alloc, line, &traces, swap)?;
-        assert_eq!(rt; left.status, status, "{line}, call {calls}");
-        assert!(rt;
-            left.written.as_slice() == text.as_bytes(),
-            "{line}, call {calls}"
-        );
+    for &(line, call, changed, fault) in &LATER {
+        let at = opening.saturating_add(4).saturating_add(call);
+        let left = told(alloc, line, &traces, at)?;
+        assert!(rt; is_answer(&left, changed), "{line}, call {call}");
+        let left = failed(alloc, line, traces.0.as_slice(), at)?;
+        assert!(rt; is_answer(&left, fault), "{line}, call {call}");
     }
     Ok(())
 }

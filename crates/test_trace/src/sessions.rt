@@ -1,97 +1,82 @@
-//! A session over a trace that can't be read any more, or is another, from some call of the shelf on: what is written ends with
-//! the line of the refusal, and where no block is read behind that call nothing is seen of it.
+//! A session whose keys come in two pieces, of which a call fails: each line that was whole by then is answered, and then the fault is
+//! told. And how far a session reads its keys.
 
-use crate::call::{Fails, Left, NOTHING, call, call_over, call_with, files};
-use crate::programs::{PROGRAMS, Program};
+use crate::call::{Fails, Given, NOTHING, call, call_with};
+use crate::programs::PROGRAMS;
 use std::alloc::{AllocError, Global};
 use std::test::Fail;
-use wy_outside::memory::SwapShelf;
 
-const LINES: &[u8] = b"ask p0\nlist\nquit\n";
+/// How many lines the keys have: more than come in one piece of 8,192 bytes.
+const LINES: u32 = 2000;
 
-/// More calls than a session over a small trace makes.
-const CALLS: u32 = 16;
+/// A call of the keys that fails, how many lines are answered, and what is told behind that. The end of the keys is a third call.
+static FAULTS: [(u32, u32, u8, &[u8]); 4] = [
+    (1, 0, 7, b"fault: keys\n"),
+    (2, 1638, 7, b"fault: keys\n"),
+    (3, LINES, 7, b"fault: keys\n"),
+    (4, LINES, 0, b""),
+];
 
-fn trace_of(alloc: Global, program: Program) -> Result<Vec<u8>, AllocError> {
-    let left = call(
-        alloc,
-        "record Main.java -i in -o new",
-        program,
-        b"",
-        NOTHING,
-    )?;
-    Ok(left.first)
-}
-
-/// Other bytes, as many as there are.
-fn others(alloc: Global, bytes: &[u8]) -> Result<Vec<u8>, AllocError> {
+fn times(alloc: Global, count: u32, text: &[u8]) -> Result<Vec<u8>, AllocError> {
     let mut all = Vec::new(alloc);
-    for byte in bytes {
-        all.push(*byte ^ 1)?;
+    for _ in 0..count {
+        all.extend_from_slice(text)?;
     }
     Ok(all)
 }
 
-/// A session over a trace that is another one from the call of a number on.
-fn changed_at(
-    alloc: Global,
-    program: Program,
-    trace: &[u8],
-    swap: u32,
-) -> Result<Left, AllocError> {
-    let changed = (String::from_str(alloc, "old")?, others(alloc, trace)?);
-    let mut shelf = SwapShelf::new(files(alloc, program, trace)?, changed, swap);
-    call_over(alloc, "explore old", &mut shelf, LINES, NOTHING)
-}
-
-fn is_whole(left: &Left, whole: &Left) -> bool {
-    left.status == 0 && left.written.as_slice() == whole.written.as_slice()
-}
-
 #[test]
-fn a_trace_that_changes_is_refused_by_its_block(rt: HostRuntime) -> Result<(), Fail> {
+fn lines_before_a_fault_of_the_keys_are_answered(rt: HostRuntime) -> Result<(), Fail> {
     let alloc = rt.alloc();
+    let lines = times(alloc, LINES, b"list\n")?;
     for &program in &PROGRAMS {
-        let trace = trace_of(alloc, program)?;
-        let whole = changed_at(alloc, program, trace.as_slice(), 0)?;
-        assert!(rt; whole.status == 5, "another trace from the start");
-        let whole = changed_at(alloc, program, trace.as_slice(), 4_294_967_295)?;
-        assert!(rt; is_whole(&whole, &whole), "the same trace to the end");
-        let mut blocks = 0_u32;
-        for swap in 1..CALLS {
-            let left = changed_at(alloc, program, trace.as_slice(), swap)?;
-            if left.written.as_slice() == b"trace: Changed block 0\n".as_slice() {
-                blocks = blocks.saturating_add(1);
-            }
-            assert!(rt; left.status == 5 || is_whole(&left, &whole), "call {swap}");
+        let line = "record Main.java -i in -o new";
+        let trace = call(alloc, line, program, b"", NOTHING)?.first;
+        let given = Given {
+            program,
+            trace: trace.as_slice(),
+            certificate: b"",
+            lines: lines.as_slice(),
+        };
+        for &(keys, answered, status, fault) in &FAULTS {
+            let left = call_with(alloc, "explore old", given, Fails { keys, ..NOTHING })?;
+            let mut due = times(alloc, answered, b"no such\n")?;
+            due.extend_from_slice(fault)?;
+            assert_eq!(rt; left.status, status, "call {keys}");
+            assert!(rt; left.written.as_slice() == due.as_slice(), "call {keys}");
         }
-        assert!(rt; blocks > 0, "a block is read once the trace is open");
     }
     Ok(())
 }
 
+/// What comes before more lines than are read at a time, and whether the session reads all of them.
+static FRONTS: [(&[u8], bool); 4] = [
+    (b"", true),
+    (b"quit now\n", true),
+    (b"quit\n", false),
+    (b"up\nquit\n", false),
+];
+
 #[test]
-fn a_shelf_that_fails_ends_a_session(rt: HostRuntime) -> Result<(), Fail> {
+fn keys_are_read_to_their_end_or_to_quit(rt: HostRuntime) -> Result<(), Fail> {
     let alloc = rt.alloc();
-    for &program in &PROGRAMS {
-        let trace = trace_of(alloc, program)?;
-        let trace = trace.as_slice();
-        let whole = call_with(alloc, "explore old", program, trace, LINES, NOTHING)?;
-        let mut failed = 0_u32;
-        for shelf in 1..CALLS {
-            let fails = Fails { shelf, ..NOTHING };
-            let left = call_with(alloc, "explore old", program, trace, LINES, fails)?;
-            if left.status == 7 {
-                failed = failed.saturating_add(1);
-                assert!(rt;
-                    left.written.as_slice() == b"fault: shelf\n".as_slice(),
-                    "{shelf}"
-                );
-            } else {
-                assert!(rt; is_whole(&left, &whole), "{shelf}");
-            }
-        }
-        assert!(rt; failed > 4, "each read");
+    let program = PROGRAMS[0];
+    let line = "record Main.java -i in -o new";
+    let trace = call(alloc, line, program, b"", NOTHING)?.first;
+    for &(front, to_end) in &FRONTS {
+        let mut lines = Vec::from_slice(alloc, front)?;
+        lines.extend_from_slice(times(alloc, LINES, b"list\n")?.as_slice())?;
+        let given = Given {
+            program,
+            trace: trace.as_slice(),
+            certificate: b"",
+            lines: lines.as_slice(),
+        };
+        let left = call_with(alloc, "explore old", given, NOTHING)?;
+        assert!(rt;
+            left.status == 0 && left.lines.is_empty() == to_end,
+            "{front:?}"
+        );
     }
     Ok(())
 }

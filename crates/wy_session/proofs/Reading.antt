@@ -9,12 +9,12 @@ use Rattle.wy_outside.specs.Sink.{appended}
 use Rattle.wy_session.specs.Scene.{Scene}
 use Rattle.wy_session.specs.Line.{Reads, ReadsOn}
 use Rattle.wy_session.specs.Situation.{Situation}
-use Rattle.wy_session.specs.Talk.{BeginsTalk, Ends, FirstLine, Reaches, Talks, long_line_text, most_in_line}
+use Rattle.wy_session.specs.Talk.{BeginsTalk, Ends, FirstLine, IsReadOut, QuitsBefore, Reaches, Talks, long_line_text, most_in_line}
 use Rattle.wy_session.specs.Talk as talk
 use Rattle.wy_session.specs.Closings.{EndsWith, Leads, OutFor, Stops, StopsAt}
 use Rattle.wy_session.specs.declared.line.OpenLine.{OpenLine}
 use Rattle.wy_session.specs.declared.ending.Ending.{Ending}
-use Rattle.wy_session.specs.declared.ending.Ending.TheVariants.{LongLine, NoMemory}
+use Rattle.wy_session.specs.declared.ending.Ending.TheVariants.{Done, LongLine, LongInput, KeysFailed, OutFailed, View, NoMemory}
 use Rattle.wy_session.proofs.Stopping.{limited}
 
 -- ---- outputs
@@ -60,6 +60,24 @@ reads_on before mid after b bytes front behind rest said more l k n is put same 
 
 -- ---- the session ends
 
+-- the more is left of an input, the more of it was read
+nothing_before : (behind left : List ℕ) → behind ++ left ≡ [] → left ≡ []
+nothing_before [] left e = e
+nothing_before (b ∷ behind) left e = absurd (cc)
+
+read_further : (x : Scene) (input behind left : List ℕ) → IsReadOut x input (behind ++ left) → IsReadOut x input left
+read_further x input behind left (inl none) = inl (nothing_before behind left none)
+read_further x input behind left (inr (more, quits)) = inr (more ++ behind, subst (QuitsBefore x input) (sym (append_assoc more behind left)) quits)
+
+stops_further : (x : Scene) (input behind left : List ℕ) (e : Ending) (text : List ℕ) → StopsAt x input (behind ++ left) e text → StopsAt x input left e text
+stops_further x input behind left Done text is = (is.0, read_further x input behind left is.1)
+stops_further x input behind left LongLine text is = is
+stops_further x input behind left LongInput text is = is
+stops_further x input behind left KeysFailed text is = is
+stops_further x input behind left OutFailed text is = is
+stops_further x input behind left (View e) text is = is
+stops_further x input behind left NoMemory text is = is
+
 -- what ends it behind these bytes ends it here
 pub stops_on : (before mid : Situation) (b : ℕ) (bytes more_bytes behind rest said more : List ℕ) (l : OpenLine) (e : Ending) → l.bytes.items ++ rest ≡ more_bytes ++ behind → ReadsOn before mid b bytes l rest said →
     ((x : Scene) (s : Session) → mid x s → Stops x s l.before more_bytes e more) → (x : Scene) (s : Session) → before x s → Stops x s b bytes e (said ++ more)
@@ -67,9 +85,9 @@ stops_on before mid b bytes more_bytes behind rest said more l e is first second
   of : (t : Session) × Leads x s b bytes t l.before (l.bytes.items ++ rest) said × mid x t → Stops x s b bytes e (said ++ more)
   of (t, leads, stands) = λ input left earlier reaches count.
       let same : (l.bytes.items ++ rest) ++ left ≡ more_bytes ++ (behind ++ left) = ap (λ (z : List ℕ). z ++ left) is ∙ append_assoc more_bytes behind left in
-      subst (StopsAt x input e) (append_assoc earlier said more)
+      subst (StopsAt x input left e) (append_assoc earlier said more) (stops_further x input behind left e ((earlier ++ said) ++ more)
       (second x t stands input (behind ++ left) (earlier ++ said) (subst (λ (z : List ℕ). Reaches x input t z (earlier ++ said)) same (leads.reaches input left earlier reaches count))
-      (omega (arith, count, leads.counts, length-append bytes left, length-append (l.bytes.items ++ rest) left, ap length same)))
+      (omega (arith, count, leads.counts, length-append bytes left, length-append (l.bytes.items ++ rest) left, ap length same))))
 
 -- want of memory ends it anywhere
 pub memory_stops : (before mid : Situation) (b : ℕ) (bytes rest said : List ℕ) (l : OpenLine) → ReadsOn before mid b bytes l rest said → (x : Scene) (s : Session) → before x s → Stops x s b bytes NoMemory said
@@ -130,7 +148,7 @@ long_stops before mid b bytes rest said l k old now new n m q e first put un lon
     let of = limited long_line_text LongLine e now new m q tt is in (
       said ++ of.said,
       λ x s at. stops_on before mid b bytes (l.bytes.items ++ rest) [] rest said of.said l e (sym (append-nil (l.bytes.items ++ rest))) first
-          (λ y t stands input left earlier reaches count. of.stops y input earlier
+          (λ y t stands input left earlier reaches count. of.stops y input left earlier
           (let f = long_first k.bytes.items left (λ none. omega (arith, long, ap length none)) un in
           talk.talks t _ earlier long_line_text 8 reaches (talk.long_line _ f.text f.line f.behind (subst (λ (z : List ℕ). FirstLine (z ++ left) f.text f.line f.behind) put f.first) (omega (arith, long, f.long)))))
           x s at,

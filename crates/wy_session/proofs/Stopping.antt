@@ -14,6 +14,7 @@ use Rattle.wy_session.specs.Closings.{Answered, EndsWith, IsBroken, IsPrefixOfRe
 use Rattle.wy_session.specs.declared.line.OpenLine.{OpenLine}
 use Rattle.wy_session.specs.declared.ending.Ending.{Ending}
 use Rattle.wy_session.specs.declared.ending.Ending.TheVariants.{Done, LongLine, LongInput, KeysFailed, OutFailed, View, NoMemory}
+use Rattle.wy_session.proofs.Saying.{says_quit}
 
 -- ---- a limit
 
@@ -21,14 +22,14 @@ use Rattle.wy_session.specs.declared.ending.Ending.TheVariants.{Done, LongLine, 
 front_behind : (earlier part rest text : List ℕ) → text ≡ part ++ rest → earlier ++ text ≡ (earlier ++ part) ++ rest
 front_behind earlier part rest text is = ap (λ (l : List ℕ). earlier ++ l) is ∙ sym (append_assoc earlier part rest)
 
-broken_off : (x : Scene) (input text : List ℕ) (e : Ending) → IsBroken e → BeginsTalk x input text → StopsAt x input e text
-broken_off x input text OutFailed broken is = is
-broken_off x input text NoMemory broken is = is
-broken_off x input text Done broken is = absurd broken
-broken_off x input text LongLine broken is = absurd broken
-broken_off x input text LongInput broken is = absurd broken
-broken_off x input text KeysFailed broken is = absurd broken
-broken_off x input text (View e) broken is = absurd broken
+broken_off : (x : Scene) (input left text : List ℕ) (e : Ending) → IsBroken e → BeginsTalk x input text → StopsAt x input left e text
+broken_off x input left text OutFailed broken is = is
+broken_off x input left text NoMemory broken is = is
+broken_off x input left text Done broken is = absurd broken
+broken_off x input left text LongLine broken is = absurd broken
+broken_off x input left text LongInput broken is = absurd broken
+broken_off x input left text KeysFailed broken is = absurd broken
+broken_off x input left text (View e) broken is = absurd broken
 
 -- the ending of a limit
 abbrev pub IsLimit : Ending → Type 0
@@ -36,14 +37,14 @@ IsLimit LongLine = Unit {0}
 IsLimit LongInput = Unit {0}
 IsLimit _ = ⊥
 
-at_limit : (x : Scene) (input text : List ℕ) (e : Ending) → IsLimit e → Talks x input 8 text → StopsAt x input e text
-at_limit x input text LongLine limit is = is
-at_limit x input text LongInput limit is = is
-at_limit x input text Done limit is = absurd limit
-at_limit x input text KeysFailed limit is = absurd limit
-at_limit x input text OutFailed limit is = absurd limit
-at_limit x input text (View e) limit is = absurd limit
-at_limit x input text NoMemory limit is = absurd limit
+at_limit : (x : Scene) (input left text : List ℕ) (e : Ending) → IsLimit e → Talks x input 8 text → StopsAt x input left e text
+at_limit x input left text LongLine limit is = is
+at_limit x input left text LongInput limit is = is
+at_limit x input left text Done limit is = absurd limit
+at_limit x input left text KeysFailed limit is = absurd limit
+at_limit x input left text OutFailed limit is = absurd limit
+at_limit x input left text (View e) limit is = absurd limit
+at_limit x input left text NoMemory limit is = absurd limit
 
 out_stayed : (e : Ending) (n m : ℕ) → IsLimit e → m ≡ n → OutFor e n m
 out_stayed LongLine n m limit is = is
@@ -57,20 +58,20 @@ out_stayed NoMemory n m limit is = absurd limit
 -- what was written at a limit, and how the session ends by it
 pub record Limited (text : List ℕ) (old new : Option (List ℕ)) (n m : ℕ) (e : Ending) : Type 0 where
   pub said : List ℕ
-  pub stops : (x : Scene) (input earlier : List ℕ) → Talks x input 8 (earlier ++ text) → StopsAt x input e (earlier ++ said)
+  pub stops : (x : Scene) (input left earlier : List ℕ) → Talks x input 8 (earlier ++ text) → StopsAt x input left e (earlier ++ said)
   pub written : new ≡ appended old said
   pub out : OutFor e n m
 
 pub limited : (text : List ℕ) (wanted e : Ending) (old new : Option (List ℕ)) (n m : ℕ) → IsLimit wanted → EndsWith text wanted old new n m e → Limited text old new n m e
 limited text wanted e old new n m limit (inl (is, written, same)) = record {
   said = text;
-  stops = λ x input earlier talks. subst (λ (z : Ending). StopsAt x input z (earlier ++ text)) (sym is) (at_limit x input (earlier ++ text) wanted limit talks);
+  stops = λ x input left earlier talks. subst (λ (z : Ending). StopsAt x input left z (earlier ++ text)) (sym is) (at_limit x input left (earlier ++ text) wanted limit talks);
   written = written;
   out = subst (λ (z : Ending). OutFor z n m) (sym is) (out_stayed wanted n m limit same);
 }
 limited text wanted e old new n m limit (inr (broken, out, (k, written))) = record {
   said = take k text;
-  stops = λ x input earlier talks. broken_off x input (earlier ++ take k text) e broken
+  stops = λ x input left earlier talks. broken_off x input left (earlier ++ take k text) e broken
       (talk.ended 8 (earlier ++ text) talks (drop k text, front_behind earlier (take k text) (drop k text) text (sym (take-append-drop k text))));
   written = written;
   out = out;
@@ -131,9 +132,11 @@ answers_first : (x : Scene) (s : Session) (input rest earlier part : List ℕ) �
 answers_first x s input rest earlier part reaches none = (s, rest, subst (λ (l : List ℕ). Reaches x input s rest l) (sym (ap (λ (l : List ℕ). earlier ++ l) none ∙ append-nil earlier)) reaches)
 
 pub answered_stops : (x : Scene) (s : Session) (input rest bytes line behind earlier part : List ℕ) (stands : Session → Type 0) (e : Ending) → Reaches x input s rest earlier → Fits input rest bytes line behind →
-    Answered x s line stands (Err e) part → StopsAt x input e (earlier ++ part)
-answered_stops x s input rest bytes line behind earlier part stands Done reaches fits (t, is, none) =
-    subst (λ (l : List ℕ). Talks x input 0 (earlier ++ l)) (sym none) (talk.talks s rest earlier [] 0 reaches (talk.quit t rest bytes line behind fits is))
+    Answered x s line stands (Err e) part → StopsAt x input behind e (earlier ++ part)
+answered_stops x s input rest bytes line behind earlier part stands Done reaches fits (t, is, none) = (
+  subst (λ (l : List ℕ). Talks x input 0 (earlier ++ l)) (sym none) (talk.talks s rest earlier [] 0 reaches (talk.quit t rest bytes line behind fits is)),
+  inr ([], record { session = s; rest = rest; bytes = bytes; line = line; said = earlier; reaches = reaches; fits = fits; quits = says_quit x s line t is }),
+)
 answered_stops x s input rest bytes line behind earlier part stands LongLine reaches fits is = absurd is
 answered_stops x s input rest bytes line behind earlier part stands LongInput reaches fits is = absurd is
 answered_stops x s input rest bytes line behind earlier part stands KeysFailed reaches fits is = absurd is
@@ -155,7 +158,7 @@ pub long_line_stops : (before after : Situation) (b : ℕ) (bytes : List ℕ) (l
 long_line_stops before after b bytes l old new n m e unended long is =
     let of = limited long_line_text LongLine e old new n m tt is in (
       of.said,
-      λ x s at input left earlier reaches count. of.stops x input earlier
+      λ x s at input left earlier reaches count. of.stops x input left earlier
           (talk.talks s _ earlier long_line_text 8 reaches (talk.long_line _ bytes (strip_last 13 bytes) left (feed_ends bytes left unended) long)),
       of.written,
       of.out,
@@ -166,7 +169,7 @@ pub long_input_stops : (before after : Situation) (b : ℕ) (bytes : List ℕ) (
 long_input_stops before after b bytes l old new n m e unended short long is =
     let of = limited long_input_text LongInput e old new n m tt is in (
       of.said,
-      λ x s at input left earlier reaches count. of.stops x input earlier
+      λ x s at input left earlier reaches count. of.stops x input left earlier
           (talk.talks s _ earlier long_input_text 8 reaches (talk.long_input _ bytes (strip_last 13 bytes) left (feed_ends bytes left unended) short (omega (arith, long, come_before b input bytes left count)))),
       of.written,
       of.out,

@@ -12,7 +12,7 @@ use Rattle.wy_session.specs.Line.{Finishes, Reads, ReadsOn}
 use Rattle.wy_session.specs.Situation.{Scenes, Situation}
 use Rattle.wy_session.specs.Talk.{BeginsTalk, Reaches}
 use Rattle.wy_session.specs.Talk as talk
-use Rattle.wy_session.specs.Closings.{BreaksOff, Closed, Closes, EndsWith, Failures, IsBroken, KeysStayed, Leads, OutFor, StopsAt, WritesPart, failures, keys_fault_line}
+use Rattle.wy_session.specs.Closings.{BreaksOff, Closed, Closes, EndsWith, Failures, IsBroken, KeysStayed, Leads, OutFor, ReadsOut, Stops, StopsAt, WritesPart, failures, keys_fault_line}
 use Rattle.wy_session.specs.Views.{ending_of}
 use Rattle.wy_view.specs.declared.view.ViewError.{ViewError}
 use Rattle.wy_view.specs.declared.view.ViewError.TheVariants as view
@@ -76,18 +76,56 @@ begins before mid told left read said l reads is = λ x input at so.
 
 -- ---- how it ends
 
--- so it ends over each trace that a session is over, and each input that is told
-abbrev Stopped : Scenes → Option (List ℕ) → Ending → List ℕ → Type 0
-Stopped over told e said = (x : Scene) (input : List ℕ) → over x → told ≡ Some input → StopsAt x input e said
+-- so it ends over a trace and an input, with this left of it
+record StoppedAt (x : Scene) (input : List ℕ) (left : Option (List ℕ)) (e : Ending) (said : List ℕ) : Type 0 where
+  rest : List ℕ
+  is : left ≡ Some rest
+  stops : StopsAt x input rest e said
 
-closes_by : (over : Scenes) (told : Option (List ℕ)) (f : Failures) (e : Ending) (said : List ℕ) → KeysStayed f → OutFor e f.out_before f.out_after → Stopped over told e said → Closes over told f e said []
-closes_by over told f Done said keys out stops = (refl, keys, out, stops)
-closes_by over told f LongLine said keys out stops = (refl, keys, out, stops)
-closes_by over told f LongInput said keys out stops = (refl, keys, out, stops)
-closes_by over told f KeysFailed said keys out stops = absurd out
-closes_by over told f OutFailed said keys out stops = (inl (refl, keys), out, stops)
-closes_by over told f (View e) said keys out stops = (refl, keys, out, stops)
-closes_by over told f NoMemory said keys out stops = (inl (refl, keys), out, stops)
+-- over each trace that a session is over, and each input that is told
+abbrev Stopped : Scenes → Option (List ℕ) → Option (List ℕ) → Ending → List ℕ → Type 0
+Stopped over told left e said = (x : Scene) (input : List ℕ) → over x → told ≡ Some input → StoppedAt x input left e said
+
+closes_by : (over : Scenes) (told left : Option (List ℕ)) (f : Failures) (e : Ending) (said : List ℕ) → KeysStayed f → OutFor e f.out_before f.out_after → Stopped over told left e said → Closes over told f e said []
+closes_by over told left f Done said keys out stops = (refl, keys, out, λ x input at so. (stops x input at so).stops.0)
+closes_by over told left f LongLine said keys out stops = (refl, keys, out, λ x input at so. (stops x input at so).stops)
+closes_by over told left f LongInput said keys out stops = (refl, keys, out, λ x input at so. (stops x input at so).stops)
+closes_by over told left f KeysFailed said keys out stops = absurd out
+closes_by over told left f OutFailed said keys out stops = (inl (refl, keys), out, λ x input at so. (stops x input at so).stops)
+closes_by over told left f (View e) said keys out stops = (refl, keys, out, λ x input at so. (stops x input at so).stops)
+closes_by over told left f NoMemory said keys out stops = (inl (refl, keys), out, λ x input at so. (stops x input at so).stops)
+
+-- and so much of the input was read
+reads_out_by : (over : Scenes) (told left : Option (List ℕ)) (e : Ending) (said : List ℕ) → Stopped over told left e said → ReadsOut over told left e
+reads_out_by over told left Done said stops = λ x input at so. let s = stops x input at so in (s.rest, s.is, s.stops.1)
+reads_out_by over told left LongLine said stops = tt
+reads_out_by over told left LongInput said stops = tt
+reads_out_by over told left KeysFailed said stops = tt
+reads_out_by over told left OutFailed said stops = tt
+reads_out_by over told left (View e) said stops = tt
+reads_out_by over told left NoMemory said stops = tt
+
+-- a session that a fault ends has not ended with all said
+not_done : (over : Scenes) (told left : Option (List ℕ)) (e : Ending) → IsBroken e → ReadsOut over told left e
+not_done over told left OutFailed broken = tt
+not_done over told left NoMemory broken = tt
+not_done over told left Done broken = absurd broken
+not_done over told left LongLine broken = absurd broken
+not_done over told left LongInput broken = absurd broken
+not_done over told left KeysFailed broken = absurd broken
+not_done over told left (View e) broken = absurd broken
+
+pub fault_reads : (over : Scenes) (told left : Option (List ℕ)) (text : List ℕ) (old new : Option (List ℕ)) (n m : ℕ) (e : Ending) → EndsWith text KeysFailed old new n m e → ReadsOut over told left e
+fault_reads over told left text old new n m e (inl (failed, written, same)) = subst (ReadsOut over told left) (sym failed) tt
+fault_reads over told left text old new n m e (inr (broken, out, written)) = not_done over told left e broken
+
+pub nothing_reads : (over : Scenes) (told left : Option (List ℕ)) (e : ViewError) (ending : Ending) → ending ≡ ending_of e → ReadsOut over told left ending
+nothing_reads over told left e ending is = subst (ReadsOut over told left) (sym is) (of e) where
+  of : (e : ViewError) → ReadsOut over told left (ending_of e)
+  of view.NoMemory = tt
+  of view.ReadFault = tt
+  of view.Gone = tt
+  of (view.Changed block kept found) = tt
 
 closed_by : (over : Scenes) (told : Option (List ℕ)) (f : Failures) (old new : Option (List ℕ)) (e : Ending) (said : List ℕ) → Closes over told f e said [] → new ≡ appended old said → Closed over told f old new e
 closed_by over told f old new e said closes written = record { said = said; line = []; closes = closes; written = written ∙ ap (appended old) (sym (append-nil said)) }
@@ -98,27 +136,60 @@ pub record Before (old now : Option (List ℕ)) (said : List ℕ) (keys_start ke
   pub keys : keys_now ≡ keys_start
   pub out : out_now ≡ out_start
 
-pub finish_closes : (before mid : Situation) (told left : Option (List ℕ)) (bytes : Vec ℕ Global) (read said : List ℕ) (l : OpenLine) (old now new : Option (List ℕ)) (ks kn ke os on oe : ℕ) (e : Ending) →
-    ReadsOn before mid 0 read l [] said → told ≡ option_map (λ rest. read ++ rest) left → EndsExactly left (Ok bytes) → bytes.items ≡ [] → Before old now said ks kn os on → ke ≡ kn → Finishes mid l.before l.bytes.items now new on oe e → Closed (begun_over before) told (failures ks ke os oe) old new e
-finish_closes before mid told left bytes read said l old now new ks kn ke os on oe e reads is ends none b keys (more, stops, written, out) =
+-- nothing is left behind the end
+none_left : (told : Option (List ℕ)) (read input : List ℕ) (left next : Option (List ℕ)) (bytes : Vec ℕ Global) → told ≡ option_map (λ rest. read ++ rest) left → EndsExactly left (Ok bytes) → bytes.items ≡ [] →
+    left ≡ option_map (λ rest. bytes.items ++ rest) next → told ≡ Some input → next ≡ Some []
+none_left told read input None next bytes is ends none takes so = absurd (let e = sym is ∙ so in cc)
+none_left told read input (Some rest) None bytes is ends none takes so = absurd (let e = takes in cc)
+none_left told read input (Some rest) (Some more) bytes is ends none takes so =
+    let e : rest ≡ bytes.items ++ more = (let x = takes in cc) in
+    ap Some (sym (ap (λ (l : List ℕ). l ++ more) none) ∙ sym e ∙ ends.0 none)
+
+finish_stopped : (before mid : Situation) (told left next : Option (List ℕ)) (bytes : Vec ℕ Global) (read said more : List ℕ) (l : OpenLine) (e : Ending) →
+    ReadsOn before mid 0 read l [] said → told ≡ option_map (λ rest. read ++ rest) left → EndsExactly left (Ok bytes) → bytes.items ≡ [] → left ≡ option_map (λ rest. bytes.items ++ rest) next →
+    ((x : Scene) (s : Session) → mid x s → (input earlier : List ℕ) → Reaches x input s l.bytes.items earlier → length input ≡ l.before + length l.bytes.items → StopsAt x input [] e (earlier ++ more)) → Stopped (begun_over before) told next e (said ++ more)
+finish_stopped before mid told left next bytes read said more l e reads is ends none takes stops = λ x input at so.
+    let h = here before mid x input read [] said l at reads (at_end told read input left bytes is ends none so ∙ sym (append-nil read)) in record {
+      rest = [];
+      is = none_left told read input left next bytes is ends none takes so;
+      stops = stops x h.session h.stands input said (subst (λ (z : List ℕ). Reaches x input h.session z said) (append-nil l.bytes.items) h.reaches) (h.counts ∙ ap (λ (z : List ℕ). l.before + length z) (append-nil l.bytes.items));
+    }
+
+pub finish_closes : (before mid : Situation) (told left next : Option (List ℕ)) (bytes : Vec ℕ Global) (read said : List ℕ) (l : OpenLine) (old now new : Option (List ℕ)) (ks kn ke os on oe : ℕ) (e : Ending) →
+    ReadsOn before mid 0 read l [] said → told ≡ option_map (λ rest. read ++ rest) left → EndsExactly left (Ok bytes) → bytes.items ≡ [] → left ≡ option_map (λ rest. bytes.items ++ rest) next → Before old now said ks kn os on → ke ≡ kn → Finishes mid l.before l.bytes.items now new on oe e → Closed (begun_over before) told (failures ks ke os oe) old new e
+finish_closes before mid told left next bytes read said l old now new ks kn ke os on oe e reads is ends none takes b keys (more, stops, written, out) =
     closed_by (begun_over before) told (failures ks ke os oe) old new e (said ++ more)
-    (closes_by (begun_over before) told (failures ks ke os oe) e (said ++ more) (keys ∙ b.keys) (subst (λ (z : ℕ). OutFor e z oe) b.out out)
-    (λ x input at so.
-    let h = here before mid x input read [] said l at reads (at_end told read input left bytes is ends none so ∙ sym (append-nil read)) in
-    stops x h.session h.stands input said (subst (λ (z : List ℕ). Reaches x input h.session z said) (append-nil l.bytes.items) h.reaches) (h.counts ∙ ap (λ (z : List ℕ). l.before + length z) (append-nil l.bytes.items))))
+    (closes_by (begun_over before) told next (failures ks ke os oe) e (said ++ more) (keys ∙ b.keys) (subst (λ (z : ℕ). OutFor e z oe) b.out out) (finish_stopped before mid told left next bytes read said more l e reads is ends none takes stops))
     (appended_twice old now new said more b.written written)
+
+pub finish_reads : (before mid : Situation) (told left next : Option (List ℕ)) (bytes : Vec ℕ Global) (read said : List ℕ) (l : OpenLine) (now new : Option (List ℕ)) (on oe : ℕ) (e : Ending) →
+    ReadsOn before mid 0 read l [] said → told ≡ option_map (λ rest. read ++ rest) left → EndsExactly left (Ok bytes) → bytes.items ≡ [] → left ≡ option_map (λ rest. bytes.items ++ rest) next → Finishes mid l.before l.bytes.items now new on oe e → ReadsOut (begun_over before) told next e
+finish_reads before mid told left next bytes read said l now new on oe e reads is ends none takes (more, stops, written, out) =
+    reads_out_by (begun_over before) told next e (said ++ more) (finish_stopped before mid told left next bytes read said more l e reads is ends none takes stops)
+
+piece_stopped : (before mid : Situation) (told left next : Option (List ℕ)) (read piece said more : List ℕ) (l : OpenLine) (e : Ending) →
+    ReadsOn before mid 0 read l [] said → told ≡ option_map (λ rest. read ++ rest) left → left ≡ option_map (λ rest. piece ++ rest) next →
+    ((x : Scene) (s : Session) → mid x s → Stops x s l.before (l.bytes.items ++ piece) e more) → Stopped (begun_over before) told next e (said ++ more)
+piece_stopped before mid told left next read piece said more l e reads is takes stops = λ x input at so.
+    let y = left_of told (read ++ piece) input next (told_on told read piece left next is takes) so in record {
+      rest = y.rest;
+      is = y.is;
+      stops = stops_on before mid 0 (read ++ piece) (l.bytes.items ++ piece) [] piece said more l e (sym (append-nil (l.bytes.items ++ piece))) (read_more before mid 0 read piece said l reads) stops x begun at input y.rest []
+          (subst (λ (z : List ℕ). Reaches x input begun z []) y.input_is talk.start) (omega (arith, ap length y.input_is));
+    }
 
 pub piece_closes : (before mid after : Situation) (told left next : Option (List ℕ)) (read piece said : List ℕ) (l k : OpenLine) (old now new : Option (List ℕ)) (ks kn ke os on oe : ℕ) (e : Ending) →
     ReadsOn before mid 0 read l [] said → told ≡ option_map (λ rest. read ++ rest) left → left ≡ option_map (λ rest. piece ++ rest) next → Before old now said ks kn os on → ke ≡ kn →
     Reads mid after l.before (l.bytes.items ++ piece) k now new on oe (Err e) → Closed (begun_over before) told (failures ks ke os oe) old new e
 piece_closes before mid after told left next read piece said l k old now new ks kn ke os on oe e reads is takes b keys (more, stops, written, out) =
     closed_by (begun_over before) told (failures ks ke os oe) old new e (said ++ more)
-    (closes_by (begun_over before) told (failures ks ke os oe) e (said ++ more) (keys ∙ b.keys) (subst (λ (z : ℕ). OutFor e z oe) b.out out)
-    (λ x input at so.
-    let y = left_of told (read ++ piece) input next (told_on told read piece left next is takes) so in
-    stops_on before mid 0 (read ++ piece) (l.bytes.items ++ piece) [] piece said more l e (sym (append-nil (l.bytes.items ++ piece))) (read_more before mid 0 read piece said l reads) stops x begun at input y.rest []
-    (subst (λ (z : List ℕ). Reaches x input begun z []) y.input_is talk.start) (omega (arith, ap length y.input_is))))
+    (closes_by (begun_over before) told next (failures ks ke os oe) e (said ++ more) (keys ∙ b.keys) (subst (λ (z : ℕ). OutFor e z oe) b.out out) (piece_stopped before mid told left next read piece said more l e reads is takes stops))
     (appended_twice old now new said more b.written written)
+
+pub piece_reads : (before mid after : Situation) (told left next : Option (List ℕ)) (read piece said : List ℕ) (l k : OpenLine) (now new : Option (List ℕ)) (on oe : ℕ) (e : Ending) →
+    ReadsOn before mid 0 read l [] said → told ≡ option_map (λ rest. read ++ rest) left → left ≡ option_map (λ rest. piece ++ rest) next → Reads mid after l.before (l.bytes.items ++ piece) k now new on oe (Err e) → ReadsOut (begun_over before) told next e
+piece_reads before mid after told left next read piece said l k now new on oe e reads is takes (more, stops, written, out) =
+    reads_out_by (begun_over before) told next e (said ++ more) (piece_stopped before mid told left next read piece said more l e reads is takes stops)
 
 pub memory_closes : (before mid : Situation) (told left : Option (List ℕ)) (read said : List ℕ) (l : OpenLine) (old now : Option (List ℕ)) (ks kn ke os on : ℕ) → ReadsOn before mid 0 read l [] said →
     told ≡ option_map (λ rest. read ++ rest) left → Before old now said ks kn os on → ke ≡ kn → Closed (begun_over before) told (failures ks ke os on) old now NoMemory

@@ -7,7 +7,7 @@ use Rattle.wy_outside.specs.Counts.{Rose, last_count}
 use Rattle.wy_outside.specs.Sink.{appended}
 use Rattle.wy_session.specs.Scene.{Said, Scene}
 use Rattle.wy_session.specs.Situation.{Scenes}
-use Rattle.wy_session.specs.Talk.{AnswersFirst, BeginsTalk, IsPrefixOf, Reaches, Talks, most_in_line}
+use Rattle.wy_session.specs.Talk.{AnswersFirst, BeginsTalk, IsPrefixOf, IsReadOut, Reaches, Talks, most_in_line}
 use Rattle.wy_session.specs.declared.ending.Ending.{Ending}
 use Rattle.wy_session.specs.declared.ending.Ending.TheVariants.{Done, LongLine, LongInput, KeysFailed, OutFailed, View, NoMemory}
 
@@ -80,6 +80,13 @@ pub record Closed (over : Scenes) (told : Option (List ℕ)) (f : Failures)
   pub closes : Closes over told f ending said line
   pub written : after ≡ appended before (said ++ line)
 
+-- a session that ended with all said has read an input that is told to its end, or at least to the end
+-- of its quit, and what is left of it is told
+abbrev pub ReadsOut : Scenes → Option (List ℕ) → Option (List ℕ) → Ending → Type 0
+ReadsOut over told left Done = (x : Scene) (input : List ℕ) → over x → told ≡ Some input
+    → (rest : List ℕ) × (left ≡ Some rest) × IsReadOut x input rest
+ReadsOut over told left _ = Unit {0}
+
 -- more was taken than a line may have, or so much that it is not counted any more
 abbrev pub TookMany : ℕ → ℕ → Type 0
 TookMany before after = (before + most_in_line < after) ⊎ (after ≡ last_count)
@@ -100,21 +107,21 @@ pub record Leads (x : Scene) (s : Session) (before : ℕ) (bytes : List ℕ)
       → Reaches x input t (open_line ++ left) (earlier ++ said)
   pub counts : before + length bytes ≡ after + length open_line
 
--- so a session ends that is written to an output
-abbrev pub StopsAt : Scene → List ℕ → Ending → List ℕ → Type 0
-StopsAt x input Done text = Talks x input 0 text
-StopsAt x input LongLine text = Talks x input 8 text
-StopsAt x input LongInput text = Talks x input 8 text
-StopsAt x input KeysFailed text = ⊥
-StopsAt x input OutFailed text = BeginsTalk x input text
-StopsAt x input (View e) text = AnswersFirst x input text
-StopsAt x input NoMemory text = BeginsTalk x input text
+-- so a session ends that is written to an output, with so much of its input left
+abbrev pub StopsAt : Scene → List ℕ → List ℕ → Ending → List ℕ → Type 0
+StopsAt x input left Done text = Talks x input 0 text × IsReadOut x input left
+StopsAt x input left LongLine text = Talks x input 8 text
+StopsAt x input left LongInput text = Talks x input 8 text
+StopsAt x input left KeysFailed text = ⊥
+StopsAt x input left OutFailed text = BeginsTalk x input text
+StopsAt x input left (View e) text = AnswersFirst x input text
+StopsAt x input left NoMemory text = BeginsTalk x input text
 
 -- reading these bytes, of which so many came before, ends a session so, with this written
 abbrev pub Stops : Scene → Session → ℕ → List ℕ → Ending → List ℕ → Type 0
 Stops x s before bytes ending said = (input left earlier : List ℕ)
     → Reaches x input s (bytes ++ left) earlier → length input ≡ before + length (bytes ++ left)
-    → StopsAt x input ending (earlier ++ said)
+    → StopsAt x input left ending (earlier ++ said)
 
 -- the output failed exactly where a session ends so
 abbrev pub OutFor : Ending → ℕ → ℕ → Type 0

@@ -43,7 +43,7 @@ abbrev pub Finishes : Situation → ℕ → List ℕ → Option (List ℕ) → O
 Finishes before b bytes old new n m ending =
     (said : List ℕ) × ((x : Scene) (s : Session) → before x s → (input earlier : List ℕ)
     → Reaches x input s bytes earlier → length input ≡ b + length bytes
-    → StopsAt x input ending (earlier ++ said)) × (new ≡ appended old said) × OutFor ending n m
+    → StopsAt x input [] ending (earlier ++ said)) × (new ≡ appended old said) × OutFor ending n m
 
 -- a line was answered, or the session ended
 abbrev pub AnswersLine : Situation → Situation → List ℕ → Option (List ℕ) → Option (List ℕ) → ℕ → ℕ

@@ -1,10 +1,10 @@
 -- The lines of an input, what is written to them over a trace, and how that ends.
-use Rattle.std.specs.Prelude.{◌≡◌, ◌≢◌, ◌<◌, ◌≤◌, ◌-◌, ℕ, List, [], ◌∷◌, ◌++◌, length, codes, Some}
+use Rattle.std.specs.Prelude.{◌≡◌, ◌⊎◌, ◌≢◌, ◌<◌, ◌≤◌, ◌-◌, ℕ, List, [], ◌∷◌, ◌++◌, length, codes, Some}
 use Rattle.std.specs.Prelude.{None as Absent}
 use Rattle.std.specs.List.{Contains}
 use Rattle.std.specs.Io.BufRead.{strip_last}
 use Rattle.wy_text.specs.EndLines.{line_of}
-use Rattle.wy_explore.specs.Session.{Session, begun}
+use Rattle.wy_explore.specs.Session.{Quit, Says, Session, begun}
 use Rattle.wy_session.specs.Scene.{Said, Scene}
 
 -- ---- lines
@@ -62,6 +62,22 @@ pub data Ends (x : Scene) (input : List ℕ) (s : Session) : List ℕ → ℕ �
 pub data Talks (x : Scene) (input : List ℕ) : ℕ → List ℕ → Type 0 where
   talks : (s : Session) (rest said last : List ℕ) (status : ℕ) → Reaches x input s rest said
       → Ends x input s rest status last → Talks x input status (said ++ last)
+
+-- the first lines of an input lead a session to a quit, and this is behind the end of that line
+pub record QuitsBefore (x : Scene) (input behind : List ℕ) : Type 0 where
+  pub session : Session
+  pub rest : List ℕ
+  pub bytes : List ℕ
+  pub line : List ℕ
+  pub said : List ℕ
+  pub reaches : Reaches x input session rest said
+  pub fits : Fits input rest bytes line behind
+  pub quits : Says line Quit
+
+-- an input of which so much is left was read to its end, or at least to the end of its quit
+abbrev pub IsReadOut : Scene → List ℕ → List ℕ → Type 0
+IsReadOut x input left =
+    (left ≡ []) ⊎ ((more : List ℕ) × QuitsBefore x input (more ++ left))
 
 abbrev pub IsPrefixOf : List ℕ → List ℕ → Type 0
 IsPrefixOf part text = (rest : List ℕ) × (text ≡ part ++ rest)

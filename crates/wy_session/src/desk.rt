@@ -11,7 +11,7 @@ ghost use Rattle.wy_telling.specs.Items.{items_text};
 ghost use Rattle.wy_whynot.specs.Evidence.{evidence_in};
 ghost use Rattle.wy_text.specs.EventLines.{event_line};
 ghost use Rattle.wy_session.specs.Scene.{Scene, lines_of, reply_text, sources_text};
-ghost use Rattle.wy_session.specs.Closings.{Closed, TakesManyFor, failures};
+ghost use Rattle.wy_session.specs.Closings.{Closed, ReadsOut, TakesManyFor, failures};
 ghost use Rattle.wy_session.specs.Views.{CountsFor};
 
 use crate::ending::Ending;
@@ -203,6 +203,9 @@ pub fn explore<V: EventView, K: Source, O: Sink>(
         (Closed (IsSceneOf program.now coverage.now (V.tells view)) (K.left keys.old)
         (failures (K.faults keys.old) (K.faults keys.new) (O.faults out.old) (O.faults out.new))
         (O.written out.old) (O.written out.new)) }
+    ensures read_out { IfSome ending.new
+        (ReadsOut (IsSceneOf program.now coverage.now (V.tells view)) (K.left keys.old)
+        (K.left keys.new)) }
     ensures taken { IfSome ending.new
         (λ e. TakesManyFor e (K.taken keys.old) (K.taken keys.new)) }
     ensures keeps { Keeps (V.tells view) (V.tells result) }
@@ -235,6 +238,8 @@ fn explore_indexed<V: EventView, K: Source, O: Sink, L: Ledger>(
     ensures closed { Closed (IsSceneOf program.now coverage.now (V.tells view)) (K.left keys.old)
         (failures (K.faults keys.old) (K.faults keys.new) (O.faults out.old) (O.faults out.new))
         (O.written out.old) (O.written out.new) result.1 }
+    ensures read_out { ReadsOut (IsSceneOf program.now coverage.now (V.tells view))
+        (K.left keys.old) (K.left keys.new) result.1 }
     ensures taken { TakesManyFor result.1 (K.taken keys.old) (K.taken keys.new) }
     ensures keeps { Keeps (V.tells view) (V.tells result.0) }
     ensures counts { CountsFor result.1 (V.tells view) (V.tells result.0) }
@@ -266,6 +271,8 @@ fn explore_opened<V: EventView, K: Source, O: Sink, L: Ledger>(
     ensures closed { Closed (IsSceneIn (V.tells opened.entry.view) opened.entry) (K.left keys.old)
         (failures (K.faults keys.old) (K.faults keys.new) (O.faults out.old) (O.faults out.new))
         (O.written out.old) (O.written out.new) result.1 }
+    ensures read_out { ReadsOut (IsSceneIn (V.tells opened.entry.view) opened.entry)
+        (K.left keys.old) (K.left keys.new) result.1 }
     ensures taken { TakesManyFor result.1 (K.taken keys.old) (K.taken keys.new) }
     ensures keeps { Keeps (V.tells opened.entry.view) (V.tells result.0) }
     ensures counts { CountsFor result.1 (V.tells opened.entry.view) (V.tells result.0) }

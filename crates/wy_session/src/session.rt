@@ -1,7 +1,7 @@
 //! The whole of a session.
 ghost use Rattle.wy_explore.specs.Session.{begun};
 ghost use Rattle.wy_view.specs.View.{Keeps};
-ghost use Rattle.wy_session.specs.Closings.{Closed, TakesManyFor, failures};
+ghost use Rattle.wy_session.specs.Closings.{Closed, ReadsOut, TakesManyFor, failures};
 ghost use Rattle.wy_session.specs.Views.{CountsFor};
 
 use crate::ending::Ending;
@@ -25,6 +25,8 @@ pub fn talk<K: Source, O: Sink, R: Respond>(
     ensures closed { Closed (λ x. R.stands responder.old x begun) (K.left keys.old)
         (failures (K.faults keys.old) (K.faults keys.new) (O.faults out.old) (O.faults out.new))
         (O.written out.old) (O.written out.new) result }
+    ensures read_out { ReadsOut (λ x. R.stands responder.old x begun) (K.left keys.old)
+        (K.left keys.new) result }
     ensures taken { TakesManyFor result (K.taken keys.old) (K.taken keys.new) }
     ensures keeps { Keeps (R.tells responder.old) (R.tells responder.new) }
     ensures counts { CountsFor result (R.tells responder.old) (R.tells responder.new) }

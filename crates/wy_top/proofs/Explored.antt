@@ -23,14 +23,14 @@ use Rattle.wy_record.specs.declared.recorder.Phase.{Phase}
 use Rattle.wy_reply.specs.Recordings.{Spelling}
 use Rattle.wy_top.specs.Answers.{AsksToExplore}
 use Rattle.wy_top.specs.Left.{Finishes, FinishesProgram, Leaves, LeftBy}
-use Rattle.wy_top.specs.Call.{AnswersEach, Carries, Cuts, IsOfTrace, TracedBy, Traces, WritesAll, WritesCarried, WritesCut, WasRefused, WritesFaultLine, WritesLast, WritesRefusal, of_keys, of_shelf}
+use Rattle.wy_top.specs.Call.{AnswersEach, Carries, Cuts, IsOfTrace, ReadsKeysOut, TracedBy, Traces, WritesAll, WritesCarried, WritesCut, WasRefused, WritesFaultLine, WritesLast, WritesRefusal, of_keys, of_shelf}
 use Rattle.wy_top.specs.Call as call
 use Rattle.wy_top.specs.Deliveries.{Delivers}
-use Rattle.wy_top.specs.Openings.{ClosedOver, CountsBy, EndsBy, Explores, Keys, Output, TellsRefusal, memory, refused}
+use Rattle.wy_top.specs.Openings.{ClosedOver, CountsBy, EndsBy, Explores, Keys, Output, ReadsOver, TellsRefusal, memory, refused}
 use Rattle.wy_top.specs.Openings as opening
 use Rattle.wy_top.specs.Replies.{ShelfCounts}
 use Rattle.wy_top.proofs.Delivered.{delivered_fault, last_line, none_of_0, none_of_7, none_of_8, none_of_9, written_alone, written_last}
-use Rattle.wy_top.proofs.Sessions.{Faults, Session, begins_session, nothing_more, part_of_first, twice}
+use Rattle.wy_top.proofs.Sessions.{Faults, Session, begins_session, keys_read_out, nothing_more, part_of_first, twice}
 
 -- ---- the line of a refusal of a view
 
@@ -79,9 +79,9 @@ not_long name e s said after (lacking lack kept) long = let z = sym lack ∙ lon
 -- ---- what a fault comes to
 
 pub explored_shelf_fault : (held : Option Files) (name : List ℕ) (sb sa : ShelfCounts) (kb ka : Keys) (b a : Output) (s : Status) → Explores held name sb sa kb ka b a s → sb.faults < sa.faults → (code_of s ≡ 7) ⊎ (code_of s ≡ 9)
-explored_shelf_fault held name sb sa kb ka b a _ (refused answer s cause (inl (fault, line, rose)) stayed delivers) less = delivered_fault answer s b.faults a.faults b.written a.written delivers fault
-explored_shelf_fault held name sb sa kb ka b a _ (refused answer s cause (inr (same, un, dues)) stayed delivers) less = absurd (omega (arith, less, same))
-explored_shelf_fault held name sb sa kb ka b a _ (opening.session scene e said s told closed takes counts ends) less = of e counts ends where
+explored_shelf_fault held name sb sa kb ka b a _ (refused answer s not_done cause (inl (fault, line, rose)) stayed delivers) less = delivered_fault answer s b.faults a.faults b.written a.written delivers fault
+explored_shelf_fault held name sb sa kb ka b a _ (refused answer s not_done cause (inr (same, un, dues)) stayed delivers) less = absurd (omega (arith, less, same))
+explored_shelf_fault held name sb sa kb ka b a _ (opening.session scene e said s told closed reads takes counts ends) less = of e counts ends where
   of : (e : Ending) → CountsBy (held ≡ None) e sb sa → EndsBy name e s said a → (code_of s ≡ 7) ⊎ (code_of s ≡ 9)
   of ending.Done counts ends = absurd (omega (arith, less, counts))
   of ending.LongLine counts ends = absurd (omega (arith, less, counts))
@@ -104,10 +104,10 @@ out_rose : (scene : Option Scene) (kb ka : Keys) (b said a : Output) (e : ViewEr
 out_rose scene kb ka b said a e c rose = subst (λ (n : ℕ). Rose n a.faults) c.closes.2 rose
 
 pub explored_out_fault : (held : Option Files) (name : List ℕ) (sb sa : ShelfCounts) (kb ka : Keys) (b a : Output) (s : Status) → Explores held name sb sa kb ka b a s → b.faults < a.faults → (code_of s ≡ 7) ⊎ (code_of s ≡ 9)
-explored_out_fault held name sb sa kb ka b a _ (refused answer s cause any stayed (inl (as_answered, kept, all))) less = absurd (omega (arith, less, kept))
-explored_out_fault held name sb sa kb ka b a _ (refused answer s cause any stayed (inr (inl (fault, rose, part)))) less = inl (ap code_of fault)
-explored_out_fault held name sb sa kb ka b a _ (refused answer s cause any stayed (inr (inr (lack, kept, part)))) less = inr (ap code_of lack)
-explored_out_fault held name sb sa kb ka b a _ (opening.session scene e said s told closed takes counts ends) less = of e closed ends where
+explored_out_fault held name sb sa kb ka b a _ (refused answer s not_done cause any stayed (inl (as_answered, kept, all))) less = absurd (omega (arith, less, kept))
+explored_out_fault held name sb sa kb ka b a _ (refused answer s not_done cause any stayed (inr (inl (fault, rose, part)))) less = inl (ap code_of fault)
+explored_out_fault held name sb sa kb ka b a _ (refused answer s not_done cause any stayed (inr (inr (lack, kept, part)))) less = inr (ap code_of lack)
+explored_out_fault held name sb sa kb ka b a _ (opening.session scene e said s told closed reads takes counts ends) less = of e closed ends where
   stayed : (a ≡ said) → said.faults ≡ b.faults → ⊥
   stayed same kept = absurd (omega (arith, less, ap (λ (o : Output). o.faults) same, kept))
 
@@ -126,8 +126,8 @@ explored_out_fault held name sb sa kb ka b a _ (opening.session scene e said s t
 explored_out_fault held name sb sa kb ka b a _ (memory stayed kept) less = inr refl
 
 pub explored_keys_fault : (held : Option Files) (name : List ℕ) (sb sa : ShelfCounts) (kb ka : Keys) (b a : Output) (s : Status) → Explores held name sb sa kb ka b a s → kb.faults < ka.faults → (code_of s ≡ 7) ⊎ (code_of s ≡ 9)
-explored_keys_fault held name sb sa kb ka b a _ (refused answer s cause any stayed delivers) less = absurd (omega (arith, less, ap (λ (k : Keys). k.faults) stayed))
-explored_keys_fault held name sb sa kb ka b a _ (opening.session scene e said s told closed takes counts ends) less = of e closed ends where
+explored_keys_fault held name sb sa kb ka b a _ (refused answer s not_done cause any stayed delivers) less = absurd (omega (arith, less, ap (λ (k : Keys). k.faults) stayed))
+explored_keys_fault held name sb sa kb ka b a _ (opening.session scene e said s told closed reads takes counts ends) less = of e closed ends where
   of : (e : Ending) → ClosedOver scene kb ka b said e → EndsBy name e s said a → (code_of s ≡ 7) ⊎ (code_of s ≡ 9)
   of ending.Done c ends = absurd (omega (arith, less, c.closes.1))
   of ending.LongLine c ends = absurd (omega (arith, less, c.closes.1))
@@ -142,11 +142,11 @@ explored_keys_fault held name sb sa kb ka b a _ (memory stayed kept) less = inr 
 
 pub explored_fault_line : (words : List (List ℕ)) (name : List ℕ) (held : Option Files) (sb sa : ShelfCounts) (n : ℕ) (kb ka : Keys) (b a : Output) (s : Status) → Session words name → Explores held name sb sa kb ka b a s → s ≡ Fault → ¬ Rose b.faults a.faults →
     WritesFaultLine words held kb.left (Faults sb n kb) (Faults sa n ka) b.written a.written
-explored_fault_line words name held sb sa n kb ka b a _ x (refused answer s cause (inl (fault, line, rose)) stayed (inl (as_answered, kept, all))) is out = ([], answer.text.items, call.alone answer.text.items (inl (line, rose)), all)
-explored_fault_line words name held sb sa n kb ka b a _ x (refused answer s cause (inr (same, un, dues)) stayed (inl (as_answered, kept, all))) is out = absurd (un (sym as_answered ∙ is))
-explored_fault_line words name held sb sa n kb ka b a _ x (refused answer s cause any stayed (inr (inl (fault, rose, part)))) is out = absurd (out rose)
-explored_fault_line words name held sb sa n kb ka b a _ x (refused answer s cause any stayed (inr (inr (lack, kept, part)))) is out = absurd (let e = sym lack ∙ is in cc)
-explored_fault_line words name held sb sa n kb ka b a _ x (opening.session scene e said s told closed takes counts ends) is out = of e closed counts ends where
+explored_fault_line words name held sb sa n kb ka b a _ x (refused answer s not_done cause (inl (fault, line, rose)) stayed (inl (as_answered, kept, all))) is out = ([], answer.text.items, call.alone answer.text.items (inl (line, rose)), all)
+explored_fault_line words name held sb sa n kb ka b a _ x (refused answer s not_done cause (inr (same, un, dues)) stayed (inl (as_answered, kept, all))) is out = absurd (un (sym as_answered ∙ is))
+explored_fault_line words name held sb sa n kb ka b a _ x (refused answer s not_done cause any stayed (inr (inl (fault, rose, part)))) is out = absurd (out rose)
+explored_fault_line words name held sb sa n kb ka b a _ x (refused answer s not_done cause any stayed (inr (inr (lack, kept, part)))) is out = absurd (let e = sym lack ∙ is in cc)
+explored_fault_line words name held sb sa n kb ka b a _ x (opening.session scene e said s told closed reads takes counts ends) is out = of e closed counts ends where
   of : (e : Ending) → ClosedOver scene kb ka b said e → CountsBy (held ≡ None) e sb sa → EndsBy name e s said a → WritesFaultLine words held kb.left (Faults sb n kb) (Faults sa n ka) b.written a.written
   of ending.Done c counts ends = absurd (let z = sym ends.0 ∙ is in cc)
   of ending.LongLine c counts ends = absurd (let z = sym ends.0 ∙ is in cc)
@@ -197,8 +197,8 @@ session_so is_so any name kb ka b said a scene (ending.View e) s c ends is = abs
 -- what a session wrote answers no why, no affects and no whynot of the words
 explored_so : (is_so : List ℕ → Type 0) → ((text : List ℕ) → is_so text) → (words : List (List ℕ)) (name : List ℕ) (held : Option Files) (sb sa : ShelfCounts) (kb ka : Keys) (b a : Output) (s : Status) → Explores held name sb sa kb ka b a s → s ≡ Done →
     WritesAll is_so b.written a.written
-explored_so is_so any words name held sb sa kb ka b a _ (refused answer s cause other stayed delivers) is = (answer.text.items, delivered_all answer s b.faults a.faults b.written a.written delivers is, any answer.text.items)
-explored_so is_so any words name held sb sa kb ka b a _ (opening.session scene e said s told closed takes counts ends) is = session_so is_so any name kb ka b said a scene e s closed ends is
+explored_so is_so any words name held sb sa kb ka b a _ (refused answer s not_done cause other stayed delivers) is = (answer.text.items, delivered_all answer s b.faults a.faults b.written a.written delivers is, any answer.text.items)
+explored_so is_so any words name held sb sa kb ka b a _ (opening.session scene e said s told closed reads takes counts ends) is = session_so is_so any name kb ka b said a scene e s closed ends is
 explored_so is_so any words name held sb sa kb ka b a _ (memory stayed kept) is = absurd cc
 
 pub explored_carried : (words : List (List ℕ)) (name : List ℕ) (held : Option Files) (sb sa : ShelfCounts) (kb ka : Keys) (b a : Output) (s : Status) → Session words name → Explores held name sb sa kb ka b a s → s ≡ Done → WritesCarried words held b.written a.written
@@ -207,14 +207,31 @@ explored_carried words name held sb sa kb ka b a s x explores is = explored_so (
 pub explored_cut : (words : List (List ℕ)) (name : List ℕ) (held : Option Files) (sb sa : ShelfCounts) (kb ka : Keys) (b a : Output) (s : Status) → Session words name → Explores held name sb sa kb ka b a s → s ≡ Done → WritesCut words held b.written a.written
 explored_cut words name held sb sa kb ka b a s x explores is = explored_so (Cuts words held) (λ text. each_none WhyNot wanted.WhyNot (λ n t q e. cc) words name held text x) words name held sb sa kb ka b a s explores is
 
+-- ---- what was read of the keys
+
+pub explored_reads_out : (words : List (List ℕ)) (name : List ℕ) (held : Option Files) (sb sa : ShelfCounts) (kb ka : Keys) (b a : Output) (s : Status) → Session words name → Explores held name sb sa kb ka b a s → s ≡ Done → ReadsKeysOut words held kb.left ka.left
+explored_reads_out words name held sb sa kb ka b a _ x (refused answer s not_done cause any stayed (inl (as_answered, kept, all))) is = absurd (not_done (sym as_answered ∙ is))
+explored_reads_out words name held sb sa kb ka b a _ x (refused answer s not_done cause any stayed (inr (inl (fault, rose, part)))) is = absurd (let e = sym fault ∙ is in cc)
+explored_reads_out words name held sb sa kb ka b a _ x (refused answer s not_done cause any stayed (inr (inr (lack, kept, part)))) is = absurd (let e = sym lack ∙ is in cc)
+explored_reads_out words name held sb sa kb ka b a _ x (opening.session scene e said s told closed reads takes counts ends) is = of e reads ends where
+  of : (e : Ending) → ReadsOver scene kb.left ka.left e → EndsBy name e s said a → ReadsKeysOut words held kb.left ka.left
+  of ending.Done reads ends = keys_read_out words name held kb.left ka.left scene x told reads
+  of ending.LongLine reads ends = absurd (let z = sym ends.0 ∙ is in cc)
+  of ending.LongInput reads ends = absurd (let z = sym ends.0 ∙ is in cc)
+  of ending.KeysFailed reads ends = absurd (let z = sym ends.0 ∙ is in cc)
+  of ending.OutFailed reads ends = absurd (let z = sym ends.0 ∙ is in cc)
+  of ending.NoMemory reads ends = absurd (let z = sym ends.0 ∙ is in cc)
+  of (ending.View e) reads ends = absurd (undone name e s said a (ended name e s said a ends) is)
+explored_reads_out words name held sb sa kb ka b a _ x (memory stayed kept) is = absurd cc
+
 -- ---- statuses and their causes
 
 pub explored_too_long : (words : List (List ℕ)) (name : List ℕ) (held : Option Files) (sb sa : ShelfCounts) (kb ka : Keys) (b a : Output) (s : Status) → Session words name → Explores held name sb sa kb ka b a s → s ≡ TooLong →
     Rose sb.fulls sa.fulls ⊎ (AsksToExplore words × TookMany kb.taken ka.taken)
-explored_too_long words name held sb sa kb ka b a _ x (refused answer s cause any stayed (inl (same, kept, all))) is = inl (cause.too_long (sym same ∙ is))
-explored_too_long words name held sb sa kb ka b a _ x (refused answer s cause any stayed (inr (inl (fault, rose, part)))) is = absurd (let e = sym fault ∙ is in cc)
-explored_too_long words name held sb sa kb ka b a _ x (refused answer s cause any stayed (inr (inr (lack, kept, part)))) is = absurd (let e = sym lack ∙ is in cc)
-explored_too_long words name held sb sa kb ka b a _ x (opening.session scene e said s told closed takes counts ends) is = of e takes ends where
+explored_too_long words name held sb sa kb ka b a _ x (refused answer s not_done cause any stayed (inl (same, kept, all))) is = inl (cause.too_long (sym same ∙ is))
+explored_too_long words name held sb sa kb ka b a _ x (refused answer s not_done cause any stayed (inr (inl (fault, rose, part)))) is = absurd (let e = sym fault ∙ is in cc)
+explored_too_long words name held sb sa kb ka b a _ x (refused answer s not_done cause any stayed (inr (inr (lack, kept, part)))) is = absurd (let e = sym lack ∙ is in cc)
+explored_too_long words name held sb sa kb ka b a _ x (opening.session scene e said s told closed reads takes counts ends) is = of e takes ends where
   of : (e : Ending) → TakesManyFor e kb.taken ka.taken → EndsBy name e s said a → Rose sb.fulls sa.fulls ⊎ (AsksToExplore words × TookMany kb.taken ka.taken)
   of ending.Done takes ends = absurd (let z = sym ends.0 ∙ is in cc)
   of ending.LongLine takes ends = inr ((name, x.asks), takes)
@@ -227,8 +244,8 @@ explored_too_long words name held sb sa kb ka b a _ x (memory stayed kept) is = 
 
 pub explored_alone : (words : List (List ℕ)) (name : List ℕ) (held : Option Files) (sb sa : ShelfCounts) (kb ka : Keys) (b a : Output) (s : Status) (code : ℕ) → Session words name → Explores held name sb sa kb ka b a s →
     code ≡ code_of s → WasRefused words held code → ¬ Rose b.faults a.faults → ∥ WritesRefusal code b.written a.written ∥₁
-explored_alone words name held sb sa kb ka b a _ code x (refused answer s cause any stayed delivers) is was out = written_alone b.faults a.faults b.written a.written answer s code delivers is was.0 was.1 out
-explored_alone words name held sb sa kb ka b a _ code x (opening.session scene e said s told closed takes counts ends) is was out = absurd (of e closed counts ends) where
+explored_alone words name held sb sa kb ka b a _ code x (refused answer s not_done cause any stayed delivers) is was out = written_alone b.faults a.faults b.written a.written answer s code delivers is was.0 was.1 out
+explored_alone words name held sb sa kb ka b a _ code x (opening.session scene e said s told closed reads takes counts ends) is was out = absurd (of e closed counts ends) where
   session_ends : code ≢ 7
   session_ends = (was.2 (name, x.asks)).0
 
@@ -254,8 +271,8 @@ explored_alone words name held sb sa kb ka b a _ code x (memory stayed kept) is 
 
 pub explored_last : (name : List ℕ) (held : Option Files) (sb sa : ShelfCounts) (kb ka : Keys) (b a : Output) (s : Status) (code : ℕ) → Explores held name sb sa kb ka b a s →
     code ≡ code_of s → IsOfTrace code → ¬ Rose b.faults a.faults → ∥ WritesLast code b.written a.written ∥₁
-explored_last name held sb sa kb ka b a _ code (refused answer s cause any stayed delivers) is of_trace out = written_last b.faults a.faults b.written a.written answer s code delivers is of_trace out
-explored_last name held sb sa kb ka b a _ code (opening.session scene e said s told closed takes counts ends) is of_trace out = of e closed ends where
+explored_last name held sb sa kb ka b a _ code (refused answer s not_done cause any stayed delivers) is of_trace out = written_last b.faults a.faults b.written a.written answer s code delivers is of_trace out
+explored_last name held sb sa kb ka b a _ code (opening.session scene e said s told closed reads takes counts ends) is of_trace out = of e closed ends where
   other : (z : Status) → (IsOfTrace (code_of z) → ⊥) → s ≡ z → ⊥
   other z not same = not (subst IsOfTrace (is ∙ ap code_of same) of_trace)
 
@@ -277,11 +294,11 @@ explored_last name held sb sa kb ka b a _ code (memory stayed kept) is of_trace 
 
 pub explored_fault : (X : Type 0) (words : List (List ℕ)) (name : List ℕ) (held : Option Files) (sb sa : ShelfCounts) (kb ka : Keys) (b a : Output) (s : Status) → Session words name → Explores held name sb sa kb ka b a s → s ≡ Fault →
     Rose sb.faults sa.faults ⊎ X ⊎ Rose b.faults a.faults ⊎ (AsksToExplore words × Rose kb.faults ka.faults)
-explored_fault X words name held sb sa kb ka b a _ x (refused answer s cause (inl (fault, line, rose)) stayed (inl (same, kept, all))) is = inl rose
-explored_fault X words name held sb sa kb ka b a _ x (refused answer s cause (inr (counts, un, dues)) stayed (inl (same, kept, all))) is = absurd (un (sym same ∙ is))
-explored_fault X words name held sb sa kb ka b a _ x (refused answer s cause any stayed (inr (inl (fault, rose, part)))) is = inr (inr (inl rose))
-explored_fault X words name held sb sa kb ka b a _ x (refused answer s cause any stayed (inr (inr (lack, kept, part)))) is = absurd (let e = sym lack ∙ is in cc)
-explored_fault X words name held sb sa kb ka b a _ x (opening.session scene e said s told closed takes counts ends) is = of e closed counts ends where
+explored_fault X words name held sb sa kb ka b a _ x (refused answer s not_done cause (inl (fault, line, rose)) stayed (inl (same, kept, all))) is = inl rose
+explored_fault X words name held sb sa kb ka b a _ x (refused answer s not_done cause (inr (counts, un, dues)) stayed (inl (same, kept, all))) is = absurd (un (sym same ∙ is))
+explored_fault X words name held sb sa kb ka b a _ x (refused answer s not_done cause any stayed (inr (inl (fault, rose, part)))) is = inr (inr (inl rose))
+explored_fault X words name held sb sa kb ka b a _ x (refused answer s not_done cause any stayed (inr (inr (lack, kept, part)))) is = absurd (let e = sym lack ∙ is in cc)
+explored_fault X words name held sb sa kb ka b a _ x (opening.session scene e said s told closed reads takes counts ends) is = of e closed counts ends where
   of : (e : Ending) → ClosedOver scene kb ka b said e → CountsBy (held ≡ None) e sb sa → EndsBy name e s said a → Rose sb.faults sa.faults ⊎ X ⊎ Rose b.faults a.faults ⊎ (AsksToExplore words × Rose kb.faults ka.faults)
   of ending.Done c counts ends = absurd (let z = sym ends.0 ∙ is in cc)
   of ending.LongLine c counts ends = absurd (let z = sym ends.0 ∙ is in cc)
@@ -303,10 +320,10 @@ explored_fault X words name held sb sa kb ka b a _ x (opening.session scene e sa
 explored_fault X words name held sb sa kb ka b a _ x (memory stayed kept) is = absurd cc
 
 pub explored_absent : (name : List ℕ) (held : Option Files) (sb sa : ShelfCounts) (kb ka : Keys) (b a : Output) (s : Status) → Explores held name sb sa kb ka b a s → s ≡ Absent → Rose sb.misses sa.misses
-explored_absent name held sb sa kb ka b a _ (refused answer s cause any stayed (inl (same, kept, all))) is = cause.absent (sym same ∙ is)
-explored_absent name held sb sa kb ka b a _ (refused answer s cause any stayed (inr (inl (fault, rose, part)))) is = absurd (let e = sym fault ∙ is in cc)
-explored_absent name held sb sa kb ka b a _ (refused answer s cause any stayed (inr (inr (lack, kept, part)))) is = absurd (let e = sym lack ∙ is in cc)
-explored_absent name held sb sa kb ka b a _ (opening.session scene e said s told closed takes counts ends) is = of e counts ends where
+explored_absent name held sb sa kb ka b a _ (refused answer s not_done cause any stayed (inl (same, kept, all))) is = cause.absent (sym same ∙ is)
+explored_absent name held sb sa kb ka b a _ (refused answer s not_done cause any stayed (inr (inl (fault, rose, part)))) is = absurd (let e = sym fault ∙ is in cc)
+explored_absent name held sb sa kb ka b a _ (refused answer s not_done cause any stayed (inr (inr (lack, kept, part)))) is = absurd (let e = sym lack ∙ is in cc)
+explored_absent name held sb sa kb ka b a _ (opening.session scene e said s told closed reads takes counts ends) is = of e counts ends where
   of : (e : Ending) → CountsBy (held ≡ None) e sb sa → EndsBy name e s said a → Rose sb.misses sa.misses
   of ending.Done counts ends = absurd (let z = sym ends.0 ∙ is in cc)
   of ending.LongLine counts ends = absurd (let z = sym ends.0 ∙ is in cc)

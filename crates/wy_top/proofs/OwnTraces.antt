@@ -1,5 +1,5 @@
 -- The trace of a run of the program of a text is short enough, tells its events, is read, and is not refused; and what is told of it.
-use Rattle.std.proofs.Common.{◌≡◌, ◌∙◌, sym, ap, subst, refl, ℕ, ◌≤◌, List, length, map, Ok, Err, arith}
+use Rattle.std.proofs.Common.{◌≡◌, ◌∙◌, sym, ap, subst, refl, ℕ, ◌≤◌, List, length, map, Result, Ok, Err, arith}
 use Rattle.std.specs.List.{AllByRecursion}
 use Rattle.std.proofs.lemmas.List.{length-map}
 use Rattle.std.proofs.lemmas.List.Folds.{map_fixed}
@@ -53,6 +53,9 @@ pub record Laws : Type 0 where
   pub library : ProgramsKeepLibrary
   pub texts : TreesFitTheirTexts
   pub statements : TreesHaveFewStatements
+
+one_read : (t u : Trace) (r : Result Trace TraceError) → r ≡ Ok t → r ≡ Ok u → t ≡ u
+one_read t u r is also = let e = sym is ∙ also in cc
 
 -- ---- the program of a text
 
@@ -146,7 +149,7 @@ module _ (v : Version) (source input : List ℕ) (steps : ℕ) (p : memory.Progr
   output_told laws short tells reads once outputs t is_read =
       let a = asked laws source p r.source_within r.is_program in
       let x = read_back laws short reads in
-      let same : t ≡ x.trace = let e : Ok {E = TraceError} t ≡ Ok x.trace = once p bytes (Ok t) (Ok x.trace) tt tt is_read x.read in cc e in
+      let same : t ≡ x.trace = one_read t x.trace (Ok t) refl (once p bytes (Ok t) (Ok x.trace) tt tt is_read x.read) in
       let records : map recorded t.events ≡ runs = ap (λ (y : Trace). map recorded y.events) same ∙ x.events_are ∙ all_told laws tells in
       let ends : t.tail ≡ is.end = ap (λ (y : Trace). y.tail) same ∙ x.tail_is in
       ap (λ (l : List Recorded). output_text (program_of p) p.lines.items l t.tail) records

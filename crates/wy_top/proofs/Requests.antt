@@ -2,10 +2,11 @@
 use Rattle.std.proofs.Common.{◌≡◌, refl, ℕ, ◌≤◌, List, Option, Some, None, IfSome, arith}
 use Rattle.std.specs.Prelude.{option_map}
 use Rattle.wy_words.specs.Views.{command_of, request_of}
-use Rattle.wy_words.specs.Words.{Asks, Command, Gen, IsNoCommand, generated, number_up_to}
+use Rattle.wy_words.specs.Words.{AskOneCommand, Asks, Command, Explore, Gen, IsNoCommand, generated, number_up_to}
 use Rattle.wy_words.specs.declared.commands.Command as memory
 use Rattle.wy_words.specs.declared.commands.Command.TheVariants.{Once}
 use Rattle.wy_words.specs.declared.commands.Request.{Request}
+use Rattle.wy_words.specs.declared.commands.Request.TheVariants as once
 use Rattle.wy_top.specs.Answers.{HasFewMethods, IsAsked}
 use Rattle.wy_top.specs.Call.{IsNoRecording, RecordsNothing}
 
@@ -41,3 +42,23 @@ none_asked words (Some request) asked none = absurd (none (request_of request) a
 pub no_recording : (words : List (List ℕ)) (request : Option Command) → IsAsked words request → RecordsNothing words → IsNoRecording request
 no_recording words None asked nothing c is = absurd cc
 no_recording words (Some d) asked nothing c is = let same : d ≡ c = cc in nothing c (rw (same) at asked)
+
+-- what is asked once is no session
+no_session : (r : Request) (trace : List ℕ) → request_of r ≡ Explore trace → ⊥
+no_session (once.Run asked) trace is = cc
+no_session (once.Record asked name) trace is = cc
+no_session (once.Output name) trace is = cc
+no_session (once.Why name question) trace is = cc
+no_session (once.WhyNot name statement) trace is = cc
+no_session (once.Affects name question) trace is = cc
+no_session (once.Certify name question) trace is = cc
+no_session (once.Check name certificate) trace is = cc
+no_session (once.Scope name statement call) trace is = cc
+no_session (once.Questions name) trace is = cc
+no_session (once.Audit name) trace is = cc
+no_session (once.Migrate name other) trace is = cc
+no_session (once.Gen number) trace is = cc
+
+pub asks_no_session : AskOneCommand → (words : List (List ℕ)) (request : Option Request) → IsAsked words (option_map request_of request) → (trace : List ℕ) → Asks words (Explore trace) → ⊥
+asks_no_session one words None none trace asks = none (Explore trace) asks
+asks_no_session one words (Some r) also trace asks = no_session r trace (one words (request_of r) (Explore trace) also asks)

@@ -13,7 +13,7 @@ use Rattle.wy_words.specs.Words.{Asks, AskOneCommand, Command as Request, Explor
 use Rattle.wy_session.specs.Desk.{scene_of}
 use Rattle.wy_session.specs.Scene.{Scene}
 use Rattle.wy_session.specs.Situation.{Scenes}
-use Rattle.wy_session.specs.Talk.{AnswersFirst, BeginsTalk, IsPrefixOf, Talks, answered}
+use Rattle.wy_session.specs.Talk.{AnswersFirst, BeginsTalk, IsPrefixOf, IsReadOut, Talks, answered}
 use Rattle.wy_session.specs.Closings.{BreaksOff, keys_fault_line}
 use Rattle.wy_session.specs.Closings as session
 use Rattle.wy_session.specs.declared.ending.Ending.{Ending}
@@ -32,12 +32,12 @@ use Rattle.wy_record.specs.declared.recorder.Phase.{Phase}
 use Rattle.wy_reply.specs.Recordings.{Spelling}
 use Rattle.wy_top.specs.Answers.{AsksToExplore, IsAnswer, Knows, counts}
 use Rattle.wy_top.specs.Left.{FinishesProgram, Leaves}
-use Rattle.wy_top.specs.Call.{BeginsDue, AnswersEach, Carries, Cuts, Failures, IsFaultBehind, IsOpened, Traces, WritesAll, WritesCarried, WritesCut, WritesDue, WasRefused, WritesFaultLine, WritesPrefix, WritesRefusal, failures, of_keys, of_shelf}
+use Rattle.wy_top.specs.Call.{BeginsDue, AnswersEach, Carries, Cuts, Failures, IsFaultBehind, IsOpened, ReadsKeysOut, Traces, WritesAll, WritesCarried, WritesCut, WritesDue, WasRefused, WritesFaultLine, WritesPrefix, WritesRefusal, failures, of_keys, of_shelf}
 use Rattle.wy_top.specs.Call as call
 use Rattle.wy_top.specs.Deliveries.{Delivers, WritesPart}
 use Rattle.wy_top.specs.Due.{Due, DueForTrace}
 use Rattle.wy_top.specs.Due as due
-use Rattle.wy_top.specs.Openings.{AnswersAny, ClosedOver, CountsBy, EndsBy, Explores, IsTold, Keys, Output, TellsRefusal, refused, memory}
+use Rattle.wy_top.specs.Openings.{AnswersAny, ClosedOver, CountsBy, EndsBy, Explores, IsTold, Keys, Output, ReadsOver, TellsRefusal, refused, memory}
 use Rattle.wy_top.specs.Openings as opening
 use Rattle.wy_top.specs.Replies.{ShelfCounts}
 use Rattle.wy_top.proofs.Delivered.{delivered_fault, prefix_of, part_of, written_alone}
@@ -112,6 +112,16 @@ all_due words name held keys scene status said line before after x told all none
       let t = told_at held name scene g.files g.told told in
       (said, due_of words name held keys t.program t.trace status said x g t.opened (all (scene_of t.program t.trace.events (covers_of t.trace)) g.input t.is g.given), nothing_more before after said line none written)
 
+-- a session over the trace of a name that ended with all said has read its keys out
+pub keys_read_out : (words : List (List ℕ)) (name : List ℕ) (held : Option Files) (keys left : Option (List ℕ)) (scene : Option Scene) → Session words name → IsTold held name scene → ReadsOver scene keys left ending.Done → ReadsKeysOut words held keys left
+keys_read_out words name held keys left scene x told reads trace files input asks known given =
+    let t = told_at held name scene files known told in
+    let same : name ≡ trace = (let e = x.one words (Explore name) (Explore trace) x.asks asks in cc) in
+    of t.program t.trace (subst (λ (n : List ℕ). IsOpened files n t.program t.trace) same t.opened) (reads (scene_of t.program t.trace.events (covers_of t.trace)) input t.is given) where
+      of : (p : Program) (t : Trace) → IsOpened files trace p t → (rest : List ℕ) × (left ≡ Some rest) × IsReadOut (scene_of p t.events (covers_of t)) input rest
+          → (p : Program) × (t : Trace) × (rest : List ℕ) × IsOpened files trace p t × (left ≡ Some rest) × IsReadOut (scene_of p t.events (covers_of t)) input rest
+      of p t opened (rest, is, out) = (p, t, rest, opened, is, out)
+
 -- nothing is told of the files, so what is due isn't known
 untold : (words : List (List ℕ)) (name : List ℕ) (held : Option Files) (keys : Option (List ℕ)) → Session words name → held ≡ None → Knows words held keys → ⊥
 untold words name held keys x none knows = let g = given_by words name held keys x knows in let e = sym none ∙ g.told in cc
@@ -140,8 +150,8 @@ session_due words name held sb sa kb ka b said a scene ending.NoMemory s x told 
 
 pub explored_due : (words : List (List ℕ)) (name : List ℕ) (held : Option Files) (sb sa : ShelfCounts) (kb ka : Keys) (b a : Output) (s : Status) (code : ℕ) → Session words name → Explores held name sb sa kb ka b a s → code ≡ code_of s →
     ¬ Rose sb.faults sa.faults → ¬ Rose kb.faults ka.faults → ¬ Rose b.faults a.faults → Knows words held kb.left → code ≢ 9 → WritesDue words held kb.left code b.written a.written
-explored_due words name held sb sa kb ka b a _ code x (refused answer s cause (inl (fault, line, rose)) stayed delivers) is shelf keys out knows some = absurd (shelf rose)
-explored_due words name held sb sa kb ka b a _ code x (refused answer s cause (inr (same, un, dues)) stayed (inl (as_answered, kept, all))) is shelf keys out knows some = of (given_by words name held kb.left x knows) where
+explored_due words name held sb sa kb ka b a _ code x (refused answer s not_done cause (inl (fault, line, rose)) stayed delivers) is shelf keys out knows some = absurd (shelf rose)
+explored_due words name held sb sa kb ka b a _ code x (refused answer s not_done cause (inr (same, un, dues)) stayed (inl (as_answered, kept, all))) is shelf keys out knows some = of (given_by words name held kb.left x knows) where
   of : Given held kb.left → WritesDue words held kb.left code b.written a.written
   of g = (
     answer.text.items,
@@ -149,9 +159,9 @@ explored_due words name held sb sa kb ka b a _ code x (refused answer s cause (i
         (subst (λ (k : ℕ). DueForTrace g.files name (wanted.Explore g.input) k answer.text.items) (sym (is ∙ ap code_of as_answered)) (dues (wanted.Explore g.input) g.files g.told)),
     all,
   )
-explored_due words name held sb sa kb ka b a _ code x (refused answer s cause (inr (same, un, dues)) stayed (inr (inl (fault, rose, part)))) is shelf keys out knows some = absurd (out rose)
-explored_due words name held sb sa kb ka b a _ code x (refused answer s cause (inr (same, un, dues)) stayed (inr (inr (lack, kept, part)))) is shelf keys out knows some = absurd (some (is ∙ ap code_of lack))
-explored_due words name held sb sa kb ka b a _ code x (opening.session scene e said s told closed takes counts ends) is shelf keys out knows some =
+explored_due words name held sb sa kb ka b a _ code x (refused answer s not_done cause (inr (same, un, dues)) stayed (inr (inl (fault, rose, part)))) is shelf keys out knows some = absurd (out rose)
+explored_due words name held sb sa kb ka b a _ code x (refused answer s not_done cause (inr (same, un, dues)) stayed (inr (inr (lack, kept, part)))) is shelf keys out knows some = absurd (some (is ∙ ap code_of lack))
+explored_due words name held sb sa kb ka b a _ code x (opening.session scene e said s told closed reads takes counts ends) is shelf keys out knows some =
     subst (λ (k : ℕ). WritesDue words held kb.left k b.written a.written) (sym is)
     (session_due words name held sb sa kb ka b said a scene e s x told closed counts ends shelf keys out knows (λ nine. some (is ∙ nine)))
 explored_due words name held sb sa kb ka b a _ code x (memory stayed kept) is shelf keys out knows some = absurd (some is)
@@ -262,7 +272,7 @@ nothing_prefix words held keys old new o = ([], appended_none o, inl refl)
 
 pub explored_prefix : (words : List (List ℕ)) (name : List ℕ) (held : Option Files) (sb sa : ShelfCounts) (n : ℕ) (kb ka : Keys) (b a : Output) (s : Status) → Session words name → Explores held name sb sa kb ka b a s →
     WritesPrefix words held kb.left (Faults sb n kb) (Faults sa n ka) b.written a.written
-explored_prefix words name held sb sa n kb ka b a _ x (refused answer s cause any stayed delivers) =
+explored_prefix words name held sb sa n kb ka b a _ x (refused answer s not_done cause any stayed delivers) =
     prefix_of words held kb.left (Faults sb n kb) (Faults sa n ka) b.written a.written answer (ap (λ (k : Keys). k.faults) stayed) (answer_of words name held kb.left sb sa answer n x any) (part_of answer s b.faults a.faults b.written a.written delivers)
-explored_prefix words name held sb sa n kb ka b a _ x (opening.session scene e said s told closed takes counts ends) = session_prefix words name held sb sa n kb ka b said a scene e s x told closed counts ends
+explored_prefix words name held sb sa n kb ka b a _ x (opening.session scene e said s told closed reads takes counts ends) = session_prefix words name held sb sa n kb ka b said a scene e s x told closed counts ends
 explored_prefix words name held sb sa n kb ka b a _ x (memory stayed kept) = ([], ap (λ (o : Output). o.written) kept ∙ appended_none b.written, inl refl)

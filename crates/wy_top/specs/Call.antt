@@ -12,7 +12,7 @@ use Rattle.wy_outside.specs.Shelf.{Files}
 use Rattle.wy_outside.specs.Sink.{appended}
 use Rattle.wy_record.specs.Recorders.{Mirrors}
 use Rattle.wy_session.specs.Desk.{scene_of}
-use Rattle.wy_session.specs.Talk.{BeginsTalk, IsPrefixOf}
+use Rattle.wy_session.specs.Talk.{BeginsTalk, IsPrefixOf, IsReadOut}
 use Rattle.wy_session.specs.Closings.{keys_fault_line}
 use Rattle.wy_words.specs.Words.{Asked, Asks, Command, Explore, Migrate, Record, Why, Affects, WhyNot}
 use Rattle.wy_reply.specs.Carried.{AffectedAnswer, CarriedAnswer}
@@ -99,6 +99,14 @@ WritesLast status before after =
 -- a trace is no trace, is not there any more, or has changed
 abbrev pub IsOfTrace : ℕ → Type 0
 IsOfTrace status = (status ≡ 3) ⊎ (status ≡ 5)
+
+-- a session that the words ask for over the trace of a name has read its keys to their end, or at least to the end of their quit, and
+-- what is left of them is told
+abbrev pub ReadsKeysOut : List (List ℕ) → Option Files → Option (List ℕ) → Option (List ℕ) → Type 0
+ReadsKeysOut words held keys left = (trace : List ℕ) (files : Files) (input : List ℕ)
+    → Asks words (Explore trace) → held ≡ Some files → keys ≡ Some input
+    → (p : Program) × (t : Trace) × (rest : List ℕ) × IsOpened files trace p t × (left ≡ Some rest)
+    × IsReadOut (scene_of p t.events (covers_of t)) input rest
 
 -- the run that was asked for is traced: each mirror that tells its bytes holds the trace of the source's program
 pub record Traced (s : Spelling) (files : Files) (a : Asked) (old new : Mirrors) : Type 0 where

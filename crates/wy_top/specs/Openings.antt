@@ -15,7 +15,7 @@ use Rattle.wy_view.specs.declared.view.ViewError.{ViewError}
 use Rattle.wy_view.specs.declared.view.ViewError.TheVariants as view
 use Rattle.wy_session.specs.Desk.{scene_of}
 use Rattle.wy_session.specs.Scene.{Scene}
-use Rattle.wy_session.specs.Closings.{Closed, TakesManyFor}
+use Rattle.wy_session.specs.Closings.{Closed, ReadsOut, TakesManyFor}
 use Rattle.wy_session.specs.Closings as ways
 use Rattle.wy_session.specs.declared.ending.Ending.{Ending}
 use Rattle.wy_session.specs.declared.ending.Ending.TheVariants as ending
@@ -112,6 +112,10 @@ abbrev pub ClosedOver : Option Scene → Keys → Keys → Output → Output →
 ClosedOver scene keys_before keys_after before after e =
     Closed (λ x. scene ≡ Some x) keys_before.left (ways.failures keys_before.faults keys_after.faults before.faults after.faults) before.written after.written e
 
+-- where all was said over this scene, if it is told, the keys were read out
+abbrev pub ReadsOver : Option Scene → Option (List ℕ) → Option (List ℕ) → Ending → Type 0
+ReadsOver scene before after e = ReadsOut (λ x. scene ≡ Some x) before after e
+
 -- a view refused where a session ended by that, and else the shelf did not fail
 abbrev pub CountsBy : Type 0 → Ending → ShelfCounts → ShelfCounts → Type 0
 CountsBy untold (ending.View e) before after = (e ≢ view.NoMemory) × RefusesView untold e before after
@@ -131,12 +135,13 @@ EndsBy name ending.NoMemory s said after = (s ≡ status.NoMemory) × (after ≡
 
 -- a trace that can't be opened is answered for, and the keys stay; a session over the trace of a name comes to its end; or memory ran out before anything was written
 pub data Explores (held : Option Files) (name : List ℕ) (shelf_before shelf_after : ShelfCounts) (keys_before keys_after : Keys) (before after : Output) : Status → Type 0 where
-  refused : (answer : Answer) (s : Status) → HasCause shelf_before shelf_after answer
+  refused : (answer : Answer) (s : Status) → answer.status ≢ status.Done → HasCause shelf_before shelf_after answer
       → AnswersAny held name shelf_before shelf_after answer
       → keys_after ≡ keys_before → Delivers answer s before.faults after.faults before.written after.written
       → Explores held name shelf_before shelf_after keys_before keys_after before after s
   session : (scene : Option Scene) (e : Ending) (said : Output) (s : Status) → IsTold held name scene
-      → ClosedOver scene keys_before keys_after before said e → TakesManyFor e keys_before.taken keys_after.taken
+      → ClosedOver scene keys_before keys_after before said e → ReadsOver scene keys_before.left keys_after.left e
+      → TakesManyFor e keys_before.taken keys_after.taken
       → CountsBy (held ≡ None) e shelf_before shelf_after → EndsBy name e s said after
       → Explores held name shelf_before shelf_after keys_before keys_after before after s
   memory : keys_after ≡ keys_before → after ≡ before

@@ -6,7 +6,7 @@ ghost use Rattle.wy_event.specs.Record.{recorded};
 ghost use Rattle.wy_reply.specs.Opening.{IsViewable};
 ghost use Rattle.wy_reply.specs.Tellings.{covers_of};
 ghost use Rattle.wy_session.specs.Closings.{TakesManyFor};
-ghost use Rattle.wy_top.specs.Openings.{ClosedOver, CountsBy, EndsBy, Explores, keys_at, output_at, scene_told};
+ghost use Rattle.wy_top.specs.Openings.{ClosedOver, CountsBy, EndsBy, Explores, ReadsOver, keys_at, output_at, scene_told};
 ghost use Rattle.wy_top.specs.Replies.{ShelfCounts, at_shelf};
 
 use crate::delivery::deliver;
@@ -71,6 +71,8 @@ fn explore_pages<S: Shelf, K: Source, O: Sink>(
         (keys_at (K.left keys.new) (K.faults keys.new) (K.taken keys.new))
         (output_at (O.written out.old) (O.faults out.old))
         (output_at (O.written out.new) (O.faults out.new)) result }
+    ensures read_out { ReadsOver (scene_told program.now covers.now
+        (records_told pages (S.held shelf.old))) (K.left keys.old) (K.left keys.new) result }
     ensures taken { TakesManyFor result (K.taken keys.old) (K.taken keys.new) }
     ensures counts { CountsBy (records_told pages (S.held shelf.old) ≡ None) result
         (at_shelf (S.faults shelf.old) (S.misses shelf.old) (S.fulls shelf.old))
@@ -100,6 +102,8 @@ fn explore_whole<K: Source, O: Sink>(
         (keys_at (K.left keys.new) (K.faults keys.new) (K.taken keys.new))
         (output_at (O.written out.old) (O.faults out.old))
         (output_at (O.written out.new) (O.faults out.new)) result }
+    ensures read_out { ReadsOver (scene_told program.now (covers_of trace)
+        (Some (map recorded trace.events))) (K.left keys.old) (K.left keys.new) result }
     ensures taken { TakesManyFor result (K.taken keys.old) (K.taken keys.new) }
     ensures counts { (before : ShelfCounts) → CountsBy ⊥ result before before }
 {

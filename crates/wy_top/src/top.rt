@@ -6,7 +6,7 @@ ghost use Rattle.wy_reply.specs.Statuses.{IsStatus};
 ghost use Rattle.wy_words.specs.Words.{IsNoCommand};
 ghost use Rattle.wy_top.specs.Answers.{AsksToExplore, Knows};
 ghost use Rattle.wy_session.specs.Closings.{TookMany};
-ghost use Rattle.wy_top.specs.Call.{IsOfTrace, RecordsNothing, Traces, WritesCarried, WritesCut, WasRefused, WritesDue, WritesFaultLine, WritesLast, WritesPrefix, WritesRefusal, failures};
+ghost use Rattle.wy_top.specs.Call.{IsOfTrace, ReadsKeysOut, RecordsNothing, Traces, WritesCarried, WritesCut, WasRefused, WritesDue, WritesFaultLine, WritesLast, WritesPrefix, WritesRefusal, failures};
 ghost use Rattle.wy_top.specs.Left.{FinishesProgram, IsSettled, Leaves, LeavesAny, StartsNone};
 ghost use Rattle.wy_top.specs.Recorders.{AreReady};
 ghost use Rattle.wy_reply.specs.Recordings.{spelling};
@@ -25,9 +25,9 @@ use wy_words::laws::words_ask_one_command;
 use wy_words::{Command, command};
 
 /// Runs the command of the words, without the program's own name, over the files of `shelf`, writes
-/// its text to `out` and returns its status. `keys` is read by `explore` alone, whose lines are answered
-/// as they come, and `recorders.write` has the trace of a run that is recorded, or of a file that is
-/// migrated; where it failed, or memory ran out, it has a prefix of it.
+/// its text to `out` and returns its status. `keys` is read by `explore` alone, to `quit` or to its end,
+/// whose lines are answered as they come, and `recorders.write` has the trace of a run that is recorded,
+/// or of a file that is migrated; where it failed, or memory ran out, it has a prefix of it.
 ///
 /// | Status | Comes |
 /// |---|---|
@@ -108,6 +108,8 @@ pub fn whyline<S: Shelf, K: Source, O: Sink, W: Recorder + Drop>(
         (W.phase recorders.new.write) }
     // statuses and their causes
     ensures status { IsStatus result }
+    ensures reads_out { result ≡ 0 → ReadsKeysOut (map string_bytes words.now)
+        (S.held shelf.old) (K.left keys.old) (K.left keys.new) }
     ensures usage { result ≡ 2 → IsNoCommand (map string_bytes words.now) }
     ensures absent { result ≡ 3 → Rose (S.misses shelf.old) (S.misses shelf.new) }
     ensures too_long { result ≡ 8 → Rose (S.fulls shelf.old) (S.fulls shelf.new)

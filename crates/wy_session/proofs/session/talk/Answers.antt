@@ -5,7 +5,7 @@ use Rattle.wy_outside.specs.Counts.{count_after, last_count}
 use Rattle.wy_session.specs.Line.{ReadsOn}
 use Rattle.wy_session.proofs.Parts.{appended_nothing}
 use Rattle.wy_session.proofs.Reading.{appended_twice, nothing_read, read_more, reads_then}
-use Rattle.wy_session.proofs.Talking.{finish_closes, piece_closes, memory_closes, fault_closes, taken_on, nothing_in, told_nothing, told_on}
+use Rattle.wy_session.proofs.Talking.{finish_closes, finish_reads, piece_closes, piece_reads, memory_closes, fault_closes, fault_reads, taken_on, nothing_in, told_nothing, told_on}
 use Rattle.wy_view.proofs.Views.{keeps_itself, keeps_on}
 use Rattle.wy_session.proofs.Viewing.{counts_since, ended_counts}
 use Rattle.wy_session.proofs.session.talk.Goals as goal
@@ -13,14 +13,29 @@ use Rattle.wy_session.proofs.session.talk.Goals as goal
 pub returns-in-Ok-clause-closed : goal.returns-in-Ok-clause-closed
 returns-in-Ok-clause-closed g c =
     let v = c.loop-piece.invariant in
-    finish_closes (g.R.Respond.stands c.args.responder.now) (g.R.Respond.stands c.loop-piece.responder) _ _ c.in-Ok.piece v.read v.said c.loop-piece.line _ _ _ _ _ _ _ _ _ c.finish.result v.reads v.told c.in-Ok.ensures.end
-    (nil_from_length c.in-Ok.piece.items (sym c.in-Ok.piece.ok.0 ∙ eqb-true _ 0 (sym c.is_empty.ensures ∙ c.if-is_empty.true))) (record { written = v.written; keys = v.keys_faults; out = v.faults }) c.in-Ok.ensures.failed c.finish.ensures.finishes
+    finish_closes (g.R.Respond.stands c.args.responder.now) (g.R.Respond.stands c.loop-piece.responder) _ _ _ c.in-Ok.piece v.read v.said c.loop-piece.line _ _ _ _ _ _ _ _ _ c.finish.result v.reads v.told c.in-Ok.ensures.end
+    (nil_from_length c.in-Ok.piece.items (sym c.in-Ok.piece.ok.0 ∙ eqb-true _ 0 (sym c.is_empty.ensures ∙ c.if-is_empty.true))) c.in-Ok.ensures.content (record { written = v.written; keys = v.keys_faults; out = v.faults }) c.in-Ok.ensures.failed c.finish.ensures.finishes
+
+pub returns-in-Ok-clause-read_out : goal.returns-in-Ok-clause-read_out
+returns-in-Ok-clause-read_out g c =
+    let v = c.loop-piece.invariant in
+    finish_reads (g.R.Respond.stands c.args.responder.now) (g.R.Respond.stands c.loop-piece.responder) _ _ _ c.in-Ok.piece v.read v.said c.loop-piece.line _ _ _ _ c.finish.result v.reads v.told c.in-Ok.ensures.end
+    (nil_from_length c.in-Ok.piece.items (sym c.in-Ok.piece.ok.0 ∙ eqb-true _ 0 (sym c.is_empty.ensures ∙ c.if-is_empty.true))) c.in-Ok.ensures.content c.finish.ensures.finishes
 
 pub returns-in-Err-clause-closed : goal.returns-in-Err-clause-closed
 returns-in-Err-clause-closed g c =
     let v = c.loop-piece.invariant in
     piece_closes (g.R.Respond.stands c.args.responder.now) (g.R.Respond.stands c.loop-piece.responder) (g.R.Respond.stands c.take.new.responder) _ _ _ v.read c.as_slice.result.now v.said c.loop-piece.line c.take.new.self _ _ _ _ _ _ _ _ _ c.in-Err.ending v.reads v.told
     (c.in-Ok.ensures.content ∙ ap (λ p. option_map (λ rest. p ++ rest) (g.K.Source.left c.read.new.self)) (sym c.as_slice.ensures.value)) (record { written = v.written; keys = v.keys_faults; out = v.faults }) c.in-Ok.ensures.failed c.in-Err.ensures.reads
+
+pub returns-in-Err-clause-read_out : goal.returns-in-Err-clause-read_out
+returns-in-Err-clause-read_out g c =
+    let v = c.loop-piece.invariant in
+    piece_reads (g.R.Respond.stands c.args.responder.now) (g.R.Respond.stands c.loop-piece.responder) (g.R.Respond.stands c.take.new.responder) _ _ _ v.read c.as_slice.result.now v.said c.loop-piece.line c.take.new.self _ _ _ _ c.in-Err.ending v.reads v.told
+    (c.in-Ok.ensures.content ∙ ap (λ p. option_map (λ rest. p ++ rest) (g.K.Source.left c.read.new.self)) (sym c.as_slice.ensures.value)) c.in-Err.ensures.reads
+
+pub returns-in-Err-Failed-clause-read_out : goal.returns-in-Err-Failed-clause-read_out
+returns-in-Err-Failed-clause-read_out g c = fault_reads _ _ _ _ _ _ _ _ c.end_with.result c.end_with.ensures
 
 pub loop-piece-init : goal.loop-piece-init
 loop-piece-init g c = record {

@@ -5,9 +5,9 @@ use Rattle.wy_top.specs.Answers.{IsAsked}
 use Rattle.wy_top.proofs.RunAnswers.{written_so}
 use Rattle.wy_top.proofs.Delivered.{absent_at, written_alone, written_due, written_last, prefix, answered_done, answered_starts_none, answered_usage, done_at, fault_at, fault_cause, fault_line, shelf_fault, recorder_fault, too_long_at}
 use Rattle.wy_top.proofs.LeftLemmas.{any_untouched, untouched}
-use Rattle.wy_top.proofs.Explored.{explored_alone, explored_absent, explored_fault_line, explored_shelf_fault, explored_out_fault, explored_carried, explored_cut, explored_fault, explored_finishes, explored_keys_fault, explored_last, explored_leaves, explored_too_long, explored_traces, is_command, is_session}
+use Rattle.wy_top.proofs.Explored.{explored_alone, explored_absent, explored_fault_line, explored_shelf_fault, explored_out_fault, explored_carried, explored_cut, explored_fault, explored_finishes, explored_keys_fault, explored_last, explored_leaves, explored_reads_out, explored_too_long, explored_traces, is_command, is_session}
 use Rattle.wy_top.proofs.Sessions.{explored_due, explored_prefix, nothing_prefix, session_of}
-use Rattle.wy_top.proofs.Requests.{asked_nothing, asked_once, few_asked, no_recording, none_asked, nothing_asked}
+use Rattle.wy_top.proofs.Requests.{asked_nothing, asked_once, asks_no_session, few_asked, no_recording, none_asked, nothing_asked}
 use Rattle.wy_top.proofs.top.whyline.Given as given
 use Rattle.wy_top.proofs.top.whyline.Goals as goal
 use Rattle.wy_top.proofs.top.whyline.Goals.{in-Some-Once, in-None}
@@ -167,3 +167,9 @@ returns-in-Some-Explore-clause-absent g c = λ three. explored_absent _ _ _ _ _ 
 
 pub returns-in-Some-Explore-clause-keys_fault : goal.returns-in-Some-Explore-clause-keys_fault
 returns-in-Some-Explore-clause-keys_fault g c = λ less. rw (c.code-in-Some-Explore.ensures) (explored_keys_fault _ _ _ _ _ _ _ _ _ c.explore_trace.ensures.explores less)
+
+pub returns-in-Some-Explore-clause-reads_out : goal.returns-in-Some-Explore-clause-reads_out
+returns-in-Some-Explore-clause-reads_out g c = λ zero. explored_reads_out _ _ _ _ _ _ _ _ _ _ (session_of c.words_ask_one_command.ensures _ c.in-Ok.command c.in-Some-Explore.trace c.in-Ok.ensures.asked (c.in-Some-Explore.is ∙ ap Some (rw (c.in-Some-Explore.is) at c.in-Some-Explore.field-0-is))) c.explore_trace.ensures.explores (done_at _ (sym c.code-in-Some-Explore.ensures ∙ zero))
+
+pub returns-in-Ok-answer_to-clause-reads_out : goal.returns-in-Ok-answer_to-clause-reads_out
+returns-in-Ok-answer_to-clause-reads_out g c = λ zero trace files input asks told given. absurd (asks_no_session c.words_ask_one_command.ensures _ _ (asked g c) trace asks)
