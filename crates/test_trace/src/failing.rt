@@ -218,13 +218,14 @@ fn is_mirrored(object: Object, left: &Left, whole: &Left) -> bool {
     }
 }
 
-/// What stands where a call of the object failed. A trace is opened before the keys are read.
-fn stands(object: Object, left: &Left, whole: &Left, lines: &[u8]) -> bool {
+/// What stands where a call of the object failed, before the keys were read or behind a line of them.
+fn stands(object: Object, left: &Left, whole: &Left, lines: &[u8], unread: bool) -> bool {
     left.status == 7
         && is_written(object, left, whole)
         && is_mirrored(object, left, whole)
         && match object {
-            Object::Shelf => left.lines.as_slice() == lines,
+            Object::Shelf if unread => left.lines.as_slice() == lines,
+            Object::Shelf => lines.ends_with(left.lines.as_slice()),
             Object::Keys => true,
             _ => left.lines.as_slice() == whole.lines.as_slice(),
         }
@@ -260,8 +261,10 @@ fn each_call_fails<R: Abort>(
         for call in 1..calls.saturating_add(2) {
             let left = call_with(alloc, line, given, fails_at(object, call))?;
             if call <= calls {
+                // A trace is opened before the keys are read, and its block is read for a line of them.
+                let unread = row.3.keys == 0 || call <= row.3.opening;
                 assert!(rt;
-                    stands(object, &left, whole, given.lines),
+                    stands(object, &left, whole, given.lines, unread),
                     "{line}, {object:?}, {call}"
                 );
             } else {
