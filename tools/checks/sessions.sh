@@ -132,7 +132,7 @@ printf '' | "$program" explore "$traces/first" >/dev/full 2>/dev/null
 [ "${PIPESTATUS[1]}" = 0 ] && report "nothing written to an output that is full" 1 || report "nothing written to an output that is full" 0
 
 # A trace that changes, goes or can't be read while a session is over it: what was said stands, and the line of the refusal is behind it.
-# Of its 69 blocks the last 64 are held once it is indexed, and block 0, where the frame begins; event 3000 is in block 2.
+# No block of it is held once it is opened: event 69000 is in block 67, and event 3000 in block 2.
 printf 'class Loop { public static void main(String[] a) { int i = 0; while (i < 35000) { i = i + 1; } } }' >"$scratch/loop.java"
 record loop "$scratch/loop.java"
 mkfifo "$scratch/keys"

@@ -31,6 +31,7 @@ use Rattle.wy_frames.specs.Scan.{Goes, turn_next, without_frame, turn_frame, is_
 use Rattle.wy_frames.specs.Heads.{ReadHead, head_of}
 use Rattle.wy_frames.specs.Traces.{IsReadBehind, IsReadAs}
 use Rattle.wy_payload.proofs.Readers.{then_has}
+use Rattle.law_reading.specs.Referring.{ReferBelow}
 use Rattle.law_reading.proofs.ReferringNumbers.{Has, whatever}
 use Rattle.law_reading.proofs.ReferringEvents.{Stands, event_has}
 
@@ -137,6 +138,11 @@ none_sound = record { few = omega arith; refer = λ n e is. absurd cc }
 start_sound : (v : Version) (head : Head) → Sound (start v head).placed
 unfolding start
 start_sound v head = none_sound
+
+pub so_far : (v : Version) (p : Program) (head : Head) (fed rest : List ℕ) (t : Progress) → Leaves (ranges_of v p) head.steps (start v head) fed t rest → ReferBelow (map event_in t.placed)
+so_far v p head fed rest t leaves =
+    let sound = leaves_sound (ranges_of v p) head.steps (start v head) fed (start_sound v head) t rest leaves in
+    record { few = omega (arith, length-map t.placed event_in, sound.few); refer = sound.refer }
 
 record SoundTrace (x : Trace) : Type 0 where
   few : length x.events ≤ event_limit

@@ -8,7 +8,7 @@ mod spelled;
 mod within_rules;
 
 pub use one_reading::bytes_are_read_in_one_way;
-pub use referring::{decoded_events_refer_below, few_events_are_decoded};
+pub use referring::{decoded_events_refer_below, few_events_are_decoded, read_events_refer_below};
 pub use spelled::{
     coverages_are_spelled, events_are_spelled, heads_are_short, heads_are_spelled,
     prefixes_are_cut, recorded_ends_are_read_back, recorded_heads_are_read_back,

@@ -149,11 +149,11 @@ const WHY_SET: &str = "#2 line 1 call M.main\n#4 line 2 set i = 0 *\n";
 const SESSION: &str = "#200001 line 2 test true\n#4 line 2 set i = 0\n";
 
 /// A command over a trace of 196 blocks, a call of the shelf behind the opening, and what is answered where the trace is another from
-/// that call on, and where that call fails. An index reads each block once, and block 0 again for event 4; what the run wrote is told
-/// by each block once. What a session said before stands.
+/// that call on, and where that call fails. The index was gathered at the opening, so `why` reads block 0 alone, for event 4, and a
+/// session block 195 before it; what the run wrote is told by each block once. What a session said before stands.
 static LATER: [(&str, u32, (u8, &str), (u8, &str)); 7] = [
-    ("why t e4", 197, CHANGED, FAULT),
-    ("why t e4", 198, (0, WHY_SET), (0, WHY_SET)),
+    ("why t e4", 1, CHANGED, FAULT),
+    ("why t e4", 2, (0, WHY_SET), (0, WHY_SET)),
     ("output t", 1, CHANGED, FAULT),
     ("output t", 2, (0, "100000\n-- finished\n"), FAULT),
     (
@@ -164,11 +164,11 @@ static LATER: [(&str, u32, (u8, &str), (u8, &str)); 7] = [
     ),
     (
         "explore t",
-        197,
+        2,
         (5, "#200001 line 2 test true\ntrace: Changed block 0\n"),
         (7, "#200001 line 2 test true\nfault: shelf\n"),
     ),
-    ("explore t", 198, (0, SESSION), (0, SESSION)),
+    ("explore t", 3, (0, SESSION), (0, SESSION)),
 ];
 
 #[test]
@@ -243,7 +243,15 @@ fn a_block_is_read_again_once_64_others_were(rt: HostRuntime) -> Result<(), Fail
     assert!(rt; head.source.as_slice().len() < 1000);
     let typed = program_of_source(alloc, head.source.as_slice())?;
     let mut shelf = shelf_of(alloc, trace.as_slice(), other.as_slice(), NEVER)?;
-    let (pages, _) = Pages::open(alloc, &mut shelf, "t", &head, version, &typed.program)?;
+    let (pages, _) = Pages::open(
+        alloc,
+        &mut shelf,
+        "t",
+        &head,
+        version,
+        &typed.program,
+        &mut None,
+    )?;
     let mut view = PagedView::over(&mut shelf, pages);
     look_beside::<PagedView<'_, SwapShelf, Pages>, Brand, HostRuntime>(
         &rt,

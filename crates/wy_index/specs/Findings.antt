@@ -1,8 +1,9 @@
 -- What one pass over the events has found so far.
-use Rattle.std.specs.Prelude.{◌≡◌, ℕ, List, map, Some}
+use Rattle.std.specs.Prelude.{◌≡◌, ◌<◌, ◌^◌, ℕ, List, length, map, Some, IfSome}
 use Rattle.std.specs.BTreeMap.{get}
 use Rattle.std.specs.Ordering.{nat_cmp}
 use Rattle.wy_event.specs.Record.{Recorded}
+use Rattle.wy_view.specs.View.{Told}
 use Rattle.wy_view.specs.References.{RefersBelow}
 use Rattle.std.specs.Prelude.{slice_get}
 use Rattle.wy_index.specs.declared.build.Findings.{Findings}
@@ -19,3 +20,17 @@ pub record HasFound (found : Findings) (rs : List Recorded) : Type 0 where
   pub inits : (class : ℕ) → get nat_cmp found.inits class ≡ first_from (is_init_of class) 0 rs
   pub hits : (site : ℕ) → kept_under found.hits site ≡ hits_in rs site
   pub bodies : found.bodies.items ≡ map (λ r. body_of (Some r)) rs
+
+-- in records that can be numbered
+pub record IsOfFew (found : Findings) : Type 0 where
+  pub records : List Recorded
+  pub has_found : HasFound found records
+  pub few : length records < 2 ^ 32
+
+-- in the records of a view, which are those that it tells where it tells them
+pub record IsFoundIn (told : Told) (found : Findings) : Type 0 where
+  pub records : List Recorded
+  pub has_found : HasFound found records
+  pub all : length records ≡ told.count
+  pub few : length records < 2 ^ 32
+  pub as_told : IfSome told.records (λ rs. rs ≡ records)

@@ -131,9 +131,9 @@ fn note_hit(
     Ok(())
 }
 
-/// What is found in the events so far.
+/// What is found in the events of a trace so far: from it comes an index, once all were noted.
 #[derive(Drop)]
-pub(crate) struct Findings {
+pub struct Findings {
     pub(crate) writes: Vec<Posting>,
     pub(crate) made: Vec<Option<Made>>,
     pub(crate) prints: Vec<u32>,
@@ -149,7 +149,8 @@ pub(crate) struct Findings {
 impl Findings {
     ghost use Rattle.wy_index.specs.Findings.{HasFound};
 
-    pub(crate) fn new(alloc: Global) -> Findings
+    /// No event was noted yet.
+    pub fn new(alloc: Global) -> Findings
         ensures { HasFound result [] }
     {
         Findings {
@@ -163,8 +164,8 @@ impl Findings {
         }
     }
 
-    /// Takes the next event.
-    pub(crate) fn note(&mut self, alloc: Global, n: u32, event: &Event) -> Result<(), AllocError>
+    /// Takes the next event, with its number.
+    pub fn note(&mut self, alloc: Global, n: u32, event: &Event) -> Result<(), AllocError>
         requires refers { RefersBelow n (recorded event.now) }
         ensures { (rs : List Recorded) → HasFound self.old rs → length rs ≡ n
             → OnOk result (HasFound self.new (rs ++ recorded event.now ∷ [])) }

@@ -9,7 +9,7 @@ ghost use Rattle.wy_kernel.specs.Parts.{program_of};
 ghost use Rattle.wy_view.specs.Counts.{RoseAtMost};
 ghost use Rattle.wy_view.specs.View.{KeepsCounts, IsRecordOf, Keeps, ReadsOnce};
 ghost use Rattle.wy_index.specs.Found.{earlier, first_from, hits_in, is_call_of, is_init_of, made_at, made_new, maker_of, prints_in};
-ghost use Rattle.wy_index.specs.Findings.{HasFound};
+ghost use Rattle.wy_index.specs.Findings.{HasFound, IsFoundIn, IsOfFew};
 ghost use Rattle.wy_index.specs.Finds.{IsLastBefore, IsRecent};
 ghost use Rattle.wy_index.specs.Index.{IsIndexOf, IsIndexOfView, owners_of};
 ghost use Rattle.wy_index.specs.Halving.{IsHalvings};
@@ -106,6 +106,42 @@ impl Index {
         for n in 0..view.count() {
             look(alloc, &mut found, view, n, steps)?;
         }
+        Ok(Index::of_findings(alloc, found, program)?)
+    }
+
+    /// The index of a view's events: of what was found in them before, where it is given, and else of one pass over them.
+    pub fn of<V: EventView, L: Ledger>(
+        alloc: Global,
+        found: Option<Findings>,
+        view: &mut V,
+        program: &Program,
+        steps: &mut Steps<L>,
+    ) -> Result<Index, ViewError>
+        requires found { IfSome found (IsFoundIn (V.tells view.old)) }
+        ensures index { IfOk result (λ index. IsIndexOfView index (V.tells view.new)) }
+        ensures owners { IfOk result (λ index. (f : ℕ)
+            → owners_of index f ≡ (field (program_of program.now) f).class) }
+        ensures keeps { Keeps (V.tells view.old) (V.tells view.new) }
+        ensures answers { KeepsCounts result (V.tells view.old) (V.tells view.new) }
+    {
+        match found {
+            Some(found) => Ok(Index::of_findings(alloc, found, program)?),
+            None => Index::build(alloc, view, program, steps),
+        }
+    }
+
+    /// The index of the events that were noted, which takes no further look at them.
+    pub fn of_findings(
+        alloc: Global,
+        found: Findings,
+        program: &Program,
+    ) -> Result<Index, AllocError>
+        requires { IsOfFew found }
+        ensures index { (rs : List Recorded) → HasFound found rs → length rs < 2 ^ 32
+            → IfOk result (λ index. IsIndexOf index rs) }
+        ensures owners { IfOk result (λ index. (f : ℕ)
+            → owners_of index f ≡ (field (program_of program.now) f).class) }
+    {
         let owners = owners(alloc, program)?;
         let Findings {
             writes,

@@ -2,7 +2,7 @@
 //! Nothing here follows a dependence.
 #![tactic(auto)]
 
-mod build;
+pub mod build;
 pub mod found;
 pub mod index;
 pub mod posting;

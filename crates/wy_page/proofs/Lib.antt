@@ -15,4 +15,5 @@ pub mod Shelved
 pub mod Answering
 pub mod Parts
 pub mod Looked
+pub mod Numbering
 pub mod Beginnings

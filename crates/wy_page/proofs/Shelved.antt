@@ -1,5 +1,5 @@
 -- What a piece that was read says of the file that is told.
-use Rattle.std.proofs.Common.{◌≡◌, ℕ, ◌+◌, ◌-◌, ◌<◌, ◌≤◌, min, List, ◌++◌, length, length-append, take, drop, Option, Some, Ok, refl, sym, ap, ◌∙◌, arith, take-append-drop, ⊎_elim}
+use Rattle.std.proofs.Common.{◌≡◌, ℕ, ◌+◌, ◌-◌, ◌<◌, ◌≤◌, min, List, [], ◌++◌, length, length-append, take, drop, Option, Some, Ok, refl, sym, ap, ◌∙◌, arith, take-append-drop, ⊎_elim}
 use Rattle.std.specs.Prelude.{None as Absent}
 use Rattle.std.specs.Prelude.{Vec, option_map}
 use Rattle.std.specs.declared.alloc.Global.{Global}
@@ -56,6 +56,10 @@ module _ (from at wanted : ℕ) (bytes fed piece : List ℕ) (next : fed ≡ tak
       let long : length (drop at bytes) ≤ wanted = omega (arith, length-drop at bytes, ap length read, length-take wanted (drop at bytes), is, less, short) in
       let whole : piece ≡ drop (length fed) rest = sym read ∙ take_all wanted (drop at bytes) long ∙ behind in
       (λ i. next i ++ whole i) ∙ take-append-drop (length fed) rest
+
+pub none_next : (held : Option Files) (name : List ℕ) (from : ℕ) → AreNext held name from []
+none_next Absent name from = tt
+none_next (Some files) name from = λ bytes there. refl
 
 pub next_on : (held : Option Files) (name : List ℕ) (from at wanted : ℕ) (fed : List ℕ) (piece : Vec ℕ Global) → AreNext held name from fed → at ≡ from + length fed → ReadsPart held name at wanted (Ok piece) → AreNext held name from (fed ++ piece.items)
 next_on Absent name from at wanted fed piece next place read = tt

@@ -42,7 +42,7 @@ module _ (law : ReadEventsArePlaced) (r : Reading) (v : Version) (p : Program) (
   within_all : at + size v (events_of t.placed) ≤ length all
   within_all = omega (arith, ap length lie.parts, length-append (opening v head) fed, length-append (events_bytes v (map event_in t.placed)) lie.others)
 
-  count_is : r.marks.count ≡ length t.placed
+  pub count_is : r.marks.count ≡ length t.placed
   count_is = omega (arith, h.marked.counted, many_ends t.placed)
 
   pub end_is : r.marks.end ≡ at + size v (events_of t.placed)

@@ -4,4 +4,5 @@ pub mod Refusals
 pub mod Paged
 pub mod Places
 pub mod Reads
+pub mod Noted
 pub mod Opening

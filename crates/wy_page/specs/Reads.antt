@@ -42,10 +42,10 @@ pub record IsReading (r : Reading) : Type 0 where
   pub standing : Progress
   pub reads : Reads r version program head fed standing
 
--- with a piece more it is read on, or the bytes are refused
-abbrev pub ReadsOn : Result Unit TraceError → Reading → Version → Program → Head → List ℕ → Type 0
-ReadsOn (Ok u) r v p head fed = (t : Progress) × Reads r v p head fed t
-ReadsOn (Err e) r v p head fed = Refused (ranges_of v p) head.steps (start v head) fed e
+-- with a piece more it is read on, of which this is true, or the bytes are refused
+abbrev pub ReadsOn : (Progress → Type 0) → Result Unit TraceError → Reading → Version → Program → Head → List ℕ → Type 0
+ReadsOn also (Ok u) r v p head fed = (t : Progress) × Reads r v p head fed t × also t
+ReadsOn also (Err e) r v p head fed = Refused (ranges_of v p) head.steps (start v head) fed e
 
 -- all was read, up to the seal, and this is kept of it
 pub record IsWhole (pages : Pages) (tail : Tail) (v : Version) (head : Head) (fed : List ℕ) (t : Progress) : Type 0 where

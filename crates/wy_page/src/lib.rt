@@ -6,6 +6,7 @@ mod block;
 mod error;
 mod front;
 mod marks;
+mod noting;
 mod opening;
 mod pages;
 mod view;

@@ -1,6 +1,6 @@
 //! A trace on a shelf that is read for the first time: by pieces, each of which is checked when it comes.
 
-ghost use Rattle.std.specs.Prelude.{◌≡◌, ◌+◌, ◌≤◌, ◌++◌, [], ℕ, List, IfErr, IfOk, OnOk, drop, length, map, string_bytes};
+ghost use Rattle.std.specs.Prelude.{◌≡◌, ◌+◌, ◌≤◌, ◌++◌, [], ℕ, List, IfErr, IfOk, IfSome, OnOk, drop, length, map, string_bytes};
 ghost use Rattle.wy_event.specs.declared.record.Head.{Head};
 ghost use Rattle.wy_event.specs.declared.record.Version.{Version};
 ghost use Rattle.wy_event.specs.Record.{recorded};
@@ -15,19 +15,22 @@ ghost use Rattle.wy_page.specs.Opening.{IsUnread, MayBeOpened, OpenCounts, Opens
 ghost use Rattle.wy_page.specs.Paged.{IsFresh, IsOfShelf};
 ghost use Rattle.wy_page.specs.Places.{AreMarked, RiseTo, ends_of};
 ghost use Rattle.wy_page.specs.Reads.{AreOthers, IsReading, Reads, ReadsAll, ReadsOn};
+ghost use Rattle.wy_page.specs.Noted.{HasNoted, HaveFound, Noted};
 
 use crate::error::{PageError, refusal};
 use crate::marks::Marks;
+use crate::noting::note_all;
 use crate::pages::Pages;
 use law_placing::{
     read_ends_stand, read_events_are_placed, read_events_are_told, read_traces_end_sealed,
 };
-use law_reading::decoded_events_refer_below;
+use law_reading::{decoded_events_refer_below, read_events_refer_below};
 use std::alloc::{AllocError, Global};
 use std::slice;
 use wy_event::record::{Head, Tail, Version};
 use wy_fitting::events_fit;
 use wy_frames::{ReadEvent, Scanner, TraceError};
+use wy_index::build::Findings;
 use wy_kernel::limit::TRACE_LIMIT;
 use wy_kernel::program::Program;
 use wy_outside::shelf::Shelf;
@@ -125,13 +128,13 @@ impl<'a> Reading<'a> {
         Ok(())
     }
 
-    /// Takes the next piece.
-    fn take(&mut self, piece: &[u8]) -> Result<(), TraceError>
+    /// Takes the next piece, and notes the events that end in it.
+    fn take(&mut self, piece: &[u8], found: &mut Option<Findings>) -> Result<(), TraceError>
         requires reading { IsReading self.old }
         requires room { self.old.at + length piece.now ≤ trace_limit }
         ensures read { (v : Version) (p : Program) (head : Head) (fed : List ℕ) (t : Progress)
-            → Reads self.old v p head fed t
-            → ReadsOn result self.new v p head (fed ++ piece.now) }
+            → Reads self.old v p head fed t → Noted found.old t
+            → ReadsOn (Noted found.new) result self.new v p head (fed ++ piece.now) }
         ensures at { OnOk result (self.new.at ≡ self.old.at + length piece.now) }
     {
         let placed = match self.scanner.feed(piece) {
@@ -139,8 +142,10 @@ impl<'a> Reading<'a> {
             Err(error) => return Err(error),
         };
         read_events_are_placed();
+        read_events_refer_below();
         are_bytes(piece);
         each_fits(placed.as_slice());
+        note_all(self.alloc, found, self.marks.count, placed.as_slice())?;
         let ends = places_behind(self.alloc, placed.as_slice())?;
         self.bytes.extend_from_slice(piece)?;
         self.mark(ends.as_slice())?;
@@ -181,7 +186,7 @@ impl<'a> Reading<'a> {
     }
 }
 
-/// Reads what stands in the file behind the frame of a head, piece by piece, to its end.
+/// Reads what stands in the file behind the frame of a head, piece by piece, to its end, and notes each event.
 fn read_whole<'a, S: Shelf>(
     alloc: Global,
     shelf: &mut S,
@@ -189,11 +194,13 @@ fn read_whole<'a, S: Shelf>(
     head: &Head,
     version: Version,
     program: &'a Program,
+    found: &mut Option<Findings>,
 ) -> Result<Reading<'a>, PageError>
+    requires nothing { HaveFound found.old [] }
     requires short { length (opening version head.now) ≤ trace_limit }
     requires file { MayBeOpened (S.held shelf.old) name.now version head.now }
     ensures read { IfOk result (λ r. (fed : List ℕ) × (t : Progress)
-        × Reads r version program.now head.now fed t
+        × Reads r version program.now head.now fed t × Noted found.new t
         × AreOthers (S.held shelf.old) name.now (length (opening version head.now)) fed) }
     ensures refused { IfErr result (λ e.
         IsUnread (S.held shelf.old) name.now version program.now head.now e) }
@@ -211,7 +218,7 @@ fn read_whole<'a, S: Shelf>(
             Ok(piece) => piece,
             Err(error) => return Err(PageError::View(refusal(error))),
         };
-        if let Err(error) = reading.take(piece.as_slice()) {
+        if let Err(error) = reading.take(piece.as_slice(), found) {
             return Err(PageError::Trace(error));
         }
         if piece.len() < PIECE as usize {
@@ -223,7 +230,8 @@ fn read_whole<'a, S: Shelf>(
 impl Pages {
     /// Reads a trace of a version on a shelf whole, once, and checks it by a program as a reader of all its bytes does: what stands
     /// behind the frame of its head, which was read before, up to the most bytes that a trace has.
-    /// It keeps where each block of its events lies, and the digest of these bytes. The end is handed out beside.
+    /// It keeps where each block of its events lies, and the digest of these bytes. The end is handed out beside. Each event is
+    /// noted as it is read, where findings are wanted.
     pub fn open<S: Shelf>(
         alloc: Global,
         shelf: &mut S,
@@ -231,11 +239,14 @@ impl Pages {
         head: &Head,
         version: Version,
         program: &Program,
+        found: &mut Option<Findings>,
     ) -> Result<(Pages, Tail), PageError>
+        requires nothing { HaveFound found.old [] }
         requires short { length (opening version head.now) ≤ trace_limit }
         requires file { MayBeOpened (S.held shelf.old) name.now version head.now }
         ensures trace { Opens (S.held shelf.old) name.now program.now result }
         ensures fits { IfOk result (λ x. IsOfShelf x.0 (S.held shelf.old)) }
+        ensures found { IfOk result (λ x. IfSome found.new (HasNoted x.0 (S.held shelf.old))) }
         ensures named { IfOk result (λ x. string_bytes x.0.name ≡ name.now) }
         ensures fresh { IfOk result (λ x. IsFresh x.0 x.0.name) }
         ensures end { IfOk result (λ x. EndStands program.now.statements x.0.count x.1) }
@@ -251,12 +262,13 @@ impl Pages {
         read_ends_stand();
         read_traces_end_sealed();
         decoded_events_refer_below();
+        read_events_refer_below();
         is_of_bytes(version, head);
         let kept = match String::from_str(alloc, name) {
             Ok(kept) => kept,
             Err(_) => return Err(PageError::View(ViewError::NoMemory)),
         };
-        let reading = match read_whole(alloc, shelf, name, head, version, program) {
+        let reading = match read_whole(alloc, shelf, name, head, version, program, found) {
             Ok(reading) => reading,
             Err(error) => return Err(error),
         };

@@ -146,7 +146,16 @@ fn answer_from_memory(
         events: events.into_vec(),
     };
     let mut answer = None;
-    answer_to_view(alloc, program, &tail, view, seal, inquiry, &mut answer);
+    answer_to_view(
+        alloc,
+        program,
+        &tail,
+        view,
+        None,
+        seal,
+        inquiry,
+        &mut answer,
+    );
     match answer.unwrap() {
         Ok(answer) => Ok(answer),
         Err(error) => Err(want_of_memory(error)),

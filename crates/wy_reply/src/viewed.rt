@@ -3,6 +3,7 @@ ghost use Rattle.std.specs.Prelude.{◌≡◌, ◌<◌, ◌^◌, ℕ, List, IfOk
 ghost use Rattle.wy_ask.specs.Opened.{IsOpenedOf};
 ghost use Rattle.wy_event.specs.declared.record.Trace.{Trace};
 ghost use Rattle.wy_event.specs.Record.{recorded};
+ghost use Rattle.wy_index.specs.Findings.{IsFoundIn};
 ghost use Rattle.wy_reply.specs.Opening.{IsViewOf};
 ghost use Rattle.wy_reply.specs.Statuses.{code_of, is_of_files};
 ghost use Rattle.wy_reply.specs.Tellings.{DeniesAs, SaysAsTold, SaysScope, Tells, inquiry_of};
@@ -21,6 +22,7 @@ use std::sync::ledger::{Blank, Ledger};
 use wy_ask::Opened;
 use wy_event::record::Tail;
 use wy_index::Index;
+use wy_index::build::Findings;
 use wy_kernel::program::Program;
 use wy_telling::{
     Unanswered, Unscoped, Untold, affects_text, output_text, questions_text, scope_text, why_text,
@@ -241,18 +243,20 @@ pub fn answer_to_opened<V: EventView>(
 }
 
 /// What is answered from a trace of a program, through a view of its events, with what it tells of its end and its seal. The
-/// view is given back alone, so that who lent it something has that back, and the answer is left beside it. No index is built
-/// for what the run wrote.
+/// view is given back alone, so that who lent it something has that back, and the answer is left beside it. An index comes of what
+/// was found in the events before, where that is given, and else of one pass over them; for what the run wrote there is none.
 pub fn answer_to_view<V: EventView>(
     alloc: Global,
     program: &Program,
     tail: &Tail,
     view: V,
+    found: Option<Findings>,
     seal: &[u8; 32],
     inquiry: Inquiry<'_>,
     answer: &mut Option<Result<Answer, ViewError>>,
 ) -> V
-    requires { length program.now.fields.items < 2 ^ 32 }
+    requires fields { length program.now.fields.items < 2 ^ 32 }
+    requires found { IfSome found (IsFoundIn (V.tells view)) }
     ensures answered { IsSome answer.new }
     ensures due { (t : Trace) → (V.tells view).records ≡ Some (map recorded t.events)
         → tail.now ≡ t.tail
@@ -269,10 +273,10 @@ pub fn answer_to_view<V: EventView>(
         return view;
     }
     let blank = Blank::new(1);
-    let (view, found) = answer_indexed::<V, Brand>(
-        alloc, program, tail, view, seal, inquiry, blank,
+    let (view, given) = answer_indexed::<V, Brand>(
+        alloc, program, tail, view, found, seal, inquiry, blank,
     );
-    *answer = Some(found);
+    *answer = Some(given);
     view
 }
 
@@ -282,11 +286,13 @@ fn answer_indexed<V: EventView, L: Ledger>(
     program: &Program,
     tail: &Tail,
     view: V,
+    found: Option<Findings>,
     seal: &[u8; 32],
     inquiry: Inquiry<'_>,
     blank: Blank,
 ) -> (V, Result<Answer, ViewError>)
     requires fields { length program.now.fields.items < 2 ^ 32 }
+    requires found { IfSome found (IsFoundIn (V.tells view)) }
     requires name { blank.name ≡ L.name }
     requires parts { blank.parts ≡ L.parts }
     requires some { 0 < blank.parts }
@@ -299,7 +305,8 @@ fn answer_indexed<V: EventView, L: Ledger>(
     ensures answers { KeepsCounts result.1 (V.tells view) (V.tells result.0) }
 {
     let mut view = view;
-    let index = match Index::build(alloc, &mut view, program, &mut Steps::<L>::new(blank)) {
+    let mut steps = Steps::<L>::new(blank);
+    let index = match Index::of(alloc, found, &mut view, program, &mut steps) {
         Ok(index) => index,
         Err(error) => return (view, Err(error)),
     };

@@ -3,6 +3,7 @@ ghost use Rattle.std.specs.Prelude.{◌≡◌, ◌++◌, ◌<◌, ◌^◌, false
 ghost use Rattle.wy_event.specs.Record.{Recorded};
 ghost use Rattle.wy_view.specs.View.{KeepsCounts, Keeps};
 ghost use Rattle.wy_kernel.specs.Parts.{program_of};
+ghost use Rattle.wy_index.specs.Findings.{IsFoundIn};
 ghost use Rattle.wy_ask.specs.Opened.{IsOpenedOf, StaysOpened};
 ghost use Rattle.wy_explore.specs.Explorer.{AllAnswered, AllWithin, IsReplyWithin, reply_of};
 ghost use Rattle.wy_session.specs.Desk.{IsAsked, IsSceneIn, IsSceneOf};
@@ -24,6 +25,7 @@ use wy_ask::Opened;
 use wy_event::record::Cover;
 use wy_explore::{Explorer, Reply};
 use wy_index::Index;
+use wy_index::build::Findings;
 use wy_kernel::program::Program;
 use wy_outside::sink::Sink;
 use wy_outside::source::Source;
@@ -183,17 +185,19 @@ impl<'a, V: EventView, L: Ledger> Respond for Desk<'a, V, L> {
 
 /// Answers the lines of an input over a trace of a program, each before more is read, through a view of its events and with what
 /// the trace tells of the statements. The view is given back alone, so that who lent it something has that back, and how the
-/// session ended is left beside it.
+/// session ended is left beside it. What was found in the events before may be given: then they are not looked at once more.
 pub fn explore<V: EventView, K: Source, O: Sink>(
     alloc: Global,
     program: &Program,
     coverage: &[Cover],
     view: V,
+    found: Option<Findings>,
     keys: &mut K,
     out: &mut O,
     ending: &mut Option<Ending>,
 ) -> V
-    requires { length program.now.fields.items < 2 ^ 32 }
+    requires fields { length program.now.fields.items < 2 ^ 32 }
+    requires found { IfSome found (IsFoundIn (V.tells view)) }
     ensures ended { IsSome ending.new }
     ensures closed { IfSome ending.new
         (Closed (IsSceneOf program.now coverage.now (V.tells view)) (K.left keys.old)
@@ -209,7 +213,7 @@ pub fn explore<V: EventView, K: Source, O: Sink>(
 {
     let blank = Blank::new(1);
     let (view, ended) = explore_indexed::<V, K, O, Brand>(
-        alloc, program, coverage, view, keys, out, blank,
+        alloc, program, coverage, view, found, keys, out, blank,
     );
     *ending = Some(ended);
     view
@@ -221,11 +225,13 @@ fn explore_indexed<V: EventView, K: Source, O: Sink, L: Ledger>(
     program: &Program,
     coverage: &[Cover],
     view: V,
+    found: Option<Findings>,
     keys: &mut K,
     out: &mut O,
     blank: Blank,
 ) -> (V, Ending)
     requires fields { length program.now.fields.items < 2 ^ 32 }
+    requires found { IfSome found (IsFoundIn (V.tells view)) }
     requires name { blank.name ≡ L.name }
     requires parts { blank.parts ≡ L.parts }
     requires some { 0 < blank.parts }
@@ -240,7 +246,7 @@ fn explore_indexed<V: EventView, K: Source, O: Sink, L: Ledger>(
 {
     let mut view = view;
     let mut steps = Steps::<L>::new(blank);
-    let index = match Index::build(alloc, &mut view, program, &mut steps) {
+    let index = match Index::of(alloc, found, &mut view, program, &mut steps) {
         Ok(index) => index,
         Err(error) => return (view, Ending::from(error)),
     };

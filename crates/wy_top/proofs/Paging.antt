@@ -34,6 +34,9 @@ use Rattle.wy_reply.specs.declared.status.Status.TheVariants as status
 use Rattle.wy_reply.specs.Statuses.{code_of, is_of_files}
 use Rattle.wy_event.specs.Record.{Recorded, recorded}
 use Rattle.wy_event.specs.declared.record.Trace.{Trace}
+use Rattle.wy_index.specs.declared.build.Findings.{Findings}
+use Rattle.wy_index.specs.Findings.{IsFoundIn}
+use Rattle.wy_page.specs.Noted.{HasNoted}
 use Rattle.wy_page.specs.declared.pages.Pages.{Pages}
 use Rattle.wy_page.specs.Paged.{records_of, records_told}
 use Rattle.wy_reply.specs.Opening.{IsDecoded}
@@ -367,3 +370,16 @@ clause_causes due held before after (Err x) from = tt
 pub moved_run : (held now : Option Files) (name : List ℕ) (w : Wanted) (r : Result Answer AllocError) → now ≡ held → IfOk r (λ answer. answer.status ≡ status.Done → AnswersRunOf now name w answer.text.items)
     → IfOk r (λ answer. answer.status ≡ status.Done → AnswersRunOf held name w answer.text.items)
 moved_run held now name w r same is = subst (λ (h : Option Files). IfOk r (λ answer. answer.status ≡ status.Done → AnswersRunOf h name w answer.text.items)) same is
+
+-- ---- what was found while the pages were opened
+
+-- is found in what a view of them tells
+pub found_in_view : (found : Option Findings) (pages : Pages) (held : Option Files) (told : Told) → told.records ≡ records_told pages held → told.count ≡ pages.count → IfSome found (HasNoted pages held) → IfSome found (IsFoundIn told)
+found_in_view None pages held told records count noted = tt
+found_in_view (Some found) pages held told records count noted = record {
+  records = noted.records;
+  has_found = noted.has_found;
+  all = noted.all ∙ sym count;
+  few = noted.few;
+  as_told = subst (λ (o : Option (List Recorded)). IfSome o (λ rs. rs ≡ noted.records)) (sym records) noted.as_told;
+}

@@ -10,7 +10,9 @@ use Rattle.wy_fitting.specs.Fits.{EndFits}
 use Rattle.wy_frames.specs.Heads.{version_of}
 use Rattle.law_reading.specs.Spelled.{AreBytes}
 use Rattle.wy_outside.specs.Shelf.{Files, ReadsPart}
+use Rattle.wy_index.specs.declared.build.Findings.{Findings}
 use Rattle.wy_page.specs.declared.pages.Pages.{Pages}
+use Rattle.wy_page.specs.Noted.{HasNoted}
 use Rattle.wy_page.specs.Paged.{IsOfShelf, records_told}
 use Rattle.wy_view.specs.declared.view.ViewError.{ViewError}
 use Rattle.wy_view.specs.declared.view.ViewError.TheVariants as view
@@ -87,3 +89,9 @@ OpensPages held name before after (Open typed pages tail) = (after ≡ before) �
 OpensPages held name before after (Refused answer) =
     (answer.status ≡ status.Done → ⊥) × HasCause before after answer × AnswersAny held name before after answer
 OpensPages held name before after Headless = after ≡ before
+
+-- where its pages are open, what is wanted was found in all its events
+abbrev pub AreNoted : Option Findings → Option Files → Shelved → Type 0
+AreNoted found held (Open typed pages tail) = IfSome found (HasNoted pages held)
+AreNoted found held (Refused answer) = Unit {0}
+AreNoted found held Headless = Unit {0}

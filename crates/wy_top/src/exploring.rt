@@ -1,5 +1,6 @@
 //! A session over the trace of a name.
-ghost use Rattle.std.specs.Prelude.{◌≡◌, ◌<◌, ◌^◌, None, Some, length, map};
+ghost use Rattle.std.specs.Prelude.{◌≡◌, ◌<◌, ◌^◌, IfSome, None, Some, length, map};
+ghost use Rattle.wy_page.specs.Noted.{HasNoted};
 ghost use Rattle.wy_page.specs.Paged.{IsOfShelf, records_told};
 ghost use Rattle.wy_event.specs.Record.{recorded};
 ghost use Rattle.wy_reply.specs.Opening.{IsViewable};
@@ -13,6 +14,7 @@ use crate::opening::{Opening, open_trace};
 use crate::shelved::{Shelved, answer_to_refusal, open_pages};
 use std::alloc::Global;
 use wy_event::record::{Cover, Trace};
+use wy_index::build::Findings;
 use wy_kernel::program::Program;
 use wy_outside::shelf::Shelf;
 use wy_outside::sink::Sink;
@@ -55,12 +57,14 @@ fn explore_pages<S: Shelf, K: Source, O: Sink>(
     shelf: &mut S,
     program: &Program,
     pages: Pages,
+    found: Option<Findings>,
     covers: &[Cover],
     keys: &mut K,
     out: &mut O,
 ) -> Ending
     requires fields { length program.now.fields.items < 2 ^ 32 }
     requires fits { IsOfShelf pages (S.held shelf.old) }
+    requires found { IfSome found (HasNoted pages (S.held shelf.old)) }
     ensures closed { ClosedOver (scene_told program.now covers.now
         (records_told pages (S.held shelf.old)))
         (keys_at (K.left keys.old) (K.faults keys.old) (K.taken keys.old))
@@ -77,7 +81,7 @@ fn explore_pages<S: Shelf, K: Source, O: Sink>(
 {
     let view = PagedView::over(shelf, pages);
     let mut ending = None;
-    let view = explore(alloc, program, covers, view, keys, out, &mut ending);
+    let view = explore(alloc, program, covers, view, found, keys, out, &mut ending);
     view.close();
     ending.unwrap()
 }
@@ -109,7 +113,7 @@ fn explore_whole<K: Source, O: Sink>(
         events: events.into_vec(),
     };
     let mut ending = None;
-    explore(alloc, program, covers, view, keys, out, &mut ending);
+    explore(alloc, program, covers, view, None, keys, out, &mut ending);
     ending.unwrap()
 }
 
@@ -158,10 +162,20 @@ pub fn explore_trace<S: Shelf, K: Source, O: Sink>(
         (output_at (O.written out.new) (O.faults out.new)) result }
     ensures files_stay { S.held shelf.new ≡ S.held shelf.old }
 {
-    match open_pages(alloc, shelf, name) {
+    let mut found = Some(Findings::new(alloc));
+    match open_pages(alloc, shelf, name, &mut found) {
         Ok(Shelved::Open { typed, pages, tail }) => {
             let covers = tail.coverage.statements.as_slice();
-            let ending = explore_pages(alloc, shelf, &typed.program, pages, covers, keys, out);
+            let ending = explore_pages(
+                alloc,
+                shelf,
+                &typed.program,
+                pages,
+                found,
+                covers,
+                keys,
+                out,
+            );
             end(alloc, name, ending, out)
         }
         Ok(Shelved::Refused(answer)) => deliver(out, &answer),

@@ -1,6 +1,7 @@
 //! What is told from a trace that stays on its shelf.
-ghost use Rattle.std.specs.Prelude.{◌≡◌, ◌<◌, ◌^◌, IfOk, None, Some, false, length};
+ghost use Rattle.std.specs.Prelude.{◌≡◌, ◌<◌, ◌^◌, [], IfOk, IfSome, None, Some, false, length};
 ghost use Rattle.wy_outside.specs.Shelf.{Files};
+ghost use Rattle.wy_page.specs.Noted.{HasNoted, HaveFound};
 ghost use Rattle.wy_page.specs.Paged.{IsOfShelf, records_told};
 ghost use Rattle.wy_reply.specs.declared.status.Status.TheVariants.{Done};
 ghost use Rattle.wy_reply.specs.Statuses.{code_of, is_of_files};
@@ -18,6 +19,7 @@ use law_reading::heads_are_short;
 use std::alloc::{AllocError, Global};
 use wy_elab_stmt::laws::a_text_has_one_program;
 use wy_event::record::Tail;
+use wy_index::build::Findings;
 use wy_kernel::program::Program;
 use wy_outside::shelf::Shelf;
 use wy_page::{PagedView, Pages};
@@ -30,17 +32,29 @@ use wy_tree::laws::{
 use wy_view::ViewError;
 use wy_whynot::laws::items_are_a_cut;
 
+/// What the events are noted in while a trace is opened: nothing where what the run wrote is asked for, which needs no index.
+fn findings_for(alloc: Global, inquiry: Inquiry<'_>) -> Option<Findings>
+    ensures { HaveFound result [] }
+{
+    match inquiry {
+        Inquiry::Output => None,
+        _ => Some(Findings::new(alloc)),
+    }
+}
+
 /// What is told through a view of what is kept of a trace.
 fn look_up<S: Shelf>(
     alloc: Global,
     shelf: &mut S,
     program: &Program,
     pages: Pages,
+    found: Option<Findings>,
     tail: &Tail,
     inquiry: Inquiry<'_>,
 ) -> Result<Answer, ViewError>
     requires fields { length program.now.fields.items < 2 ^ 32 }
     requires fits { IsOfShelf pages (S.held shelf.old) }
+    requires found { IfSome found (HasNoted pages (S.held shelf.old)) }
     ensures due { (t : Trace) (files : Files) → S.held shelf.old ≡ Some files
         → ArePagesOf t pages tail.now files
         → IfOk result (λ answer. Tells program.now pages.seal t (inquiry_of inquiry.entry)
@@ -54,7 +68,16 @@ fn look_up<S: Shelf>(
     let seal = *pages.seal();
     let view = PagedView::over(shelf, pages);
     let mut answer = None;
-    let view = answer_to_view(alloc, program, tail, view, &seal, inquiry, &mut answer);
+    let view = answer_to_view(
+        alloc,
+        program,
+        tail,
+        view,
+        found,
+        &seal,
+        inquiry,
+        &mut answer,
+    );
     view.close();
     answer.unwrap()
 }
@@ -66,11 +89,13 @@ fn answer_in<S: Shelf>(
     name: &str,
     program: &Program,
     pages: Pages,
+    found: Option<Findings>,
     tail: &Tail,
     inquiry: Inquiry<'_>,
 ) -> Result<Answer, AllocError>
     requires fields { length program.now.fields.items < 2 ^ 32 }
     requires fits { IsOfShelf pages (S.held shelf.old) }
+    requires found { IfSome found (HasNoted pages (S.held shelf.old)) }
     ensures answers { IfOk result (AnswersFrom
         (DueInPages program.now pages tail.now (inquiry_of inquiry.entry))
         (S.held shelf.old)
@@ -78,7 +103,7 @@ fn answer_in<S: Shelf>(
         (at_shelf (S.faults shelf.new) (S.misses shelf.new) (S.fulls shelf.new))) }
     ensures files_stay { S.held shelf.new ≡ S.held shelf.old }
 {
-    match look_up(alloc, shelf, program, pages, tail, inquiry) {
+    match look_up(alloc, shelf, program, pages, found, tail, inquiry) {
         Ok(answer) => Ok(answer),
         Err(error) => answer_to_refusal(alloc, name, error),
     }
@@ -111,10 +136,18 @@ pub(crate) fn answer_by_pages<S: Shelf>(
     recorded_traces_tell_events();
     heads_are_short();
     tellings_are_by_runs();
-    match open_pages(alloc, shelf, name)? {
-        Shelved::Open { typed, pages, tail } => {
-            answer_in(alloc, shelf, name, &typed.program, pages, &tail, inquiry)
-        }
+    let mut found = findings_for(alloc, inquiry);
+    match open_pages(alloc, shelf, name, &mut found)? {
+        Shelved::Open { typed, pages, tail } => answer_in(
+            alloc,
+            shelf,
+            name,
+            &typed.program,
+            pages,
+            found,
+            &tail,
+            inquiry,
+        ),
         Shelved::Refused(answer) => Ok(answer),
         Shelved::Headless => answer_by_reading(alloc, shelf, name, Wanted::Inquiry(inquiry)),
     }

@@ -1,10 +1,11 @@
 //! The opening of a trace that stays on its shelf: its front is read first.
-ghost use Rattle.std.specs.Prelude.{◌≡◌, ◌≤◌, ℕ, IfOk, Ok, length};
+ghost use Rattle.std.specs.Prelude.{◌≡◌, ◌≤◌, [], ℕ, IfOk, Ok, length};
 ghost use Rattle.wy_frames.specs.Heads.{head_of};
 ghost use Rattle.law_reading.specs.Spelled.{AreBytes};
 ghost use Rattle.wy_kernel.specs.Limits.{trace_limit};
+ghost use Rattle.wy_page.specs.Noted.{HaveFound};
 ghost use Rattle.wy_top.specs.Openings.{TellsRefusal};
-ghost use Rattle.wy_top.specs.Paging.{BeginsFile, OpensPages};
+ghost use Rattle.wy_top.specs.Paging.{AreNoted, BeginsFile, OpensPages};
 ghost use Rattle.wy_top.specs.Replies.{at_shelf};
 
 use crate::answer::answer_to_lack;
@@ -15,6 +16,7 @@ use std::alloc::{AllocError, Global};
 use wy_event::record::{Head, Tail, Version};
 use wy_fitting::end_fits;
 use wy_frames::read_head;
+use wy_index::build::Findings;
 use wy_outside::shelf::Shelf;
 use wy_page::{PageError, Pages, fronts_begin_traces};
 use wy_program::{TypedProgram, program_of_source};
@@ -63,13 +65,16 @@ fn open_by_head<S: Shelf>(
     front: &[u8],
     head: &Head,
     version: Version,
+    found: &mut Option<Findings>,
 ) -> Result<Shelved, AllocError>
+    requires nothing { HaveFound found.old [] }
     requires front { BeginsFile (S.held shelf.old) name.now front.now }
     requires short { length front.now ≤ trace_limit }
     requires head { (end : ℕ) × (head_of front.now ≡ Ok (head.now, end, version)) }
     ensures opens { IfOk result (OpensPages (S.held shelf.old) name.now
         (at_shelf (S.faults shelf.old) (S.misses shelf.old) (S.fulls shelf.old))
         (at_shelf (S.faults shelf.new) (S.misses shelf.new) (S.fulls shelf.new))) }
+    ensures found { IfOk result (AreNoted found.new (S.held shelf.old)) }
     ensures files_stay { S.held shelf.new ≡ S.held shelf.old }
 {
     traces_are_spelled();
@@ -80,7 +85,7 @@ fn open_by_head<S: Shelf>(
         Ok(typed) => typed,
         Err(error) => return Ok(Shelved::Refused(answer_to_error(alloc, error)?)),
     };
-    match Pages::open(alloc, shelf, name, head, version, &typed.program) {
+    match Pages::open(alloc, shelf, name, head, version, &typed.program, found) {
         Ok((pages, tail)) => {
             end_fits(&tail);
             Ok(Shelved::Open { typed, pages, tail })
@@ -92,15 +97,19 @@ fn open_by_head<S: Shelf>(
     }
 }
 
-/// The trace of a name: its front, its head, the program of that, and the pages are read in this order.
+/// The trace of a name: its front, its head, the program of that, and the pages are read in this order. Where findings are wanted,
+/// each event is noted in them.
 pub(crate) fn open_pages<S: Shelf>(
     alloc: Global,
     shelf: &mut S,
     name: &str,
+    found: &mut Option<Findings>,
 ) -> Result<Shelved, AllocError>
+    requires nothing { HaveFound found.old [] }
     ensures opens { IfOk result (OpensPages (S.held shelf.old) name.now
         (at_shelf (S.faults shelf.old) (S.misses shelf.old) (S.fulls shelf.old))
         (at_shelf (S.faults shelf.new) (S.misses shelf.new) (S.fulls shelf.new))) }
+    ensures found { IfOk result (AreNoted found.new (S.held shelf.old)) }
     ensures files_stay { S.held shelf.new ≡ S.held shelf.old }
 {
     let front = match read_front(alloc, shelf, name) {
@@ -109,7 +118,7 @@ pub(crate) fn open_pages<S: Shelf>(
     };
     let front = front.as_slice();
     match read_head(alloc, front) {
-        Ok((head, _, version)) => open_by_head(alloc, shelf, name, front, &head, version),
+        Ok((head, _, version)) => open_by_head(alloc, shelf, name, front, &head, version, found),
         Err(_) => Ok(Shelved::Headless),
     }
 }

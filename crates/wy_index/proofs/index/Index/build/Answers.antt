@@ -1,9 +1,8 @@
 -- The records that were looked at are the index's.
-use Rattle.std.proofs.Common.{◌≡◌, ◌++◌, ◌∷◌, [], length, sym, ap, ◌∙◌, subst, refl, get_or, Some, length-append, arith}
-use Rattle.std.specs.Prelude.{IfSome, slice_get, IsPermutation}
-use Rattle.wy_kernel.specs.Parts.{program_of}
+use Rattle.std.proofs.Common.{◌≡◌, ◌++◌, ◌∷◌, [], length, sym, ◌∙◌, subst, Some, length-append, arith}
+use Rattle.std.specs.Prelude.{IfSome, slice_get}
 use Rattle.wy_view.proofs.Views.{keeps_on, more_reads, one_read}
-use Rattle.wy_index.proofs.Building.{few_postings, told_more, all_told, owner_kept}
+use Rattle.wy_index.proofs.Building.{told_more, all_told}
 use Rattle.wy_index.proofs.index.Index.build.Goals as goal
 
 pub loop-n-preserved : goal.loop-n-preserved
@@ -30,35 +29,21 @@ loop-n-preserved g c =
       steps = omega (arith, v.steps, c.look.ensures.step);
     }
 
-pub new-requires : goal.new-requires
-new-requires g c =
+pub of_findings-requires : goal.of_findings-requires
+of_findings-requires g c =
     let v = c.loop-n.invariant in
-    omega (arith, ap length v.found.1.writes, few_postings 0 v.found.0, v.found.2)
+    record { records = v.found.0; has_found = v.found.1; few = omega (arith, v.found.2) }
 
 pub returns-clause-index : goal.returns-clause-index
 returns-clause-index g c =
     let told = g.V.EventView.tells in
     let v = c.loop-n.invariant in
     let rs = v.found.0 in
-    let found = v.found.1 in
     let first = told c.args.view.now in
-    let last = told c.loop-n.view in
     let all : c.loop-n.n ≡ first.count = omega (arith, v.within, c.count-n-end.ensures.count) in
     record {
       records = rs;
-      is_index = record {
-        few = omega (arith, v.found.2);
-        postings = subst (λ l. IsPermutation l c.new.result) found.writes c.new.ensures.permutation;
-        in_order = c.new.ensures.in_order;
-        made = found.made;
-        prints = found.prints;
-        calls = found.calls;
-        inits = found.inits;
-        hits = found.hits;
-      };
+      is_index = c.in_ok-of_findings.ensures.index rs v.found.1 (omega (arith, v.found.2));
       all = v.found.2 ∙ all ∙ sym v.keeps.count;
       as_told = subst (λ o. IfSome o (λ t. t ≡ rs)) (sym v.keeps.records) (all_told first.records rs c.loop-n.n v.found.3 (subst (λ k. IfSome first.records (λ t. length t ≡ k)) (sym all) c.count-n-end.ensures.told));
     }
-
-pub returns-clause-owners : goal.returns-clause-owners
-returns-clause-owners g c = λ f. ap (λ l. get_or l f 0) c.in_ok-owners.ensures ∙ owner_kept (program_of c.args.program.now) c.args.program.now.fields.items f refl
